@@ -200,8 +200,8 @@ impl Answer {
 
     /// Reads an answer from the parameters of a response to a method (AES70-2). `count` is ParamCount and `params` the
     /// bytes of the parameters. `class` is the class of the object; only the answer to the get method of a value
-    /// depends on it. The call does not check that the class has the method, and takes no memory. The result is `None`
-    /// in each of these cases:
+    /// depends on the class. The call does not check that the class has the method, and takes no memory. The result is
+    /// `None` in each of these cases:
     /// - `count` is not the number of parameters that this answer has.
     /// - `params` is not exactly such an answer.
     /// - A text has more than 64 bytes, or there are more than 16 positions, 181 members or 120 descendants.

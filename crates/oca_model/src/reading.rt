@@ -77,8 +77,8 @@ fn put_ranged<F: Item>(params: &mut Params, ranged: &Ranged<F>) -> Result<(), Pu
 }
 
 impl Reading {
-    /// Returns the value of the reading without its limits (AES70-2). The value is of the same class; it can be outside
-    /// the limits if they are so. The call refuses nothing and takes no memory.
+    /// Returns the value of the reading without its limits (AES70-2). The value is of the class of the reading, and the
+    /// call does not check the limits. The call refuses nothing and takes no memory.
     pub fn value(self) -> Value
         ensures { result ≡ value_without_limits self }
     {

@@ -194,8 +194,8 @@ impl Request {
 
     /// Reads the request of a command from its method and its parameters, as a device does, and copies its texts
     /// (AES70-2). `count` is ParamCount and `params` the bytes of the parameters. `class` is the class of the object;
-    /// only the value of a set method depends on it. The call takes no memory. It checks neither that the class has the
-    /// method, nor that a switch has the position. Refusals, the first that applies:
+    /// only the value of a set method depends on the class. The call takes no memory. It checks neither that the class
+    /// has the method, nor that a switch has the position. Refusals, the first that applies:
     /// - `Malformed` (the status ParameterError) if `count` is not the number of parameters of the method, or the class
     ///   of a set method is OcaBlock.
     /// - `Malformed` also if `params` is not exactly these parameters: a text has at most 64 bytes, and a list of names

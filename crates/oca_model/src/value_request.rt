@@ -25,7 +25,7 @@ impl ValueRequest {
     ghost use Rattle.oca_model.specs.ValueRequests.{request_to};
 
     /// Returns the same request for the object with the number `target`, as `oca_types::Request` (AES70-3). A
-    /// controller can then give it a handle and send it. The call does not check that a device has the object, borrows
+    /// controller can then send the request as a command. The call does not check that a device has the object, borrows
     /// the parameters from `self`, and takes no memory.
     pub fn of(&self, target: Ono) -> oca_types::Request<'_>
         ensures { request_of result ≡ request_to target.0 self.now }

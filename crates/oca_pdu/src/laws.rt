@@ -3,25 +3,26 @@ ghost use Rattle.oca_pdu.specs.Laws.{OneListOfMessages, OneFirstFault, NoFaultOf
 ghost use Rattle.oca_pdu.specs.Laws.{ReadingIsExact, WrittenIsReadBack};
 
 /// Law: bytes that are a datagram have only one list of messages, in whatever way they are divided into PDUs (AES70-3).
-/// It holds for all bytes. The function states this as its contract. It does nothing at run time.
+/// The law holds for all bytes. The function states this law as its contract, and does nothing at run time.
 pub fn law_one_list_of_messages()
     ensures { OneListOfMessages }
 {}
 
-/// Law: no bytes have two different first faults, which [`check`](crate::check) returns (*profile*). It holds for all
-/// bytes. The function states this as its contract. It does nothing at run time.
+/// Law: no bytes have two different first faults, which [`check`](crate::check) returns (*profile*). The law holds for
+/// all bytes. The function states this law as its contract, and does nothing at run time.
 pub fn law_one_first_fault()
     ensures { OneFirstFault }
 {}
 
 /// Law: bytes that are a well-formed datagram (AES70-3) have no first fault, which [`check`](crate::check) returns for
-/// other bytes. It holds for all bytes. The function states this as its contract. It does nothing at run time.
+/// other bytes. The law holds for all bytes. The function states this law as its contract, and does nothing at run
+/// time.
 pub fn law_no_fault_of_a_datagram()
     ensures { NoFaultOfADatagram }
 {}
 
 /// Law: each list of bytes is a well-formed datagram (AES70-3), or has a first fault, which [`check`](crate::check)
-/// returns. The empty list has the fault `Empty`. The function states this as its contract. It does nothing at run
+/// returns. The empty list has the fault `Empty`. The function states this law as its contract, and does nothing at run
 /// time.
 pub fn law_datagram_or_fault()
     ensures { DatagramOrFault }
@@ -29,13 +30,13 @@ pub fn law_datagram_or_fault()
 
 /// Law: reading each list of bytes gives exactly its messages if the bytes are a well-formed datagram (AES70-3), and
 /// exactly the first fault if they are not. [`check`](crate::check) returns what this reading gives. The function
-/// states the law as its contract. It does nothing at run time.
+/// states this law as its contract, and does nothing at run time.
 pub fn law_reading()
     ensures { ReadingIsExact }
 {}
 
 /// Law: reading a datagram of some PDUs and one appended PDU gives the messages of the first PDUs, and then those of
-/// the appended PDU (AES70-3). The function states this as its contract. It does nothing at run time.
+/// the appended PDU (AES70-3). The function states this law as its contract, and does nothing at run time.
 pub fn law_written_is_read_back()
     ensures { WrittenIsReadBack }
 {}

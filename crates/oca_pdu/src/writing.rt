@@ -36,9 +36,9 @@ fn put(packet: &mut Packet, bytes: &[u8])
 }
 
 /// Appends a PDU with one command to the packet (AES70-3). `respond` says whether the command asks for a response:
-/// PduType is 1 if it is true, and 0 if it is false. The PDU has 27 bytes and the bytes of the parameters. The only
-/// refusal is `TooLong`, if the packet would have more than 1,472 bytes; then it is unchanged. The call sends nothing
-/// and takes no memory.
+/// PduType is 1 if `respond` is true, and 0 if `respond` is false. The PDU has 27 bytes and the bytes of the
+/// parameters. The only refusal is `TooLong`, if the packet would have more than 1,472 bytes; the packet is then
+/// unchanged. The call sends nothing and takes no memory.
 pub fn write_command(
     packet: &mut Packet,
     respond: bool,
@@ -84,8 +84,8 @@ fn command_front(respond: bool, command: &Command) -> [u8; 27]
 
 /// Appends a PDU with one response to the packet (AES70-3). `handle` is the handle of the command, and `reply` its
 /// status, ParamCount and parameters. The PDU has 20 bytes and the bytes of the parameters. The only refusal is
-/// `TooLong`, if the packet would have more than 1,472 bytes; then it is unchanged. The call sends nothing and takes no
-/// memory.
+/// `TooLong`, if the packet would have more than 1,472 bytes; the packet is then unchanged. The call sends nothing and
+/// takes no memory.
 pub fn write_response(packet: &mut Packet, handle: Handle, reply: &Reply) -> Result<(), WriteFault>
     ensures room { let pdu = Responses (response_with handle reply.now ∷ []) in
         IsOk result ↔ (length packet.old.items + length (pdu_encoding pdu) ≤ largest_datagram) }
@@ -186,9 +186,9 @@ fn raise_header(pdu: &mut [u8], size: u32)
     pdu[8..10].copy_from_slice(&count.to_be_bytes());
 }
 
-/// Returns whether the first PDU of the packet is one of responses (PduType 3, AES70-3). [`extend_response`] can then
-/// add a response, if the packet is this PDU alone. The result is `false` for an empty packet. Its contract is for
-/// packets that are exactly one PDU; the call does not check that they are. It changes nothing.
+/// Returns whether the first PDU of the packet contains responses (PduType 3, AES70-3). [`extend_response`] can then
+/// add a response, if the packet is this PDU alone. The result is `false` for an empty packet. The result is meaningful
+/// for a packet that is exactly one PDU; the call does not check this, and changes nothing.
 #[inline(always)]
 pub fn holds_responses(packet: &Packet) -> bool
     ensures { (p : Pdu) → packet.now.items ≡ pdu_encoding p → result ≡ is_of_responses p }
@@ -199,8 +199,8 @@ pub fn holds_responses(packet: &Packet) -> bool
 /// Adds a response to the packet, which must be exactly one PDU of responses (AES70-3, a premise; [`holds_responses`]).
 /// Afterwards the packet is one PDU with all these responses, the new one last. `handle` is the handle of the command,
 /// and `reply` its status, ParamCount and parameters. The packet grows by 10 bytes and the bytes of the parameters. The
-/// only refusal is `TooLong`, if the packet would have more than 1,472 bytes; then it is unchanged. The call sends
-/// nothing and takes no memory.
+/// only refusal is `TooLong`, if the packet would have more than 1,472 bytes; the packet is then unchanged. The call
+/// sends nothing and takes no memory.
 #[inline(always)]
 pub fn extend_response(packet: &mut Packet, handle: Handle, reply: &Reply) -> Result<(), WriteFault>
     requires { HoldsResponses packet.old.items }
@@ -228,7 +228,7 @@ pub fn extend_response(packet: &mut Packet, handle: Handle, reply: &Reply) -> Re
 
 /// Appends a PDU with one keep-alive to the packet (AES70-3). `form` is the heartbeat in seconds (a PDU of 12 bytes) or
 /// in milliseconds (14 bytes); 0 is allowed. The only refusal is `TooLong`, if the packet would have more than 1,472
-/// bytes; then it is unchanged. The call sends nothing and takes no memory.
+/// bytes; the packet is then unchanged. The call sends nothing and takes no memory.
 pub fn write_keepalive(packet: &mut Packet, form: Form) -> Result<(), WriteFault>
     ensures room { IsOk result
         ↔ (length packet.old.items + length (pdu_encoding (OneKeepAlive form)) ≤ largest_datagram) }

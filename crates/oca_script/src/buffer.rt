@@ -63,8 +63,8 @@ impl<const CAP: usize> Buffer<CAP> {
         self.len = 0;
     }
 
-    /// Appends the bytes to the buffer (*profile*). There must be room for them (a premise, which the caller must
-    /// prove): all bytes together are at most `CAP`.
+    /// Appends the bytes to the buffer (*profile*). There must be room for these bytes (a premise, which the caller
+    /// must prove): all bytes together are at most `CAP`.
     #[inline]
     pub fn put(&mut self, bytes: &[u8])
         requires { length self.old + length bytes.now ≤ CAP }
@@ -76,8 +76,8 @@ impl<const CAP: usize> Buffer<CAP> {
         self.len = start + bytes.len();
     }
 
-    /// Appends one byte to the buffer (*profile*). There must be room for it (a premise, which the caller must prove):
-    /// the buffer has fewer than `CAP` bytes.
+    /// Appends one byte to the buffer (*profile*). There must be room for this byte (a premise, which the caller must
+    /// prove): the buffer has fewer than `CAP` bytes.
     #[inline]
     pub fn push(&mut self, byte: u8)
         requires { length self.old + 1 ≤ CAP }

@@ -149,8 +149,8 @@ fn digit(value: u8) -> u8
     }
 }
 
-/// Law: each text can be read back from what is printed of it (*profile*). The function states this as its contract. It
-/// does nothing at run time.
+/// Law: each text can be read back from what is printed of it (*profile*). The function states this law as its
+/// contract, and does nothing at run time.
 pub fn law_of_escapes()
     ensures { LawOfEscapes }
 {}

@@ -85,8 +85,8 @@ impl<W: Sink> Printer<W> {
     }
 
     /// Adds the bytes to those that wait in the printer, and writes nothing to the sink (*profile*). There must be room
-    /// for them (a premise, which the caller must prove; [`make_room`](Printer::make_room)): at most 8,192 bytes wait.
-    /// The call refuses nothing.
+    /// for these bytes (a premise, which the caller must prove; [`make_room`](Printer::make_room)): at most 8,192 bytes
+    /// wait. The call refuses nothing.
     #[inline]
     pub fn put(&mut self, bytes: &[u8])
         requires { length self.old.held + length bytes.now ≤ 8192 }

@@ -145,8 +145,8 @@ impl Sessions {
         }
     }
 
-    /// Returns whether the peer (the same address and port) has a session. It has one from when
-    /// [`hear`](Sessions::hear) opened it until [`advance`](Sessions::advance) or
+    /// Returns whether the peer (the same address and port) has a session. A session begins when
+    /// [`hear`](Sessions::hear) opens it, and ends when [`advance`](Sessions::advance) or
     /// [`advance_into`](Sessions::advance_into) forgets it (*profile*). The table is unchanged.
     #[tactic(auto, using(crate::proofs::Tables::known_by_place))]
     pub fn is_known(&self, peer: Peer) -> bool
@@ -156,10 +156,10 @@ impl Sessions {
     }
 
     /// Moves the table's clock to `now`, and returns the peers that were silent for too long (*profile*). `now` is in
-    /// milliseconds of the caller's clock; a moment before the present one is taken as the present one. The result is
-    /// the peers whose silence is more than three of their heartbeats, in order of opening. Sessions with a silence of
-    /// more than 120,000 ms are then forgotten; their peers are in the result too. The result has at most the first 16
-    /// peers: these are all if the table has room for at most 16 sessions. [`advance_into`](Sessions::advance_into)
+    /// milliseconds of the caller's clock; an earlier moment than the present one counts as the present one. The result
+    /// is the peers whose silence is more than three of their heartbeats, in order of opening. Sessions with a silence
+    /// of more than 120,000 ms are then forgotten; their peers are in the result too. The result has at most the first
+    /// 16 peers: these are all if the table has room for at most 16 sessions. [`advance_into`](Sessions::advance_into)
     /// returns all. A peer is returned again at each later call while it is silent. The call refuses nothing and takes
     /// no memory.
     pub fn advance(&mut self, now: u64) -> ArrayVec<Peer, 16>
@@ -180,11 +180,11 @@ impl Sessions {
     }
 
     /// Moves the table's clock to `now`, and writes into `peers` all peers that were silent for too long (*profile*).
-    /// `now` is in milliseconds of the caller's clock; a moment before the present one is taken as the present one.
-    /// `peers` becomes the peers whose silence is more than three of their heartbeats, in order of opening; its old
-    /// items are lost. Sessions with a silence of more than 120,000 ms are then forgotten; their peers are in `peers`
-    /// too. A peer is written again at each later call while it is silent. The call refuses nothing and takes no
-    /// memory.
+    /// `now` is in milliseconds of the caller's clock; an earlier moment than the present one counts as the present
+    /// one. `peers` becomes the peers whose silence is more than three of their heartbeats, in order of opening; its
+    /// old items are lost. Sessions with a silence of more than 120,000 ms are then forgotten; their peers are in
+    /// `peers` too. A peer is written again at each later call while it is silent. The call refuses nothing and takes
+    /// no memory.
     pub fn advance_into(&mut self, now: u64, peers: &mut ArrayVec<Peer, MOST_PEERS>)
         ensures lapsed { peers.new.items ≡ lapsed (present self.old now) self.old.sessions }
         ensures staying { self.new ≡ with_moment_and_sessions self.old (present self.old now)
@@ -215,8 +215,8 @@ impl Sessions {
     }
 
     /// Notes that a peer was heard at the moment `now`, and opens a session if the peer has none (*profile*). `now` is
-    /// in milliseconds of the caller's clock; a moment before the present one is taken as the present one. The call
-    /// takes no memory. The result is:
+    /// in milliseconds of the caller's clock; an earlier moment than the present one counts as the present one. The
+    /// call takes no memory. The result is:
     /// - `Known` if the peer has a session: its silence ends.
     /// - `Opened` if a session was opened for it, as the last in order. Its reply window is empty, and its heartbeat is
     ///   5,000 ms.
@@ -245,10 +245,10 @@ impl Sessions {
         Admission::Opened
     }
 
-    /// Sets the heartbeat of a known peer to `ms` milliseconds (*profile*). A number below 250 sets it to 250, and a
-    /// number above 30,000 to 30,000. The peer must be known (a premise, which the caller must prove;
-    /// [`is_known`](Sessions::is_known)). Nothing else is changed: in particular the silence of the peer does not end.
-    /// The call refuses nothing and takes no memory.
+    /// Sets the heartbeat of a known peer to `ms` milliseconds (*profile*). The heartbeat becomes 250 ms if `ms` is
+    /// below 250, and 30,000 ms if `ms` is above 30,000. The peer must be known (a premise, which the caller must
+    /// prove; [`is_known`](Sessions::is_known)). Nothing else is changed: in particular the silence of the peer does
+    /// not end. The call refuses nothing and takes no memory.
     pub fn beat(&mut self, peer: Peer, ms: u64)
         requires { IsSome (session_of peer self.old.sessions) }
         ensures heartbeat { self.new ≡ with_sessions self.old
@@ -272,18 +272,18 @@ impl Sessions {
     }
 
     /// Returns the first moment at which a session is forgotten, if no peer is heard before (*profile*). The moment is
-    /// in milliseconds of the caller's clock: the peer was then silent for more than 120,000 ms. It can be past, if no
-    /// call moved the clock on since. The result is `None` if there is no session, or the moment does not fit 64 bits.
-    /// The table is unchanged.
+    /// in milliseconds of the caller's clock: a peer was then silent for more than 120,000 ms. The moment can be past,
+    /// since only [`advance`](Sessions::advance) and [`advance_into`](Sessions::advance_into) forget sessions. The
+    /// result is `None` if there is no session, or the moment does not fit 64 bits. The table is unchanged.
     pub fn forgotten_from(&self) -> Option<u64>
         ensures { HoldsFrom (forgets self.now.sessions) result }
     {
         forgotten_from(&self.slots[..self.count])
     }
 
-    /// Returns the first moment at which the peer was silent for more than three of its heartbeats, if it is not heard
-    /// before (*profile*). The moment is in milliseconds of the caller's clock, and can be past. The result is `None`
-    /// if the peer has no session, or the moment does not fit 64 bits. The table is unchanged.
+    /// Returns the first moment at which the peer was silent for more than three of its heartbeats, if the peer is not
+    /// heard before (*profile*). The moment is in milliseconds of the caller's clock, and can be past. The result is
+    /// `None` if the peer has no session, or the moment does not fit 64 bits. The table is unchanged.
     pub fn lapsed_from(&self, peer: Peer) -> Option<u64>
         ensures { HoldsFrom (lapses peer self.now.sessions) result }
     {
@@ -313,9 +313,10 @@ impl Sessions {
     }
 
     /// Stores a fresh command of a known peer, with its reply, in the reply window of its session (*profile*). A full
-    /// window pushes its oldest command out. The command and the reply are copied. Premises, which the caller must
-    /// prove: the peer is known ([`is_known`](Sessions::is_known)), [`judge`](Sessions::judge) says `Fresh` for the
-    /// command, and the command has at most 1,445 bytes of parameters. The call refuses nothing and takes no memory.
+    /// window pushes its oldest command out. Handles up to the handle of that command, which are not in the window,
+    /// then count as `Old`. The command and the reply are copied. Premises, which the caller must prove: the peer is
+    /// known ([`is_known`](Sessions::is_known)), [`judge`](Sessions::judge) says `Fresh` for the command, and the
+    /// command has at most 1,445 bytes of parameters. The call refuses nothing and takes no memory.
     pub fn keep(&mut self, peer: Peer, command: &Command<'_>, reply: &Reply)
         requires known { IsSome (session_of peer self.old.sessions) }
         requires fresh { IfSome (session_of peer self.old.sessions)

@@ -104,7 +104,7 @@ impl Slot {
     }
 
     /// Returns the latest moment, in milliseconds, at which the peer is not yet silent for more than three of its
-    /// heartbeats, if it is not heard before (*profile*). The moment can be past.
+    /// heartbeats, if the peer is not heard before (*profile*). The moment can be past.
     pub fn quiet_until(&self) -> u64
         ensures { result ≡ latest_of self.now }
     {
@@ -120,16 +120,16 @@ impl Slot {
     }
 
     /// Returns the first moment, in milliseconds, at which the peer was silent for more than three of its heartbeats,
-    /// if it is not heard before (*profile*). The moment can be past. The result is `None` if the moment does not fit
-    /// 64 bits.
+    /// if the peer is not heard before (*profile*). The moment can be past. The result is `None` if the moment does not
+    /// fit 64 bits.
     pub fn lapsed_from(&self) -> Option<u64>
         ensures { HoldsFrom (λ t. is_lapsed t self.now) result }
     {
         passes_from(self.heard, 3 * u64::from(self.heartbeat))
     }
 
-    /// Returns the first moment, in milliseconds, at which the peer was silent for more than 120,000 ms, if it is not
-    /// heard before (*profile*). The moment can be past. The result is `None` if the moment does not fit 64 bits.
+    /// Returns the first moment, in milliseconds, at which the peer was silent for more than 120,000 ms, if the peer is
+    /// not heard before (*profile*). The moment can be past. The result is `None` if the moment does not fit 64 bits.
     pub fn forgotten_from(&self) -> Option<u64>
         ensures { HoldsFrom (λ t. not (stays t self.now)) result }
     {
@@ -168,8 +168,9 @@ impl Slot {
     }
 
     /// Stores a fresh command, with its reply, in the session's reply window (*profile*). A full window pushes its
-    /// oldest command out. The command must be fresh ([`judge`](Slot::judge)) and have at most 1,445 bytes of
-    /// parameters (premises, which the caller must prove). The call refuses nothing and takes no memory.
+    /// oldest command out. Handles up to the handle of that command, which are not in the window, then count as `Old`.
+    /// The command must be fresh ([`judge`](Slot::judge)) and have at most 1,445 bytes of parameters (premises, which
+    /// the caller must prove). The call refuses nothing and takes no memory.
     pub fn keep(&mut self, command: &Command<'_>, reply: &Reply)
         requires fresh { judgement_by_window self.old.retained (fields_of command.now) ≡ Fresh }
         requires room { length command.now.params.now ≤ most_command_parameter_bytes }

@@ -158,8 +158,9 @@ impl ReplyWindow {
     }
 
     /// Stores a fresh command, with its reply, in the window (*profile*). A full window pushes its oldest command out.
-    /// The command must be fresh ([`judge`](ReplyWindow::judge)) and have at most 1,445 bytes of parameters (premises,
-    /// which the caller must prove). The call refuses nothing and takes no memory.
+    /// Handles up to the handle of that command, which are not in the window, then count as `Old`. The command must be
+    /// fresh ([`judge`](ReplyWindow::judge)) and have at most 1,445 bytes of parameters (premises, which the caller
+    /// must prove). The call refuses nothing and takes no memory.
     pub fn keep(&mut self, command: &Command<'_>, reply: &Reply)
         requires fresh { judgement_by_window self.old (fields_of command.now) ≡ Fresh }
         requires room { length command.now.params.now ≤ most_command_parameter_bytes }

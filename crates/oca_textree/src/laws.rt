@@ -5,8 +5,8 @@ ghost use Rattle.oca_textree.specs.Made.{MadeIsReadBack, ListedIsReadBack};
 use oca_tree::Tree;
 
 /// Laws: the text that [`print_tree`](crate::print_tree) prints of the objects of `tree` is read back by
-/// [`tree_from_text`](crate::tree_from_text) (*profile*). Its contract states them; the function does nothing at run
-/// time.
+/// [`tree_from_text`](crate::tree_from_text) (*profile*). The contract of the function states these laws, and the
+/// function does nothing at run time.
 /// - Objects that the calls of a builder or a text added, and that commands, the local front panel and the release of
 ///   locks then changed: the same objects are read back. They are not locked, and their hardware does not refuse
 ///   changes.

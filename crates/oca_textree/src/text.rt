@@ -28,8 +28,8 @@ const MOST_OBJECTS: u16 = 4096;
 /// line may begin with `root`, and then has the root's stored label and enabled flag. An empty text gives a tree of the
 /// root alone. The call takes from `alloc` the memory for 4,096 objects. Refusals:
 /// - `Line` with the number of the first line with a fault, counted from 1, and the first fault in the line.
-/// - `NoMemory` if the allocator refused memory. If the first line begins with `root` and has a fault, `Line` comes
-///   before, and no memory is taken.
+/// - `NoMemory` if the allocator refused memory. If the first line begins with `root` and has a fault, the refusal is
+///   `Line`, and no memory is taken.
 #[tactic(auto, unfolding(crate::specs::Texts::objects_of_text))]
 pub fn tree_from_text(alloc: Global, text: &[u8]) -> Result<Tree, TreeFault>
     ensures ok { IfOk result (λ tree. objects_of_text text.now ≡ ok tree) }

@@ -485,8 +485,8 @@ impl TreeBuilder {
     /// flag in `start` (*profile*). The root is a lockable OcaBlock (AES70-2) with the number 100 and the role `root`.
     /// The call takes the memory for all `room` objects (1 to 4,096) from `alloc`. Refusals, the first that applies:
     /// - `BadLabel` if the label has more than 64 bytes; no memory is then taken.
-    /// - `BadFlags` if `start` has flags of positions and at least one, since a block has no positions; no memory is
-    ///   then taken.
+    /// - `BadFlags` if `start` has at least one flag of a position, since a block has no positions; no memory is then
+    ///   taken.
     /// - `Add(NoMemory)` if the allocator refused memory.
     pub fn with_root(
         alloc: Global,

@@ -11,8 +11,8 @@ use crate::tree::Tree;
 
 /// Law: the descendants of a block, which GetMembersRecursive lists (OcaBlock, AES70-2), are exactly the objects from
 /// which a chain of containers leads to this block. The law holds for the tree `tree`, which can be any tree. A chain
-/// goes from an object to its container, from there to the next container, and so on. The function states this as its
-/// contract. It changes nothing and returns nothing at run time.
+/// goes from an object to its container, from there to the next container, and so on. The function states this law as
+/// its contract, and does nothing at run time.
 pub fn law_of_descendants(tree: &Tree)
     ensures { DescendantsFollowChains tree.now }
 {
@@ -20,7 +20,7 @@ pub fn law_of_descendants(tree: &Tree)
 }
 
 /// Laws of what is set at the device's local front panel with [`Tree::set`](Tree::set), for all objects and commands
-/// (*profile*). Its contract states them; the function does nothing at run time.
+/// (*profile*). The contract of the function states these laws, and the function does nothing at run time.
 /// - A value changes an object in the same way, whichever peer sets the value.
 /// - Take a peer's command that sets an object to a value of its class, and that neither a lock nor the object's
 ///   hardware refuses. It changes the tree as the front panel does with this value. The front panel is refused exactly
@@ -33,7 +33,8 @@ pub fn law_of_settings()
 {}
 
 /// Laws of the request of [`set_request`](oca_model::set_request) for a value, if the request is sent to an object of
-/// the value's class (AES70-2). Its contract states them; the function does nothing at run time.
+/// the value's class (AES70-2). The contract of the function states these laws, and the function does nothing at run
+/// time.
 /// - The device understands the request as setting the object to exactly this value.
 /// - The device sets the object as its local front panel would, if neither a lock nor the object's hardware refuses the
 ///   command. If the value is out of range, the object is unchanged.
@@ -46,22 +47,22 @@ pub fn law_of_set_requests()
 
 /// Law: adding an object with an empty label, enabled and without flags in [`Start`](crate::Start) is the same as
 /// adding the object without a `Start` (*profile*). The added objects are the same, and so are the refusals. The
-/// default of `Start` has these values. The function states this as its contract. It does nothing at run time.
+/// default of `Start` has these values. The function states this law as its contract, and does nothing at run time.
 pub fn law_of_starts()
     ensures { PlainAddsTheSame }
 {}
 
 /// Law: an object that is added with all that is read of another object is the same object, except for two things
-/// (*profile*). It is not locked, and its hardware does not refuse changes. What must be read is its number, container,
-/// role and class ([`Tree::object_at`](Tree::object_at)), [`is_lockable`](Tree::is_lockable),
+/// (*profile*). The added object is not locked, and its hardware does not refuse changes. What must be read is its
+/// number, container, role and class ([`Tree::object_at`](Tree::object_at)), [`is_lockable`](Tree::is_lockable),
 /// [`setting_of`](Tree::setting_of), [`position_names_of`](Tree::position_names_of) and [`start_of`](Tree::start_of).
-/// The function states this as its contract. It does nothing at run time.
+/// The function states this law as its contract, and does nothing at run time.
 pub fn law_of_copies()
     ensures { DescriptionMakesAgain }
 {}
 
-/// Laws of the commands that a tree executes (AES70-2), for each tree, peer and command. Its contract states them; the
-/// function does nothing at run time.
+/// Laws of the commands that a tree executes (AES70-2), for each tree, peer and command. The contract of the function
+/// states these laws, and the function does nothing at run time.
 /// - A command with the status OK asked one request of one object. The request changed the object, and the parameters
 ///   are the object's answer.
 /// - A command with any other status changed nothing.

@@ -171,7 +171,7 @@ impl Tree {
 
     /// Sets the object with the number `ono` to a value, as a user does at the device's local front panel (*profile*).
     /// The call acts as the set method of the object's class (AES70-2). Neither a lock nor the object's hardware
-    /// refuses it. Refusals, the first that applies; no object is then changed:
+    /// refuses this call. Refusals, the first that applies; no object is then changed:
     /// - `NoObject` if no object has the number.
     /// - `NoSetting` if the object is a block.
     /// - `OtherKind` if the value is not of the object's class.
@@ -187,8 +187,8 @@ impl Tree {
 
     /// Sets the label of the object with the number `ono`, as a user does at the device's local front panel
     /// (*profile*). The label has from 0 to 64 bytes. The call acts as SetLabel of OcaWorker (AES70-2). Neither a lock
-    /// nor the object's hardware refuses it. Refusals, the first that applies; no object is then changed: `NoObject` if
-    /// no object has the number. `BadLabel` if the label has more than 64 bytes.
+    /// nor the object's hardware refuses this call. Refusals, the first that applies; no object is then changed:
+    /// `NoObject` if no object has the number. `BadLabel` if the label has more than 64 bytes.
     pub fn set_label(&mut self, ono: Ono, label: &str) -> Result<(), FrontFault>
         ensures tree { self.new ≡ after_change self.old ono.0 (ToLabel label.now) }
         ensures refused { OnErr result (self.new ≡ self.old) }
@@ -199,7 +199,7 @@ impl Tree {
 
     /// Enables or disables the object with the number `ono`, as a user does at the device's local front panel
     /// (*profile*). The call acts as SetEnabled of OcaWorker (AES70-2). Neither a lock nor the object's hardware
-    /// refuses it. The only refusal is `NoObject`, if no object has the number; no object is then changed.
+    /// refuses this call. The only refusal is `NoObject`, if no object has the number; no object is then changed.
     pub fn set_enabled(&mut self, ono: Ono, enabled: bool) -> Result<(), FrontFault>
         ensures tree { self.new ≡ after_change self.old ono.0 (ToEnabled enabled) }
         ensures refused { OnErr result (self.new ≡ self.old) }
@@ -219,11 +219,11 @@ impl Tree {
         unlock(&mut self.objects, &mut self.marks, ono)
     }
 
-    /// Sets whether the hardware of the object with the number `ono` refuses changes (*profile*). At first it does not.
-    /// If `failing` is true, a command that writes to the object gets the status `ProcessingFailed` and changes
-    /// nothing. If the command is refused for another reason too, it gets the status of that reason instead. Changes at
-    /// the local front panel are not refused. The only refusal of this call is `NoObject`, if no object has the number;
-    /// nothing is then changed.
+    /// Sets whether the hardware of the object with the number `ono` refuses changes (*profile*). At first no hardware
+    /// refuses changes. If `failing` is true, a command that writes to the object gets the status `ProcessingFailed`
+    /// and changes nothing. If the command is refused for another reason too, it gets the status of that reason
+    /// instead. Changes at the local front panel are not refused. The only refusal of this call is `NoObject`, if no
+    /// object has the number; nothing is then changed.
     pub fn set_failing(&mut self, ono: Ono, failing: bool) -> Result<(), FrontFault>
         ensures tree { self.new ≡ after_change self.old ono.0 (ToFailing failing) }
         ensures refused { OnErr result (self.new ≡ self.old) }
@@ -340,7 +340,7 @@ impl Tree {
     /// Returns the label and the flags of the object with the number `ono`, for storing them (*profile*): its label,
     /// whether it is enabled, and for a switch which of its positions are enabled.
     /// [`TreeBuilder::add_with`](crate::TreeBuilder::add_with) and [`with_root`](crate::TreeBuilder::with_root) take
-    /// the result. It is `None` if no object has the number. It borrows from the tree, and no memory is taken.
+    /// the result. It is `None` if no object has the number. The result borrows from the tree, and no memory is taken.
     pub fn start_of(&self, ono: Ono) -> Option<Start<'_>>
         ensures { option_map stored_in result ≡ stored_at self.now ono.0 }
     {
@@ -348,8 +348,8 @@ impl Tree {
     }
 
     /// Returns the names of the positions of the switch with the number `ono`, in order: 1 to 16 names, each of at most
-    /// 64 bytes (OcaSwitch, AES70-2). The result is empty if no object has the number, or the object is no switch. It
-    /// borrows from the tree, and no memory is taken.
+    /// 64 bytes (OcaSwitch, AES70-2). The result is empty if no object has the number, or the object is no switch. The
+    /// result borrows from the tree, and no memory is taken.
     pub fn position_names_of(&self, ono: Ono) -> &[Text]
         ensures { result.now ≡ names_of_ono self.now ono.0 }
     {

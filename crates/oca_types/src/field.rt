@@ -31,7 +31,7 @@ pub trait Field: Copy {
         ensures { result ≡ codec.value_in front.now };
 
     /// Appends the encoding of the value to `params` (AES70-3): `SIZE` bytes. The only refusal is `Full`, if the
-    /// parameters would have more than 1,452 bytes; then they are unchanged. The call takes no memory.
+    /// parameters would have more than 1,452 bytes; the parameters are then unchanged. The call takes no memory.
     fn put(self, params: &mut Params) -> Result<(), PutFault>
         ensures full { IsErr result ↔ (most_parameter_bytes < length params.old.items + SIZE) }
         ensures puts { Puts result params.old.items params.new.items (codec.encoding self) }
@@ -57,7 +57,7 @@ impl Field for u8 {
     }
 
     /// Appends the Uint8 to the parameters: 1 byte (AES70-3). Refusal: `Full` if the parameters would have more than
-    /// 1,452 bytes; then they are unchanged.
+    /// 1,452 bytes; the parameters are then unchanged.
     fn put(self, params: &mut Params) -> Result<(), PutFault> {
         put_bytes(params, &u8::to_be_bytes(self))
     }
@@ -78,7 +78,7 @@ impl Field for u16 {
     }
 
     /// Appends the Uint16 to the parameters: 2 bytes, the highest first (AES70-3). Refusal: `Full` if the parameters
-    /// would have more than 1,452 bytes; then they are unchanged.
+    /// would have more than 1,452 bytes; the parameters are then unchanged.
     fn put(self, params: &mut Params) -> Result<(), PutFault> {
         put_bytes(params, &u16::to_be_bytes(self))
     }
@@ -99,7 +99,7 @@ impl Field for u32 {
     }
 
     /// Appends the Uint32 to the parameters: 4 bytes, the highest first (AES70-3). Refusal: `Full` if the parameters
-    /// would have more than 1,452 bytes; then they are unchanged.
+    /// would have more than 1,452 bytes; the parameters are then unchanged.
     fn put(self, params: &mut Params) -> Result<(), PutFault> {
         put_bytes(params, &u32::to_be_bytes(self))
     }
@@ -122,7 +122,7 @@ impl Field for u64 {
     }
 
     /// Appends the Uint64 to the parameters: 8 bytes, the highest first (AES70-3). Refusal: `Full` if the parameters
-    /// would have more than 1,452 bytes; then they are unchanged.
+    /// would have more than 1,452 bytes; the parameters are then unchanged.
     fn put(self, params: &mut Params) -> Result<(), PutFault> {
         put_bytes(params, &u64::to_be_bytes(self))
     }
@@ -143,7 +143,7 @@ impl Field for i8 {
     }
 
     /// Appends the Int8 to the parameters: 1 byte in two's complement (AES70-3). Refusal: `Full` if the parameters
-    /// would have more than 1,452 bytes; then they are unchanged.
+    /// would have more than 1,452 bytes; the parameters are then unchanged.
     fn put(self, params: &mut Params) -> Result<(), PutFault> {
         put_bytes(params, &i8::to_be_bytes(self))
     }
@@ -164,7 +164,7 @@ impl Field for i16 {
     }
 
     /// Appends the Int16 to the parameters: 2 bytes in two's complement, the highest first (AES70-3). Refusal: `Full`
-    /// if the parameters would have more than 1,452 bytes; then they are unchanged.
+    /// if the parameters would have more than 1,452 bytes; the parameters are then unchanged.
     fn put(self, params: &mut Params) -> Result<(), PutFault> {
         put_bytes(params, &i16::to_be_bytes(self))
     }
@@ -185,7 +185,7 @@ impl Field for i32 {
     }
 
     /// Appends the Int32 to the parameters: 4 bytes in two's complement, the highest first (AES70-3). Refusal: `Full`
-    /// if the parameters would have more than 1,452 bytes; then they are unchanged.
+    /// if the parameters would have more than 1,452 bytes; the parameters are then unchanged.
     fn put(self, params: &mut Params) -> Result<(), PutFault> {
         put_bytes(params, &i32::to_be_bytes(self))
     }
@@ -208,7 +208,7 @@ impl Field for i64 {
     }
 
     /// Appends the Int64 to the parameters: 8 bytes in two's complement, the highest first (AES70-3). Refusal: `Full`
-    /// if the parameters would have more than 1,452 bytes; then they are unchanged.
+    /// if the parameters would have more than 1,452 bytes; the parameters are then unchanged.
     fn put(self, params: &mut Params) -> Result<(), PutFault> {
         put_bytes(params, &i64::to_be_bytes(self))
     }
@@ -229,7 +229,7 @@ impl Field for bool {
     }
 
     /// Appends the Boolean to the parameters as one byte, 0 or 1 (AES70-3). Refusal: `Full` if the parameters would
-    /// have more than 1,452 bytes; then they are unchanged.
+    /// have more than 1,452 bytes; the parameters are then unchanged.
     fn put(self, params: &mut Params) -> Result<(), PutFault> {
         put_bytes(params, &[u8::from(self)])
     }

@@ -293,8 +293,8 @@ impl Inventory {
 
     /// Returns the question to ask at `now`, in milliseconds of the program's clock, so that the values stay up to date
     /// (*profile*). Its object then counts as read again at `now`. An object is due 5,000 ms after it was read again
-    /// last. If a page shows it, it is due after 100 ms, and a block then after 1,000 ms. The result is `None` if no
-    /// page is open, or nothing is due in this round. The call sends nothing and takes no memory.
+    /// last. An object that a page shows is due after 100 ms, and a block that a page shows after 1,000 ms. The result
+    /// is `None` if no page is open, or nothing is due in this round. The call sends nothing and takes no memory.
     pub fn read_again(&mut self, now: u64) -> Option<Question>
         ensures reads { AsksAgain now result self.old self.new }
         ensures walk { KeepsWalk self.old self.new }
@@ -317,9 +317,10 @@ impl Inventory {
 
     /// Notes the answer to a question, or the reason why there is none (*profile*). `moment`, in milliseconds of the
     /// program's clock, is not later than the submission of the question; a reading gets this moment. If the walk of
-    /// the question is not the present one, nothing is changed. If the reason shows, after a walk, that another device
-    /// answers by now, the inventory becomes stale ([`is_stale`](Inventory::is_stale)). The call sends nothing. The
-    /// only refusal is `NoMemory`, if memory was refused; members of a block may then be missing.
+    /// the question is not the present one, nothing is changed. An answer of another kind than the question asks for is
+    /// ignored. If the reason shows, after a walk, that another device answers by now, the inventory becomes stale
+    /// ([`is_stale`](Inventory::is_stale)). The call sends nothing. The only refusal is `NoMemory`, if memory was
+    /// refused; members of a block may then be missing.
     #[tactic(auto, using(crate::proofs::AgeLemmas::moment_rules))]
     pub fn learn(
         &mut self,

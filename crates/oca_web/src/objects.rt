@@ -83,8 +83,8 @@ impl Objects {
         }
     }
 
-    /// Sets the role of the object at `place`, which counts as a change (*profile*). `place` is counted from 0; if
-    /// there is no object at it, nothing is changed. The call sends nothing, refuses nothing and takes no memory.
+    /// Sets the role of the object at `place`, which counts as a change (*profile*). `place` is counted from 0; if no
+    /// object is at `place`, nothing is changed. The call sends nothing, refuses nothing and takes no memory.
     pub fn put_role(&mut self, place: usize, role: Text)
         ensures { Changes place self.old self.new }
     {
@@ -97,7 +97,7 @@ impl Objects {
     }
 
     /// Sets the label of the object at `place`, which counts as a change if the label differs from the old one
-    /// (*profile*). `place` is counted from 0; if there is no object at it, nothing is changed. The call sends nothing,
+    /// (*profile*). `place` is counted from 0; if no object is at `place`, nothing is changed. The call sends nothing,
     /// refuses nothing and takes no memory.
     pub fn put_label(&mut self, place: usize, label: Text)
         ensures { Changes place self.old self.new }
@@ -111,7 +111,7 @@ impl Objects {
     }
 
     /// Notes whether the object at `place` can be locked, which counts as a change (*profile*). `place` is counted from
-    /// 0; if there is no object at it, nothing is changed. The call sends nothing, refuses nothing and takes no memory.
+    /// 0; if no object is at `place`, nothing is changed. The call sends nothing, refuses nothing and takes no memory.
     pub fn put_lockable(&mut self, place: usize, lockable: bool)
         ensures { Changes place self.old self.new }
     {
@@ -124,7 +124,7 @@ impl Objects {
     }
 
     /// Sets the names of the positions of the switch at `place`, which counts as a change (*profile*). `place` is
-    /// counted from 0; if there is no object at it, nothing is changed. The call sends nothing, refuses nothing and
+    /// counted from 0; if no object is at `place`, nothing is changed. The call sends nothing, refuses nothing and
     /// takes no memory.
     pub fn put_names(&mut self, place: usize, names: Names)
         ensures { Changes place self.old self.new }
@@ -138,7 +138,7 @@ impl Objects {
     }
 
     /// Notes which positions of the switch at `place` are enabled, which counts as a change if a flag differs
-    /// (*profile*). `place` is counted from 0; if there is no object at it, nothing is changed. The call sends nothing,
+    /// (*profile*). `place` is counted from 0; if no object is at `place`, nothing is changed. The call sends nothing,
     /// refuses nothing and takes no memory.
     pub fn put_flags(&mut self, place: usize, flags: Flags)
         ensures { Changes place self.old self.new }
@@ -152,7 +152,7 @@ impl Objects {
     }
 
     /// Returns what pages show of the object at `place`, which is counted from 0 (*profile*). The result is `None` if
-    /// there is no object at it. The call takes no memory.
+    /// no object is at `place`. The call takes no memory.
     pub fn shown(&self, place: usize) -> Option<Shown>
         ensures { result ≡ option_map (λ o. o.shown) (slice_get self.now.list place) }
     {
@@ -162,9 +162,9 @@ impl Objects {
         }
     }
 
-    /// Replaces what pages show of the object at `place` (*profile*). This counts as a change if more than the moment
-    /// of the reading differs. `place` is counted from 0; if there is no object at it, nothing is changed. The call
-    /// sends nothing, refuses nothing and takes no memory.
+    /// Replaces what pages show of the object at `place` (*profile*). The replacement counts as a change, if anything
+    /// else differs than the moment of the reading. `place` is counted from 0; if no object is at `place`, nothing is
+    /// changed. The call sends nothing, refuses nothing and takes no memory.
     pub fn show(&mut self, place: usize, shown: Shown)
         ensures { ShowsAt place shown self.old self.new }
     {

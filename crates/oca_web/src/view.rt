@@ -322,9 +322,10 @@ impl View {
     }
 
     /// Adds the orders `wanted` after all others, in their order, and returns the ticket of the first (*profile*). The
-    /// others have the tickets after it. `last` is the moment, in milliseconds of the program's clock, after which they
-    /// must not be submitted. The result is `None` if there is no room for all of them ([`has_room`](View::has_room));
-    /// then nothing is changed. The call submits nothing: [`View::go_on`] does. It takes no memory.
+    /// other orders have the next tickets, in their order. `last` is the moment, in milliseconds of the program's
+    /// clock, after which these orders must not be submitted. The result is `None` if there is no room for all these
+    /// orders ([`has_room`](View::has_room)); then nothing is changed. The call submits nothing: [`View::go_on`] does.
+    /// It takes no memory.
     pub fn order_all(&mut self, wanted: &[Wanted], last: u64) -> Option<u64>
         ensures orders { AddsAll wanted.now last self.old.orders result self.new.orders }
         ensures rest { self.new ≡ record self.old { orders = self.new.orders } }
@@ -335,7 +336,7 @@ impl View {
     /// Takes one turn of the panel: receives once, at a socket for at most 50 ms, and sends what is due (*profile*).
     /// Then it takes the answers that came, and notes what they say: the results of orders, and what is known of the
     /// device. The only refusal is `NoMemory`, if memory was refused; datagrams were then received and sent all the
-    /// same, and something may be missing in what is known.
+    /// same, and facts about the device may be missing.
     #[tactic(auto, using(crate::proofs::WalkLemmas::keeps_stays, crate::proofs::WalkLemmas::stays_on, crate::proofs::StepLemmas::answer_rules))]
     pub fn take_turn<E: End>(&mut self, panel: &mut Panel<E>) -> Result<(), NoMemory>
         ensures orders { TurnsAndSettles self.old.ahead self.old.news.heard self.old.orders panel.old self.new.news.heard
@@ -364,10 +365,10 @@ impl View {
 
     /// Does what must be done after a turn, and sends commands at once (*profile*). If the device changed since the
     /// walk, another walk begins. If the link is lost or late, all orders end as lost, and a new link and a new walk
-    /// begin. Then the waiting orders are submitted, except those whose last moment has passed: they end as not sent.
+    /// begin. Then the waiting orders are submitted, except orders whose last moment has passed: these end as not sent.
     /// Then questions are submitted, as far as there is room. Nothing is submitted once half of the handles are used.
-    /// The only refusal is `NoMemory`, if memory was refused; what comes after it is left out, and something may be
-    /// missing in what is known.
+    /// The only refusal is `NoMemory`, if memory was refused. The steps after the refusal are then left out, and facts
+    /// about the device may be missing.
     #[tactic(auto, using(crate::proofs::WalkLemmas::walk_rules))]
     pub fn go_on<E: End>(&mut self, panel: &mut Panel<E>) -> Result<(), NoMemory>
         ensures orders { Continues self.old.reach self.old.first_handle self.old.next_handle self.old.ahead
@@ -567,9 +568,10 @@ impl View {
         leaves_half(lowest, self.next_handle, self.reach.span.get())
     }
 
-    /// Returns the moment, in milliseconds of the program's clock, from which something must be read again (*profile*).
+    /// Returns the moment, in milliseconds of the program's clock, from which an object must be read again (*profile*).
     /// The moment can already be past. What the link has to send is not counted. The result is `None` if no page is
-    /// open, or a walk or a round has not ended; it goes on when an answer comes. The call changes nothing.
+    /// open, or a walk or a round has not ended; a walk or a round goes on when an answer comes. The call changes
+    /// nothing.
     pub fn next_moment(&self) -> Option<u64> {
         self.inventory.next_moment(self.news.now)
     }
