@@ -66,9 +66,9 @@ pub fn law_of_copies()
 /// - A command with the status OK asked one request of one object. The request changed the object, and the parameters
 ///   are the object's answer.
 /// - A command with any other status changed nothing.
-/// - A command that writes to an object whose hardware refuses ([`Tree::set_failing`](Tree::set_failing)) does not get
-///   the status OK, and changed nothing.
-/// - A value that was set is read again, with the limits that the object had.
+/// - A command that writes to an object whose hardware refuses changes ([`Tree::set_failing`](Tree::set_failing)) does
+///   not get the status OK, and changed nothing.
+/// - After a value of the object's class was set, reading returns this value, with the limits that the object had.
 /// - An answer that fits into a response is an answer of the object's class and of the kind of its method. This law is
 ///   for objects whose texts and numbers fit their types.
 pub fn law_of_typed_requests()

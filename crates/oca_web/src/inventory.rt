@@ -490,10 +490,10 @@ impl Inventory {
     }
 
     /// Notes how an order ended (`done`): whose lock is on its object, and what the object is set to (*profile*). Then
-    /// the device is asked again: for the object's label after an order for a label, otherwise for its value, if it has
-    /// one. An answer to the same question that is still in flight is not used, since it can be older than the order.
-    /// If the order's object is not known, nothing is changed. The call sends nothing. The only refusal is `NoMemory`,
-    /// if memory was refused; the object may then not be asked again.
+    /// a question is put before all questions that wait: for the object's label after an order for a label, otherwise
+    /// for its value, if it has a value. The call itself sends nothing. An answer to the same question that is still in
+    /// flight is not used, since it can be older than the order. If the order's object is not known, nothing is
+    /// changed. The only refusal is `NoMemory`, if memory was refused; the question is then not put.
     pub fn learn_order(&mut self, order: Order, done: Result<(), Trouble>) -> Result<(), NoMemory>
         ensures walk { KeepsWalk self.old self.new }
         ensures learns { LearnsOrder order done self.old self.new }

@@ -154,7 +154,8 @@ pub fn word_in(reading: Reading) -> Text {
     word_of(reading.value())
 }
 
-/// Returns the name of a class in the answers to the page, such as `mute` (*profile*). The result is `unknown` for
+/// Returns the name of a class in the answers to the page (*profile*): `block`, `mute`, `polarity`, `switch`,
+/// `boolean`, `int8`, `int16`, `int32`, `int64`, `uint8`, `uint16`, `uint32` or `uint64`. The result is `unknown` for
 /// `None`, a class that this profile does not have. The call refuses nothing.
 pub fn class_name(class: Option<Class>) -> &'static str
     ensures { result.now ≡ name_of_class class }
@@ -177,9 +178,9 @@ pub fn class_name(class: Option<Class>) -> &'static str
     }
 }
 
-/// Returns whether a text is the name of a class of this profile in the answers to the page (*profile*): `block`,
-/// `mute`, `polarity`, `switch`, `boolean`, or an integer such as `int8` or `uint64`. The result is `false` for any
-/// other text, also for `unknown`.
+/// Returns whether a text is the name of a class of this profile in the answers to the page (*profile*). The names are
+/// `block`, `mute`, `polarity`, `switch`, `boolean`, `int8`, `int16`, `int32`, `int64`, `uint8`, `uint16`, `uint32` and
+/// `uint64`. The result is `false` for any other text, also for `unknown`.
 pub fn is_class_name(name: &str) -> bool {
     matches!(
         name,

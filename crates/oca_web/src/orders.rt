@@ -98,7 +98,8 @@ impl Orders {
     /// Adds the orders `wanted` after all others, in their order, and returns the ticket of the first (*profile*). The
     /// other orders have the next tickets, in their order. `last` is the moment, in milliseconds of the program's
     /// clock, after which these orders must not be submitted. The result is `None` if there is no room for all these
-    /// orders ([`has_room`](Orders::has_room)); then nothing is changed. The call submits nothing and takes no memory.
+    /// orders ([`has_room`](Orders::has_room)); then nothing is changed. If `wanted` is empty, the result is the next
+    /// ticket, and no order is added. The call submits nothing and takes no memory.
     pub fn add_all(&mut self, wanted: &[Wanted], last: u64) -> Option<u64>
         ensures { AddsAll wanted.now last self.old result self.new }
     {

@@ -30,13 +30,14 @@ pub fn submit_first<E: End>(orders: &mut Orders, panel: &mut Panel<E>, ahead: u6
     }
 }
 
-/// Submits the orders that wait, in the order in which they came, each once (*profile*). `ahead` is by how many
-/// milliseconds the program's clock, in which orders have their last moments, is ahead of the clock of the panel's end.
-/// The call refuses nothing. It stops in each of these cases; the orders that still wait then stay, and the next call
-/// tries them first:
+/// Submits the orders that wait, in the order in which they came, each once (*profile*). Each command is sent at once.
+/// `ahead` is by how many milliseconds the program's clock, in which orders have their last moments, is ahead of the
+/// clock of the panel's end. The call refuses nothing. It stops in each of these cases; the orders that still wait then
+/// stay, and the next call tries them first:
 /// - 32 orders are in flight, or an order for the same object is in flight.
 /// - The last moment of the next order has passed.
-/// - The link refuses the command: it is lost or late, its span is full, or its handles are used up.
+/// - The link refuses the command: it is lost or late ([`View`](crate::View)), its span is full, or its handles are
+///   used up.
 #[tactic(auto, using(crate::proofs::StepLemmas::submit_rules))]
 pub fn submit_orders<E: End>(orders: &mut Orders, panel: &mut Panel<E>, ahead: u64)
     ensures submits { SubmitsOrders ahead orders.old panel.old orders.new panel.new }
@@ -107,9 +108,10 @@ pub fn settle_orders<E: End>(orders: &mut Orders, panel: &mut Panel<E>) -> Array
     all
 }
 
-/// Returns whether the link is lost or late, and if so, ends all orders (*profile*). The orders in flight are then
-/// stored as lost (they may have been carried out), and those that wait as not sent. If the link is neither lost nor
-/// late, nothing is changed. The call sends nothing.
+/// Ends all orders if the link is lost or late, and returns whether it is (*profile*; [`View`](crate::View) says when a
+/// link is lost or late). The orders in flight are then stored as lost (they may have been carried out), and the orders
+/// that wait as not sent. If the link is neither lost nor late, the result is `false`, and nothing is changed. The call
+/// sends nothing and takes no memory.
 pub fn lose_orders<E: End>(orders: &mut Orders, panel: &Panel<E>) -> bool
     ensures { LosesOrders result panel.now orders.old orders.new }
 {

@@ -53,9 +53,11 @@ pub enum NoOrder {
 }
 
 /// A view of a device (*profile*): what is known of the device, the orders of the pages, and the state of the link. The
-/// link itself is in a [`Panel`], which is passed to each call that needs it. Over an *end*, which is a socket, a view
-/// submits commands with rising handles; later it can go on over another end. The *program's clock* counts milliseconds
-/// over all ends, and never goes back.
+/// link itself is in a [`Panel`], which is passed to each call that needs it.
+///
+/// Over an *end*, which is a socket, a view submits commands with rising handles; later it can go on over another end.
+/// A link is *lost* if a command was sent 20 times without an answer. A link is *late* if a command is unanswered more
+/// than 15,000 ms after its submission. The *program's clock* counts milliseconds over all ends, and never goes back.
 #[derive(Drop)]
 pub struct View {
     reach: Reach,
@@ -324,8 +326,8 @@ impl View {
     /// Adds the orders `wanted` after all others, in their order, and returns the ticket of the first (*profile*). The
     /// other orders have the next tickets, in their order. `last` is the moment, in milliseconds of the program's
     /// clock, after which these orders must not be submitted. The result is `None` if there is no room for all these
-    /// orders ([`has_room`](View::has_room)); then nothing is changed. The call submits nothing: [`View::go_on`] does.
-    /// It takes no memory.
+    /// orders ([`has_room`](View::has_room)); then nothing is changed. If `wanted` is empty, the result is the next
+    /// ticket, and no order is added. The call submits nothing: [`View::go_on`] does. It takes no memory.
     pub fn order_all(&mut self, wanted: &[Wanted], last: u64) -> Option<u64>
         ensures orders { AddsAll wanted.now last self.old.orders result self.new.orders }
         ensures rest { self.new ≡ record self.old { orders = self.new.orders } }
