@@ -196,11 +196,11 @@ pub fn holds_responses(packet: &Packet) -> bool
     packet.as_slice().get(PDU_TYPE_AT) == Some(&RESPONSES)
 }
 
-/// Adds a response to the packet, which must be exactly one PDU of responses (AES70-3, a premise; [`holds_responses`]).
-/// Afterwards the packet is one PDU with all these responses, the new one last. `handle` is the handle of the command,
-/// and `reply` its status, ParamCount and parameters. The packet grows by 10 bytes and the bytes of the parameters. The
-/// only refusal is `TooLong`, if the packet would have more than 1,472 bytes; the packet is then unchanged. The call
-/// sends nothing and takes no memory.
+/// Adds a response to the packet, which must be exactly one PDU of responses (AES70-3; a premise, which the caller must
+/// prove). [`holds_responses`] says whether a PDU is one of responses. Afterwards the packet is one PDU with all these
+/// responses, the new one last. `handle` is the handle of the command, and `reply` its status, ParamCount and
+/// parameters. The packet grows by 10 bytes and the bytes of the parameters. The only refusal is `TooLong`, if the
+/// packet would have more than 1,472 bytes; the packet is then unchanged. The call sends nothing and takes no memory.
 #[inline(always)]
 pub fn extend_response(packet: &mut Packet, handle: Handle, reply: &Reply) -> Result<(), WriteFault>
     requires { HoldsResponses packet.old.items }

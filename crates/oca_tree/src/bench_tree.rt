@@ -120,10 +120,10 @@ fn desk(alloc: Global, room: Room) -> Result<TreeBuilder, AddFault>
 }
 
 /// Returns a small tree of objects for tests, called the bench device (*profile*). Under the root is the block 4096,
-/// `desk`, with six objects. The mute is 4097, the polarity 4098, and the switch 4099 with the positions Line, Mic and
-/// Off. The Int16 actuator is 4100 (0, from -600 to 600), the Boolean actuator 4101, and the Uint8 actuator 4102 (10,
-/// from 0 to 100). All of them except 4102 can be locked. The tree has memory for 128 objects, which the call takes
-/// from `alloc`. The only refusal is `NoMemory`, if the allocator refused memory.
+/// `desk`, with six objects. The mute is 4097 (muted), the polarity 4098 (non-inverted), and the switch 4099 (at Line,
+/// with the positions Line, Mic and Off). The Int16 actuator is 4100 (0, from -600 to 600), the Boolean actuator 4101
+/// (off), and the Uint8 actuator 4102 (10, from 0 to 100). All of them except 4102 can be locked. The call takes the
+/// memory for 128 objects from `alloc`. The only refusal is `NoMemory`, if the allocator refused memory.
 pub fn bench(alloc: Global) -> Result<Tree, AddFault>
     ensures ok { IfOk result (λ tree. tree ≡ bench_objects) }
     ensures err { IfErr result (λ e. e ≡ NoMemory) }

@@ -53,7 +53,8 @@ pub enum NoOrder {
 }
 
 /// A view of a device (*profile*): what is known of the device, the orders of the pages, and the state of the link. The
-/// link itself is in a [`Panel`], which is passed to each call that needs it.
+/// link itself is in a [`Panel`], which is passed to each call that needs it. [`Inventory`] says what a walk, a round
+/// and a place are, and [`Orders`] what an order and a ticket are.
 ///
 /// Over an *end*, which is a socket, a view submits commands with rising handles; later it can go on over another end.
 /// A link is *lost* if a command was sent 20 times without an answer. A link is *late* if a command is unanswered more
