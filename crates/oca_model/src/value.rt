@@ -138,7 +138,7 @@ impl Value {
 
     /// Appends the encoding of the value to the parameters (AES70-3): from 1 to 8 bytes. A mute or a polarity has the
     /// number of its state as one byte, 1 or 2. The only refusal is `Full`, if the parameters would have more than
-    /// 1,452 bytes in all; then discard the parameters. The call takes no memory.
+    /// 1,452 bytes in all; the parameters are then unchanged. The call takes no memory.
     #[tactic(auto, unfolding(crate::specs::Values::value_encoding))]
     pub fn put(self, params: &mut Params) -> Result<(), PutFault>
         ensures { Puts result params.old.items params.new.items (value_encoding self) }

@@ -170,7 +170,7 @@ fn serve_piece<L: Language, W: Sink>(
 /// form of a script is the profile's). `state` is what the requests act on. `room` is memory for serving them, whose
 /// old content does not matter. What waits in `printer` is written first, then the text of the requests. Before each
 /// read [`Language::before_read`] is called, so that a read that can wait begins only if nothing is in flight. The call
-/// takes no memory. Refusals:
+/// itself takes no memory. Refusals:
 /// - `Line` if a line is bad, with the number of the first such line, counted from 1, and its fault.
 /// - `TooMuch` if the script has more than 16,777,216 bytes, and no line within them is bad. After `Line` and
 ///   `TooMuch`, all requests before were served, and their text was written.

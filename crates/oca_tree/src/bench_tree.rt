@@ -170,11 +170,11 @@ fn add_strip(builder: &mut TreeBuilder, first: u32) -> Result<(), AddFault>
 }
 
 /// Returns the tree of [`bench`] with `channels` more blocks under its root, the channel strips (*profile*). A strip is
-/// a block with the role `strip` that contains a mute, a polarity and an Int16 actuator `trim` (0, from -600 to 600).
-/// All four can be locked. Their numbers follow each other from 4103 on. With 0 channels the objects are those of
-/// [`bench`]. The call takes memory from `alloc` for exactly these objects. Refusals, the first that applies: `Full` if
-/// `channels` is above 1,022, since a tree has at most 4,096 objects; no memory is then taken. `NoMemory` if the
-/// allocator refused memory.
+/// a block with the role `strip` that contains a mute (muted), a polarity (non-inverted) and an Int16 actuator `trim`
+/// (0, from -600 to 600). All four can be locked. Their numbers follow each other from 4103 on. With 0 channels the
+/// objects are those of [`bench`]. The call takes memory from `alloc` for exactly these objects. Refusals, the first
+/// that applies: `Full` if `channels` is above 1,022, since a tree has at most 4,096 objects; no memory is then taken.
+/// `NoMemory` if the allocator refused memory.
 pub fn bench_with_channels(alloc: Global, channels: u16) -> Result<Tree, AddFault>
     ensures ok { IfOk result (λ tree. tree ≡ bench_with channels) }
     ensures most { 1022 < channels → IsErrOf result Full }

@@ -127,12 +127,15 @@ impl Tree {
     /// before is lost. The status is the first of this list that applies (*profile*), and OK if none does. With each
     /// status except OK no object is changed, `out` is empty, and ParamCount is 0. The call takes no memory.
     /// - `BadOno` if no object has the number; `BadMethod` if its class has no such method; `NotImplemented` if the
-    ///   method is left out.
-    /// - `Locked` if another peer's lock forbids the access.
-    /// - `ParameterError` if ParamCount or the bytes are not the method's parameters.
-    /// - `ParameterOutOfRange` if a parameter is out of range.
-    /// - `InvalidRequest` if a lock is asked of an object that cannot be locked, or a release of one without a lock.
-    /// - `BufferOverflow` if the answer has more than 1,452 bytes.
+    ///   method is left out ([`MethodKind::LeftOut`](oca_types::MethodKind::LeftOut)).
+    /// - `Locked` if another peer's lock forbids the access ([`LockKind`]).
+    /// - `ParameterError` if ParamCount or the bytes are not the method's parameters, or a list has not one item for
+    ///   each position.
+    /// - `ParameterOutOfRange` if a state is not listed, a setting is outside its limits, the switch has no such
+    ///   position, or the position to be set is disabled.
+    /// - `InvalidRequest` if the command locks an object that cannot be locked, or unlocks an object that is not
+    ///   locked.
+    /// - `BufferOverflow` if the answer would have more than 1,452 bytes.
     /// - `ProcessingFailed` if the command writes and the object's hardware refuses
     ///   ([`set_failing`](Tree::set_failing)).
     #[inline(always)]

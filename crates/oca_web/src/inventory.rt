@@ -160,8 +160,8 @@ impl Inventory {
 
     /// Returns whether an answer showed that the device changed since the walk, so that another walk must begin
     /// (*profile*). This is so if a block lists other members than it listed in the walk. It is also so if the device
-    /// no longer has an object, or has an object of another class under its number. The result is `false` at first, and
-    /// again after [`begin_anew`](Inventory::begin_anew).
+    /// answers a question about a known object with BadONo, with BadMethod or with an answer of another class. The
+    /// result is `false` at first, and again after [`begin_anew`](Inventory::begin_anew).
     pub fn is_stale(&self) -> bool
         ensures { result ≡ self.now.is_stale }
     {

@@ -121,8 +121,9 @@ impl Poll {
 
     /// Notes that a page asked for values at the moment `now`, in milliseconds of the program's clock (*profile*). The
     /// page shows `visible` objects (a number above 512 counts as 512) from the place `first` on, which is counted from
-    /// 0. The page counts as open for 2,500 ms. At most 128 pages are stored: if there are more, the one that asked
-    /// longest ago is replaced. The call takes no memory.
+    /// 0. The page counts as open for 2,500 ms. At most 128 ranges of objects are stored. A new range replaces an equal
+    /// range, or else one that is no longer open. If there is neither and 128 are stored, it replaces the range of the
+    /// page that asked longest ago. The call takes no memory.
     pub fn open(&mut self, now: u64, first: usize, visible: usize)
         ensures { OpensPage now (page_asked now first visible) self.old.pages.items self.new.pages.items }
     {

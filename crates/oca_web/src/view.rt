@@ -367,11 +367,11 @@ impl View {
     }
 
     /// Does what must be done after a turn, and sends commands at once (*profile*). If the device changed since the
-    /// walk, another walk begins. If the link is lost or late, all orders end as lost, and a new link and a new walk
-    /// begin. Then the waiting orders are submitted, except orders whose last moment has passed: these end as not sent.
-    /// Then questions are submitted, as far as there is room. Nothing is submitted once half of the handles are used.
-    /// The only refusal is `NoMemory`, if memory was refused. The steps after the refusal are then left out, and facts
-    /// about the device may be missing.
+    /// walk, another walk begins. If the link is lost or late, the orders in flight end as lost and the waiting orders
+    /// as not sent, and a new link and a new walk begin. Then the waiting orders are submitted, except orders whose
+    /// last moment has passed: these end as not sent. Then questions are submitted, as far as there is room. Nothing is
+    /// submitted once half of the handles are used. The only refusal is `NoMemory`, if memory was refused. The steps
+    /// after the refusal are then left out, and facts about the device may be missing.
     #[tactic(auto, using(crate::proofs::WalkLemmas::walk_rules))]
     pub fn go_on<E: End>(&mut self, panel: &mut Panel<E>) -> Result<(), NoMemory>
         ensures orders { Continues self.old.reach self.old.first_handle self.old.next_handle self.old.ahead

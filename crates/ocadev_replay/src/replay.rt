@@ -118,8 +118,8 @@ fn datagram<W: Sink>(
 
 /// Replays a script on the device: reads the source to its end, does what each line asks, and prints the answers after
 /// what waits in the printer (the form of a script is the profile's). A line `N P HEX` is a datagram of the peer P at
-/// the moment N in milliseconds; a line `N quiet` only moves the clock to N. The outbox is emptied before each
-/// datagram, and its old content does not matter. The call takes no memory. Faults:
+/// the moment N in milliseconds; a line `N quiet` is a reading of the clock at the moment N. The outbox is emptied
+/// before each datagram, and its old content does not matter. The call takes no memory. Faults:
 /// - `Line` if a line is bad, with the number of the first such line, counted from 1, and its fault.
 /// - `TooMuch` if the script has more than 16,777,216 bytes, and no line within them is bad. After `Line` and
 ///   `TooMuch`, all lines before were replayed, and their text was written.
