@@ -128,7 +128,7 @@ impl Tree {
     /// status except OK no object is changed, `out` is empty, and ParamCount is 0. The call takes no memory.
     /// - `BadOno` if no object has the number; `BadMethod` if its class has no such method; `NotImplemented` if the
     ///   method is left out ([`MethodKind::LeftOut`](oca_types::MethodKind::LeftOut)).
-    /// - `Locked` if another peer's lock forbids the access ([`LockKind`]).
+    /// - `Locked` if another peer's lock forbids the access ([`LockKind`](crate::LockKind)).
     /// - `ParameterError` if ParamCount or the bytes are not the method's parameters, or a list has not one item for
     ///   each position.
     /// - `ParameterOutOfRange` if a state is not listed, a setting is outside its limits, the switch has no such
