@@ -1,15 +1,14 @@
 //! The page: one document with its style and its script, made by `tools/page.py` from the files in `page/`.
 
-/// The content of the header field Content-Security-Policy for the page. The page may run its own script, use its own
-/// style, and ask the panel that sent it, and nothing else. The hashes in it are those of the script and the style in
-/// [`PAGE`]; `tools/panel.py` compares them.
+/// What the page may do: run its own script, use its own style, and ask the panel that sent it, and nothing else. The
+/// hashes are those of the script and of the style below; `tools/panel.py` compares them.
 pub const POLICY: &str =
     "default-src 'none'; style-src 'sha256-SvQg9NdoR2fQpA0JcHBnPvc1vGqHVKG473BDSVkB1hc='; \
      script-src 'sha256-j3zrEyy70UHnW33Zhpm9N2kSLQeg6cKYibstY5MpYB0='; connect-src 'self'; \
      frame-ancestors 'none'; base-uri 'none'; form-action 'none'";
 
-/// The page: one HTML document with its style and its script. It asks for `/tree` and `/values`, and sends orders to
-/// `/orders`. What comes from the device is written into it as text and as properties only, never as HTML.
+/// The page. It asks for `/tree` and `/values`, and sends orders to `/orders`. What comes from the device goes into it by
+/// `textContent` and by properties alone, never as HTML.
 pub const PAGE: &str = r###"<!doctype html>
 <html lang="en"><head><meta charset="utf-8"><title>OCA panel</title>
 <meta name="viewport" content="width=device-width,initial-scale=1">

@@ -189,9 +189,9 @@ impl View {
         u64::from(self.next_handle.saturating_sub(self.first_handle))
     }
 
-    /// Returns whether half of the handles are used, counted from the first handle of this end to 2^32 - 1 (*profile*).
-    /// Then nothing more is submitted over this end. At first the result is `false`, except if the first handle is 2^32
-    /// - 1.
+    /// Returns whether half of the handles are used, counted from the first handle of this end to the greatest handle,
+    /// 4,294,967,295 (*profile*). Then nothing more is submitted over this end. At first the result is `false`, except
+    /// if the first handle is the greatest.
     pub fn is_spent(&self) -> bool
         ensures { result ≡ half_spent self.now.first_handle self.now.next_handle }
     {
