@@ -49,9 +49,9 @@ fn has_fields(class: Class, fields: &[u16]) -> bool
     class_fields(class).as_slice() == fields
 }
 
-/// Returns the class whose identifier has these fields (OcaClassID, AES70-2), such as `Mute` for 1, 1, 1, 2. All fields
-/// must match, and their number. The result is `None` if none of the 13 classes of this profile has these fields. The
-/// call takes no memory.
+/// Returns the class whose identifier has these fields (OcaClassID, AES70-2), such as `Mute` for 1, 1, 1, 2. The fields
+/// and their number must match exactly. The result is `None` if none of the 13 classes of this profile has these
+/// fields. The call takes no memory.
 #[tactic(auto, unfolding(crate::specs::Members::class_with))]
 pub fn class_with(fields: &[u16]) -> Option<Class>
     ensures { result ≡ class_with fields.now }

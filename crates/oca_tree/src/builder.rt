@@ -522,8 +522,8 @@ impl TreeBuilder {
     /// - `NoSuchBlock` if the container is no block of the tree.
     /// - `TooDeep` if the object would be at depth 9; the root is at depth 1.
     /// - `BadText` if the role is empty, or the role or the name of a position has more than 64 bytes.
-    /// - `BadRange` if the setting is outside its limits. Also if a switch does not have 1 to 16 positions, or its
-    ///   position is not one of them.
+    /// - `BadRange` if the setting is outside its limits, a switch does not have 1 to 16 positions, or its position is
+    ///   not one of them.
     pub fn add(&mut self, container: Ono, ono: Ono, spec: &Spec<'_>) -> Result<(), AddFault>
         ensures { Adds result self.old self.new container.0 ono.0 spec.now }
     {

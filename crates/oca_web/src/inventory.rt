@@ -139,7 +139,8 @@ impl Inventory {
     }
 
     /// Returns the objects that were found so far, in the order in which they were found, a block before its members
-    /// (*profile*). At first this is the root alone. The call refuses nothing and takes no memory.
+    /// (*profile*). At first this is the root alone, which has the number 100. The call refuses nothing and takes no
+    /// memory.
     pub fn objects(&self) -> &Objects {
         &self.objects
     }

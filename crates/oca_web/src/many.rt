@@ -36,9 +36,10 @@ fn whole(status: StatusCode) -> Refusal
 /// Reads the orders of a body in JSON (*profile*). The body is an object with `run`, the number of a run of the program
 /// as a text, and `orders`, a list of 1 to 64 orders. It may also have `before`, the last moment in milliseconds of the
 /// program's clock. Each order has the number `ono` of its object, and one of `set` with a word, `label` with a text,
-/// `lock` with true and `unlock` with true. `known` is what is known of the device, and `run` the number of this run.
-/// Returns the orders, and the last moment at which they may be submitted (`None` if the body gives none). Nothing is
-/// ordered yet. A refusal has the status of the first fault that is found:
+/// `lock` with true and `unlock` with true; if there are several, the first in this order counts. `known` is what is
+/// known of the device, and `run` the number of this run. Returns the orders, and the last moment at which they may be
+/// submitted (`None` if the body gives none). Nothing is ordered yet. A refusal has the status of the first fault that
+/// is found:
 /// - 400 if the body or an order does not have this form, and 409 if the body names another run.
 /// - 404 if an order's object is not known.
 /// - 422 if an order's word is no value of its object, or its label is too long or has a control character.

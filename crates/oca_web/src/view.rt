@@ -276,8 +276,8 @@ impl View {
         true
     }
 
-    /// Returns whether an object with this number was found on the device so far (*profile*). The result is `false` for
-    /// each number at first. The call sends nothing.
+    /// Returns whether an object with this number was found on the device so far (*profile*). At first only the root is
+    /// known, which has the number 100. The call sends nothing.
     pub fn knows(&self, ono: Ono) -> bool {
         self.inventory.class_of(ono).is_some()
     }
