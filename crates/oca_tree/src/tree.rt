@@ -123,18 +123,18 @@ impl Tree {
     }
 
     /// Executes a command of a peer: calls the method on the object and writes the answer's parameters into `out`
-    /// (AES70-2). Returns the status and ParamCount, and whether the command wrote to its object. What `out` contained
-    /// before is lost. The status is the first of this list that applies (*profile*), and OK if none does. With each
-    /// status except OK no object is changed, `out` is empty, and ParamCount is 0. The call takes no memory.
-    /// - `BadOno` if no object has the number; `BadMethod` if its class has no such method; `NotImplemented` if the
-    ///   method is left out ([`MethodKind::LeftOut`](oca_types::MethodKind::LeftOut)).
+    /// (AES70-2). What `out` contained before is lost. Returns the status and ParamCount, and whether the command wrote
+    /// to its object. With each status except OK no object is changed, `out` is empty, and ParamCount is 0. The call
+    /// takes no memory. The status is the first of this list that applies (*profile*), and OK if none does:
+    /// - `BadOno` if no object has the number.
+    /// - `BadMethod` if its class has no such method; `NotImplemented` if the device leaves the method out
+    ///   ([`method_of`](oca_types::method_of)).
     /// - `Locked` if another peer's lock forbids the access ([`LockKind`](crate::LockKind)).
     /// - `ParameterError` if ParamCount or the bytes are not the method's parameters, or a list has not one item for
     ///   each position.
-    /// - `ParameterOutOfRange` if a state is not listed, a setting is outside its limits, the switch has no such
-    ///   position, or the position to be set is disabled.
-    /// - `InvalidRequest` if the command locks an object that cannot be locked, or unlocks an object that is not
-    ///   locked.
+    /// - `ParameterOutOfRange` if a state is not listed, a setting is outside its limits, or a position is missing or,
+    ///   to be set, disabled.
+    /// - `InvalidRequest` if the command locks an object that cannot be locked, or unlocks one that is not locked.
     /// - `BufferOverflow` if the answer would have more than 1,452 bytes.
     /// - `ProcessingFailed` if the command writes and the object's hardware refuses
     ///   ([`set_failing`](Tree::set_failing)).
