@@ -81,14 +81,16 @@ impl Slot {
         self.window.clear();
     }
 
-    /// Returns the peer whose session the slot has (*profile*).
+    /// Returns the peer whose session the slot has, or had last (*profile*). It is 0.0.0.0 with port 0 if no session
+    /// had the slot yet.
     pub fn peer(&self) -> Peer
         ensures { result ≡ self.now.peer }
     {
         self.peer
     }
 
-    /// Returns whether the slot has the session of this peer: the same address and port (*profile*).
+    /// Returns whether the slot has the session of this peer: the same address and port (*profile*). The call does not
+    /// check that the session still stays.
     pub fn is_of(&self, peer: Peer) -> bool
         ensures { result ≡ is_of peer self.now }
     {

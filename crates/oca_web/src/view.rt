@@ -210,11 +210,11 @@ impl View {
     }
 
     /// Notes that the panel goes on over another end, with a new link whose first handle is `first` (*profile*).
-    /// `moment` is the present moment of the new end, and `last` the last moment of the old end, each in milliseconds
-    /// of the end's clock. `sent` is how many datagrams the old end sent. Returns `true` if the program was suspended
-    /// for more than 2,000 ms before `last`, as [`View::note`] does. Then the orders that wait end as not sent;
-    /// otherwise they stay. What is known of the device stays. The call sends nothing, refuses nothing and takes no
-    /// memory.
+    /// `moment` is the present moment of the new end, in milliseconds of its clock. `last` is the last moment of the
+    /// old end, in milliseconds of its clock, and `sent` is how many datagrams the old end sent. Returns `true` if the
+    /// program was suspended for more than 2,000 ms before `last`, as [`View::note`] does. Then the orders that wait
+    /// end as not sent; otherwise these orders stay. What is known of the device stays. The call sends nothing, refuses
+    /// nothing and takes no memory.
     pub fn take_end(&mut self, first: Handle, moment: u64, last: u64, sent: u64) -> bool
         ensures now { self.new.news.now ≡ moment_noted self.old.ahead last self.old.news.now }
         ensures stood { result ≡ stood_still self.old.news.now self.new.news.now }
