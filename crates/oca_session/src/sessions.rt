@@ -37,11 +37,11 @@ pub enum Admission {
 ///
 /// A peer is *known* while it has a session. The *reply window* of a session contains its last accepted commands with
 /// their replies; [`keep`](Sessions::keep) stores an accepted command. The *heartbeat* of a peer is the interval, in
-/// milliseconds, at which it said that it would send. Moments are in milliseconds of one clock, which the caller reads.
-/// The present moment is the latest that [`advance`](Sessions::advance), [`advance_into`](Sessions::advance_into) and
-/// [`hear`](Sessions::hear) were given, and 0 at first. The *silence* of a session is the time from the moment when its
-/// peer was last heard to the present moment. A session is *forgotten* when it is removed, after a silence of more than
-/// 120,000 ms.
+/// milliseconds, at which it said that it would send: 5,000 ms at first, and from 250 to 30,000 ms. Moments are in
+/// milliseconds of one clock, which the caller reads. The present moment is the latest that
+/// [`advance`](Sessions::advance), [`advance_into`](Sessions::advance_into) and [`hear`](Sessions::hear) were given,
+/// and 0 at first. The *silence* of a session is the time from the moment when its peer was last heard to the present
+/// moment. A session is *forgotten* when it is removed, after a silence of more than 120,000 ms.
 #[derive(Drop)]
 pub struct Sessions {
     sizes: Sizes,
