@@ -19,8 +19,8 @@ use oca_pdu::law_one_list_of_messages;
 /// 32 bits is left. The next handle is not below each one in flight plus the span. The parameters have more than 1,445
 /// bytes.
 ///
-/// Sending: what is sent for a handle has the same bytes each time: a PDU of type 1 with its command alone. It is sent
-/// at most 20 times, at least 250 ms apart by the link's clock, which is the latest moment so far.
+/// Sending: what is sent for a handle has the same bytes each time: a PDU of type 1 with its command alone (AES70-3).
+/// It is sent at most 20 times, at least 250 ms apart by the link's clock, which is the latest moment so far.
 /// [`due`](crate::Link::due) returns the lowest handle that is unanswered and was not sent for 250 ms. If there is no
 /// such handle, it returns a keep-alive if nothing was sent for 2,500 ms, and otherwise nothing. The link is lost
 /// exactly if `due` finds a handle that was sent 20 times.
@@ -43,16 +43,17 @@ pub fn law_of_histories()
     law_one_list_of_messages();
 }
 
-/// Law: one answer that comes is enough. Take a well-formed datagram of the device with a response to a command in
-/// flight, whatever else is in the datagram. From then on the link holds an answer to this command, until a take of its
-/// handle returns it: the first that came. The function does nothing at run time.
+/// Law: once an answer to a command has come, the link has an answer to that command until it is taken. Take a
+/// well-formed datagram of the device with a response to a command in flight, whatever else is in the datagram. From
+/// then on the link stores the first answer that came, until a take of its handle returns it. The function does nothing
+/// at run time.
 pub fn law_of_answering()
     ensures { EveryAnswerIsKept }
 {}
 
-/// Law: a link goes on sending. A command is due while it is unanswered, and was never sent, or was last sent 250 ms
-/// ago or earlier. If k commands are due at a moment, each of them is sent within k calls of `due` at that moment, or
-/// the link is lost.
+/// Law: a link that is asked often enough sends each command again until it has its answer or is lost. A command is due
+/// while it is unanswered, and was never sent, or was last sent 250 ms ago or earlier. If k commands are due at a
+/// moment, each of them is sent within k calls of `due` at that moment, or the link is lost.
 ///
 /// Take a link whose `due` is called at least every `ms` milliseconds from the submit of a command on, each time until
 /// it does not return `Send`. It sends the command within `ms` of its submit, and again less than `250 + ms` after each
