@@ -93,9 +93,9 @@ fn handles_in(seconds: u64, microseconds: u32) -> u128
     u128::from(seconds) * 100_000 + u128::from(microseconds / 10)
 }
 
-/// Law: take two runs that start on the same port, the second at a later moment of the system's clock. Then the second
-/// run's first handle is higher, or the second run starts more than 21,474 seconds after the first. The function does
-/// nothing at run time.
+/// Law: of two runs on the same port of [`OwnPort`], the later one has the higher first handle, or begins more than
+/// 21,474 seconds after the other. Later means at a later moment of the system's clock. The function does nothing at
+/// run time.
 pub fn law_of_turns()
     ensures { HandlesRiseOrRest }
 {}
