@@ -421,153 +421,153 @@ static inline void oca_device_close_any(struct oca_device *device) {
 #define oca_device_close(device) oca_device_close_any(device)
 
 /* Adds the object that `spec` describes to the tree, before the start. `ono` is the object's number, and `container` is
- * the number of the block that contains it (100 for the root). Returns OCA_DONE. Otherwise the first of these that
- * applies, and then nothing is changed. OCA_CLOSED if the device is closed. OCA_STARTED after its start. OCA_BAD_SIZE
- * if the struct is of another size or has another byte in its zeros. OCA_BAD_RANGE if it has more than 16 positions.
- * OCA_BAD_TEXT if the role, the label or a name is not UTF-8 or has more than 64 bytes. OCA_NO_VALUE if the reading is
- * none that an object can have. OCA_FULL if there is no room for another object. OCA_RESERVED if `ono` is below 4,096.
- * OCA_TAKEN if an object has that number. OCA_NO_SUCH_BLOCK if no block has the number `container`. OCA_TOO_DEEP if the
- * object would be at depth 9 (the root is at depth 1). OCA_BAD_TEXT if the role is empty. OCA_BAD_RANGE if the setting
- * is outside its limits, or a switch has no position. */
+ * the number of the block that contains it (the number of the root is 100). Returns OCA_DONE. Otherwise the first of
+ * these that applies, and then nothing is changed. OCA_CLOSED if the device is closed. OCA_STARTED after its start.
+ * OCA_BAD_SIZE if the struct is of another size or has another byte in its zeros. OCA_BAD_RANGE if it has more than 16
+ * positions. OCA_BAD_TEXT if the role, the label or a name is not UTF-8 or has more than 64 bytes. OCA_NO_VALUE if the
+ * reading is none that an object can have. OCA_FULL if there is no room for another object. OCA_RESERVED if `ono` is
+ * below 4,096. OCA_TAKEN if an object has that number. OCA_NO_SUCH_BLOCK if no block has the number `container`.
+ * OCA_TOO_DEEP if the object would be at depth 9 (the root is at depth 1). OCA_BAD_TEXT if the role is empty.
+ * OCA_BAD_RANGE if the setting is outside its limits, or a switch has no position. */
 enum oca_result oca_device_add(struct oca_device *device, uint32_t container, uint32_t ono, const struct oca_spec *spec) OCA_CHECKED;
 
 /* Adds an OcaBlock (AES70-2) to the tree, before the start. `container` is the number of the block that contains the
- * object (100 for the root), `ono` is the object's own number, and `role` is its role, 1 to 64 bytes of UTF-8.
- * `lockable` says whether the object can be locked. Returns OCA_DONE. Otherwise the first of these that applies, and
- * then nothing is changed. OCA_CLOSED if the device is closed. OCA_STARTED after its start. OCA_BAD_TEXT if the role is
- * not UTF-8. OCA_FULL if there is no room for another object. OCA_RESERVED if `ono` is below 4,096. OCA_TAKEN if an
- * object has that number. OCA_NO_SUCH_BLOCK if no block has the number `container`. OCA_TOO_DEEP if the object would be
- * at depth 9 (the root is at depth 1). OCA_BAD_TEXT if the role is empty or has more than 64 bytes. */
+ * object (the number of the root is 100), `ono` is the object's own number, and `role` is its role, 1 to 64 bytes of
+ * UTF-8. `lockable` says whether the object can be locked. Returns OCA_DONE. Otherwise the first of these that applies,
+ * and then nothing is changed. OCA_CLOSED if the device is closed. OCA_STARTED after its start. OCA_BAD_TEXT if the
+ * role is not UTF-8. OCA_FULL if there is no room for another object. OCA_RESERVED if `ono` is below 4,096. OCA_TAKEN
+ * if an object has that number. OCA_NO_SUCH_BLOCK if no block has the number `container`. OCA_TOO_DEEP if the object
+ * would be at depth 9 (the root is at depth 1). OCA_BAD_TEXT if the role is empty or has more than 64 bytes. */
 enum oca_result oca_device_add_block(struct oca_device *device, uint32_t container, uint32_t ono, const uint8_t *role, size_t role_len, bool lockable) OCA_CHECKED;
 
 /* Adds an OcaMute (AES70-2) to the tree, before the start. `container` is the number of the block that contains the
- * object (100 for the root), `ono` is the object's own number, and `role` is its role, 1 to 64 bytes of UTF-8.
- * `lockable` says whether the object can be locked. `muted` is its first state. Returns OCA_DONE. Otherwise the first
- * of these that applies, and then nothing is changed. OCA_CLOSED if the device is closed. OCA_STARTED after its start.
- * OCA_BAD_TEXT if the role is not UTF-8. OCA_FULL if there is no room for another object. OCA_RESERVED if `ono` is
- * below 4,096. OCA_TAKEN if an object has that number. OCA_NO_SUCH_BLOCK if no block has the number `container`.
- * OCA_TOO_DEEP if the object would be at depth 9 (the root is at depth 1). OCA_BAD_TEXT if the role is empty or has
- * more than 64 bytes. */
-enum oca_result oca_device_add_mute(struct oca_device *device, uint32_t container, uint32_t ono, const uint8_t *role, size_t role_len, bool lockable, bool muted) OCA_CHECKED;
-
-/* Adds an OcaPolarity (AES70-2) to the tree, before the start. `container` is the number of the block that contains the
- * object (100 for the root), `ono` is the object's own number, and `role` is its role, 1 to 64 bytes of UTF-8.
- * `lockable` says whether the object can be locked. `inverted` is its first state. Returns OCA_DONE. Otherwise the
+ * object (the number of the root is 100), `ono` is the object's own number, and `role` is its role, 1 to 64 bytes of
+ * UTF-8. `lockable` says whether the object can be locked. `muted` is its first state. Returns OCA_DONE. Otherwise the
  * first of these that applies, and then nothing is changed. OCA_CLOSED if the device is closed. OCA_STARTED after its
  * start. OCA_BAD_TEXT if the role is not UTF-8. OCA_FULL if there is no room for another object. OCA_RESERVED if `ono`
  * is below 4,096. OCA_TAKEN if an object has that number. OCA_NO_SUCH_BLOCK if no block has the number `container`.
  * OCA_TOO_DEEP if the object would be at depth 9 (the root is at depth 1). OCA_BAD_TEXT if the role is empty or has
  * more than 64 bytes. */
-enum oca_result oca_device_add_polarity(struct oca_device *device, uint32_t container, uint32_t ono, const uint8_t *role, size_t role_len, bool lockable, bool inverted) OCA_CHECKED;
+enum oca_result oca_device_add_mute(struct oca_device *device, uint32_t container, uint32_t ono, const uint8_t *role, size_t role_len, bool lockable, bool muted) OCA_CHECKED;
 
-/* Adds an OcaBooleanActuator (AES70-2) to the tree, before the start. `container` is the number of the block that
- * contains the object (100 for the root), `ono` is the object's own number, and `role` is its role, 1 to 64 bytes of
- * UTF-8. `lockable` says whether the object can be locked. `setting` is its first setting. Returns OCA_DONE. Otherwise
+/* Adds an OcaPolarity (AES70-2) to the tree, before the start. `container` is the number of the block that contains the
+ * object (the number of the root is 100), `ono` is the object's own number, and `role` is its role, 1 to 64 bytes of
+ * UTF-8. `lockable` says whether the object can be locked. `inverted` is its first state. Returns OCA_DONE. Otherwise
  * the first of these that applies, and then nothing is changed. OCA_CLOSED if the device is closed. OCA_STARTED after
  * its start. OCA_BAD_TEXT if the role is not UTF-8. OCA_FULL if there is no room for another object. OCA_RESERVED if
  * `ono` is below 4,096. OCA_TAKEN if an object has that number. OCA_NO_SUCH_BLOCK if no block has the number
  * `container`. OCA_TOO_DEEP if the object would be at depth 9 (the root is at depth 1). OCA_BAD_TEXT if the role is
  * empty or has more than 64 bytes. */
+enum oca_result oca_device_add_polarity(struct oca_device *device, uint32_t container, uint32_t ono, const uint8_t *role, size_t role_len, bool lockable, bool inverted) OCA_CHECKED;
+
+/* Adds an OcaBooleanActuator (AES70-2) to the tree, before the start. `container` is the number of the block that
+ * contains the object (the number of the root is 100), `ono` is the object's own number, and `role` is its role, 1 to
+ * 64 bytes of UTF-8. `lockable` says whether the object can be locked. `setting` is its first setting. Returns
+ * OCA_DONE. Otherwise the first of these that applies, and then nothing is changed. OCA_CLOSED if the device is closed.
+ * OCA_STARTED after its start. OCA_BAD_TEXT if the role is not UTF-8. OCA_FULL if there is no room for another object.
+ * OCA_RESERVED if `ono` is below 4,096. OCA_TAKEN if an object has that number. OCA_NO_SUCH_BLOCK if no block has the
+ * number `container`. OCA_TOO_DEEP if the object would be at depth 9 (the root is at depth 1). OCA_BAD_TEXT if the role
+ * is empty or has more than 64 bytes. */
 enum oca_result oca_device_add_boolean(struct oca_device *device, uint32_t container, uint32_t ono, const uint8_t *role, size_t role_len, bool lockable, bool setting) OCA_CHECKED;
 
 /* Adds an OcaInt8Actuator (AES70-2) to the tree, before the start. `container` is the number of the block that contains
- * the object (100 for the root), `ono` is the object's own number, and `role` is its role, 1 to 64 bytes of UTF-8.
- * `lockable` says whether the object can be locked. `setting` is its first setting. Its settings must lie within
- * `least` to `greatest`, now and later. Returns OCA_DONE. Otherwise the first of these that applies, and then nothing
- * is changed. OCA_CLOSED if the device is closed. OCA_STARTED after its start. OCA_BAD_TEXT if the role is not UTF-8.
- * OCA_FULL if there is no room for another object. OCA_RESERVED if `ono` is below 4,096. OCA_TAKEN if an object has
- * that number. OCA_NO_SUCH_BLOCK if no block has the number `container`. OCA_TOO_DEEP if the object would be at depth 9
- * (the root is at depth 1). OCA_BAD_TEXT if the role is empty or has more than 64 bytes. OCA_BAD_RANGE if the setting
- * is outside `least` to `greatest`. */
+ * the object (the number of the root is 100), `ono` is the object's own number, and `role` is its role, 1 to 64 bytes
+ * of UTF-8. `lockable` says whether the object can be locked. `setting` is its first setting. Its settings must lie
+ * within `least` to `greatest`, now and later. Returns OCA_DONE. Otherwise the first of these that applies, and then
+ * nothing is changed. OCA_CLOSED if the device is closed. OCA_STARTED after its start. OCA_BAD_TEXT if the role is not
+ * UTF-8. OCA_FULL if there is no room for another object. OCA_RESERVED if `ono` is below 4,096. OCA_TAKEN if an object
+ * has that number. OCA_NO_SUCH_BLOCK if no block has the number `container`. OCA_TOO_DEEP if the object would be at
+ * depth 9 (the root is at depth 1). OCA_BAD_TEXT if the role is empty or has more than 64 bytes. OCA_BAD_RANGE if the
+ * setting is outside `least` to `greatest`. */
 enum oca_result oca_device_add_int8(struct oca_device *device, uint32_t container, uint32_t ono, const uint8_t *role, size_t role_len, bool lockable, int8_t setting, int8_t least, int8_t greatest) OCA_CHECKED;
 
 /* Adds an OcaInt16Actuator (AES70-2) to the tree, before the start. `container` is the number of the block that
- * contains the object (100 for the root), `ono` is the object's own number, and `role` is its role, 1 to 64 bytes of
- * UTF-8. `lockable` says whether the object can be locked. `setting` is its first setting. Its settings must lie within
- * `least` to `greatest`, now and later. Returns OCA_DONE. Otherwise the first of these that applies, and then nothing
- * is changed. OCA_CLOSED if the device is closed. OCA_STARTED after its start. OCA_BAD_TEXT if the role is not UTF-8.
- * OCA_FULL if there is no room for another object. OCA_RESERVED if `ono` is below 4,096. OCA_TAKEN if an object has
- * that number. OCA_NO_SUCH_BLOCK if no block has the number `container`. OCA_TOO_DEEP if the object would be at depth 9
- * (the root is at depth 1). OCA_BAD_TEXT if the role is empty or has more than 64 bytes. OCA_BAD_RANGE if the setting
- * is outside `least` to `greatest`. */
+ * contains the object (the number of the root is 100), `ono` is the object's own number, and `role` is its role, 1 to
+ * 64 bytes of UTF-8. `lockable` says whether the object can be locked. `setting` is its first setting. Its settings
+ * must lie within `least` to `greatest`, now and later. Returns OCA_DONE. Otherwise the first of these that applies,
+ * and then nothing is changed. OCA_CLOSED if the device is closed. OCA_STARTED after its start. OCA_BAD_TEXT if the
+ * role is not UTF-8. OCA_FULL if there is no room for another object. OCA_RESERVED if `ono` is below 4,096. OCA_TAKEN
+ * if an object has that number. OCA_NO_SUCH_BLOCK if no block has the number `container`. OCA_TOO_DEEP if the object
+ * would be at depth 9 (the root is at depth 1). OCA_BAD_TEXT if the role is empty or has more than 64 bytes.
+ * OCA_BAD_RANGE if the setting is outside `least` to `greatest`. */
 enum oca_result oca_device_add_int16(struct oca_device *device, uint32_t container, uint32_t ono, const uint8_t *role, size_t role_len, bool lockable, int16_t setting, int16_t least, int16_t greatest) OCA_CHECKED;
 
 /* Adds an OcaInt32Actuator (AES70-2) to the tree, before the start. `container` is the number of the block that
- * contains the object (100 for the root), `ono` is the object's own number, and `role` is its role, 1 to 64 bytes of
- * UTF-8. `lockable` says whether the object can be locked. `setting` is its first setting. Its settings must lie within
- * `least` to `greatest`, now and later. Returns OCA_DONE. Otherwise the first of these that applies, and then nothing
- * is changed. OCA_CLOSED if the device is closed. OCA_STARTED after its start. OCA_BAD_TEXT if the role is not UTF-8.
- * OCA_FULL if there is no room for another object. OCA_RESERVED if `ono` is below 4,096. OCA_TAKEN if an object has
- * that number. OCA_NO_SUCH_BLOCK if no block has the number `container`. OCA_TOO_DEEP if the object would be at depth 9
- * (the root is at depth 1). OCA_BAD_TEXT if the role is empty or has more than 64 bytes. OCA_BAD_RANGE if the setting
- * is outside `least` to `greatest`. */
+ * contains the object (the number of the root is 100), `ono` is the object's own number, and `role` is its role, 1 to
+ * 64 bytes of UTF-8. `lockable` says whether the object can be locked. `setting` is its first setting. Its settings
+ * must lie within `least` to `greatest`, now and later. Returns OCA_DONE. Otherwise the first of these that applies,
+ * and then nothing is changed. OCA_CLOSED if the device is closed. OCA_STARTED after its start. OCA_BAD_TEXT if the
+ * role is not UTF-8. OCA_FULL if there is no room for another object. OCA_RESERVED if `ono` is below 4,096. OCA_TAKEN
+ * if an object has that number. OCA_NO_SUCH_BLOCK if no block has the number `container`. OCA_TOO_DEEP if the object
+ * would be at depth 9 (the root is at depth 1). OCA_BAD_TEXT if the role is empty or has more than 64 bytes.
+ * OCA_BAD_RANGE if the setting is outside `least` to `greatest`. */
 enum oca_result oca_device_add_int32(struct oca_device *device, uint32_t container, uint32_t ono, const uint8_t *role, size_t role_len, bool lockable, int32_t setting, int32_t least, int32_t greatest) OCA_CHECKED;
 
 /* Adds an OcaInt64Actuator (AES70-2) to the tree, before the start. `container` is the number of the block that
- * contains the object (100 for the root), `ono` is the object's own number, and `role` is its role, 1 to 64 bytes of
- * UTF-8. `lockable` says whether the object can be locked. `setting` is its first setting. Its settings must lie within
- * `least` to `greatest`, now and later. Returns OCA_DONE. Otherwise the first of these that applies, and then nothing
- * is changed. OCA_CLOSED if the device is closed. OCA_STARTED after its start. OCA_BAD_TEXT if the role is not UTF-8.
- * OCA_FULL if there is no room for another object. OCA_RESERVED if `ono` is below 4,096. OCA_TAKEN if an object has
- * that number. OCA_NO_SUCH_BLOCK if no block has the number `container`. OCA_TOO_DEEP if the object would be at depth 9
- * (the root is at depth 1). OCA_BAD_TEXT if the role is empty or has more than 64 bytes. OCA_BAD_RANGE if the setting
- * is outside `least` to `greatest`. */
+ * contains the object (the number of the root is 100), `ono` is the object's own number, and `role` is its role, 1 to
+ * 64 bytes of UTF-8. `lockable` says whether the object can be locked. `setting` is its first setting. Its settings
+ * must lie within `least` to `greatest`, now and later. Returns OCA_DONE. Otherwise the first of these that applies,
+ * and then nothing is changed. OCA_CLOSED if the device is closed. OCA_STARTED after its start. OCA_BAD_TEXT if the
+ * role is not UTF-8. OCA_FULL if there is no room for another object. OCA_RESERVED if `ono` is below 4,096. OCA_TAKEN
+ * if an object has that number. OCA_NO_SUCH_BLOCK if no block has the number `container`. OCA_TOO_DEEP if the object
+ * would be at depth 9 (the root is at depth 1). OCA_BAD_TEXT if the role is empty or has more than 64 bytes.
+ * OCA_BAD_RANGE if the setting is outside `least` to `greatest`. */
 enum oca_result oca_device_add_int64(struct oca_device *device, uint32_t container, uint32_t ono, const uint8_t *role, size_t role_len, bool lockable, int64_t setting, int64_t least, int64_t greatest) OCA_CHECKED;
 
 /* Adds an OcaUint8Actuator (AES70-2) to the tree, before the start. `container` is the number of the block that
- * contains the object (100 for the root), `ono` is the object's own number, and `role` is its role, 1 to 64 bytes of
- * UTF-8. `lockable` says whether the object can be locked. `setting` is its first setting. Its settings must lie within
- * `least` to `greatest`, now and later. Returns OCA_DONE. Otherwise the first of these that applies, and then nothing
- * is changed. OCA_CLOSED if the device is closed. OCA_STARTED after its start. OCA_BAD_TEXT if the role is not UTF-8.
- * OCA_FULL if there is no room for another object. OCA_RESERVED if `ono` is below 4,096. OCA_TAKEN if an object has
- * that number. OCA_NO_SUCH_BLOCK if no block has the number `container`. OCA_TOO_DEEP if the object would be at depth 9
- * (the root is at depth 1). OCA_BAD_TEXT if the role is empty or has more than 64 bytes. OCA_BAD_RANGE if the setting
- * is outside `least` to `greatest`. */
+ * contains the object (the number of the root is 100), `ono` is the object's own number, and `role` is its role, 1 to
+ * 64 bytes of UTF-8. `lockable` says whether the object can be locked. `setting` is its first setting. Its settings
+ * must lie within `least` to `greatest`, now and later. Returns OCA_DONE. Otherwise the first of these that applies,
+ * and then nothing is changed. OCA_CLOSED if the device is closed. OCA_STARTED after its start. OCA_BAD_TEXT if the
+ * role is not UTF-8. OCA_FULL if there is no room for another object. OCA_RESERVED if `ono` is below 4,096. OCA_TAKEN
+ * if an object has that number. OCA_NO_SUCH_BLOCK if no block has the number `container`. OCA_TOO_DEEP if the object
+ * would be at depth 9 (the root is at depth 1). OCA_BAD_TEXT if the role is empty or has more than 64 bytes.
+ * OCA_BAD_RANGE if the setting is outside `least` to `greatest`. */
 enum oca_result oca_device_add_uint8(struct oca_device *device, uint32_t container, uint32_t ono, const uint8_t *role, size_t role_len, bool lockable, uint8_t setting, uint8_t least, uint8_t greatest) OCA_CHECKED;
 
 /* Adds an OcaUint16Actuator (AES70-2) to the tree, before the start. `container` is the number of the block that
- * contains the object (100 for the root), `ono` is the object's own number, and `role` is its role, 1 to 64 bytes of
- * UTF-8. `lockable` says whether the object can be locked. `setting` is its first setting. Its settings must lie within
- * `least` to `greatest`, now and later. Returns OCA_DONE. Otherwise the first of these that applies, and then nothing
- * is changed. OCA_CLOSED if the device is closed. OCA_STARTED after its start. OCA_BAD_TEXT if the role is not UTF-8.
- * OCA_FULL if there is no room for another object. OCA_RESERVED if `ono` is below 4,096. OCA_TAKEN if an object has
- * that number. OCA_NO_SUCH_BLOCK if no block has the number `container`. OCA_TOO_DEEP if the object would be at depth 9
- * (the root is at depth 1). OCA_BAD_TEXT if the role is empty or has more than 64 bytes. OCA_BAD_RANGE if the setting
- * is outside `least` to `greatest`. */
+ * contains the object (the number of the root is 100), `ono` is the object's own number, and `role` is its role, 1 to
+ * 64 bytes of UTF-8. `lockable` says whether the object can be locked. `setting` is its first setting. Its settings
+ * must lie within `least` to `greatest`, now and later. Returns OCA_DONE. Otherwise the first of these that applies,
+ * and then nothing is changed. OCA_CLOSED if the device is closed. OCA_STARTED after its start. OCA_BAD_TEXT if the
+ * role is not UTF-8. OCA_FULL if there is no room for another object. OCA_RESERVED if `ono` is below 4,096. OCA_TAKEN
+ * if an object has that number. OCA_NO_SUCH_BLOCK if no block has the number `container`. OCA_TOO_DEEP if the object
+ * would be at depth 9 (the root is at depth 1). OCA_BAD_TEXT if the role is empty or has more than 64 bytes.
+ * OCA_BAD_RANGE if the setting is outside `least` to `greatest`. */
 enum oca_result oca_device_add_uint16(struct oca_device *device, uint32_t container, uint32_t ono, const uint8_t *role, size_t role_len, bool lockable, uint16_t setting, uint16_t least, uint16_t greatest) OCA_CHECKED;
 
 /* Adds an OcaUint32Actuator (AES70-2) to the tree, before the start. `container` is the number of the block that
- * contains the object (100 for the root), `ono` is the object's own number, and `role` is its role, 1 to 64 bytes of
- * UTF-8. `lockable` says whether the object can be locked. `setting` is its first setting. Its settings must lie within
- * `least` to `greatest`, now and later. Returns OCA_DONE. Otherwise the first of these that applies, and then nothing
- * is changed. OCA_CLOSED if the device is closed. OCA_STARTED after its start. OCA_BAD_TEXT if the role is not UTF-8.
- * OCA_FULL if there is no room for another object. OCA_RESERVED if `ono` is below 4,096. OCA_TAKEN if an object has
- * that number. OCA_NO_SUCH_BLOCK if no block has the number `container`. OCA_TOO_DEEP if the object would be at depth 9
- * (the root is at depth 1). OCA_BAD_TEXT if the role is empty or has more than 64 bytes. OCA_BAD_RANGE if the setting
- * is outside `least` to `greatest`. */
+ * contains the object (the number of the root is 100), `ono` is the object's own number, and `role` is its role, 1 to
+ * 64 bytes of UTF-8. `lockable` says whether the object can be locked. `setting` is its first setting. Its settings
+ * must lie within `least` to `greatest`, now and later. Returns OCA_DONE. Otherwise the first of these that applies,
+ * and then nothing is changed. OCA_CLOSED if the device is closed. OCA_STARTED after its start. OCA_BAD_TEXT if the
+ * role is not UTF-8. OCA_FULL if there is no room for another object. OCA_RESERVED if `ono` is below 4,096. OCA_TAKEN
+ * if an object has that number. OCA_NO_SUCH_BLOCK if no block has the number `container`. OCA_TOO_DEEP if the object
+ * would be at depth 9 (the root is at depth 1). OCA_BAD_TEXT if the role is empty or has more than 64 bytes.
+ * OCA_BAD_RANGE if the setting is outside `least` to `greatest`. */
 enum oca_result oca_device_add_uint32(struct oca_device *device, uint32_t container, uint32_t ono, const uint8_t *role, size_t role_len, bool lockable, uint32_t setting, uint32_t least, uint32_t greatest) OCA_CHECKED;
 
 /* Adds an OcaUint64Actuator (AES70-2) to the tree, before the start. `container` is the number of the block that
- * contains the object (100 for the root), `ono` is the object's own number, and `role` is its role, 1 to 64 bytes of
- * UTF-8. `lockable` says whether the object can be locked. `setting` is its first setting. Its settings must lie within
- * `least` to `greatest`, now and later. Returns OCA_DONE. Otherwise the first of these that applies, and then nothing
- * is changed. OCA_CLOSED if the device is closed. OCA_STARTED after its start. OCA_BAD_TEXT if the role is not UTF-8.
- * OCA_FULL if there is no room for another object. OCA_RESERVED if `ono` is below 4,096. OCA_TAKEN if an object has
- * that number. OCA_NO_SUCH_BLOCK if no block has the number `container`. OCA_TOO_DEEP if the object would be at depth 9
- * (the root is at depth 1). OCA_BAD_TEXT if the role is empty or has more than 64 bytes. OCA_BAD_RANGE if the setting
- * is outside `least` to `greatest`. */
+ * contains the object (the number of the root is 100), `ono` is the object's own number, and `role` is its role, 1 to
+ * 64 bytes of UTF-8. `lockable` says whether the object can be locked. `setting` is its first setting. Its settings
+ * must lie within `least` to `greatest`, now and later. Returns OCA_DONE. Otherwise the first of these that applies,
+ * and then nothing is changed. OCA_CLOSED if the device is closed. OCA_STARTED after its start. OCA_BAD_TEXT if the
+ * role is not UTF-8. OCA_FULL if there is no room for another object. OCA_RESERVED if `ono` is below 4,096. OCA_TAKEN
+ * if an object has that number. OCA_NO_SUCH_BLOCK if no block has the number `container`. OCA_TOO_DEEP if the object
+ * would be at depth 9 (the root is at depth 1). OCA_BAD_TEXT if the role is empty or has more than 64 bytes.
+ * OCA_BAD_RANGE if the setting is outside `least` to `greatest`. */
 enum oca_result oca_device_add_uint64(struct oca_device *device, uint32_t container, uint32_t ono, const uint8_t *role, size_t role_len, bool lockable, uint64_t setting, uint64_t least, uint64_t greatest) OCA_CHECKED;
 
 /* Adds an OcaSwitch (AES70-2) with 1 to 16 positions, all of them enabled, to the tree, before the start. `container`
- * is the number of the block that contains the object (100 for the root), `ono` is the object's own number, and `role`
- * is its role, 1 to 64 bytes of UTF-8. `lockable` says whether the object can be locked. `names` are the names of its
- * positions, `names_len` of them, each of 0 to 64 bytes of UTF-8. `position` is its first position, counted from 0.
- * Returns OCA_DONE. Otherwise the first of these that applies, and then nothing is changed. OCA_CLOSED if the device is
- * closed. OCA_STARTED after its start. OCA_BAD_RANGE if there are more than 16 names. OCA_BAD_TEXT if a name has more
- * than 64 bytes, or the role or a name is not UTF-8. OCA_FULL if there is no room for another object. OCA_RESERVED if
- * `ono` is below 4,096. OCA_TAKEN if an object has that number. OCA_NO_SUCH_BLOCK if no block has the number
- * `container`. OCA_TOO_DEEP if the object would be at depth 9 (the root is at depth 1). OCA_BAD_TEXT if the role is
- * empty or has more than 64 bytes. OCA_BAD_RANGE if there is no name, or none for the position. */
+ * is the number of the block that contains the object (the number of the root is 100), `ono` is the object's own
+ * number, and `role` is its role, 1 to 64 bytes of UTF-8. `lockable` says whether the object can be locked. `names` are
+ * the names of its positions, `names_len` of them, each of 0 to 64 bytes of UTF-8. `position` is its first position,
+ * counted from 0. Returns OCA_DONE. Otherwise the first of these that applies, and then nothing is changed. OCA_CLOSED
+ * if the device is closed. OCA_STARTED after its start. OCA_BAD_RANGE if there are more than 16 names. OCA_BAD_TEXT if
+ * a name has more than 64 bytes, or the role or a name is not UTF-8. OCA_FULL if there is no room for another object.
+ * OCA_RESERVED if `ono` is below 4,096. OCA_TAKEN if an object has that number. OCA_NO_SUCH_BLOCK if no block has the
+ * number `container`. OCA_TOO_DEEP if the object would be at depth 9 (the root is at depth 1). OCA_BAD_TEXT if the role
+ * is empty or has more than 64 bytes. OCA_BAD_RANGE if there is no name, or none for the position. */
 enum oca_result oca_device_add_switch(struct oca_device *device, uint32_t container, uint32_t ono, const uint8_t *role, size_t role_len, bool lockable, const struct oca_name *names, size_t names_len, uint16_t position) OCA_CHECKED;
 
 /* Starts the device: from then on datagrams are handled, and no object can be added. `window` is for how many commands
