@@ -6,7 +6,7 @@
  * OCA_DONE, or another number of enum oca_result. After any number but OCA_DONE do not read what the call would have written, except the
  * count or length that comes with OCA_TOO_SMALL. Texts are bytes and a length, in UTF-8.
  * Addresses and ports are in the host's byte order: 127.0.0.1 is 0x7F000001. Moments are in milliseconds, of a clock that does
- * not go back. Nothing here opens a file or a socket or reads a clock but oca_store_.., oca_socket_.. and oca_serve.., and nothing starts a
+ * not go back. The profile is the part of AES70 that is here, with rules of its own (docs/PROTOCOL.md). Nothing here opens a file or a socket or reads a clock but oca_store_.., oca_socket_.. and oca_serve.., and nothing starts a
  * thread.
  *
  * What the caller promises, at every call (no proof sees the C side):
@@ -355,9 +355,10 @@ struct oca_spec {
 };
 #define OCA_SPEC_INIT {(uint32_t)sizeof(struct oca_spec), 1, 1, 0, {{0, 0, 0}, {0, 0, 0}, {0, 0, 0}}, {0, {0}}, {0, {0}}, {{0, {0}}}, {0}, {0}}
 
-/* Returns the description of an object with this role and this reading. The object is lockable and enabled, and has an
- * empty label and no positions. Nothing is checked: oca_device_add refuses a role that is empty, has more than 64 bytes
- * or is not UTF-8, and a reading that no object can have. For a switch add the positions by oca_spec_position. */
+/* Returns the description of an object with the role `role`, a C string, and the reading `reading`. The object is
+ * lockable and enabled, and has an empty label and no positions. Nothing is checked: oca_device_add refuses a role that
+ * is empty, has more than 64 bytes or is not UTF-8, and a reading that no object can have. For a switch add the
+ * positions by oca_spec_position. */
 static inline struct oca_spec oca_spec_of(const char *role, struct oca_reading reading) {
     struct oca_spec spec = OCA_SPEC_INIT;
     spec.reading = reading;
@@ -365,8 +366,9 @@ static inline struct oca_spec oca_spec_of(const char *role, struct oca_reading r
     return spec;
 }
 
-/* Returns the description of a block with this role. The block is lockable and enabled, and has an empty label. Nothing
- * is checked: oca_device_add refuses a role that is empty, has more than 64 bytes or is not UTF-8. */
+/* Returns the description of a block with the role `role`, a C string. The block is lockable and enabled, and has an
+ * empty label. Nothing is checked: oca_device_add refuses a role that is empty, has more than 64 bytes or is not UTF-8.
+ */
 static inline struct oca_spec oca_spec_of_block(const char *role) { return oca_spec_of(role, oca_alone(oca_value_of(OCA_CLASS_BLOCK, 0))); }
 
 /* Adds one more position of a switch to the description: with this name, enabled. Positions are counted from 0, and
@@ -393,9 +395,11 @@ enum oca_result oca_spec_restore(struct oca_spec *spec, const struct oca_spec *s
 
 /* ---- the device ---- */
 
+/* A device: a tree of objects, and the sessions of its peers. A peer is an address and a port. A session is what the
+ * device stores of a peer: when it was last heard, its heartbeat (AES70-3), and the replies to its last commands. The
+ * replies are retained for duplicates of these commands. A closed device: struct oca_device device = OCA_DEVICE_INIT;
+ */
 struct oca_device { void *at; bool is_open; };
-
-/* A closed one: struct oca_device device = OCA_DEVICE_INIT; */
 #define OCA_DEVICE_INIT {NULL, false}
 
 /* Opens a device that has its root alone (the block 100), with room for `room` objects, the root counted: 1 to 4,096.
@@ -666,57 +670,62 @@ enum oca_result oca_device_tick(struct oca_device *device, uint64_t now) OCA_NON
 enum oca_result oca_device_next_lapse(struct oca_device *device, uint64_t *moment) OCA_NONNULL;
 
 /* Sets a mute (1 Muted, 2 Unmuted) or a polarity (1 NonInverted, 2 Inverted) at the local front panel. A lock of a
- * controller does not refuse it, and no peer gets a message. Returns OCA_DONE. Otherwise the first of these that
- * applies, and then nothing is changed. OCA_CLOSED if the device is closed. OCA_NOT_STARTED before its start.
- * OCA_NO_OBJECT if no object has the number `ono`. OCA_NO_SETTING if it is a block. OCA_OTHER_KIND if it is of another
- * class. OCA_OUT_OF_RANGE if `state` is neither 1 nor 2. */
+ * controller does not refuse it, and no peer gets a message (the local front panel is the profile's, not AES70's).
+ * Returns OCA_DONE. Otherwise the first of these that applies, and then nothing is changed. OCA_CLOSED if the device is
+ * closed. OCA_NOT_STARTED before its start. OCA_NO_OBJECT if no object has the number `ono`. OCA_NO_SETTING if it is a
+ * block. OCA_OTHER_KIND if it is of another class. OCA_OUT_OF_RANGE if `state` is neither 1 nor 2. */
 enum oca_result oca_device_set_state(struct oca_device *device, uint32_t ono, uint8_t state) OCA_NONNULL;
 
 /* Sets a switch to a position at the local front panel. `position` is counted from 0. A lock of a controller does not
- * refuse it, and no peer gets a message. Returns OCA_DONE. Otherwise the first of these that applies, and then nothing
- * is changed. OCA_CLOSED if the device is closed. OCA_NOT_STARTED before its start. OCA_NO_OBJECT if no object has the
- * number `ono`. OCA_NO_SETTING if it is a block. OCA_OTHER_KIND if it is of another class. OCA_OUT_OF_RANGE if the
- * switch has no such position, or the position is disabled. */
+ * refuse it, and no peer gets a message (the local front panel is the profile's, not AES70's). Returns OCA_DONE.
+ * Otherwise the first of these that applies, and then nothing is changed. OCA_CLOSED if the device is closed.
+ * OCA_NOT_STARTED before its start. OCA_NO_OBJECT if no object has the number `ono`. OCA_NO_SETTING if it is a block.
+ * OCA_OTHER_KIND if it is of another class. OCA_OUT_OF_RANGE if the switch has no such position, or the position is
+ * disabled. */
 enum oca_result oca_device_set_position(struct oca_device *device, uint32_t ono, uint16_t position) OCA_NONNULL;
 
 /* Sets a Boolean actuator to `truth` at the local front panel. A lock of a controller does not refuse it, and no peer
- * gets a message. Returns OCA_DONE. Otherwise the first of these that applies, and then nothing is changed. OCA_CLOSED
- * if the device is closed. OCA_NOT_STARTED before its start. OCA_NO_OBJECT if no object has the number `ono`.
- * OCA_NO_SETTING if it is a block. OCA_OTHER_KIND if it is of another class. */
+ * gets a message (the local front panel is the profile's, not AES70's). Returns OCA_DONE. Otherwise the first of these
+ * that applies, and then nothing is changed. OCA_CLOSED if the device is closed. OCA_NOT_STARTED before its start.
+ * OCA_NO_OBJECT if no object has the number `ono`. OCA_NO_SETTING if it is a block. OCA_OTHER_KIND if it is of another
+ * class. */
 enum oca_result oca_device_set_truth(struct oca_device *device, uint32_t ono, bool truth) OCA_NONNULL;
 
 /* Sets an actuator of integers, of any type, to `number` at the local front panel. A lock of a controller does not
- * refuse it, and no peer gets a message. Returns OCA_DONE. Otherwise the first of these that applies, and then nothing
- * is changed. OCA_CLOSED if the device is closed. OCA_NOT_STARTED before its start. OCA_NO_OBJECT if no object has the
- * number `ono`. OCA_NO_SETTING if it is a block. OCA_OTHER_KIND if it is of another class. OCA_OUT_OF_RANGE if the
- * number is outside the object's limits. */
-enum oca_result oca_device_set_signed(struct oca_device *device, uint32_t ono, int64_t number) OCA_NONNULL;
-
-/* Sets an actuator of integers, of any type, to `number` at the local front panel, also to a number above those of
- * oca_device_set_signed. A lock of a controller does not refuse it, and no peer gets a message. Returns OCA_DONE.
+ * refuse it, and no peer gets a message (the local front panel is the profile's, not AES70's). Returns OCA_DONE.
  * Otherwise the first of these that applies, and then nothing is changed. OCA_CLOSED if the device is closed.
  * OCA_NOT_STARTED before its start. OCA_NO_OBJECT if no object has the number `ono`. OCA_NO_SETTING if it is a block.
  * OCA_OTHER_KIND if it is of another class. OCA_OUT_OF_RANGE if the number is outside the object's limits. */
+enum oca_result oca_device_set_signed(struct oca_device *device, uint32_t ono, int64_t number) OCA_NONNULL;
+
+/* Sets an actuator of integers, of any type, to `number` at the local front panel, also to a number above those of
+ * oca_device_set_signed. A lock of a controller does not refuse it, and no peer gets a message (the local front panel
+ * is the profile's, not AES70's). Returns OCA_DONE. Otherwise the first of these that applies, and then nothing is
+ * changed. OCA_CLOSED if the device is closed. OCA_NOT_STARTED before its start. OCA_NO_OBJECT if no object has the
+ * number `ono`. OCA_NO_SETTING if it is a block. OCA_OTHER_KIND if it is of another class. OCA_OUT_OF_RANGE if the
+ * number is outside the object's limits. */
 enum oca_result oca_device_set_unsigned(struct oca_device *device, uint32_t ono, uint64_t number) OCA_NONNULL;
 
 /* Sets an object at the local front panel to a value, which must be of the object's class. A lock of a controller does
- * not refuse it, and no peer gets a message. Returns OCA_DONE. Otherwise the first of these that applies, and then
- * nothing is changed. OCA_CLOSED if the device is closed. OCA_NOT_STARTED before its start. OCA_NO_VALUE if the struct
- * holds no value. OCA_NO_OBJECT if no object has the number `ono`. OCA_NO_SETTING if it is a block. OCA_OTHER_KIND if
- * the value is of another class, such as a polarity's for a mute, or an integer of another type. OCA_OUT_OF_RANGE if a
- * switch has no such position or it is disabled, or a number is outside the object's limits. */
+ * not refuse it, and no peer gets a message (the local front panel is the profile's, not AES70's). Returns OCA_DONE.
+ * Otherwise the first of these that applies, and then nothing is changed. OCA_CLOSED if the device is closed.
+ * OCA_NOT_STARTED before its start. OCA_NO_VALUE if the struct holds no value. OCA_NO_OBJECT if no object has the
+ * number `ono`. OCA_NO_SETTING if it is a block. OCA_OTHER_KIND if the value is of another class, such as a polarity's
+ * for a mute, or an integer of another type. OCA_OUT_OF_RANGE if a switch has no such position or it is disabled, or a
+ * number is outside the object's limits. */
 enum oca_result oca_device_set(struct oca_device *device, uint32_t ono, const struct oca_value *value) OCA_NONNULL;
 
 /* Gives an object a label of `label_len` bytes of UTF-8, 0 to 64, at the local front panel. A lock of a controller does
- * not refuse it, and no peer gets a message. Returns OCA_DONE. Otherwise the first of these that applies, and then
- * nothing is changed. OCA_CLOSED if the device is closed. OCA_NOT_STARTED before its start. OCA_BAD_TEXT if the bytes
- * are not UTF-8. OCA_NO_OBJECT if no object has the number `ono`. OCA_BAD_TEXT if the label has more than 64 bytes. */
+ * not refuse it, and no peer gets a message (the local front panel is the profile's, not AES70's). Returns OCA_DONE.
+ * Otherwise the first of these that applies, and then nothing is changed. OCA_CLOSED if the device is closed.
+ * OCA_NOT_STARTED before its start. OCA_BAD_TEXT if the bytes are not UTF-8. OCA_NO_OBJECT if no object has the number
+ * `ono`. OCA_BAD_TEXT if the label has more than 64 bytes. */
 enum oca_result oca_device_set_label(struct oca_device *device, uint32_t ono, const uint8_t *label, size_t label_len) OCA_NONNULL;
 
 /* Enables or disables an object at the local front panel, as SetEnabled of OcaWorker does (AES70-2). A lock of a
- * controller does not refuse it, and no peer gets a message. Returns OCA_DONE. Otherwise the first of these that
- * applies, and then nothing is changed. OCA_CLOSED if the device is closed. OCA_NOT_STARTED before its start.
- * OCA_NO_OBJECT if no object has the number `ono`. */
+ * controller does not refuse it, and no peer gets a message (the local front panel is the profile's, not AES70's).
+ * Returns OCA_DONE. Otherwise the first of these that applies, and then nothing is changed. OCA_CLOSED if the device is
+ * closed. OCA_NOT_STARTED before its start. OCA_NO_OBJECT if no object has the number `ono`. */
 enum oca_result oca_device_set_enabled(struct oca_device *device, uint32_t ono, bool enabled) OCA_NONNULL;
 
 /* Releases the lock of an object at the local front panel, whichever peer has it (oca_device_lock writes which). The
@@ -822,12 +831,23 @@ enum oca_result oca_device_keep(struct oca_device *device, struct oca_kept *kept
 /* Opens a device as oca_device_open_with does, with the root as it was kept. `room` is the number of objects, the root
  * counted: 1 to 4,096. What was kept under the number 100 in `kept`, an array of `count` (which may be 0), is brought
  * into a copy of `root` by oca_spec_restore. If nothing was kept under that number, or oca_spec_restore refuses it, the
- * root is as `root` says. The call takes memory, and its results are those of oca_device_open_with. */
+ * root is as `root` says. The call takes the memory for the objects. Returns OCA_DONE. Otherwise the first of these
+ * that applies, and then nothing is changed. OCA_OPEN if the struct is open already. OCA_BAD_SIZE if `room` is outside
+ * its range, or `root` is of another size or has another byte in its zeros. OCA_BAD_TEXT if the label is not UTF-8 or
+ * has more than 64 bytes. OCA_NO_MEMORY if memory was refused: then none is kept. */
 enum oca_result oca_device_open_kept(struct oca_device *device, uint16_t room, const struct oca_spec *root, const struct oca_kept *kept, size_t count) OCA_CHECKED;
 
-/* Adds an object as oca_device_add does, but as it was kept. What was kept under the number `ono` in `kept`, an array
- * of `count` (which may be 0), is brought into a copy of `spec` by oca_spec_restore. If nothing was kept under that
- * number, or oca_spec_restore refuses it, the object is as `spec` says. The results are those of oca_device_add. */
+/* Adds an object to the tree as oca_device_add does, before the start, but as it was kept. `container` is the number of
+ * the block that contains it. What was kept under the number `ono` in `kept`, an array of `count` (which may be 0), is
+ * brought into a copy of `spec` by oca_spec_restore. If nothing was kept under that number, or oca_spec_restore refuses
+ * it, the object is as `spec` says. Returns OCA_DONE. Otherwise the first of these that applies, and then nothing is
+ * changed. OCA_CLOSED if the device is closed. OCA_STARTED after its start. OCA_BAD_SIZE if the struct is of another
+ * size or has another byte in its zeros. OCA_BAD_RANGE if it has more than 16 positions. OCA_BAD_TEXT if the role, the
+ * label or a name is not UTF-8 or has more than 64 bytes. OCA_NO_VALUE if the reading is none that an object can have.
+ * OCA_FULL if there is no room for another object. OCA_RESERVED if `ono` is below 4,096. OCA_TAKEN if an object has
+ * that number. OCA_NO_SUCH_BLOCK if no block has the number `container`. OCA_TOO_DEEP if the object would be at depth 9
+ * (the root is at depth 1). OCA_BAD_TEXT if the role is empty. OCA_BAD_RANGE if the setting is outside its limits, or a
+ * switch has no position. */
 enum oca_result oca_device_add_kept(struct oca_device *device, uint32_t container, uint32_t ono, const struct oca_spec *spec, const struct oca_kept *kept, size_t count) OCA_CHECKED;
 
 /* ---- the store ---- */
@@ -908,9 +928,12 @@ void oca_store_close(struct oca_store *store);
 
 /* ---- the link ---- */
 
+/* A link to one device. A command is in flight from its submit until its answer is taken; its handle is its number
+ * (AES70-3). The span is how far the next handle may be above the lowest handle in flight, less one: so at most that
+ * many commands are in flight. The link is lost once a command got no answer to 20 transmissions, and late while a
+ * command that was submitted more than 15,000 ms ago has no answer. A closed link: struct oca_link link =
+ * OCA_LINK_INIT; */
 struct oca_link { void *at; bool is_open; };
-
-/* A closed one: struct oca_link link = OCA_LINK_INIT; */
 #define OCA_LINK_INIT {NULL, false}
 
 /* Opens a link to the device at the address `ip` (an IPv4 address as a number, the first byte highest) and the port
@@ -1043,8 +1066,9 @@ struct oca_end {
     bool (*receive)(void *context, uint64_t until, uint8_t *out, size_t out_len, size_t *len, uint32_t *ip, uint16_t *port);
 };
 
-/* A panel: a link to one device, driven over the caller's socket, and for how many milliseconds a call waits for its answer. A closed one:
- * struct oca_panel panel = OCA_PANEL_INIT; */
+/* A panel: a link to one device, over the caller's socket, and for how many milliseconds a call waits for its answer.
+ * The words of struct oca_link (in flight, handle, span, lost, late) are those of a panel too. A lost or late panel
+ * takes no command and sends nothing. A closed panel: struct oca_panel panel = OCA_PANEL_INIT; */
 struct oca_panel { struct oca_link link; struct oca_end end; uint32_t wait_ms; };
 #define OCA_PANEL_INIT {OCA_LINK_INIT, {0, NULL, NULL, NULL, NULL}, 0}
 
@@ -1122,28 +1146,30 @@ struct oca_outcome oca_panel_turn(struct oca_panel *panel);
 
 /* Submits a command by a method of enum oca_method, sends it at once and writes its handle to `handle`. `ono` is the
  * number of the object, `count` is ParamCount, and `params` are the encoded parameters (docs/PROTOCOL.md, section 3),
- * at most 1,445 bytes. The call does not wait: oca_panel_finish does. Several commands can be in flight at once.
- * Returns OCA_DONE. Otherwise the first of these that applies, and then nothing is changed or sent. OCA_CLOSED if the
- * panel is closed. OCA_LOST if its link is lost or late. OCA_HANDLES_SPENT if a command has the handle 4294967295
- * already. OCA_SPAN_FULL if the next handle is not below the lowest handle whose answer was not taken yet, plus the
- * span. OCA_TOO_LONG if the parameters have more than 1,445 bytes. */
+ * at most 1,445 bytes. The call does not wait: oca_panel_finish does. Several commands can be in flight at once. If the
+ * link becomes lost in this call, the command is not sent, and the result is OCA_DONE. Returns OCA_DONE. Otherwise the
+ * first of these that applies, and then nothing is changed or sent. OCA_CLOSED if the panel is closed. OCA_LOST if its
+ * link is lost or late. OCA_HANDLES_SPENT if a command has the handle 4294967295 already. OCA_SPAN_FULL if the next
+ * handle is not below the lowest handle whose answer was not taken yet, plus the span. OCA_TOO_LONG if the parameters
+ * have more than 1,445 bytes. */
 enum oca_result oca_panel_begin(struct oca_panel *panel, uint32_t ono, uint32_t method, uint8_t count, const uint8_t *params, size_t params_len, uint32_t *handle);
 
 /* Submits the command that sets an object to a value, by the set method of the value's class (AES70-2), sends it at
  * once and writes its handle to `handle`. `ono` is the number of the object. The call does not wait:
- * oca_panel_finish_set does. Returns OCA_DONE. Otherwise the first of these that applies, and then nothing is changed
- * or sent. OCA_NO_VALUE if the struct holds no value. OCA_CLOSED if the panel is closed. OCA_LOST if its link is lost
- * or late. OCA_HANDLES_SPENT if a command has the handle 4294967295 already. OCA_SPAN_FULL if the next handle is not
- * below the lowest handle whose answer was not taken yet, plus the span. */
+ * oca_panel_finish_set does. If the link becomes lost in this call, the command is not sent, and the result is
+ * OCA_DONE. Returns OCA_DONE. Otherwise the first of these that applies, and then nothing is changed or sent.
+ * OCA_NO_VALUE if the struct holds no value. OCA_CLOSED if the panel is closed. OCA_LOST if its link is lost or late.
+ * OCA_HANDLES_SPENT if a command has the handle 4294967295 already. OCA_SPAN_FULL if the next handle is not below the
+ * lowest handle whose answer was not taken yet, plus the span. */
 enum oca_result oca_panel_begin_set(struct oca_panel *panel, uint32_t ono, struct oca_value value, uint32_t *handle);
 
 /* Submits the command that reads how an object is set, by the get method of its class (AES70-2), sends it at once and
  * writes its handle to `handle`. `ono` is the number of the object, and `class_number` that of its class (enum
- * oca_class). The call does not wait: oca_panel_finish_get does. Returns OCA_DONE. Otherwise the first of these that
- * applies, and then nothing is changed or sent. OCA_NO_VALUE if no class has the number, or it is that of a block.
- * OCA_CLOSED if the panel is closed. OCA_LOST if its link is lost or late. OCA_HANDLES_SPENT if a command has the
- * handle 4294967295 already. OCA_SPAN_FULL if the next handle is not below the lowest handle whose answer was not taken
- * yet, plus the span. */
+ * oca_class). The call does not wait: oca_panel_finish_get does. If the link becomes lost in this call, the command is
+ * not sent, and the result is OCA_DONE. Returns OCA_DONE. Otherwise the first of these that applies, and then nothing
+ * is changed or sent. OCA_NO_VALUE if no class has the number, or it is that of a block. OCA_CLOSED if the panel is
+ * closed. OCA_LOST if its link is lost or late. OCA_HANDLES_SPENT if a command has the handle 4294967295 already.
+ * OCA_SPAN_FULL if the next handle is not below the lowest handle whose answer was not taken yet, plus the span. */
 enum oca_result oca_panel_begin_get(struct oca_panel *panel, uint32_t ono, uint32_t class_number, uint32_t *handle);
 
 /* The answer to a command: ParamCount, and the bytes of its parameters (`params_len` of them, at most 1,452). They are
@@ -1176,10 +1202,11 @@ struct oca_flight { uint32_t first, count, handles[32]; void *items[32]; };
  * nothing is changed. A panel never has more in flight, if each command that was begun is added. */
 enum oca_result oca_flight_push(struct oca_flight *flight, uint32_t handle, void *item);
 
-/* Waits for the outcome of the first of the commands in flight, as oca_panel_finish does, and returns it. `item`
- * becomes what oca_flight_push was given. `answer` is written for OCA_ASKED_DONE and OCA_ASKED_REFUSED alone. The
- * command is then removed; after OCA_ASKED_UNANSWERED it stays the first. OCA_ASKED_NO_HANDLE with 0 in `result` if
- * there is no command: then nothing is written. */
+/* Waits for the outcome of the first of the commands in flight, for at most the panel's `wait_ms` milliseconds, and
+ * returns the outcome that oca_panel_finish returns for its handle. `item` becomes what oca_flight_push was given.
+ * `answer` is written for OCA_ASKED_DONE and OCA_ASKED_REFUSED alone. The command is then removed; after
+ * OCA_ASKED_UNANSWERED it stays the first. OCA_ASKED_NO_HANDLE with 0 in `result` if there is no command: then nothing
+ * is written. */
 struct oca_outcome oca_flight_finish(struct oca_flight *flight, struct oca_panel *panel, struct oca_answer *answer, void **item);
 
 /* Returns the outcome of the first of the commands in flight if it is known already, as oca_panel_try_finish does, and
@@ -1193,19 +1220,19 @@ struct oca_outcome oca_flight_try_finish(struct oca_flight *flight, struct oca_p
  * waits for the answer for at most the panel's `wait_ms` milliseconds. Returns OCA_ASKED_DONE if the answer's status is
  * OK. Otherwise the outcome is one of these (enum oca_asked). OCA_ASKED_LOST or OCA_ASKED_LATE if the panel's link is
  * lost or late: a command that was sent may have been carried out. OCA_ASKED_NOT_SENT with OCA_CLOSED,
- * OCA_HANDLES_SPENT or OCA_SPAN_FULL in `result`: nothing was sent. OCA_ASKED_UNANSWERED if no answer came in time: the
- * command stays in flight under the handle in `result`. OCA_ASKED_REFUSED if the answer's status is not OK, with that
- * status. With more than 1,445 bytes it is OCA_ASKED_NOT_SENT with OCA_TOO_LONG. `answer` is written for OCA_ASKED_DONE
- * and OCA_ASKED_REFUSED alone. */
+ * OCA_HANDLES_SPENT or OCA_SPAN_FULL in `result`: that command was not sent. OCA_ASKED_UNANSWERED if no answer came in
+ * time: the command stays in flight under the handle in `result`. OCA_ASKED_REFUSED if the answer's status is not OK,
+ * with that status. With more than 1,445 bytes it is OCA_ASKED_NOT_SENT with OCA_TOO_LONG. `answer` is written for
+ * OCA_ASKED_DONE and OCA_ASKED_REFUSED alone. */
 struct oca_outcome oca_panel_ask(struct oca_panel *panel, uint32_t ono, uint32_t method, uint8_t count, const uint8_t *params, size_t params_len, struct oca_answer *answer);
 
 /* Sends a command by a method of enum oca_method without parameters, and waits for its answer. `ono` is the number of
  * the object. The call waits for the answer for at most the panel's `wait_ms` milliseconds. Returns OCA_ASKED_DONE if
  * the answer's status is OK. Otherwise the outcome is one of these (enum oca_asked). OCA_ASKED_LOST or OCA_ASKED_LATE
  * if the panel's link is lost or late: a command that was sent may have been carried out. OCA_ASKED_NOT_SENT with
- * OCA_CLOSED, OCA_HANDLES_SPENT or OCA_SPAN_FULL in `result`: nothing was sent. OCA_ASKED_UNANSWERED if no answer came
- * in time: the command stays in flight under the handle in `result`. OCA_ASKED_REFUSED if the answer's status is not
- * OK, with that status. `answer` is written for OCA_ASKED_DONE and OCA_ASKED_REFUSED alone. */
+ * OCA_CLOSED, OCA_HANDLES_SPENT or OCA_SPAN_FULL in `result`: that command was not sent. OCA_ASKED_UNANSWERED if no
+ * answer came in time: the command stays in flight under the handle in `result`. OCA_ASKED_REFUSED if the answer's
+ * status is not OK, with that status. `answer` is written for OCA_ASKED_DONE and OCA_ASKED_REFUSED alone. */
 struct oca_outcome oca_panel_read(struct oca_panel *panel, uint32_t ono, uint32_t method, struct oca_answer *answer);
 
 /* Waits for the answer to a command that oca_panel_begin_set began, for at most the panel's `wait_ms` milliseconds, and
@@ -1220,7 +1247,10 @@ struct oca_outcome oca_panel_finish_set(struct oca_panel *panel, uint32_t handle
  * takes it, and writes the value with its limits to `reading`. `class_number` is the number of the class that was given
  * there. Returns OCA_ASKED_DONE, and then alone `reading` is written. OCA_ASKED_UNREADABLE if the answer's parameters
  * are not those of the class's get method, and OCA_ASKED_REFUSED with the status if the device refused: then the
- * command is removed. The other outcomes are those of oca_panel_finish_set. */
+ * command is removed. OCA_ASKED_NO_HANDLE if no command has the handle, or its answer was taken before. OCA_ASKED_LOST
+ * or OCA_ASKED_LATE if the panel's link is lost or late and no answer is there. OCA_ASKED_NOT_SENT with OCA_CLOSED in
+ * `result` if the panel is closed. OCA_ASKED_UNANSWERED if no answer came in time: the command stays in flight and can
+ * be waited for again. */
 struct oca_outcome oca_panel_finish_get(struct oca_panel *panel, uint32_t handle, uint32_t class_number, struct oca_reading *reading);
 
 /* Sets an object to a value, by the set method of the value's class (AES70-2), and waits for the answer. `ono` is the
@@ -1228,8 +1258,9 @@ struct oca_outcome oca_panel_finish_get(struct oca_panel *panel, uint32_t handle
  * OCA_ASKED_DONE if the device set it. OCA_ASKED_NO_VALUE if the struct holds no value: then nothing is sent. Otherwise
  * the outcome is one of these (enum oca_asked). OCA_ASKED_LOST or OCA_ASKED_LATE if the panel's link is lost or late: a
  * command that was sent may have been carried out. OCA_ASKED_NOT_SENT with OCA_CLOSED, OCA_HANDLES_SPENT or
- * OCA_SPAN_FULL in `result`: nothing was sent. OCA_ASKED_UNANSWERED if no answer came in time: the command stays in
- * flight under the handle in `result`. OCA_ASKED_REFUSED if the answer's status is not OK, with that status. */
+ * OCA_SPAN_FULL in `result`: that command was not sent. OCA_ASKED_UNANSWERED if no answer came in time: the command
+ * stays in flight under the handle in `result`. OCA_ASKED_REFUSED if the answer's status is not OK, with that status.
+ */
 struct oca_outcome oca_panel_set(struct oca_panel *panel, uint32_t ono, struct oca_value value);
 
 /* Reads how an object of the class `class_number` (enum oca_class) is set, by the get method of the class (AES70-2),
@@ -1238,19 +1269,19 @@ struct oca_outcome oca_panel_set(struct oca_panel *panel, uint32_t ono, struct o
  * and then alone `reading` is written. OCA_ASKED_NO_VALUE if no class has the number, or it is that of a block: then
  * nothing is sent. Otherwise the outcome is one of these (enum oca_asked). OCA_ASKED_LOST or OCA_ASKED_LATE if the
  * panel's link is lost or late: a command that was sent may have been carried out. OCA_ASKED_NOT_SENT with OCA_CLOSED,
- * OCA_HANDLES_SPENT or OCA_SPAN_FULL in `result`: nothing was sent. OCA_ASKED_UNANSWERED if no answer came in time: the
- * command stays in flight under the handle in `result`. OCA_ASKED_REFUSED if the answer's status is not OK, with that
- * status. OCA_ASKED_UNREADABLE if the answer's parameters are not those of the method. */
+ * OCA_HANDLES_SPENT or OCA_SPAN_FULL in `result`: that command was not sent. OCA_ASKED_UNANSWERED if no answer came in
+ * time: the command stays in flight under the handle in `result`. OCA_ASKED_REFUSED if the answer's status is not OK,
+ * with that status. OCA_ASKED_UNREADABLE if the answer's parameters are not those of the method. */
 struct oca_outcome oca_panel_get_of(struct oca_panel *panel, uint32_t ono, uint32_t class_number, struct oca_reading *reading);
 
 /* Asks for the class of an object, by GetClassIdentification of OcaRoot (AES70-2), and waits for the answer. The call
  * waits for the answer for at most the panel's `wait_ms` milliseconds. Returns OCA_ASKED_DONE, and then alone `id` is
  * written. The class number in it is 0 for a class that is not of this profile. Otherwise the outcome is one of these
  * (enum oca_asked). OCA_ASKED_LOST or OCA_ASKED_LATE if the panel's link is lost or late: a command that was sent may
- * have been carried out. OCA_ASKED_NOT_SENT with OCA_CLOSED, OCA_HANDLES_SPENT or OCA_SPAN_FULL in `result`: nothing
- * was sent. OCA_ASKED_UNANSWERED if no answer came in time: the command stays in flight under the handle in `result`.
- * OCA_ASKED_REFUSED if the answer's status is not OK, with that status. OCA_ASKED_UNREADABLE if the answer's parameters
- * are not those of the method. */
+ * have been carried out. OCA_ASKED_NOT_SENT with OCA_CLOSED, OCA_HANDLES_SPENT or OCA_SPAN_FULL in `result`: that
+ * command was not sent. OCA_ASKED_UNANSWERED if no answer came in time: the command stays in flight under the handle in
+ * `result`. OCA_ASKED_REFUSED if the answer's status is not OK, with that status. OCA_ASKED_UNREADABLE if the answer's
+ * parameters are not those of the method. */
 struct oca_outcome oca_panel_class(struct oca_panel *panel, uint32_t ono, struct oca_class_id *id);
 
 /* Reads how an object is set: asks for its class (AES70-2, GetClassIdentification), and then for the value by the get
@@ -1259,46 +1290,46 @@ struct oca_outcome oca_panel_class(struct oca_panel *panel, uint32_t ono, struct
  * written. OCA_ASKED_NO_VALUE if the object is a block, or its class is not of this profile: then the value is not
  * asked. Otherwise the outcome is one of these (enum oca_asked). OCA_ASKED_LOST or OCA_ASKED_LATE if the panel's link
  * is lost or late: a command that was sent may have been carried out. OCA_ASKED_NOT_SENT with OCA_CLOSED,
- * OCA_HANDLES_SPENT or OCA_SPAN_FULL in `result`: nothing was sent. OCA_ASKED_UNANSWERED if no answer came in time: the
- * command stays in flight under the handle in `result`. OCA_ASKED_REFUSED if the answer's status is not OK, with that
- * status. OCA_ASKED_UNREADABLE if the answer's parameters are not those of the method. */
+ * OCA_HANDLES_SPENT or OCA_SPAN_FULL in `result`: that command was not sent. OCA_ASKED_UNANSWERED if no answer came in
+ * time: the command stays in flight under the handle in `result`. OCA_ASKED_REFUSED if the answer's status is not OK,
+ * with that status. OCA_ASKED_UNREADABLE if the answer's parameters are not those of the method. */
 struct oca_outcome oca_panel_get(struct oca_panel *panel, uint32_t ono, struct oca_reading *reading);
 
 /* Locks an object, by LockTotal of OcaRoot (AES70-2), and waits for the answer: other controllers can then neither read
  * nor set it. The call waits for the answer for at most the panel's `wait_ms` milliseconds. Returns OCA_ASKED_DONE if
  * the object is locked. Otherwise the outcome is one of these (enum oca_asked). OCA_ASKED_LOST or OCA_ASKED_LATE if the
  * panel's link is lost or late: a command that was sent may have been carried out. OCA_ASKED_NOT_SENT with OCA_CLOSED,
- * OCA_HANDLES_SPENT or OCA_SPAN_FULL in `result`: nothing was sent. OCA_ASKED_UNANSWERED if no answer came in time: the
- * command stays in flight under the handle in `result`. OCA_ASKED_REFUSED if the answer's status is not OK, with that
- * status. The status is OCA_STATUS_LOCKED if another controller has the lock. */
+ * OCA_HANDLES_SPENT or OCA_SPAN_FULL in `result`: that command was not sent. OCA_ASKED_UNANSWERED if no answer came in
+ * time: the command stays in flight under the handle in `result`. OCA_ASKED_REFUSED if the answer's status is not OK,
+ * with that status. The status is OCA_STATUS_LOCKED if another controller has the lock. */
 struct oca_outcome oca_panel_lock(struct oca_panel *panel, uint32_t ono);
 
 /* Releases this panel's lock of an object, by Unlock of OcaRoot (AES70-2), and waits for the answer. The call waits for
  * the answer for at most the panel's `wait_ms` milliseconds. Returns OCA_ASKED_DONE if the lock is released. Otherwise
  * the outcome is one of these (enum oca_asked). OCA_ASKED_LOST or OCA_ASKED_LATE if the panel's link is lost or late: a
  * command that was sent may have been carried out. OCA_ASKED_NOT_SENT with OCA_CLOSED, OCA_HANDLES_SPENT or
- * OCA_SPAN_FULL in `result`: nothing was sent. OCA_ASKED_UNANSWERED if no answer came in time: the command stays in
- * flight under the handle in `result`. OCA_ASKED_REFUSED if the answer's status is not OK, with that status. The status
- * is OCA_STATUS_LOCKED if another controller has the lock, and OCA_STATUS_INVALID_REQUEST if the object is not locked.
- */
+ * OCA_SPAN_FULL in `result`: that command was not sent. OCA_ASKED_UNANSWERED if no answer came in time: the command
+ * stays in flight under the handle in `result`. OCA_ASKED_REFUSED if the answer's status is not OK, with that status.
+ * The status is OCA_STATUS_LOCKED if another controller has the lock, and OCA_STATUS_INVALID_REQUEST if the object is
+ * not locked. */
 struct oca_outcome oca_panel_unlock(struct oca_panel *panel, uint32_t ono);
 
 /* Asks for the role of an object, by GetRole of OcaRoot (AES70-2), and waits for the answer. The call waits for the
  * answer for at most the panel's `wait_ms` milliseconds. Returns OCA_ASKED_DONE, and then alone `role` is written: 0 to
  * 64 bytes of UTF-8. Otherwise the outcome is one of these (enum oca_asked). OCA_ASKED_LOST or OCA_ASKED_LATE if the
  * panel's link is lost or late: a command that was sent may have been carried out. OCA_ASKED_NOT_SENT with OCA_CLOSED,
- * OCA_HANDLES_SPENT or OCA_SPAN_FULL in `result`: nothing was sent. OCA_ASKED_UNANSWERED if no answer came in time: the
- * command stays in flight under the handle in `result`. OCA_ASKED_REFUSED if the answer's status is not OK, with that
- * status. OCA_ASKED_UNREADABLE if the answer's parameters are not those of the method. */
+ * OCA_HANDLES_SPENT or OCA_SPAN_FULL in `result`: that command was not sent. OCA_ASKED_UNANSWERED if no answer came in
+ * time: the command stays in flight under the handle in `result`. OCA_ASKED_REFUSED if the answer's status is not OK,
+ * with that status. OCA_ASKED_UNREADABLE if the answer's parameters are not those of the method. */
 struct oca_outcome oca_panel_role(struct oca_panel *panel, uint32_t ono, struct oca_name *role);
 
 /* Asks for the label of an object, by GetLabel of OcaWorker (AES70-2), and waits for the answer. The call waits for the
  * answer for at most the panel's `wait_ms` milliseconds. Returns OCA_ASKED_DONE, and then alone `label` is written: 0
  * to 64 bytes of UTF-8. Otherwise the outcome is one of these (enum oca_asked). OCA_ASKED_LOST or OCA_ASKED_LATE if the
  * panel's link is lost or late: a command that was sent may have been carried out. OCA_ASKED_NOT_SENT with OCA_CLOSED,
- * OCA_HANDLES_SPENT or OCA_SPAN_FULL in `result`: nothing was sent. OCA_ASKED_UNANSWERED if no answer came in time: the
- * command stays in flight under the handle in `result`. OCA_ASKED_REFUSED if the answer's status is not OK, with that
- * status. OCA_ASKED_UNREADABLE if the answer's parameters are not those of the method. */
+ * OCA_HANDLES_SPENT or OCA_SPAN_FULL in `result`: that command was not sent. OCA_ASKED_UNANSWERED if no answer came in
+ * time: the command stays in flight under the handle in `result`. OCA_ASKED_REFUSED if the answer's status is not OK,
+ * with that status. OCA_ASKED_UNREADABLE if the answer's parameters are not those of the method. */
 struct oca_outcome oca_panel_label(struct oca_panel *panel, uint32_t ono, struct oca_name *label);
 
 /* Gives an object a label of 0 to 64 bytes, by SetLabel of OcaWorker (AES70-2), and waits for the answer. The call
@@ -1306,15 +1337,16 @@ struct oca_outcome oca_panel_label(struct oca_panel *panel, uint32_t ono, struct
  * label. OCA_ASKED_NO_VALUE if the label has more than 64 bytes or is not UTF-8: then nothing is sent. Otherwise the
  * outcome is one of these (enum oca_asked). OCA_ASKED_LOST or OCA_ASKED_LATE if the panel's link is lost or late: a
  * command that was sent may have been carried out. OCA_ASKED_NOT_SENT with OCA_CLOSED, OCA_HANDLES_SPENT or
- * OCA_SPAN_FULL in `result`: nothing was sent. OCA_ASKED_UNANSWERED if no answer came in time: the command stays in
- * flight under the handle in `result`. OCA_ASKED_REFUSED if the answer's status is not OK, with that status. */
+ * OCA_SPAN_FULL in `result`: that command was not sent. OCA_ASKED_UNANSWERED if no answer came in time: the command
+ * stays in flight under the handle in `result`. OCA_ASKED_REFUSED if the answer's status is not OK, with that status.
+ */
 struct oca_outcome oca_panel_set_label(struct oca_panel *panel, uint32_t ono, const struct oca_name *label);
 
 /* Asks for the name of a switch's position, by GetPositionName of OcaSwitch (AES70-2), and waits for the answer.
  * `position` is counted from 0. The call waits for the answer for at most the panel's `wait_ms` milliseconds. Returns
  * OCA_ASKED_DONE, and then alone `name` is written. Otherwise the outcome is one of these (enum oca_asked).
  * OCA_ASKED_LOST or OCA_ASKED_LATE if the panel's link is lost or late: a command that was sent may have been carried
- * out. OCA_ASKED_NOT_SENT with OCA_CLOSED, OCA_HANDLES_SPENT or OCA_SPAN_FULL in `result`: nothing was sent.
+ * out. OCA_ASKED_NOT_SENT with OCA_CLOSED, OCA_HANDLES_SPENT or OCA_SPAN_FULL in `result`: that command was not sent.
  * OCA_ASKED_UNANSWERED if no answer came in time: the command stays in flight under the handle in `result`.
  * OCA_ASKED_REFUSED if the answer's status is not OK, with that status. The status is OCA_STATUS_PARAMETER_OUT_OF_RANGE
  * if the switch has no such position. OCA_ASKED_UNREADABLE if the answer's parameters are not those of the method. */
@@ -1324,17 +1356,17 @@ struct oca_outcome oca_panel_position_name(struct oca_panel *panel, uint32_t ono
  * call waits for the answer for at most the panel's `wait_ms` milliseconds. Returns OCA_ASKED_DONE, and then alone
  * `names` is written: at most 16, in the order of the positions. Otherwise the outcome is one of these (enum
  * oca_asked). OCA_ASKED_LOST or OCA_ASKED_LATE if the panel's link is lost or late: a command that was sent may have
- * been carried out. OCA_ASKED_NOT_SENT with OCA_CLOSED, OCA_HANDLES_SPENT or OCA_SPAN_FULL in `result`: nothing was
- * sent. OCA_ASKED_UNANSWERED if no answer came in time: the command stays in flight under the handle in `result`.
- * OCA_ASKED_REFUSED if the answer's status is not OK, with that status. OCA_ASKED_UNREADABLE if the answer's parameters
- * are not those of the method. */
+ * been carried out. OCA_ASKED_NOT_SENT with OCA_CLOSED, OCA_HANDLES_SPENT or OCA_SPAN_FULL in `result`: that command
+ * was not sent. OCA_ASKED_UNANSWERED if no answer came in time: the command stays in flight under the handle in
+ * `result`. OCA_ASKED_REFUSED if the answer's status is not OK, with that status. OCA_ASKED_UNREADABLE if the answer's
+ * parameters are not those of the method. */
 struct oca_outcome oca_panel_position_names(struct oca_panel *panel, uint32_t ono, struct oca_names *names);
 
 /* Asks for the numbers of a block's members, by GetMembers of OcaBlock (AES70-2), and waits for the answer. The call
  * waits for the answer for at most the panel's `wait_ms` milliseconds. Returns OCA_ASKED_DONE, and then alone `members`
  * is written, in the order of the answer. Otherwise the outcome is one of these (enum oca_asked). OCA_ASKED_LOST or
  * OCA_ASKED_LATE if the panel's link is lost or late: a command that was sent may have been carried out.
- * OCA_ASKED_NOT_SENT with OCA_CLOSED, OCA_HANDLES_SPENT or OCA_SPAN_FULL in `result`: nothing was sent.
+ * OCA_ASKED_NOT_SENT with OCA_CLOSED, OCA_HANDLES_SPENT or OCA_SPAN_FULL in `result`: that command was not sent.
  * OCA_ASKED_UNANSWERED if no answer came in time: the command stays in flight under the handle in `result`.
  * OCA_ASKED_REFUSED if the answer's status is not OK, with that status. The status is OCA_STATUS_BUFFER_OVERFLOW if
  * there are more than a response has room for, some 90. OCA_ASKED_UNREADABLE if the answer's parameters are not those
@@ -1403,7 +1435,7 @@ struct oca_socket { bool is_open; int file, error; const char *call; uint32_t ip
 #define OCA_SOCKET_INIT {false, 0, 0, NULL, 0, 0, 0, 0}
 
 /* Returns the present moment, in milliseconds of a clock that does not go back. On Linux the clock counts the time for
- * which the machine slept. The call cannot fail. */
+ * which the machine slept. If the system has no such clock, it is 0. */
 uint64_t oca_socket_now(void);
 
 /* Opens a device's UDP socket at the address `ip` of this machine (an IPv4 address as a number, the first byte highest)

@@ -15,7 +15,7 @@ use oca_tree::Value;
 use std::alloc::Global;
 
 /// Sets a mute (1 Muted, 2 Unmuted) or a polarity (1 NonInverted, 2 Inverted) at the local front panel. A lock of a
-/// controller does not refuse it, and no peer gets a message.
+/// controller does not refuse it, and no peer gets a message (the local front panel is the profile's, not AES70's).
 ///
 /// Returns the number of an answer: `Done`. Otherwise the first of these that applies, and then nothing is changed.
 /// `Closed` if the device is closed. `NotStarted` before its start. `NoObject` if no object has the number `ono`.
@@ -42,7 +42,7 @@ pub extern "C" fn oca_device_set_state(
 }
 
 /// Sets a switch to a position at the local front panel. `position` is counted from 0. A lock of a controller does not
-/// refuse it, and no peer gets a message.
+/// refuse it, and no peer gets a message (the local front panel is the profile's, not AES70's).
 ///
 /// Returns the number of an answer: `Done`. Otherwise the first of these that applies, and then nothing is changed.
 /// `Closed` if the device is closed. `NotStarted` before its start. `NoObject` if no object has the number `ono`.
@@ -65,7 +65,7 @@ pub extern "C" fn oca_device_set_position(
 }
 
 /// Sets a Boolean actuator to `truth` at the local front panel. A lock of a controller does not refuse it, and no peer
-/// gets a message.
+/// gets a message (the local front panel is the profile's, not AES70's).
 ///
 /// Returns the number of an answer: `Done`. Otherwise the first of these that applies, and then nothing is changed.
 /// `Closed` if the device is closed. `NotStarted` before its start. `NoObject` if no object has the number `ono`.
@@ -87,7 +87,7 @@ pub extern "C" fn oca_device_set_truth(
 }
 
 /// Sets an actuator of integers, of any type, to `number` at the local front panel. A lock of a controller does not
-/// refuse it, and no peer gets a message.
+/// refuse it, and no peer gets a message (the local front panel is the profile's, not AES70's).
 ///
 /// Returns the number of an answer: `Done`. Otherwise the first of these that applies, and then nothing is changed.
 /// `Closed` if the device is closed. `NotStarted` before its start. `NoObject` if no object has the number `ono`.
@@ -110,7 +110,8 @@ pub extern "C" fn oca_device_set_signed(
 }
 
 /// Sets an actuator of integers, of any type, to `number` at the local front panel, also to a number above those of
-/// `oca_device_set_signed`. A lock of a controller does not refuse it, and no peer gets a message.
+/// `oca_device_set_signed`. A lock of a controller does not refuse it, and no peer gets a message (the local front
+/// panel is the profile's, not AES70's).
 ///
 /// Returns the number of an answer: `Done`. Otherwise the first of these that applies, and then nothing is changed.
 /// `Closed` if the device is closed. `NotStarted` before its start. `NoObject` if no object has the number `ono`.
@@ -133,7 +134,7 @@ pub extern "C" fn oca_device_set_unsigned(
 }
 
 /// Sets an object at the local front panel to a value, which must be of the object's class. A lock of a controller does
-/// not refuse it, and no peer gets a message.
+/// not refuse it, and no peer gets a message (the local front panel is the profile's, not AES70's).
 ///
 /// Returns the number of an answer: `Done`. Otherwise the first of these that applies, and then nothing is changed.
 /// `Closed` if the device is closed. `NotStarted` before its start. `NoValue` if the struct holds no value. `NoObject`
@@ -162,7 +163,7 @@ pub extern "C" fn oca_device_set(
 }
 
 /// Gives an object a label of 0 to 64 bytes of UTF-8 at the local front panel. A lock of a controller does not refuse
-/// it, and no peer gets a message.
+/// it, and no peer gets a message (the local front panel is the profile's, not AES70's).
 ///
 /// Returns the number of an answer: `Done`. Otherwise the first of these that applies, and then nothing is changed.
 /// `Closed` if the device is closed. `NotStarted` before its start. `BadText` if the bytes are not UTF-8. `NoObject` if
@@ -189,7 +190,7 @@ pub extern "C" fn oca_device_set_label(
 }
 
 /// Enables or disables an object at the local front panel, as SetEnabled of OcaWorker does (AES70-2). A lock of a
-/// controller does not refuse it, and no peer gets a message.
+/// controller does not refuse it, and no peer gets a message (the local front panel is the profile's, not AES70's).
 ///
 /// Returns the number of an answer: `Done`. Otherwise the first of these that applies, and then nothing is changed.
 /// `Closed` if the device is closed. `NotStarted` before its start. `NoObject` if no object has the number `ono`.

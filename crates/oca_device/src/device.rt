@@ -166,14 +166,15 @@ impl Device {
         self.datagram_within(from, bytes, now, &mut outbox.first)
     }
 
-    /// Handles a datagram that came from the peer `from` as [`Device::datagram`] does, with the same verdicts, and with
-    /// an outbox of a chosen size. `now` is in milliseconds of the caller's clock. The outbox then has the first
-    /// packets of the answers, as many as it has room for. [`is_cut`](BoundedOutbox::is_cut) says whether others were
-    /// left out. No memory is taken.
+    /// Handles a datagram that came from the peer `from` as [`Device::datagram`] does, with an outbox of a chosen size.
+    /// `now` is the moment in milliseconds of the caller's clock. The outbox then has the first packets of the answers,
+    /// as many as it has room for. [`is_cut`](BoundedOutbox::is_cut) says whether others were left out. No memory is
+    /// taken.
     ///
-    /// All commands are executed, whether their answers have room or not. A peer that repeats a command whose answer
-    /// was left out gets the retained reply, as after a loss. The answers never have more packets than the datagram has
-    /// commands and keep-alives, and never more than 122.
+    /// `Malformed` with the first fault, `NoRoom` or `Served` with counts, as in `datagram`. After the first two no
+    /// object and no session is changed, and nothing is answered. All commands are executed, whether their answers have
+    /// room or not. A peer that repeats a command whose answer was left out gets the retained reply, as after a loss.
+    /// The answers never have more packets than the datagram has commands and keep-alives, and never more than 122.
     pub fn datagram_within(
         &mut self,
         from: Peer,

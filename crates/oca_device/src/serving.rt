@@ -38,13 +38,15 @@ pub fn serve<E: End>(device: &mut Device, end: &mut E, outbox: &mut Outbox, turn
 }
 
 /// Serves an end for at most `turns` turns as [`serve`] does, and lets the electronics follow the objects. Returns how
-/// often each thing was done. `outbox` is memory for the answers, and is empty at the end.
+/// often each thing was done. A turn receives once, at a socket for at most 50 ms. A datagram goes to the device, and
+/// its answers are sent. `outbox` is memory for the answers, and is empty at the end.
 ///
 /// After the answers to a datagram were sent, the electronics get the objects and the numbers of those that the
 /// datagram wrote to, which may be none ([`Electronics::follow`]). They are not called if no datagram came.
 ///
 /// All sends come first, so failed sends delay the electronics, each for as long as the end takes. At a `UdpEnd` that
-/// is up to a millisecond a packet, and there are at most 122 packets. The loop ends early if the end is closed.
+/// is up to a millisecond a packet, and there are at most 122 packets. The loop ends early if the end is closed, which
+/// does not count as a turn. Failed receives and sends are counted.
 pub fn serve_with<E: End, L: Electronics>(
     device: &mut Device,
     end: &mut E,

@@ -41,9 +41,12 @@ pub trait End {
     fn receive(&mut self, packet: &mut Packet) -> Heard
         ensures { Receives result packet.new.items (state self.old) (state self.new) };
 
-    /// Receives once, and waits until the moment `moment` at most. The results are those of [`receive`](End::receive),
-    /// and `packet` is emptied first. `moment` is in milliseconds of the end's own clock. An end that keeps no time
-    /// ignores `moment`, and receives as `receive` does.
+    /// Receives once, and waits until the moment `moment` at most, in milliseconds of the end's own clock. An end that
+    /// keeps no time ignores `moment`, and receives as [`receive`](End::receive) does. `packet` is emptied first.
+    ///
+    /// `Datagram` with its sender if a datagram came: its bytes are in `packet`. `Quiet` if none came. `Oversize` if a
+    /// datagram of more than 1,472 bytes came: it is dropped. `Failed` if receiving failed. `Closed` if nothing more
+    /// will come.
     fn receive_by(&mut self, packet: &mut Packet, moment: u64) -> Heard
         ensures { Receives result packet.new.items (state self.old) (state self.new) }
     {

@@ -164,11 +164,13 @@ impl<T: Copy + Default> InFlight<T> {
     }
 
     /// Takes the first command out of the queue and waits for its answer, for at most the panel's `wait` milliseconds.
-    /// Returns the command's item, and its outcome as [`Panel::finish`] does. `None` if the queue is empty: then
-    /// nothing is changed.
+    /// Returns the command's item and its outcome. `None` if the queue is empty: then nothing is changed.
     ///
-    /// The command leaves the queue with every outcome. After `Unanswered` it stays in flight at the panel, and keeps
-    /// its place in the span. [`Panel::answered`] returns its handle once its answer has come.
+    /// The outcome is that of [`Panel::finish`]: `Answered` with the answer, whatever its status. `Lost` if the link is
+    /// lost or late and no answer is there. `Unanswered` if no answer comes in time. The command leaves the queue with
+    /// every outcome. After `Unanswered` it stays in flight at the panel, and keeps its place in the span:
+    /// [`Panel::answered`] returns its handle once its answer has come. After `Lost` and `Unanswered` the device may
+    /// have carried out the command.
     pub fn finish_first<E: End>(&mut self, panel: &mut Panel<E>) -> Option<(T, Outcome)>
         ensures { FinishesFirst result self.old self.new panel.old panel.new }
     {
@@ -178,9 +180,11 @@ impl<T: Copy + Default> InFlight<T> {
         Some((item, panel.finish(handle)))
     }
 
-    /// Takes the first command out of the queue if its outcome is known already, and does not wait: its answer is
-    /// there, or the link is lost. Returns its item, and its outcome as [`Panel::try_finish`] does. `None` if the
-    /// outcome is not known or the queue is empty: then nothing is changed. Nothing is received or sent.
+    /// Takes the first command out of the queue if its outcome is known already, and does not wait. Returns the
+    /// command's item and its outcome: `Answered` with the answer, whatever its status, or `Lost` if the link is lost
+    /// and no answer is there. After `Lost` the device may have carried out the command.
+    ///
+    /// `None` if the outcome is not known, or the queue is empty: then nothing is changed. Nothing is received or sent.
     pub fn try_finish_first<E: End>(&mut self, panel: &mut Panel<E>) -> Option<(T, Outcome)>
         ensures { SettlesFirst result self.old self.new panel.old panel.new }
     {

@@ -138,7 +138,10 @@ impl Walk {
     }
 
     /// Visits the next place of the walk as [`next`](Walk::next) does, but asks its object even if it was visited
-    /// before. A block that contains itself is then visited until 4,096 places were visited.
+    /// before. The object is asked for its class, then for its role, and a block then for its members, which are
+    /// visited next. A block that contains itself is visited until 4,096 places were visited. The call waits for each
+    /// answer for at most the panel's `wait` milliseconds. If a question gets no usable answer, the [`Visit`] has the
+    /// reason instead.
     ///
     /// `None` if no place is left, or 4,096 places were visited: then nothing is asked or changed. The call takes
     /// memory for the places. Refusal: `NoMemory` if memory is refused. Questions may have been asked then, and the
