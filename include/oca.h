@@ -2,12 +2,12 @@
  * liboca_c.a and a heap of your own: three functions, whose signatures and rules are in c/malloc.c and examples/c/heap.c.
  * Built by `make install-library` it runs on every x86-64, and on every AArch64, with Linux; it needs 64 bits.
  *
- * A device is one struct oca_device, and a link one struct oca_link, zeroed before the first call: then it is closed. A call answers
- * OCA_DONE, or another number of enum oca_result. After any number but OCA_DONE do not read what the call would have written, except the
- * count or length that comes with OCA_TOO_SMALL. Texts are bytes and a length, in UTF-8.
- * Addresses and ports are in the host's byte order: 127.0.0.1 is 0x7F000001. Moments are in milliseconds, of a clock that does
- * not go back. The profile is the part of AES70 that is here, with rules of its own (docs/PROTOCOL.md). Nothing here opens a file or a socket or reads a clock but oca_store_.., oca_socket_.. and oca_serve.., and nothing starts a
- * thread.
+ * A device is one struct oca_device, and a link one struct oca_link, zeroed before the first call: then it is closed. A
+ * call answers OCA_DONE, or another number of enum oca_result. After any number but OCA_DONE do not read what the call
+ * would have written, except the count or length that comes with OCA_TOO_SMALL. Texts are bytes and a length, in UTF-8.
+ * Addresses and ports are in the host's byte order: 127.0.0.1 is 0x7F000001. Moments are in milliseconds, of a clock
+ * that does not go back. The profile is the part of AES70 that is here, with rules of its own (docs/PROTOCOL.md). Only
+ * oca_store_.., oca_socket_.. and oca_serve.. open a file or a socket or read a clock, and nothing starts a thread.
  *
  * What the caller promises, at every call (no proof sees the C side):
  *  - no pointer is null, also if its length is 0 (a close takes a null pointer, and other calls where it is said); each points to as much
@@ -929,8 +929,8 @@ void oca_store_close(struct oca_store *store);
 /* ---- the link ---- */
 
 /* A link to one device. A command is in flight from its submit until its answer is taken; its handle is its number
- * (AES70-3). The span is how far the next handle may be above the lowest handle in flight, less one: so at most that
- * many commands are in flight. The link is lost once a command got no answer to 20 transmissions, and late while a
+ * (AES70-3). Each new handle is below the lowest handle in flight plus the span (1 to 32), so at most as many commands
+ * as the span are in flight. The link is lost once a command got no answer to 20 transmissions, and late while a
  * command that was submitted more than 15,000 ms ago has no answer. A closed link: struct oca_link link =
  * OCA_LINK_INIT; */
 struct oca_link { void *at; bool is_open; };
@@ -1017,10 +1017,10 @@ enum oca_result oca_link_next_due(struct oca_link *link, uint64_t *moment) OCA_N
  * nothing is changed or written. */
 enum oca_result oca_link_answered(struct oca_link *link, uint32_t *handle) OCA_NONNULL;
 
-/* Writes to `in_flight` whether a command with this handle was submitted and has no answer yet. The name says more than
- * the result: it is false for a command whose answer came and was not taken. It is false too for a handle that no
- * command has. If it is false and oca_link_take finds no answer, the answer was taken before, or no command has that
- * handle. Returns OCA_DONE. OCA_CLOSED if the link is closed: then nothing is changed or written. */
+/* Writes to `in_flight` whether a command with this handle was submitted and has no answer yet. It is false for a
+ * command whose answer came and was not taken, though that command keeps its place in the span. It is false too for a
+ * handle that no command has. If it is false and oca_link_take finds no answer, the answer was taken before, or no
+ * command has that handle. Returns OCA_DONE. OCA_CLOSED if the link is closed: then nothing is changed or written. */
 enum oca_result oca_link_in_flight(struct oca_link *link, uint32_t handle, bool *in_flight) OCA_NONNULL;
 
 /* Writes to `handle` the handle that the next command gets: at first the handle that the link was opened with. A link
@@ -1146,30 +1146,30 @@ struct oca_outcome oca_panel_turn(struct oca_panel *panel);
 
 /* Submits a command by a method of enum oca_method, sends it at once and writes its handle to `handle`. `ono` is the
  * number of the object, `count` is ParamCount, and `params` are the encoded parameters (docs/PROTOCOL.md, section 3),
- * at most 1,445 bytes. The call does not wait: oca_panel_finish does. Several commands can be in flight at once. If the
- * link becomes lost in this call, the command is not sent, and the result is OCA_DONE. Returns OCA_DONE. Otherwise the
- * first of these that applies, and then nothing is changed or sent. OCA_CLOSED if the panel is closed. OCA_LOST if its
- * link is lost or late. OCA_HANDLES_SPENT if a command has the handle 4294967295 already. OCA_SPAN_FULL if the next
- * handle is not below the lowest handle whose answer was not taken yet, plus the span. OCA_TOO_LONG if the parameters
- * have more than 1,445 bytes. */
+ * at most 1,445 bytes. The call does not wait: oca_panel_finish does. Several commands can be in flight at once.
+ * Returns OCA_DONE, also if the link becomes lost in this call and the command is not sent. Otherwise the first of
+ * these that applies, and then nothing is changed or sent. OCA_CLOSED if the panel is closed. OCA_LOST if its link is
+ * lost or late. OCA_HANDLES_SPENT if a command has the handle 4294967295 already. OCA_SPAN_FULL if the next handle is
+ * not below the lowest handle whose answer was not taken yet, plus the span. OCA_TOO_LONG if the parameters have more
+ * than 1,445 bytes. */
 enum oca_result oca_panel_begin(struct oca_panel *panel, uint32_t ono, uint32_t method, uint8_t count, const uint8_t *params, size_t params_len, uint32_t *handle);
 
 /* Submits the command that sets an object to a value, by the set method of the value's class (AES70-2), sends it at
  * once and writes its handle to `handle`. `ono` is the number of the object. The call does not wait:
- * oca_panel_finish_set does. If the link becomes lost in this call, the command is not sent, and the result is
- * OCA_DONE. Returns OCA_DONE. Otherwise the first of these that applies, and then nothing is changed or sent.
- * OCA_NO_VALUE if the struct holds no value. OCA_CLOSED if the panel is closed. OCA_LOST if its link is lost or late.
- * OCA_HANDLES_SPENT if a command has the handle 4294967295 already. OCA_SPAN_FULL if the next handle is not below the
- * lowest handle whose answer was not taken yet, plus the span. */
+ * oca_panel_finish_set does. Returns OCA_DONE, also if the link becomes lost in this call and the command is not sent.
+ * Otherwise the first of these that applies, and then nothing is changed or sent. OCA_NO_VALUE if the struct holds no
+ * value. OCA_CLOSED if the panel is closed. OCA_LOST if its link is lost or late. OCA_HANDLES_SPENT if a command has
+ * the handle 4294967295 already. OCA_SPAN_FULL if the next handle is not below the lowest handle whose answer was not
+ * taken yet, plus the span. */
 enum oca_result oca_panel_begin_set(struct oca_panel *panel, uint32_t ono, struct oca_value value, uint32_t *handle);
 
 /* Submits the command that reads how an object is set, by the get method of its class (AES70-2), sends it at once and
  * writes its handle to `handle`. `ono` is the number of the object, and `class_number` that of its class (enum
- * oca_class). The call does not wait: oca_panel_finish_get does. If the link becomes lost in this call, the command is
- * not sent, and the result is OCA_DONE. Returns OCA_DONE. Otherwise the first of these that applies, and then nothing
- * is changed or sent. OCA_NO_VALUE if no class has the number, or it is that of a block. OCA_CLOSED if the panel is
- * closed. OCA_LOST if its link is lost or late. OCA_HANDLES_SPENT if a command has the handle 4294967295 already.
- * OCA_SPAN_FULL if the next handle is not below the lowest handle whose answer was not taken yet, plus the span. */
+ * oca_class). The call does not wait: oca_panel_finish_get does. Returns OCA_DONE, also if the link becomes lost in
+ * this call and the command is not sent. Otherwise the first of these that applies, and then nothing is changed or
+ * sent. OCA_NO_VALUE if no class has the number, or it is that of a block. OCA_CLOSED if the panel is closed. OCA_LOST
+ * if its link is lost or late. OCA_HANDLES_SPENT if a command has the handle 4294967295 already. OCA_SPAN_FULL if the
+ * next handle is not below the lowest handle whose answer was not taken yet, plus the span. */
 enum oca_result oca_panel_begin_get(struct oca_panel *panel, uint32_t ono, uint32_t class_number, uint32_t *handle);
 
 /* The answer to a command: ParamCount, and the bytes of its parameters (`params_len` of them, at most 1,452). They are
@@ -1274,14 +1274,14 @@ struct oca_outcome oca_panel_set(struct oca_panel *panel, uint32_t ono, struct o
  * with that status. OCA_ASKED_UNREADABLE if the answer's parameters are not those of the method. */
 struct oca_outcome oca_panel_get_of(struct oca_panel *panel, uint32_t ono, uint32_t class_number, struct oca_reading *reading);
 
-/* Asks for the class of an object, by GetClassIdentification of OcaRoot (AES70-2), and waits for the answer. The call
- * waits for the answer for at most the panel's `wait_ms` milliseconds. Returns OCA_ASKED_DONE, and then alone `id` is
- * written. The class number in it is 0 for a class that is not of this profile. Otherwise the outcome is one of these
- * (enum oca_asked). OCA_ASKED_LOST or OCA_ASKED_LATE if the panel's link is lost or late: a command that was sent may
- * have been carried out. OCA_ASKED_NOT_SENT with OCA_CLOSED, OCA_HANDLES_SPENT or OCA_SPAN_FULL in `result`: that
- * command was not sent. OCA_ASKED_UNANSWERED if no answer came in time: the command stays in flight under the handle in
- * `result`. OCA_ASKED_REFUSED if the answer's status is not OK, with that status. OCA_ASKED_UNREADABLE if the answer's
- * parameters are not those of the method. */
+/* Asks for the class of an object, by GetClassIdentification of OcaRoot (AES70-2). The call waits for the answer for at
+ * most the panel's `wait_ms` milliseconds. Returns OCA_ASKED_DONE, and then alone `id` is written. The class number in
+ * it is 0 for a class that is not of this profile. Otherwise the outcome is one of these (enum oca_asked).
+ * OCA_ASKED_LOST or OCA_ASKED_LATE if the panel's link is lost or late: a command that was sent may have been carried
+ * out. OCA_ASKED_NOT_SENT with OCA_CLOSED, OCA_HANDLES_SPENT or OCA_SPAN_FULL in `result`: that command was not sent.
+ * OCA_ASKED_UNANSWERED if no answer came in time: the command stays in flight under the handle in `result`.
+ * OCA_ASKED_REFUSED if the answer's status is not OK, with that status. OCA_ASKED_UNREADABLE if the answer's parameters
+ * are not those of the method. */
 struct oca_outcome oca_panel_class(struct oca_panel *panel, uint32_t ono, struct oca_class_id *id);
 
 /* Reads how an object is set: asks for its class (AES70-2, GetClassIdentification), and then for the value by the get
@@ -1304,42 +1304,40 @@ struct oca_outcome oca_panel_get(struct oca_panel *panel, uint32_t ono, struct o
  * with that status. The status is OCA_STATUS_LOCKED if another controller has the lock. */
 struct oca_outcome oca_panel_lock(struct oca_panel *panel, uint32_t ono);
 
-/* Releases this panel's lock of an object, by Unlock of OcaRoot (AES70-2), and waits for the answer. The call waits for
- * the answer for at most the panel's `wait_ms` milliseconds. Returns OCA_ASKED_DONE if the lock is released. Otherwise
- * the outcome is one of these (enum oca_asked). OCA_ASKED_LOST or OCA_ASKED_LATE if the panel's link is lost or late: a
- * command that was sent may have been carried out. OCA_ASKED_NOT_SENT with OCA_CLOSED, OCA_HANDLES_SPENT or
- * OCA_SPAN_FULL in `result`: that command was not sent. OCA_ASKED_UNANSWERED if no answer came in time: the command
- * stays in flight under the handle in `result`. OCA_ASKED_REFUSED if the answer's status is not OK, with that status.
- * The status is OCA_STATUS_LOCKED if another controller has the lock, and OCA_STATUS_INVALID_REQUEST if the object is
- * not locked. */
+/* Releases this panel's lock of an object, by Unlock of OcaRoot (AES70-2). The call waits for the answer for at most
+ * the panel's `wait_ms` milliseconds. Returns OCA_ASKED_DONE if the lock is released. Otherwise the outcome is one of
+ * these (enum oca_asked). OCA_ASKED_LOST or OCA_ASKED_LATE if the panel's link is lost or late: a command that was sent
+ * may have been carried out. OCA_ASKED_NOT_SENT with OCA_CLOSED, OCA_HANDLES_SPENT or OCA_SPAN_FULL in `result`: that
+ * command was not sent. OCA_ASKED_UNANSWERED if no answer came in time: the command stays in flight under the handle in
+ * `result`. OCA_ASKED_REFUSED if the answer's status is not OK, with that status. The status is OCA_STATUS_LOCKED if
+ * another controller has the lock, and OCA_STATUS_INVALID_REQUEST if the object is not locked. */
 struct oca_outcome oca_panel_unlock(struct oca_panel *panel, uint32_t ono);
 
-/* Asks for the role of an object, by GetRole of OcaRoot (AES70-2), and waits for the answer. The call waits for the
- * answer for at most the panel's `wait_ms` milliseconds. Returns OCA_ASKED_DONE, and then alone `role` is written: 0 to
- * 64 bytes of UTF-8. Otherwise the outcome is one of these (enum oca_asked). OCA_ASKED_LOST or OCA_ASKED_LATE if the
- * panel's link is lost or late: a command that was sent may have been carried out. OCA_ASKED_NOT_SENT with OCA_CLOSED,
- * OCA_HANDLES_SPENT or OCA_SPAN_FULL in `result`: that command was not sent. OCA_ASKED_UNANSWERED if no answer came in
- * time: the command stays in flight under the handle in `result`. OCA_ASKED_REFUSED if the answer's status is not OK,
- * with that status. OCA_ASKED_UNREADABLE if the answer's parameters are not those of the method. */
-struct oca_outcome oca_panel_role(struct oca_panel *panel, uint32_t ono, struct oca_name *role);
-
-/* Asks for the label of an object, by GetLabel of OcaWorker (AES70-2), and waits for the answer. The call waits for the
- * answer for at most the panel's `wait_ms` milliseconds. Returns OCA_ASKED_DONE, and then alone `label` is written: 0
- * to 64 bytes of UTF-8. Otherwise the outcome is one of these (enum oca_asked). OCA_ASKED_LOST or OCA_ASKED_LATE if the
- * panel's link is lost or late: a command that was sent may have been carried out. OCA_ASKED_NOT_SENT with OCA_CLOSED,
- * OCA_HANDLES_SPENT or OCA_SPAN_FULL in `result`: that command was not sent. OCA_ASKED_UNANSWERED if no answer came in
- * time: the command stays in flight under the handle in `result`. OCA_ASKED_REFUSED if the answer's status is not OK,
- * with that status. OCA_ASKED_UNREADABLE if the answer's parameters are not those of the method. */
-struct oca_outcome oca_panel_label(struct oca_panel *panel, uint32_t ono, struct oca_name *label);
-
-/* Gives an object a label of 0 to 64 bytes, by SetLabel of OcaWorker (AES70-2), and waits for the answer. The call
- * waits for the answer for at most the panel's `wait_ms` milliseconds. Returns OCA_ASKED_DONE if the object has the
- * label. OCA_ASKED_NO_VALUE if the label has more than 64 bytes or is not UTF-8: then nothing is sent. Otherwise the
- * outcome is one of these (enum oca_asked). OCA_ASKED_LOST or OCA_ASKED_LATE if the panel's link is lost or late: a
- * command that was sent may have been carried out. OCA_ASKED_NOT_SENT with OCA_CLOSED, OCA_HANDLES_SPENT or
+/* Asks for the role of an object, by GetRole of OcaRoot (AES70-2). The call waits for the answer for at most the
+ * panel's `wait_ms` milliseconds. Returns OCA_ASKED_DONE, and then alone `role` is written: 0 to 64 bytes of UTF-8.
+ * Otherwise the outcome is one of these (enum oca_asked). OCA_ASKED_LOST or OCA_ASKED_LATE if the panel's link is lost
+ * or late: a command that was sent may have been carried out. OCA_ASKED_NOT_SENT with OCA_CLOSED, OCA_HANDLES_SPENT or
  * OCA_SPAN_FULL in `result`: that command was not sent. OCA_ASKED_UNANSWERED if no answer came in time: the command
  * stays in flight under the handle in `result`. OCA_ASKED_REFUSED if the answer's status is not OK, with that status.
- */
+ * OCA_ASKED_UNREADABLE if the answer's parameters are not those of the method. */
+struct oca_outcome oca_panel_role(struct oca_panel *panel, uint32_t ono, struct oca_name *role);
+
+/* Asks for the label of an object, by GetLabel of OcaWorker (AES70-2). The call waits for the answer for at most the
+ * panel's `wait_ms` milliseconds. Returns OCA_ASKED_DONE, and then alone `label` is written: 0 to 64 bytes of UTF-8.
+ * Otherwise the outcome is one of these (enum oca_asked). OCA_ASKED_LOST or OCA_ASKED_LATE if the panel's link is lost
+ * or late: a command that was sent may have been carried out. OCA_ASKED_NOT_SENT with OCA_CLOSED, OCA_HANDLES_SPENT or
+ * OCA_SPAN_FULL in `result`: that command was not sent. OCA_ASKED_UNANSWERED if no answer came in time: the command
+ * stays in flight under the handle in `result`. OCA_ASKED_REFUSED if the answer's status is not OK, with that status.
+ * OCA_ASKED_UNREADABLE if the answer's parameters are not those of the method. */
+struct oca_outcome oca_panel_label(struct oca_panel *panel, uint32_t ono, struct oca_name *label);
+
+/* Gives an object a label of 0 to 64 bytes, by SetLabel of OcaWorker (AES70-2). The call waits for the answer for at
+ * most the panel's `wait_ms` milliseconds. Returns OCA_ASKED_DONE if the object has the label. OCA_ASKED_NO_VALUE if
+ * the label has more than 64 bytes or is not UTF-8: then nothing is sent. Otherwise the outcome is one of these (enum
+ * oca_asked). OCA_ASKED_LOST or OCA_ASKED_LATE if the panel's link is lost or late: a command that was sent may have
+ * been carried out. OCA_ASKED_NOT_SENT with OCA_CLOSED, OCA_HANDLES_SPENT or OCA_SPAN_FULL in `result`: that command
+ * was not sent. OCA_ASKED_UNANSWERED if no answer came in time: the command stays in flight under the handle in
+ * `result`. OCA_ASKED_REFUSED if the answer's status is not OK, with that status. */
 struct oca_outcome oca_panel_set_label(struct oca_panel *panel, uint32_t ono, const struct oca_name *label);
 
 /* Asks for the name of a switch's position, by GetPositionName of OcaSwitch (AES70-2), and waits for the answer.
@@ -1352,25 +1350,24 @@ struct oca_outcome oca_panel_set_label(struct oca_panel *panel, uint32_t ono, co
  * if the switch has no such position. OCA_ASKED_UNREADABLE if the answer's parameters are not those of the method. */
 struct oca_outcome oca_panel_position_name(struct oca_panel *panel, uint32_t ono, uint16_t position, struct oca_name *name);
 
-/* Asks for the names of a switch's positions, by GetPositionNames of OcaSwitch (AES70-2), and waits for the answer. The
- * call waits for the answer for at most the panel's `wait_ms` milliseconds. Returns OCA_ASKED_DONE, and then alone
- * `names` is written: at most 16, in the order of the positions. Otherwise the outcome is one of these (enum
- * oca_asked). OCA_ASKED_LOST or OCA_ASKED_LATE if the panel's link is lost or late: a command that was sent may have
- * been carried out. OCA_ASKED_NOT_SENT with OCA_CLOSED, OCA_HANDLES_SPENT or OCA_SPAN_FULL in `result`: that command
- * was not sent. OCA_ASKED_UNANSWERED if no answer came in time: the command stays in flight under the handle in
- * `result`. OCA_ASKED_REFUSED if the answer's status is not OK, with that status. OCA_ASKED_UNREADABLE if the answer's
- * parameters are not those of the method. */
-struct oca_outcome oca_panel_position_names(struct oca_panel *panel, uint32_t ono, struct oca_names *names);
-
-/* Asks for the numbers of a block's members, by GetMembers of OcaBlock (AES70-2), and waits for the answer. The call
- * waits for the answer for at most the panel's `wait_ms` milliseconds. Returns OCA_ASKED_DONE, and then alone `members`
- * is written, in the order of the answer. Otherwise the outcome is one of these (enum oca_asked). OCA_ASKED_LOST or
+/* Asks for the names of a switch's positions, by GetPositionNames of OcaSwitch (AES70-2). The call waits for the answer
+ * for at most the panel's `wait_ms` milliseconds. Returns OCA_ASKED_DONE, and then alone `names` is written: at most
+ * 16, in the order of the positions. Otherwise the outcome is one of these (enum oca_asked). OCA_ASKED_LOST or
  * OCA_ASKED_LATE if the panel's link is lost or late: a command that was sent may have been carried out.
  * OCA_ASKED_NOT_SENT with OCA_CLOSED, OCA_HANDLES_SPENT or OCA_SPAN_FULL in `result`: that command was not sent.
  * OCA_ASKED_UNANSWERED if no answer came in time: the command stays in flight under the handle in `result`.
- * OCA_ASKED_REFUSED if the answer's status is not OK, with that status. The status is OCA_STATUS_BUFFER_OVERFLOW if
- * there are more than a response has room for, some 90. OCA_ASKED_UNREADABLE if the answer's parameters are not those
- * of the method. */
+ * OCA_ASKED_REFUSED if the answer's status is not OK, with that status. OCA_ASKED_UNREADABLE if the answer's parameters
+ * are not those of the method. */
+struct oca_outcome oca_panel_position_names(struct oca_panel *panel, uint32_t ono, struct oca_names *names);
+
+/* Asks for the numbers of a block's members, by GetMembers of OcaBlock (AES70-2). The call waits for the answer for at
+ * most the panel's `wait_ms` milliseconds. Returns OCA_ASKED_DONE, and then alone `members` is written, in the order of
+ * the answer. Otherwise the outcome is one of these (enum oca_asked). OCA_ASKED_LOST or OCA_ASKED_LATE if the panel's
+ * link is lost or late: a command that was sent may have been carried out. OCA_ASKED_NOT_SENT with OCA_CLOSED,
+ * OCA_HANDLES_SPENT or OCA_SPAN_FULL in `result`: that command was not sent. OCA_ASKED_UNANSWERED if no answer came in
+ * time: the command stays in flight under the handle in `result`. OCA_ASKED_REFUSED if the answer's status is not OK,
+ * with that status. The status is OCA_STATUS_BUFFER_OVERFLOW if there are more than a response has room for, some 90.
+ * OCA_ASKED_UNREADABLE if the answer's parameters are not those of the method. */
 struct oca_outcome oca_panel_members(struct oca_panel *panel, uint32_t ono, struct oca_members *members);
 
 /* What a walk finds of an object: its number, and the number of the block that lists it (0 for the root). `described`

@@ -267,10 +267,10 @@ impl Link {
         self.table.answered()
     }
 
-    /// Whether a command with this handle was submitted and has no answer yet. The name says more than the result: it
-    /// is `false` for a command whose answer came and was not taken. `false` also for a command whose answer was taken,
-    /// and for a handle that no command has. In a lost link the commands without an answer stay `true`. So a wait can
-    /// end at once if this is `false` and [`take`](Link::take) returns `None`.
+    /// Whether a command with this handle was submitted and has no answer yet. `false` for a command whose answer came
+    /// and was not taken, though that command keeps its place in the span. `false` too for a command whose answer was
+    /// taken, and for a handle that no command has. In a lost link the commands without an answer stay `true`. So a
+    /// wait can end at once if the result is `false` and [`take`](Link::take) returns `None`. Nothing is changed.
     pub fn is_in_flight(&self, handle: Handle) -> bool
         ensures { result ≡ list_any (waits handle.0) self.now.untaken }
     {
