@@ -1203,16 +1203,19 @@ struct oca_flight { uint32_t first, count, handles[32]; void *items[32]; };
 enum oca_result oca_flight_push(struct oca_flight *flight, uint32_t handle, void *item);
 
 /* Waits for the outcome of the first of the commands in flight, for at most the panel's `wait_ms` milliseconds, and
- * returns the outcome that oca_panel_finish returns for its handle. `item` becomes what oca_flight_push was given.
- * `answer` is written for OCA_ASKED_DONE and OCA_ASKED_REFUSED alone. The command is then removed; after
+ * returns it. OCA_ASKED_DONE, OCA_ASKED_REFUSED, OCA_ASKED_LOST, OCA_ASKED_LATE, OCA_ASKED_NOT_SENT,
+ * OCA_ASKED_NO_HANDLE and OCA_ASKED_UNANSWERED are as for oca_panel_finish. `item` becomes what oca_flight_push was
+ * given. `answer` is written for OCA_ASKED_DONE and OCA_ASKED_REFUSED alone. The command is then removed; after
  * OCA_ASKED_UNANSWERED it stays the first. OCA_ASKED_NO_HANDLE with 0 in `result` if there is no command: then nothing
  * is written. */
 struct oca_outcome oca_flight_finish(struct oca_flight *flight, struct oca_panel *panel, struct oca_answer *answer, void **item);
 
-/* Returns the outcome of the first of the commands in flight if it is known already, as oca_panel_try_finish does, and
- * does not wait. `item` becomes what oca_flight_push was given. `answer` is written for OCA_ASKED_DONE and
- * OCA_ASKED_REFUSED alone. The command is then removed; after OCA_ASKED_UNANSWERED, if no answer is there yet, it stays
- * the first. OCA_ASKED_NO_HANDLE with 0 in `result` if there is no command: then nothing is written. */
+/* Returns the outcome of the first of the commands in flight if it is known already, and does not wait. OCA_ASKED_DONE,
+ * OCA_ASKED_REFUSED, OCA_ASKED_LOST, OCA_ASKED_LATE, OCA_ASKED_NOT_SENT, OCA_ASKED_NO_HANDLE and OCA_ASKED_UNANSWERED
+ * are as for oca_panel_try_finish. `item` becomes what oca_flight_push was given. `answer` is written for
+ * OCA_ASKED_DONE and OCA_ASKED_REFUSED alone. The command is then removed; after OCA_ASKED_UNANSWERED, if no answer is
+ * there yet, it stays the first. OCA_ASKED_NO_HANDLE with 0 in `result` if there is no command: then nothing is
+ * written. */
 struct oca_outcome oca_flight_try_finish(struct oca_flight *flight, struct oca_panel *panel, struct oca_answer *answer, void **item);
 
 /* Sends a command by a method of enum oca_method, and waits for its answer. `ono` is the number of the object, `count`
@@ -1437,10 +1440,10 @@ uint64_t oca_socket_now(void);
 
 /* Opens a device's UDP socket at the address `ip` of this machine (an IPv4 address as a number, the first byte highest)
  * and the port `port`. At port 0 the system chooses a port: the struct has it then. At the address 0 the socket
- * receives at each address, and a machine with several may answer from another one. Returns OCA_SOCKET_DONE.
- * OCA_SOCKET_NULL for a null pointer. OCA_SOCKET_OPEN if the socket is open: it stays as it is. OCA_SOCKET_SYSTEM if a
- * call of the system failed, for example if the port is in use: the socket is then closed, and has the call's name and
- * errno. */
+ * receives at each address, and a machine with several addresses may answer from another of them. Returns
+ * OCA_SOCKET_DONE. OCA_SOCKET_NULL for a null pointer. OCA_SOCKET_OPEN if the socket is open: it stays as it is.
+ * OCA_SOCKET_SYSTEM if a call of the system failed, for example if the port is in use: the socket is then closed, and
+ * has the call's name and errno. */
 enum oca_socket_result oca_socket_open(struct oca_socket *own, uint32_t ip, uint16_t port) OCA_LOOKED_AT;
 
 /* Opens a panel's UDP socket, at the one address from which the system reaches the device at `device_ip` and

@@ -58,23 +58,28 @@ pub fn law_never_old()
     law_written_is_read_back();
 }
 
-/// Law: over every schedule, for a span `s` of at least 1 and a window `w` with `2 * s <= w + 1`, one round trip brings
-/// the answer. Take a datagram with a command that is still in flight at its link, delivered to the device under the
-/// premises of [`law_never_old`]. The device then sends one datagram to the link. Any steps may follow, with no further
-/// premise, until that datagram is delivered to the link.
+/// Law: over every schedule, one delivered command and the delivered response bring the answer to the link. A schedule
+/// is a list of steps of a device and some links ([`Step`](crate::Step)). The premise is a span `s` of at least 1 and a
+/// reply window `w` with `2 * s <= w + 1`. The function does nothing at run time.
 ///
-/// If the link still held the command before that, it then holds the command's answer. Otherwise the answer was taken
+/// Take a datagram with a command that is still in flight at its link, delivered to the device under the premises of
+/// [`law_never_old`]. The device then sends one datagram to the link. Any steps may follow, with no further premise,
+/// until that datagram is delivered to the link.
+///
+/// If the link still had the command before that, it then has the command's answer. Otherwise the answer was taken
 /// earlier. The answer is the reply of an execution of that very command for that link's peer. If the peer kept its
-/// session till the end, the answer is the reply that this datagram carried. The function does nothing at run time.
+/// session till the end, the answer is the reply that this datagram carried.
 pub fn law_round_trip()
     ensures { EveryRoundTripBringsTheAnswer }
 {
     law_written_is_read_back();
 }
 
-/// Law: over every schedule, for a span `s` of at least 1 and a window `w` with `2 * s <= w + 1`, every command gets
-/// through. The premise is that the link's `due` is called at least every `ms` milliseconds from the submit on, each
-/// time until it returns no command.
+/// Law: over every schedule, each command is answered, or its link is lost, or the command was sent in time so far. A
+/// schedule is a list of steps of a device and some links ([`Step`](crate::Step)). The premises are a span `s` of at
+/// least 1, a reply window `w` with `2 * s <= w + 1`, and that the link's [`due`](oca_control::Link::due) is called at
+/// least every `ms` milliseconds from the submit on, each time until it returns no command. The function does nothing
+/// at run time.
 ///
 /// Then one of three things holds of each command that the link submitted. The link has its answer, or the answer was
 /// taken. Or the link is lost. Or the command still waits, and was sent in time. In time means within `ms` of its
@@ -83,7 +88,7 @@ pub fn law_round_trip()
 ///
 /// While it waits, one transmission that arrives at the device and the one response that comes back are enough. That is
 /// a round trip of [`law_round_trip`], under its premises. What the device, the other links and the network do is left
-/// open, and so is what is lost, duplicated or reordered. The function does nothing at run time.
+/// open, and so is what is lost, duplicated or reordered.
 pub fn law_getting_through()
     ensures { EveryCommandGetsThrough }
 {
