@@ -186,35 +186,36 @@ static inline struct oca_value oca_position(uint16_t position) { return oca_valu
 /* Returns the value of an OcaBooleanActuator (AES70-2): true or false. */
 static inline struct oca_value oca_boolean(bool setting) { return oca_value_of(OCA_CLASS_BOOLEAN, setting ? 1 : 0); }
 
-/* Returns the value of an OcaInt8Actuator (AES70-2): -128 to 127. The limits of an object are checked when it is set.
- */
+/* Returns the value of an OcaInt8Actuator (AES70-2): -128 to 127. The limits of an object are checked when the object
+ * is set. */
 static inline struct oca_value oca_int8(int8_t setting) { return oca_value_of(OCA_CLASS_INT8, (uint64_t)(int64_t)setting); }
 
-/* Returns the value of an OcaInt16Actuator (AES70-2): -32,768 to 32,767. The limits of an object are checked when it is
- * set. */
+/* Returns the value of an OcaInt16Actuator (AES70-2): -32,768 to 32,767. The limits of an object are checked when the
+ * object is set. */
 static inline struct oca_value oca_int16(int16_t setting) { return oca_value_of(OCA_CLASS_INT16, (uint64_t)(int64_t)setting); }
 
 /* Returns the value of an OcaInt32Actuator (AES70-2): any number of 32 bits, signed. The limits of an object are
- * checked when it is set. */
+ * checked when the object is set. */
 static inline struct oca_value oca_int32(int32_t setting) { return oca_value_of(OCA_CLASS_INT32, (uint64_t)(int64_t)setting); }
 
 /* Returns the value of an OcaInt64Actuator (AES70-2): any number of 64 bits, signed. The limits of an object are
- * checked when it is set. */
+ * checked when the object is set. */
 static inline struct oca_value oca_int64(int64_t setting) { return oca_value_of(OCA_CLASS_INT64, (uint64_t)setting); }
 
-/* Returns the value of an OcaUint8Actuator (AES70-2): 0 to 255. The limits of an object are checked when it is set. */
+/* Returns the value of an OcaUint8Actuator (AES70-2): 0 to 255. The limits of an object are checked when the object is
+ * set. */
 static inline struct oca_value oca_uint8(uint8_t setting) { return oca_value_of(OCA_CLASS_UINT8, setting); }
 
-/* Returns the value of an OcaUint16Actuator (AES70-2): 0 to 65,535. The limits of an object are checked when it is set.
- */
+/* Returns the value of an OcaUint16Actuator (AES70-2): 0 to 65,535. The limits of an object are checked when the object
+ * is set. */
 static inline struct oca_value oca_uint16(uint16_t setting) { return oca_value_of(OCA_CLASS_UINT16, setting); }
 
 /* Returns the value of an OcaUint32Actuator (AES70-2): any number of 32 bits, from 0 on. The limits of an object are
- * checked when it is set. */
+ * checked when the object is set. */
 static inline struct oca_value oca_uint32(uint32_t setting) { return oca_value_of(OCA_CLASS_UINT32, setting); }
 
 /* Returns the value of an OcaUint64Actuator (AES70-2): any number of 64 bits, from 0 on. The limits of an object are
- * checked when it is set. */
+ * checked when the object is set. */
 static inline struct oca_value oca_uint64(uint64_t setting) { return oca_value_of(OCA_CLASS_UINT64, setting); }
 
 /* Returns a reading: a value, and the least and the greatest value to which the object can be set. The three must be of
@@ -905,24 +906,26 @@ struct oca_store { bool is_open; int folder, lock, error; const char *call; char
  * FILE.lock can't be made. OCA_STORE_HELD if another store has the file open. */
 enum oca_store_result oca_store_open(const char *path, struct oca_store *store) OCA_LOOKED_AT;
 
-/* Reads what was stored last into `out`, which has room for `room` bytes, and writes how many bytes it is to `length`.
- * FILE stays as it is. Returns OCA_STORE_DONE. After any other result `out` may have anything, and the length is 0;
- * only after OCA_STORE_TOO_SMALL it is the number of bytes that were stored. OCA_STORE_NULL if a pointer is null.
- * OCA_STORE_CLOSED if the store is closed. OCA_STORE_NOTHING if there is no file, as on a new device. OCA_STORE_NO_FILE
- * if it is no plain file. OCA_STORE_BROKEN if it is empty, cut off, longer than it was or changed, or is something
- * else. OCA_STORE_TOO_SMALL if it has more bytes than `room`. OCA_STORE_SYSTEM if a call of the system fails. */
+/* Reads what was stored last in the file of the store (FILE) into `out`, which has room for `room` bytes, and writes
+ * how many bytes it is to `length`. FILE stays as it is. Returns OCA_STORE_DONE. After any other result `out` may have
+ * anything, and the length is 0; only after OCA_STORE_TOO_SMALL it is the number of bytes that were stored.
+ * OCA_STORE_NULL if a pointer is null. OCA_STORE_CLOSED if the store is closed. OCA_STORE_NOTHING if there is no file,
+ * as on a new device. OCA_STORE_NO_FILE if it is no plain file. OCA_STORE_BROKEN if it is empty, cut off, longer than
+ * it was or changed, or is something else. OCA_STORE_TOO_SMALL if it has more bytes than `room`. OCA_STORE_SYSTEM if a
+ * call of the system fails. */
 enum oca_store_result oca_store_load(struct oca_store *store, void *out, size_t room, size_t *length) OCA_LOOKED_AT;
 
-/* Stores `length` bytes in the place of what was stored before. They are written to FILE.new, which is synchronized to
- * the disk and takes the place of FILE; then the folder is synchronized. FILE keeps its mode and its owner. After
- * OCA_STORE_DONE the bytes are there after any stop, even a power cut, if the disk keeps what it reports as written.
- * OCA_STORE_NULL if a pointer is null (`bytes` may be if `length` is 0), OCA_STORE_CLOSED if the store is closed: then
- * nothing is done. OCA_STORE_NO_FILE if FILE is no plain file. OCA_STORE_SYSTEM if a call of the system fails. FILE is
- * then whole: it has what was stored before, or these bytes if only synchronizing the folder failed. */
+/* Stores `length` bytes in the file of the store (FILE), in the place of what was stored before. They are written to
+ * FILE.new, which is synchronized to the disk and takes the place of FILE; then the folder is synchronized. FILE keeps
+ * its mode and its owner. After OCA_STORE_DONE the bytes are there after any stop, even a power cut, if the disk keeps
+ * what it reports as written. OCA_STORE_NULL if a pointer is null (`bytes` may be if `length` is 0), OCA_STORE_CLOSED
+ * if the store is closed: then nothing is done. OCA_STORE_NO_FILE if FILE is no plain file. OCA_STORE_SYSTEM if a call
+ * of the system fails. FILE is then whole: it has what was stored before, or these bytes if only synchronizing the
+ * folder failed. */
 enum oca_store_result oca_store_save(struct oca_store *store, const void *bytes, size_t length) OCA_LOOKED_AT;
 
-/* Closes a store and releases its lock. FILE and FILE.lock stay. A closed store stays closed, and for a null pointer
- * nothing is done. */
+/* Closes a store and releases its lock. The file of the store and the file of its lock stay. A closed store stays
+ * closed, and for a null pointer nothing is done. */
 void oca_store_close(struct oca_store *store);
 #endif
 
