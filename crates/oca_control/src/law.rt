@@ -93,13 +93,13 @@ pub fn law_of_running()
     ensures in_memory { EveryScriptIsKept }
 {}
 
-/// Law: no transmission of a command is too late. The premise is that [`due`](crate::Link::due) is never called at a
-/// moment at which the link is late ([`is_late`](crate::is_late)). Then each transmission of a command leaves at most
-/// 15,000 ms after the submit of the command, by the link's clock. The law holds for every list of calls of a link.
+/// Law: no transmission of a command is too late if its link is never asked what is due while the link is late
+/// ([`is_late`](crate::is_late)). Then each transmission of a command leaves at most 15,000 ms after the submit of the
+/// command, by the link's clock. Asked means that [`due`](crate::Link::due) is called. The law holds for every list of
+/// calls of a link. The function does nothing at run time.
 ///
 /// [`send_in_time`](crate::send_in_time), [`turn`](crate::turn), [`begin`](crate::begin), [`ask`](crate::ask) and the
 /// waits make only such calls. A link that is late at a moment is late at each later one, if nothing is called between.
-/// The function does nothing at run time.
 pub fn law_copies_in_time()
     ensures copies { EveryCopyIsInTime }
     ensures steps { EveryStepIsInTime }

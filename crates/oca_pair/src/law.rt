@@ -34,9 +34,9 @@ pub fn law_answers()
     law_reading();
 }
 
-/// Laws: over every schedule, a datagram with a command in flight is answered, and no command is executed twice. A
-/// schedule is a list of steps of a device and some links ([`Step`](crate::Step)). The function does nothing at run
-/// time.
+/// Laws: over every schedule, under the premises below, a datagram with a command in flight is answered, and no command
+/// is executed twice. A schedule is a list of steps of a device and some links ([`Step`](crate::Step)). The function
+/// does nothing at run time.
 ///
 /// The first law is for a span `s` of at least 1 and a reply window `w` with `2 * s <= w + 1`. Take a datagram with a
 /// command that is still in flight at its link. When it is delivered to the device, it is answered: the command is
@@ -58,13 +58,14 @@ pub fn law_never_old()
     law_written_is_read_back();
 }
 
-/// Law: over every schedule, one delivered command and the delivered response bring the answer to the link. A schedule
-/// is a list of steps of a device and some links ([`Step`](crate::Step)). The premise is a span `s` of at least 1 and a
-/// reply window `w` with `2 * s <= w + 1`. The function does nothing at run time.
+/// Law: over every schedule, under the premises of [`law_never_old`], one delivered command and the delivered response
+/// bring the answer to the link. A schedule is a list of steps of a device and some links ([`Step`](crate::Step)). The
+/// premises include a span `s` of at least 1 and a reply window `w` with `2 * s <= w + 1`. The function does nothing at
+/// run time.
 ///
-/// Take a datagram with a command that is still in flight at its link, delivered to the device under the premises of
-/// [`law_never_old`]. The device then sends one datagram to the link. Any steps may follow, with no further premise,
-/// until that datagram is delivered to the link.
+/// Take a datagram with a command that is still in flight at its link, delivered to the device under these premises.
+/// The device then sends one datagram to the link. Any steps may follow, with no further premise, until that datagram
+/// is delivered to the link.
 ///
 /// If the link still had the command before that, it then has the command's answer. Otherwise the answer was taken
 /// earlier. The answer is the reply of an execution of that very command for that link's peer. If the peer kept its
@@ -75,11 +76,11 @@ pub fn law_round_trip()
     law_written_is_read_back();
 }
 
-/// Law: over every schedule, each command is answered, or its link is lost, or the command was sent in time so far. A
-/// schedule is a list of steps of a device and some links ([`Step`](crate::Step)). The premises are a span `s` of at
-/// least 1, a reply window `w` with `2 * s <= w + 1`, and that the link's [`due`](oca_control::Link::due) is called at
-/// least every `ms` milliseconds from the submit on, each time until it returns no command. The function does nothing
-/// at run time.
+/// Law: over every schedule in which a link is asked often enough, each command of it is answered, or the link is lost,
+/// or the command was sent in time so far. A schedule is a list of steps of a device and some links
+/// ([`Step`](crate::Step)). The premises are a span `s` of at least 1, a reply window `w` with `2 * s <= w + 1`, and
+/// that the link's [`due`](oca_control::Link::due) is called at least every `ms` milliseconds from the submit on, each
+/// time until it returns no command. The function does nothing at run time.
 ///
 /// Then one of three things holds of each command that the link submitted. The link has its answer, or the answer was
 /// taken. Or the link is lost. Or the command still waits, and was sent in time. In time means within `ms` of its
@@ -118,9 +119,10 @@ pub fn law_once_in_time()
     law_written_is_read_back();
 }
 
-/// Laws: over every schedule and for all sizes, the answer to a command is true of the device. A link submits a command
-/// under a handle in a step, and has its answer at the end of the schedule, or returned it before. The premises are
-/// those of [`law_once_in_time`]: the link and the network are in time. The function does nothing at run time.
+/// Laws: over every schedule and for all sizes, the answer to a command is true of the device if the link and the
+/// network are in time. A link submits a command under a handle in a step, and has its answer at the end of the
+/// schedule, or returned it before. The premises are those of [`law_once_in_time`]. The function does nothing at run
+/// time.
 ///
 /// Between: the answer is that of the only execution of the command. This happened when one of its transmissions was
 /// delivered to the device, in a step after the submit. The execution found the objects that the device then held by

@@ -183,9 +183,9 @@ impl<E: End> Panel<E> {
         self.link.last_heard()
     }
 
-    /// Whether the panel's link is lost, or is late at the end's present moment. *Lost*: a command got no answer to 20
-    /// transmissions. *Late*: a command that was submitted more than 15,000 ms ago has no answer. `false` for a new
-    /// link.
+    /// Whether the panel's link is lost, or is late at the end's present moment. A link is *lost* once a command got no
+    /// answer to 20 transmissions. A link is *late* while a command that was submitted more than 15,000 ms ago has no
+    /// answer. `false` for a new link.
     ///
     /// While the result is `true`, the panel takes no command. Then open a new panel, or call [`renew`](Panel::renew).
     /// A lost link stays lost. A late link is late until the answer comes. The call changes and sends nothing.

@@ -35,9 +35,9 @@ impl<E: End> Panel<E> {
         turn(&mut self.link, &mut self.end)
     }
 
-    /// Whether the panel's link is lost, or is late at the end's present moment: the same as [`Panel::is_lost`].
-    /// *Lost*: a command got no answer to 20 transmissions. *Late*: a command that was submitted more than 15,000 ms
-    /// ago has no answer. `false` for a new link. Nothing is changed or sent.
+    /// Whether the panel's link is lost, or is late at the end's present moment: the same as [`Panel::is_lost`]. A link
+    /// is *lost* once a command got no answer to 20 transmissions. A link is *late* while a command that was submitted
+    /// more than 15,000 ms ago has no answer. `false` for a new link. Nothing is changed or sent.
     pub fn finds_lost(&self) -> bool
         ensures { IsFoundLost self.now result }
     {
