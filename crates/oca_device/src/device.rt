@@ -200,8 +200,9 @@ impl Device {
         self.receive(from, bytes, now, outbox)
     }
 
-    /// Moves the device's clock on to `now`, in milliseconds of the caller's clock. A moment earlier than the latest one so
-    /// far is taken as that latest one. [`Device::written`] stays as it is, nothing is answered, and no memory is taken.
+    /// Moves the device's clock on to `now`, in milliseconds of the caller's clock. A moment earlier than the latest
+    /// one so far is taken as that latest one. [`Device::written`] stays as it is, nothing is answered, and no memory
+    /// is taken.
     ///
     /// The lock of a peer is released if the device heard nothing from the peer for more than three of its heartbeats
     /// (AES70-3 has the heartbeat). A session is forgotten if its peer was silent for more than 120,000 ms (*profile*).
