@@ -179,62 +179,62 @@ static inline struct oca_value oca_mute(bool muted) { return oca_value_of(OCA_CL
 /* Returns the value of an OcaPolarity (AES70-2): Inverted (2) if `inverted` is true, otherwise NonInverted (1). */
 static inline struct oca_value oca_polarity(bool inverted) { return oca_value_of(OCA_CLASS_POLARITY, inverted ? OCA_INVERTED : OCA_NON_INVERTED); }
 
-/* Returns the value of an OcaSwitch (AES70-2): a position, counted from 0. Whether a switch has the position is checked
- * when the switch is set. */
+/* Returns the value of an OcaSwitch (AES70-2): the position `position`, counted from 0. Whether a switch has the
+ * position is checked when the switch is set. */
 static inline struct oca_value oca_position(uint16_t position) { return oca_value_of(OCA_CLASS_SWITCH, position); }
 
-/* Returns the value of an OcaBooleanActuator (AES70-2): true or false. */
+/* Returns the value of an OcaBooleanActuator (AES70-2): `setting`. */
 static inline struct oca_value oca_boolean(bool setting) { return oca_value_of(OCA_CLASS_BOOLEAN, setting ? 1 : 0); }
 
-/* Returns the value of an OcaInt8Actuator (AES70-2): -128 to 127. The limits of an object are checked when the object
- * is set. */
+/* Returns the value of an OcaInt8Actuator (AES70-2) with the number `setting`: -128 to 127. The limits of an object are
+ * checked when the object is set. */
 static inline struct oca_value oca_int8(int8_t setting) { return oca_value_of(OCA_CLASS_INT8, (uint64_t)(int64_t)setting); }
 
-/* Returns the value of an OcaInt16Actuator (AES70-2): -32,768 to 32,767. The limits of an object are checked when the
- * object is set. */
+/* Returns the value of an OcaInt16Actuator (AES70-2) with the number `setting`: -32,768 to 32,767. The limits of an
+ * object are checked when the object is set. */
 static inline struct oca_value oca_int16(int16_t setting) { return oca_value_of(OCA_CLASS_INT16, (uint64_t)(int64_t)setting); }
 
-/* Returns the value of an OcaInt32Actuator (AES70-2): any number of 32 bits, signed. The limits of an object are
- * checked when the object is set. */
+/* Returns the value of an OcaInt32Actuator (AES70-2) with the number `setting`: any number of 32 bits, signed. The
+ * limits of an object are checked when the object is set. */
 static inline struct oca_value oca_int32(int32_t setting) { return oca_value_of(OCA_CLASS_INT32, (uint64_t)(int64_t)setting); }
 
-/* Returns the value of an OcaInt64Actuator (AES70-2): any number of 64 bits, signed. The limits of an object are
- * checked when the object is set. */
+/* Returns the value of an OcaInt64Actuator (AES70-2) with the number `setting`: any number of 64 bits, signed. The
+ * limits of an object are checked when the object is set. */
 static inline struct oca_value oca_int64(int64_t setting) { return oca_value_of(OCA_CLASS_INT64, (uint64_t)setting); }
 
-/* Returns the value of an OcaUint8Actuator (AES70-2): 0 to 255. The limits of an object are checked when the object is
- * set. */
+/* Returns the value of an OcaUint8Actuator (AES70-2) with the number `setting`: 0 to 255. The limits of an object are
+ * checked when the object is set. */
 static inline struct oca_value oca_uint8(uint8_t setting) { return oca_value_of(OCA_CLASS_UINT8, setting); }
 
-/* Returns the value of an OcaUint16Actuator (AES70-2): 0 to 65,535. The limits of an object are checked when the object
- * is set. */
+/* Returns the value of an OcaUint16Actuator (AES70-2) with the number `setting`: 0 to 65,535. The limits of an object
+ * are checked when the object is set. */
 static inline struct oca_value oca_uint16(uint16_t setting) { return oca_value_of(OCA_CLASS_UINT16, setting); }
 
-/* Returns the value of an OcaUint32Actuator (AES70-2): any number of 32 bits, from 0 on. The limits of an object are
- * checked when the object is set. */
+/* Returns the value of an OcaUint32Actuator (AES70-2) with the number `setting`: any number of 32 bits, from 0 on. The
+ * limits of an object are checked when the object is set. */
 static inline struct oca_value oca_uint32(uint32_t setting) { return oca_value_of(OCA_CLASS_UINT32, setting); }
 
-/* Returns the value of an OcaUint64Actuator (AES70-2): any number of 64 bits, from 0 on. The limits of an object are
- * checked when the object is set. */
+/* Returns the value of an OcaUint64Actuator (AES70-2) with the number `setting`: any number of 64 bits, from 0 on. The
+ * limits of an object are checked when the object is set. */
 static inline struct oca_value oca_uint64(uint64_t setting) { return oca_value_of(OCA_CLASS_UINT64, setting); }
 
-/* Returns a reading: a value, and the least and the greatest value to which the object can be set. The three must be of
- * the same class. Nothing is checked here. The limits are those of an integer; of a switch they are the first and the
- * last position, enabled or not. */
+/* Returns a reading: the value `value`, and the values `least` and `greatest` within which the object can be set. The
+ * three must be of the same class. Nothing is checked here. The limits are those of an integer; of a switch they are
+ * the first and the last position, enabled or not. */
 static inline struct oca_reading oca_within(struct oca_value value, struct oca_value least, struct oca_value greatest) {
     struct oca_reading reading = {value, least, greatest};
     return reading;
 }
 
-/* Returns a reading of a class without limits (a mute, a polarity, a Boolean): the value, and the same value as both
+/* Returns a reading of a class without limits (a mute, a polarity, a Boolean): `value`, and the same value as both
  * limits. Nothing is checked. */
 static inline struct oca_reading oca_alone(struct oca_value value) { return oca_within(value, value, value); }
 
-/* Returns the number of a value of a class of signed integers (Int8 to Int64), as a signed number. For a value of
+/* Returns the number of `value`, of a class of signed integers (Int8 to Int64), as a signed number. For a value of
  * another class it returns the bits of the struct as a signed number. Nothing is checked. */
 static inline int64_t oca_value_signed(struct oca_value value) { return (int64_t)value.bits; }
 
-/* Encodes a value as the one parameter of a set method (AES70-3): writes its bytes to the front of `out`, and their
+/* Encodes `value` as the one parameter of a set method (AES70-3): writes its bytes to the front of `out`, and their
  * number, 1 to 8, to `len`. Returns OCA_DONE. OCA_NO_VALUE if the struct holds no value: then nothing is written.
  * OCA_TOO_SMALL if `out` has fewer bytes than are needed: then only `len` is written. */
 enum oca_result oca_value_put(const struct oca_value *value, uint8_t *out, size_t out_len, size_t *len) OCA_NONNULL;
@@ -245,13 +245,13 @@ enum oca_result oca_value_put(const struct oca_value *value, uint8_t *out, size_
  * block, or the parameters are not exactly such an answer: then nothing is written. */
 enum oca_result oca_value_read(uint32_t class_number, const uint8_t *params, size_t params_len, struct oca_reading *reading) OCA_NONNULL;
 
-/* Writes the word for a value to the front of `out`, without a 0 after it, and the number of its bytes, 1 to 20, to
+/* Writes the word for `value` to the front of `out`, without a 0 after it, and the number of its bytes, 1 to 20, to
  * `len`. The words are "muted", "unmuted", "non-inverted", "inverted", "on", "off", and decimal digits for a position
  * and an integer. Returns OCA_DONE. OCA_NO_VALUE if the struct holds no value: then nothing is written. OCA_TOO_SMALL
  * if `out` has fewer bytes than the word: then only `len` is written. */
 enum oca_result oca_value_text(const struct oca_value *value, uint8_t *out, size_t out_len, size_t *len) OCA_NONNULL;
 
-/* Returns the word for a value as a C string, for a log: oca_value_word(oca_int16(-60)).text is "-60". The words are
+/* Returns the word for `value` as a C string, for a log: oca_value_word(oca_int16(-60)).text is "-60". The words are
  * those of oca_value_text, at most 20 bytes and a 0. The string is empty if the struct holds no value. */
 struct oca_word { char text[24]; };
 static inline struct oca_word oca_value_word(struct oca_value value) {
@@ -264,17 +264,17 @@ static inline struct oca_word oca_value_word(struct oca_value value) {
 }
 
 /* Writes to `value` the value that a word means for an object of the class with the number `class_number` (enum
- * oca_class). The word, `text_len` bytes, is a word of the class as oca_value_text writes it, or a number in decimal
- * digits within the class's type. A number may begin with +, and of a signed type also with -. For a switch the word is
- * the number of a position, and not the position's name. Returns OCA_DONE. OCA_NO_VALUE for any other word, for a
- * block, and if no class has the number: then nothing is written. */
+ * oca_class). The word `text`, of `text_len` bytes, is a word of the class as oca_value_text writes it, or a number in
+ * decimal digits within the class's type. A number may begin with +, and of a signed type also with -. For a switch the
+ * word is the number of a position, and not the position's name. Returns OCA_DONE. OCA_NO_VALUE for any other word, for
+ * a block, and if no class has the number: then nothing is written. */
 enum oca_result oca_value_from_text(uint32_t class_number, const uint8_t *text, size_t text_len, struct oca_value *value) OCA_NONNULL;
 
 /* A request that sets or reads a value: the level and the index of its method (AES70-2), ParamCount, and `size` bytes
  * of parameters (0 to 8). oca_link_ask submits it. */
 struct oca_request { uint16_t level, index; uint8_t count, size; uint8_t params[8]; };
 
-/* Writes to `request` the request that sets an object to a value: the set method of the value's class (AES70-2) with
+/* Writes to `request` the request that sets an object to `value`: the set method of the value's class (AES70-2) with
  * the value as its parameter. Nothing is sent: oca_link_ask submits it. Returns OCA_DONE. OCA_NO_VALUE if the struct
  * holds no value: then nothing is written. */
 enum oca_result oca_set_request(const struct oca_value *value, struct oca_request *request) OCA_NONNULL;
@@ -289,9 +289,9 @@ enum oca_result oca_get_request(uint32_t class_number, struct oca_request *reque
 /* A text: a role, a label or the name of a switch's position. It has `size` bytes of UTF-8, at most 64. In a table: {3, "off"}. */
 struct oca_name { uint8_t size; uint8_t text[64]; };
 
-/* Returns the text of a C string: its bytes before the 0. If the string has more than 64 bytes, the size of the text is
- * 65, and each call that gets the text refuses it. Whether the bytes are UTF-8 is checked by the call that gets the
- * text. */
+/* Returns the text of the C string `text`: its bytes before the 0. If the string has more than 64 bytes, the size of
+ * the text is 65, and each call that gets the text refuses it. Whether the bytes are UTF-8 is checked by the call that
+ * gets the text. */
 static inline struct oca_name oca_name_of(const char *text) {
     struct oca_name name = {0, {0}};
     while (name.size < 64 && text[name.size]) {
@@ -302,7 +302,7 @@ static inline struct oca_name oca_name_of(const char *text) {
     return name;
 }
 
-/* Encodes a text as the one parameter of SetLabel of OcaWorker (AES70-2): writes its bytes to the front of `out`, and
+/* Encodes `text` as the one parameter of SetLabel of OcaWorker (AES70-2): writes its bytes to the front of `out`, and
  * their number, 2 to 66, to `len`. Returns OCA_DONE. OCA_NO_VALUE if the text has more than 64 bytes or is not UTF-8:
  * then nothing is written. OCA_TOO_SMALL if `out` has fewer bytes than are needed: then only `len` is written. */
 enum oca_result oca_text_put(const struct oca_name *text, uint8_t *out, size_t out_len, size_t *len) OCA_NONNULL;
@@ -335,8 +335,8 @@ struct oca_class_id { uint16_t count, fields[16]; uint32_t class_number; };
  * has more than 16 fields: then `id` is unchanged. */
 enum oca_result oca_class_read(const uint8_t *params, size_t params_len, struct oca_class_id *id) OCA_NONNULL;
 
-/* Returns the number of the class (enum oca_class, 1 to 13) whose identifier has these `fields_len` fields (OcaClassID,
- * AES70-2). 0 if no class of this profile has them. */
+/* Returns the number of the class (enum oca_class, 1 to 13) whose identifier has the fields `fields`, of which there
+ * are `fields_len` (OcaClassID, AES70-2). 0 if no class of this profile has them. */
 uint32_t oca_class_with(const uint16_t *fields, size_t fields_len) OCA_NONNULL;
 
 /* The description of an object, by which it is added and as which it is read, so that a device can be made again as it was. It has the
@@ -372,9 +372,10 @@ static inline struct oca_spec oca_spec_of(const char *role, struct oca_reading r
  */
 static inline struct oca_spec oca_spec_of_block(const char *role) { return oca_spec_of(role, oca_alone(oca_value_of(OCA_CLASS_BLOCK, 0))); }
 
-/* Adds one more position of a switch to the description: with this name, enabled. Positions are counted from 0, and
- * there are at most 16. After 16 the name is not stored, and the description has 17 positions, which oca_device_add
- * refuses with OCA_BAD_RANGE. A name that has more than 64 bytes or is not UTF-8 is refused there with OCA_BAD_TEXT. */
+/* Adds one more position of a switch to the description `spec`: with the name `name`, a C string, and enabled.
+ * Positions are counted from 0, and there are at most 16. After 16 the name is not stored, and the description has 17
+ * positions, which oca_device_add refuses with OCA_BAD_RANGE. A name that has more than 64 bytes or is not UTF-8 is
+ * refused there with OCA_BAD_TEXT. */
 static inline void oca_spec_position(struct oca_spec *spec, const char *name) {
     if (spec->positions < 16) {
         spec->names[spec->positions] = oca_name_of(name);
@@ -601,16 +602,18 @@ enum oca_result oca_device_start_within(struct oca_device *device, uint8_t windo
  * fields that are not named are 0. A later version may have further fields: each is a word. */
 struct oca_verdict { uint32_t kind, executed, kept, old, reused, fault, at; };
 
-/* Handles a datagram as oca_device_datagram does, and writes the first `words` words of struct oca_verdict to
- * `verdict`: at most the seven that this version has. A program calls oca_device_datagram. Returns OCA_DONE. OCA_CLOSED
- * if the device is closed, and OCA_NOT_STARTED before its start: then nothing is changed or written. */
+/* Handles the datagram `bytes` that came from the address `ip` (an IPv4 address as a number, the first byte highest)
+ * and the port `port` at the moment `now`, in milliseconds, as oca_device_datagram does, and writes the first `words`
+ * words of struct oca_verdict to `verdict`: at most the seven that this version has. A program calls
+ * oca_device_datagram. Returns OCA_DONE. OCA_CLOSED if the device is closed, and OCA_NOT_STARTED before its start: then
+ * nothing is changed or written. */
 enum oca_result oca_device_datagram_words(struct oca_device *device, uint32_t ip, uint16_t port, const uint8_t *bytes, size_t len, uint64_t now, uint32_t *verdict, size_t words) OCA_NONNULL;
 
-/* Handles a datagram that came from the address `ip` and the port `port` at the moment `now`, in milliseconds, and
- * writes what became of it to `verdict`. `ip` is an IPv4 address as a number, the first byte highest. The device's
- * clock moves to `now` first, as oca_device_tick does. The answers are then the device's packets, all for the sender,
- * until the next datagram: oca_device_packet has their bytes. Returns OCA_DONE. OCA_CLOSED if the device is closed, and
- * OCA_NOT_STARTED before its start: then nothing is changed or written. */
+/* Handles the datagram `bytes`, of `len` bytes, that came from the address `ip` and the port `port` at the moment
+ * `now`, in milliseconds, and writes what became of it to `verdict`. `ip` is an IPv4 address as a number, the first
+ * byte highest. The device's clock moves to `now` first, as oca_device_tick does. The answers are then the device's
+ * packets, all for the sender, until the next datagram: oca_device_packet has their bytes. Returns OCA_DONE. OCA_CLOSED
+ * if the device is closed, and OCA_NOT_STARTED before its start: then nothing is changed or written. */
 static inline enum oca_result oca_device_datagram(struct oca_device *device, uint32_t ip, uint16_t port, const uint8_t *bytes, size_t len, uint64_t now, struct oca_verdict *verdict) {
     return oca_device_datagram_words(device, ip, port, bytes, len, now, &verdict->kind, sizeof *verdict / sizeof verdict->kind);
 }
@@ -707,26 +710,27 @@ enum oca_result oca_device_set_signed(struct oca_device *device, uint32_t ono, i
  * number is outside the object's limits. */
 enum oca_result oca_device_set_unsigned(struct oca_device *device, uint32_t ono, uint64_t number) OCA_NONNULL;
 
-/* Sets an object at the local front panel to a value, which must be of the object's class. A lock of a controller does
- * not refuse it, and no peer gets a message (the local front panel is the profile's, not AES70's). Returns OCA_DONE.
- * Otherwise the first of these that applies, and then nothing is changed. OCA_CLOSED if the device is closed.
- * OCA_NOT_STARTED before its start. OCA_NO_VALUE if the struct holds no value. OCA_NO_OBJECT if no object has the
- * number `ono`. OCA_NO_SETTING if it is a block. OCA_OTHER_KIND if the value is of another class, such as a polarity's
- * for a mute, or an integer of another type. OCA_OUT_OF_RANGE if a switch has no such position or it is disabled, or a
- * number is outside the object's limits. */
-enum oca_result oca_device_set(struct oca_device *device, uint32_t ono, const struct oca_value *value) OCA_NONNULL;
-
-/* Gives an object a label of `label_len` bytes of UTF-8, 0 to 64, at the local front panel. A lock of a controller does
- * not refuse it, and no peer gets a message (the local front panel is the profile's, not AES70's). Returns OCA_DONE.
- * Otherwise the first of these that applies, and then nothing is changed. OCA_CLOSED if the device is closed.
- * OCA_NOT_STARTED before its start. OCA_BAD_TEXT if the bytes are not UTF-8. OCA_NO_OBJECT if no object has the number
- * `ono`. OCA_BAD_TEXT if the label has more than 64 bytes. */
-enum oca_result oca_device_set_label(struct oca_device *device, uint32_t ono, const uint8_t *label, size_t label_len) OCA_NONNULL;
-
-/* Enables or disables an object at the local front panel, as SetEnabled of OcaWorker does (AES70-2). A lock of a
+/* Sets the object `ono` at the local front panel to `value`, which must be of the object's class. A lock of a
  * controller does not refuse it, and no peer gets a message (the local front panel is the profile's, not AES70's).
  * Returns OCA_DONE. Otherwise the first of these that applies, and then nothing is changed. OCA_CLOSED if the device is
- * closed. OCA_NOT_STARTED before its start. OCA_NO_OBJECT if no object has the number `ono`. */
+ * closed. OCA_NOT_STARTED before its start. OCA_NO_VALUE if the struct holds no value. OCA_NO_OBJECT if no object has
+ * the number `ono`. OCA_NO_SETTING if it is a block. OCA_OTHER_KIND if the value is of another class, such as a
+ * polarity's for a mute, or an integer of another type. OCA_OUT_OF_RANGE if a switch has no such position or it is
+ * disabled, or a number is outside the object's limits. */
+enum oca_result oca_device_set(struct oca_device *device, uint32_t ono, const struct oca_value *value) OCA_NONNULL;
+
+/* Gives an object the label `label`, `label_len` bytes of UTF-8, 0 to 64, at the local front panel. A lock of a
+ * controller does not refuse it, and no peer gets a message (the local front panel is the profile's, not AES70's).
+ * Returns OCA_DONE. Otherwise the first of these that applies, and then nothing is changed. OCA_CLOSED if the device is
+ * closed. OCA_NOT_STARTED before its start. OCA_BAD_TEXT if the bytes are not UTF-8. OCA_NO_OBJECT if no object has the
+ * number `ono`. OCA_BAD_TEXT if the label has more than 64 bytes. */
+enum oca_result oca_device_set_label(struct oca_device *device, uint32_t ono, const uint8_t *label, size_t label_len) OCA_NONNULL;
+
+/* Enables an object (`enabled` is true) or disables it at the local front panel, as SetEnabled of OcaWorker does
+ * (AES70-2). A lock of a controller does not refuse it, and no peer gets a message (the local front panel is the
+ * profile's, not AES70's). Returns OCA_DONE. Otherwise the first of these that applies, and then nothing is changed.
+ * OCA_CLOSED if the device is closed. OCA_NOT_STARTED before its start. OCA_NO_OBJECT if no object has the number
+ * `ono`. */
 enum oca_result oca_device_set_enabled(struct oca_device *device, uint32_t ono, bool enabled) OCA_NONNULL;
 
 /* Releases the lock of an object at the local front panel, whichever peer has it (oca_device_lock writes which). The
@@ -767,11 +771,11 @@ struct oca_object { uint32_t ono, container, class_number, role_size; uint8_t ro
  * device is closed, and OCA_NOT_STARTED before its start: then nothing is changed or written. */
 enum oca_result oca_device_objects(struct oca_device *device, size_t *count) OCA_NONNULL;
 
-/* Writes what an object is as oca_device_object does: the first `words` words of struct oca_object to `object`, at most
- * the four that this version has, and the first `role_len` bytes of its role to `role`. A program calls
- * oca_device_object. Returns OCA_DONE. Otherwise the first of these that applies, and then nothing is changed or
- * written. OCA_CLOSED if the device is closed. OCA_NOT_STARTED before its start. OCA_NOTHING if there are `index`
- * objects or fewer. */
+/* Writes what the object with the index `index` is (from 0 for the root, in the order of adding), as oca_device_object
+ * does: the first `words` words of struct oca_object to `object`, at most the four that this version has, and the first
+ * `role_len` bytes of its role to `role`. A program calls oca_device_object. Returns OCA_DONE. Otherwise the first of
+ * these that applies, and then nothing is changed or written. OCA_CLOSED if the device is closed. OCA_NOT_STARTED
+ * before its start. OCA_NOTHING if there are `index` objects or fewer. */
 enum oca_result oca_device_object_words(struct oca_device *device, size_t index, uint32_t *object, size_t words, uint8_t *role, size_t role_len) OCA_NONNULL;
 
 /* Writes to `object` what the object with this index is: its number, the number of its block, its class and its role.
@@ -805,17 +809,17 @@ enum oca_result oca_device_peers(struct oca_device *device, size_t *count) OCA_N
 
 /* Writes the address and the port of a peer that has a session. `index` counts from 0, in the order in which the
  * sessions were opened; if a session ends, the later ones move down by one. `ip` becomes an IPv4 address as a number,
- * the first byte highest. Returns OCA_DONE. Otherwise the first of these that applies, and then nothing is changed or
- * written. OCA_CLOSED if the device is closed. OCA_NOT_STARTED before its start. OCA_NOTHING if there are `index`
- * sessions or fewer. */
+ * the first byte highest, and `port` the UDP port. Returns OCA_DONE. Otherwise the first of these that applies, and
+ * then nothing is changed or written. OCA_CLOSED if the device is closed. OCA_NOT_STARTED before its start. OCA_NOTHING
+ * if there are `index` sessions or fewer. */
 enum oca_result oca_device_peer(struct oca_device *device, size_t index, uint32_t *ip, uint16_t *port) OCA_NONNULL;
 
 /* Writes what lock an object has, and the address and the port of the peer that has it. `kind` becomes 1 if the lock
  * keeps other peers from all access (LockTotal, AES70-2), and 2 if it lets them read (LockReadonly). `ip` becomes an
- * IPv4 address as a number, the first byte highest. The lock of a block does not lock its members. Returns OCA_DONE.
- * Otherwise the first of these that applies, and then nothing is changed or written. OCA_CLOSED if the device is
- * closed. OCA_NOT_STARTED before its start. OCA_NOTHING if the object is not locked, or no object has the number `ono`.
- */
+ * IPv4 address as a number, the first byte highest, and `port` the UDP port. The lock of a block does not lock its
+ * members. Returns OCA_DONE. Otherwise the first of these that applies, and then nothing is changed or written.
+ * OCA_CLOSED if the device is closed. OCA_NOT_STARTED before its start. OCA_NOTHING if the object is not locked, or no
+ * object has the number `ono`. */
 enum oca_result oca_device_lock(struct oca_device *device, uint32_t ono, uint32_t *kind, uint32_t *ip, uint16_t *port) OCA_NONNULL;
 
 /* What a device keeps of an object over a stop: its number, the number of its block, and its description. There is no pointer in it, and no
@@ -967,9 +971,9 @@ static inline void oca_link_close_any(struct oca_link *link) {
  * yet, plus the span. OCA_TOO_LONG if the parameters have more than 1,445 bytes. */
 enum oca_result oca_link_submit(struct oca_link *link, uint32_t target, uint16_t level, uint16_t index, uint8_t count, const uint8_t *params, size_t params_len, uint64_t now, uint32_t *handle) OCA_CHECKED;
 
-/* Submits a request that sets or reads a value, at the moment `now` in milliseconds, and writes the handle of the
- * command to `handle`. `target` is the number of the object. oca_set_request or oca_get_request makes the request. The
- * call sends nothing: call oca_link_due then. Returns OCA_DONE. Otherwise the first of these that applies, and then
+/* Submits the request `request`, which sets or reads a value, at the moment `now` in milliseconds, and writes the
+ * handle of the command to `handle`. `target` is the number of the object. oca_set_request or oca_get_request makes it.
+ * The call sends nothing: call oca_link_due then. Returns OCA_DONE. Otherwise the first of these that applies, and then
  * nothing is changed, written or sent. OCA_CLOSED if the link is closed. OCA_LOST if the link is lost.
  * OCA_HANDLES_SPENT if a command has the handle 4294967295 already. OCA_SPAN_FULL if the next handle is not below the
  * lowest handle whose answer was not taken yet, plus the span. OCA_TOO_LONG if the parameters have more than 1,445
@@ -978,13 +982,13 @@ static inline enum oca_result oca_link_ask(struct oca_link *link, uint32_t targe
     return oca_link_submit(link, target, request->level, request->index, request->count, request->params, request->size, now, handle);
 }
 
-/* Submits a command by a method of enum oca_method at the moment `now`, in milliseconds, and writes the handle of the
- * command to `handle`. `target` is the number of the object, `count` is ParamCount, and `params` are the encoded
- * parameters (docs/PROTOCOL.md, section 3), at most 1,445 bytes, which are not checked. The call sends nothing: call
- * oca_link_due then. Returns OCA_DONE. Otherwise the first of these that applies, and then nothing is changed, written
- * or sent. OCA_CLOSED if the link is closed. OCA_LOST if the link is lost. OCA_HANDLES_SPENT if a command has the
- * handle 4294967295 already. OCA_SPAN_FULL if the next handle is not below the lowest handle whose answer was not taken
- * yet, plus the span. OCA_TOO_LONG if the parameters have more than 1,445 bytes. */
+/* Submits a command by the method `method` (enum oca_method) at the moment `now`, in milliseconds, and writes the
+ * handle of the command to `handle`. `target` is the number of the object, `count` is ParamCount, and `params` are the
+ * encoded parameters (docs/PROTOCOL.md, section 3), at most 1,445 bytes, which are not checked. The call sends nothing:
+ * call oca_link_due then. Returns OCA_DONE. Otherwise the first of these that applies, and then nothing is changed,
+ * written or sent. OCA_CLOSED if the link is closed. OCA_LOST if the link is lost. OCA_HANDLES_SPENT if a command has
+ * the handle 4294967295 already. OCA_SPAN_FULL if the next handle is not below the lowest handle whose answer was not
+ * taken yet, plus the span. OCA_TOO_LONG if the parameters have more than 1,445 bytes. */
 static inline enum oca_result oca_link_call(struct oca_link *link, uint32_t target, uint32_t method, uint8_t count, const uint8_t *params, size_t params_len, uint64_t now, uint32_t *handle) {
     return oca_link_submit(link, target, (uint16_t)(method >> 16), (uint16_t)method, count, params, params_len, now, handle);
 }
@@ -1000,10 +1004,10 @@ static inline enum oca_result oca_link_call(struct oca_link *link, uint32_t targ
 enum oca_due { OCA_DUE_NOTHING = 0, OCA_DUE_COMMAND = 1, OCA_DUE_KEEP_ALIVE = 2, OCA_DUE_LOST = 3 };
 enum oca_result oca_link_due(struct oca_link *link, uint64_t now, uint8_t *out, size_t out_len, size_t *len, uint32_t *due, uint32_t *handle) OCA_NONNULL;
 
-/* Handles a datagram that came from the address `ip` and the port `port` at the moment `now`, in milliseconds.
- * `reception` becomes OCA_STRANGER if it came from another address or port than the device's. Otherwise OCA_MALFORMED
- * if it is not well-formed (AES70-3). Otherwise OCA_ANSWERED if commands got their first answer in it, and
- * OCA_NOTHING_NEW if none did. `answered` becomes how many commands got theirs. Each such answer is stored:
+/* Handles the datagram `bytes`, of `len` bytes, that came from the address `ip` and the port `port` at the moment
+ * `now`, in milliseconds. `reception` becomes OCA_STRANGER if it came from another address or port than the device's.
+ * Otherwise OCA_MALFORMED if it is not well-formed (AES70-3). Otherwise OCA_ANSWERED if commands got their first answer
+ * in it, and OCA_NOTHING_NEW if none did. `answered` becomes how many commands got theirs. Each such answer is stored:
  * oca_link_take takes it. In all cases the link's clock moves on to `now`; a stranger's or malformed datagram changes
  * nothing else. Returns OCA_DONE. OCA_CLOSED if the link is closed: then nothing is changed or written. */
 enum oca_reception { OCA_NOTHING_NEW = 0, OCA_ANSWERED = 1, OCA_STRANGER = 2, OCA_MALFORMED = 3 };
@@ -1020,8 +1024,8 @@ enum oca_result oca_link_next_due(struct oca_link *link, uint64_t *moment) OCA_N
  * nothing is changed or written. */
 enum oca_result oca_link_answered(struct oca_link *link, uint32_t *handle) OCA_NONNULL;
 
-/* Writes to `in_flight` whether a command with this handle was submitted and has no answer yet. It is false for a
- * command whose answer came and was not taken, though that command keeps its place in the span. It is false too for a
+/* Writes to `in_flight` whether a command with the handle `handle` was submitted and has no answer yet. It is false for
+ * a command whose answer came and was not taken, though that command keeps its place in the span. It is false too for a
  * handle that no command has. If it is false and oca_link_take finds no answer, the answer was taken before, or no
  * command has that handle. Returns OCA_DONE. OCA_CLOSED if the link is closed: then nothing is changed or written. */
 enum oca_result oca_link_in_flight(struct oca_link *link, uint32_t handle, bool *in_flight) OCA_NONNULL;
@@ -1047,11 +1051,11 @@ enum oca_result oca_link_is_lost(struct oca_link *link, bool *lost) OCA_NONNULL;
  * OCA_DONE. OCA_CLOSED if the link is closed: then nothing is changed or written. */
 enum oca_result oca_link_is_late(struct oca_link *link, uint64_t now, bool *late) OCA_NONNULL;
 
-/* Takes the answer to the command under this handle, and removes the command. Writes the number of the answer's status
- * (AES70-2, OcaStatus), its ParamCount (`count`), its parameters to the front of `out`, and their size in bytes
- * (`len`). `out` must have room for 1,452 bytes. Returns OCA_DONE. Otherwise the first of these that applies, and then
- * nothing is changed or written. OCA_CLOSED if the link is closed. OCA_TOO_SMALL if `out` has fewer bytes, whatever the
- * answer. OCA_NOTHING if no answer is there under the handle. */
+/* Takes the answer to the command under the handle `handle`, and removes the command. Writes the number of the answer's
+ * status (AES70-2, OcaStatus) to `status`, its ParamCount (`count`), its parameters to the front of `out`, and their
+ * size in bytes (`len`). `out` must have room for 1,452 bytes. Returns OCA_DONE. Otherwise the first of these that
+ * applies, and then nothing is changed or written. OCA_CLOSED if the link is closed. OCA_TOO_SMALL if `out` has fewer
+ * bytes, whatever the answer. OCA_NOTHING if no answer is there under the handle. */
 enum oca_result oca_link_take(struct oca_link *link, uint32_t handle, uint32_t *status, uint32_t *count, uint8_t *out, size_t out_len, size_t *len) OCA_NONNULL;
 
 /* ---- the panel ---- */
@@ -1089,9 +1093,9 @@ enum oca_asked {
 };
 struct oca_outcome { uint32_t asked, status, result; };
 
-/* Returns an outcome in words, for a log: the name of a status if the device refused, why the command was not sent, or
- * another outcome, such as "no answer". For any other number the words are "an outcome of a later version". The string
- * is constant: it is not freed. */
+/* Returns the outcome `outcome` in words, for a log: the name of a status if the device refused, why the command was
+ * not sent, or another outcome, such as "no answer". For any other number the words are "an outcome of a later
+ * version". The string is constant: it is not freed. */
 static inline const char *oca_outcome_text(struct oca_outcome outcome) {
     static const char *const texts[] = {"done", "a status of a later version", "unreadable answer", "no value", "not sent", "lost", "late", "no answer", "no such handle"};
     if (outcome.asked == OCA_ASKED_REFUSED && oca_status_text(outcome.status)) return oca_status_text(outcome.status);
@@ -1147,17 +1151,17 @@ struct oca_outcome oca_panel_state(struct oca_panel *panel);
  * and returns OCA_ASKED_NOT_SENT with OCA_CLOSED in `result`. */
 struct oca_outcome oca_panel_turn(struct oca_panel *panel);
 
-/* Submits a command by a method of enum oca_method, sends it at once and writes its handle to `handle`. `ono` is the
- * number of the object, `count` is ParamCount, and `params` are the encoded parameters (docs/PROTOCOL.md, section 3),
- * at most 1,445 bytes. The call does not wait: oca_panel_finish does. Several commands can be in flight at once.
- * Returns OCA_DONE, also if the link becomes lost in this call and the command is not sent. Otherwise the first of
- * these that applies, and then nothing is changed or sent. OCA_CLOSED if the panel is closed. OCA_LOST if its link is
- * lost or late. OCA_HANDLES_SPENT if a command has the handle 4294967295 already. OCA_SPAN_FULL if the next handle is
- * not below the lowest handle whose answer was not taken yet, plus the span. OCA_TOO_LONG if the parameters have more
- * than 1,445 bytes. */
+/* Submits a command by the method `method` (enum oca_method), sends it at once and writes its handle to `handle`. `ono`
+ * is the number of the object, `count` is ParamCount, and `params` are the encoded parameters (docs/PROTOCOL.md,
+ * section 3), at most 1,445 bytes. The call does not wait: oca_panel_finish does. Several commands can be in flight at
+ * once. Returns OCA_DONE, also if the link becomes lost in this call and the command is not sent. Otherwise the first
+ * of these that applies, and then nothing is changed or sent. OCA_CLOSED if the panel is closed. OCA_LOST if its link
+ * is lost or late. OCA_HANDLES_SPENT if a command has the handle 4294967295 already. OCA_SPAN_FULL if the next handle
+ * is not below the lowest handle whose answer was not taken yet, plus the span. OCA_TOO_LONG if the parameters have
+ * more than 1,445 bytes. */
 enum oca_result oca_panel_begin(struct oca_panel *panel, uint32_t ono, uint32_t method, uint8_t count, const uint8_t *params, size_t params_len, uint32_t *handle);
 
-/* Submits the command that sets an object to a value, by the set method of the value's class (AES70-2), sends it at
+/* Submits the command that sets an object to `value`, by the set method of the value's class (AES70-2), sends it at
  * once and writes its handle to `handle`. `ono` is the number of the object. The call does not wait:
  * oca_panel_finish_set does. Returns OCA_DONE, also if the link becomes lost in this call and the command is not sent.
  * Otherwise the first of these that applies, and then nothing is changed or sent. OCA_NO_VALUE if the struct holds no
@@ -1179,21 +1183,22 @@ enum oca_result oca_panel_begin_get(struct oca_panel *panel, uint32_t ono, uint3
  * not checked. */
 struct oca_answer { uint32_t count; size_t params_len; uint8_t params[OCA_MOST_ANSWER]; };
 
-/* Returns the outcome of a command that was begun if it is known already, and does not wait. Nothing is received or
- * sent. OCA_ASKED_DONE if the answer is there with the status OK, OCA_ASKED_REFUSED with its status if it has another
- * one: the answer is then taken, and `answer` is written. OCA_ASKED_NO_HANDLE if no command has the handle, or its
- * answer was taken before. OCA_ASKED_LOST or OCA_ASKED_LATE if there is no answer and the panel's link is lost or late.
- * OCA_ASKED_NOT_SENT with OCA_CLOSED in `result` if the panel is closed. OCA_ASKED_UNANSWERED if no answer is there
- * yet: the command stays in flight. After all but the first two nothing is changed. */
+/* Returns the outcome of the command that was begun under the handle `handle` if it is known already, and does not
+ * wait. Nothing is received or sent. OCA_ASKED_DONE if the answer is there with the status OK, OCA_ASKED_REFUSED with
+ * its status if it has another one: the answer is then taken, and `answer` is written. OCA_ASKED_NO_HANDLE if no
+ * command has the handle, or its answer was taken before. OCA_ASKED_LOST or OCA_ASKED_LATE if there is no answer and
+ * the panel's link is lost or late. OCA_ASKED_NOT_SENT with OCA_CLOSED in `result` if the panel is closed.
+ * OCA_ASKED_UNANSWERED if no answer is there yet: the command stays in flight. After all but the first two nothing is
+ * changed. */
 struct oca_outcome oca_panel_try_finish(struct oca_panel *panel, uint32_t handle, struct oca_answer *answer);
 
-/* Waits for the answer to a command that was begun, for at most the panel's `wait_ms` milliseconds, and takes it. The
- * panel takes turns meanwhile. OCA_ASKED_DONE if the status is OK, OCA_ASKED_REFUSED with the status if it is another
- * one: then `answer` is written and the command is removed. OCA_ASKED_NO_HANDLE if no command has the handle, or its
- * answer was taken before. OCA_ASKED_LOST or OCA_ASKED_LATE if the panel's link is lost or late and no answer is there:
- * the command may have been carried out. OCA_ASKED_NOT_SENT with OCA_CLOSED in `result` if the panel is closed.
- * OCA_ASKED_UNANSWERED if no answer came in time: the command stays in flight, is sent again, and can be waited for
- * again. */
+/* Waits for the answer to the command that was begun under the handle `handle`, for at most the panel's `wait_ms`
+ * milliseconds, and takes it. The panel takes turns meanwhile. OCA_ASKED_DONE if the status is OK, OCA_ASKED_REFUSED
+ * with the status if it is another one: then `answer` is written and the command is removed. OCA_ASKED_NO_HANDLE if no
+ * command has the handle, or its answer was taken before. OCA_ASKED_LOST or OCA_ASKED_LATE if the panel's link is lost
+ * or late and no answer is there: the command may have been carried out. OCA_ASKED_NOT_SENT with OCA_CLOSED in `result`
+ * if the panel is closed. OCA_ASKED_UNANSWERED if no answer came in time: the command stays in flight, is sent again,
+ * and can be waited for again. */
 struct oca_outcome oca_panel_finish(struct oca_panel *panel, uint32_t handle, struct oca_answer *answer);
 
 /* The commands of a panel that are in flight, at most 32, in the order in which they were begun. Each has a pointer of
@@ -1206,60 +1211,64 @@ struct oca_flight { uint32_t first, count, handles[32]; void *items[32]; };
 enum oca_result oca_flight_push(struct oca_flight *flight, uint32_t handle, void *item);
 
 /* Waits for the outcome of the first of the commands in flight, for at most the panel's `wait_ms` milliseconds, and
- * returns it. OCA_ASKED_DONE, OCA_ASKED_REFUSED, OCA_ASKED_LOST, OCA_ASKED_LATE, OCA_ASKED_NOT_SENT,
- * OCA_ASKED_NO_HANDLE and OCA_ASKED_UNANSWERED are as for oca_panel_finish. `item` becomes what oca_flight_push was
- * given. `answer` is written for OCA_ASKED_DONE and OCA_ASKED_REFUSED alone. The command is then removed; after
+ * returns it. OCA_ASKED_DONE if the status of its answer is OK, OCA_ASKED_REFUSED with the status if it is another one.
+ * OCA_ASKED_NO_HANDLE if its answer was taken before. OCA_ASKED_LOST or OCA_ASKED_LATE if the panel's link is lost or
+ * late and no answer is there: the command may have been carried out. OCA_ASKED_NOT_SENT with OCA_CLOSED in `result` if
+ * the panel is closed. OCA_ASKED_UNANSWERED if no answer came in time. `item` becomes what oca_flight_push was given.
+ * `answer` is written for OCA_ASKED_DONE and OCA_ASKED_REFUSED alone. The command is then removed; after
  * OCA_ASKED_UNANSWERED it stays the first. OCA_ASKED_NO_HANDLE with 0 in `result` if there is no command: then nothing
  * is written. */
 struct oca_outcome oca_flight_finish(struct oca_flight *flight, struct oca_panel *panel, struct oca_answer *answer, void **item);
 
-/* Returns the outcome of the first of the commands in flight if it is known already, and does not wait. OCA_ASKED_DONE,
- * OCA_ASKED_REFUSED, OCA_ASKED_LOST, OCA_ASKED_LATE, OCA_ASKED_NOT_SENT, OCA_ASKED_NO_HANDLE and OCA_ASKED_UNANSWERED
- * are as for oca_panel_try_finish. `item` becomes what oca_flight_push was given. `answer` is written for
- * OCA_ASKED_DONE and OCA_ASKED_REFUSED alone. The command is then removed; after OCA_ASKED_UNANSWERED, if no answer is
- * there yet, it stays the first. OCA_ASKED_NO_HANDLE with 0 in `result` if there is no command: then nothing is
- * written. */
+/* Returns the outcome of the first of the commands in flight if it is known already, and does not wait. OCA_ASKED_DONE
+ * if the status of its answer is OK, OCA_ASKED_REFUSED with the status if it is another one. OCA_ASKED_NO_HANDLE if its
+ * answer was taken before. OCA_ASKED_LOST or OCA_ASKED_LATE if the panel's link is lost or late and no answer is there:
+ * the command may have been carried out. OCA_ASKED_NOT_SENT with OCA_CLOSED in `result` if the panel is closed. `item`
+ * becomes what oca_flight_push was given. `answer` is written for OCA_ASKED_DONE and OCA_ASKED_REFUSED alone. The
+ * command is then removed; after OCA_ASKED_UNANSWERED, if no answer is there yet, it stays the first.
+ * OCA_ASKED_NO_HANDLE with 0 in `result` if there is no command: then nothing is written. */
 struct oca_outcome oca_flight_try_finish(struct oca_flight *flight, struct oca_panel *panel, struct oca_answer *answer, void **item);
 
-/* Sends a command by a method of enum oca_method, and waits for its answer. `ono` is the number of the object, `count`
- * is ParamCount, and `params` are the encoded parameters (docs/PROTOCOL.md, section 3), at most 1,445 bytes. The call
- * waits for the answer for at most the panel's `wait_ms` milliseconds. Returns OCA_ASKED_DONE if the answer's status is
- * OK. Otherwise the outcome is one of these (enum oca_asked). OCA_ASKED_LOST or OCA_ASKED_LATE if the panel's link is
- * lost or late: a command that was sent may have been carried out. OCA_ASKED_NOT_SENT with OCA_CLOSED,
- * OCA_HANDLES_SPENT or OCA_SPAN_FULL in `result`: that command was not sent. OCA_ASKED_UNANSWERED if no answer came in
- * time: the command stays in flight under the handle in `result`. OCA_ASKED_REFUSED if the answer's status is not OK,
- * with that status. With more than 1,445 bytes it is OCA_ASKED_NOT_SENT with OCA_TOO_LONG. `answer` is written for
- * OCA_ASKED_DONE and OCA_ASKED_REFUSED alone. */
-struct oca_outcome oca_panel_ask(struct oca_panel *panel, uint32_t ono, uint32_t method, uint8_t count, const uint8_t *params, size_t params_len, struct oca_answer *answer);
-
-/* Sends a command by a method of enum oca_method without parameters, and waits for its answer. `ono` is the number of
- * the object. The call waits for the answer for at most the panel's `wait_ms` milliseconds. Returns OCA_ASKED_DONE if
- * the answer's status is OK. Otherwise the outcome is one of these (enum oca_asked). OCA_ASKED_LOST or OCA_ASKED_LATE
- * if the panel's link is lost or late: a command that was sent may have been carried out. OCA_ASKED_NOT_SENT with
+/* Sends a command by the method `method` (enum oca_method), and waits for its answer. `ono` is the number of the
+ * object, `count` is ParamCount, and `params` are the encoded parameters (docs/PROTOCOL.md, section 3), at most 1,445
+ * bytes. The call waits for the answer for at most the panel's `wait_ms` milliseconds. Returns OCA_ASKED_DONE if the
+ * answer's status is OK. Otherwise the outcome is one of these (enum oca_asked). OCA_ASKED_LOST or OCA_ASKED_LATE if
+ * the panel's link is lost or late: a command that was sent may have been carried out. OCA_ASKED_NOT_SENT with
  * OCA_CLOSED, OCA_HANDLES_SPENT or OCA_SPAN_FULL in `result`: that command was not sent. OCA_ASKED_UNANSWERED if no
  * answer came in time: the command stays in flight under the handle in `result`. OCA_ASKED_REFUSED if the answer's
- * status is not OK, with that status. `answer` is written for OCA_ASKED_DONE and OCA_ASKED_REFUSED alone. */
+ * status is not OK, with that status. With more than 1,445 bytes it is OCA_ASKED_NOT_SENT with OCA_TOO_LONG. `answer`
+ * is written for OCA_ASKED_DONE and OCA_ASKED_REFUSED alone. */
+struct oca_outcome oca_panel_ask(struct oca_panel *panel, uint32_t ono, uint32_t method, uint8_t count, const uint8_t *params, size_t params_len, struct oca_answer *answer);
+
+/* Sends a command by the method `method` (enum oca_method) without parameters, and waits for its answer. `ono` is the
+ * number of the object. The call waits for the answer for at most the panel's `wait_ms` milliseconds. Returns
+ * OCA_ASKED_DONE if the answer's status is OK. Otherwise the outcome is one of these (enum oca_asked). OCA_ASKED_LOST
+ * or OCA_ASKED_LATE if the panel's link is lost or late: a command that was sent may have been carried out.
+ * OCA_ASKED_NOT_SENT with OCA_CLOSED, OCA_HANDLES_SPENT or OCA_SPAN_FULL in `result`: that command was not sent.
+ * OCA_ASKED_UNANSWERED if no answer came in time: the command stays in flight under the handle in `result`.
+ * OCA_ASKED_REFUSED if the answer's status is not OK, with that status. `answer` is written for OCA_ASKED_DONE and
+ * OCA_ASKED_REFUSED alone. */
 struct oca_outcome oca_panel_read(struct oca_panel *panel, uint32_t ono, uint32_t method, struct oca_answer *answer);
 
-/* Waits for the answer to a command that oca_panel_begin_set began, for at most the panel's `wait_ms` milliseconds, and
- * takes it. Returns OCA_ASKED_DONE if the device set the object, and OCA_ASKED_REFUSED with the status if it refused:
- * then the command is removed. OCA_ASKED_NO_HANDLE if no command has the handle, or its answer was taken before.
- * OCA_ASKED_LOST or OCA_ASKED_LATE if the panel's link is lost or late and no answer is there: the command may have
- * been carried out. OCA_ASKED_NOT_SENT with OCA_CLOSED in `result` if the panel is closed. OCA_ASKED_UNANSWERED if no
- * answer came in time: the command stays in flight and can be waited for again. */
+/* Waits for the answer to the command that oca_panel_begin_set began under the handle `handle`, for at most the panel's
+ * `wait_ms` milliseconds, and takes it. Returns OCA_ASKED_DONE if the device set the object, and OCA_ASKED_REFUSED with
+ * the status if it refused: then the command is removed. OCA_ASKED_NO_HANDLE if no command has the handle, or its
+ * answer was taken before. OCA_ASKED_LOST or OCA_ASKED_LATE if the panel's link is lost or late and no answer is there:
+ * the command may have been carried out. OCA_ASKED_NOT_SENT with OCA_CLOSED in `result` if the panel is closed.
+ * OCA_ASKED_UNANSWERED if no answer came in time: the command stays in flight and can be waited for again. */
 struct oca_outcome oca_panel_finish_set(struct oca_panel *panel, uint32_t handle);
 
-/* Waits for the answer to a command that oca_panel_begin_get began, for at most the panel's `wait_ms` milliseconds,
- * takes it, and writes the value with its limits to `reading`. `class_number` is the number of the class that was given
- * there. Returns OCA_ASKED_DONE, and then alone `reading` is written. OCA_ASKED_UNREADABLE if the answer's parameters
- * are not those of the class's get method, and OCA_ASKED_REFUSED with the status if the device refused: then the
- * command is removed. OCA_ASKED_NO_HANDLE if no command has the handle, or its answer was taken before. OCA_ASKED_LOST
- * or OCA_ASKED_LATE if the panel's link is lost or late and no answer is there. OCA_ASKED_NOT_SENT with OCA_CLOSED in
- * `result` if the panel is closed. OCA_ASKED_UNANSWERED if no answer came in time: the command stays in flight and can
- * be waited for again. */
+/* Waits for the answer to the command that oca_panel_begin_get began under the handle `handle`, for at most the panel's
+ * `wait_ms` milliseconds, takes it, and writes the value with its limits to `reading`. `class_number` is the number of
+ * the class that was given there. Returns OCA_ASKED_DONE, and then alone `reading` is written. OCA_ASKED_UNREADABLE if
+ * the answer's parameters are not those of the class's get method, and OCA_ASKED_REFUSED with the status if the device
+ * refused: then the command is removed. OCA_ASKED_NO_HANDLE if no command has the handle, or its answer was taken
+ * before. OCA_ASKED_LOST or OCA_ASKED_LATE if the panel's link is lost or late and no answer is there.
+ * OCA_ASKED_NOT_SENT with OCA_CLOSED in `result` if the panel is closed. OCA_ASKED_UNANSWERED if no answer came in
+ * time: the command stays in flight and can be waited for again. */
 struct oca_outcome oca_panel_finish_get(struct oca_panel *panel, uint32_t handle, uint32_t class_number, struct oca_reading *reading);
 
-/* Sets an object to a value, by the set method of the value's class (AES70-2), and waits for the answer. `ono` is the
+/* Sets an object to `value`, by the set method of the value's class (AES70-2), and waits for the answer. `ono` is the
  * number of the object. The call waits for the answer for at most the panel's `wait_ms` milliseconds. Returns
  * OCA_ASKED_DONE if the device set it. OCA_ASKED_NO_VALUE if the struct holds no value: then nothing is sent. Otherwise
  * the outcome is one of these (enum oca_asked). OCA_ASKED_LOST or OCA_ASKED_LATE if the panel's link is lost or late: a
@@ -1269,111 +1278,117 @@ struct oca_outcome oca_panel_finish_get(struct oca_panel *panel, uint32_t handle
  */
 struct oca_outcome oca_panel_set(struct oca_panel *panel, uint32_t ono, struct oca_value value);
 
-/* Reads how an object of the class `class_number` (enum oca_class) is set, by the get method of the class (AES70-2),
- * and waits for the answer. A switch and an integer have their least and greatest value too. The object is not asked
- * for its class. The call waits for the answer for at most the panel's `wait_ms` milliseconds. Returns OCA_ASKED_DONE,
- * and then alone `reading` is written. OCA_ASKED_NO_VALUE if no class has the number, or it is that of a block: then
- * nothing is sent. Otherwise the outcome is one of these (enum oca_asked). OCA_ASKED_LOST or OCA_ASKED_LATE if the
- * panel's link is lost or late: a command that was sent may have been carried out. OCA_ASKED_NOT_SENT with OCA_CLOSED,
- * OCA_HANDLES_SPENT or OCA_SPAN_FULL in `result`: that command was not sent. OCA_ASKED_UNANSWERED if no answer came in
- * time: the command stays in flight under the handle in `result`. OCA_ASKED_REFUSED if the answer's status is not OK,
- * with that status. OCA_ASKED_UNREADABLE if the answer's parameters are not those of the method. */
-struct oca_outcome oca_panel_get_of(struct oca_panel *panel, uint32_t ono, uint32_t class_number, struct oca_reading *reading);
-
-/* Asks for the class of an object, by GetClassIdentification of OcaRoot (AES70-2). The call waits for the answer for at
- * most the panel's `wait_ms` milliseconds. Returns OCA_ASKED_DONE, and then alone `id` is written. The class number in
- * it is 0 for a class that is not of this profile. Otherwise the outcome is one of these (enum oca_asked).
- * OCA_ASKED_LOST or OCA_ASKED_LATE if the panel's link is lost or late: a command that was sent may have been carried
- * out. OCA_ASKED_NOT_SENT with OCA_CLOSED, OCA_HANDLES_SPENT or OCA_SPAN_FULL in `result`: that command was not sent.
- * OCA_ASKED_UNANSWERED if no answer came in time: the command stays in flight under the handle in `result`.
- * OCA_ASKED_REFUSED if the answer's status is not OK, with that status. OCA_ASKED_UNREADABLE if the answer's parameters
- * are not those of the method. */
-struct oca_outcome oca_panel_class(struct oca_panel *panel, uint32_t ono, struct oca_class_id *id);
-
-/* Reads how an object is set: asks for its class (AES70-2, GetClassIdentification), and then for the value by the get
- * method of the class, with the least and the greatest value of a switch and an integer. The call waits for each of the
- * two answers for at most the panel's `wait_ms` milliseconds. Returns OCA_ASKED_DONE, and then alone `reading` is
- * written. OCA_ASKED_NO_VALUE if the object is a block, or its class is not of this profile: then the value is not
- * asked. Otherwise the outcome is one of these (enum oca_asked). OCA_ASKED_LOST or OCA_ASKED_LATE if the panel's link
- * is lost or late: a command that was sent may have been carried out. OCA_ASKED_NOT_SENT with OCA_CLOSED,
- * OCA_HANDLES_SPENT or OCA_SPAN_FULL in `result`: that command was not sent. OCA_ASKED_UNANSWERED if no answer came in
- * time: the command stays in flight under the handle in `result`. OCA_ASKED_REFUSED if the answer's status is not OK,
- * with that status. OCA_ASKED_UNREADABLE if the answer's parameters are not those of the method. */
-struct oca_outcome oca_panel_get(struct oca_panel *panel, uint32_t ono, struct oca_reading *reading);
-
-/* Locks an object, by LockTotal of OcaRoot (AES70-2), and waits for the answer: other controllers can then neither read
- * nor set it. The call waits for the answer for at most the panel's `wait_ms` milliseconds. Returns OCA_ASKED_DONE if
- * the object is locked. Otherwise the outcome is one of these (enum oca_asked). OCA_ASKED_LOST or OCA_ASKED_LATE if the
- * panel's link is lost or late: a command that was sent may have been carried out. OCA_ASKED_NOT_SENT with OCA_CLOSED,
- * OCA_HANDLES_SPENT or OCA_SPAN_FULL in `result`: that command was not sent. OCA_ASKED_UNANSWERED if no answer came in
- * time: the command stays in flight under the handle in `result`. OCA_ASKED_REFUSED if the answer's status is not OK,
- * with that status. The status is OCA_STATUS_LOCKED if another controller has the lock. */
-struct oca_outcome oca_panel_lock(struct oca_panel *panel, uint32_t ono);
-
-/* Releases this panel's lock of an object, by Unlock of OcaRoot (AES70-2). The call waits for the answer for at most
- * the panel's `wait_ms` milliseconds. Returns OCA_ASKED_DONE if the lock is released. Otherwise the outcome is one of
- * these (enum oca_asked). OCA_ASKED_LOST or OCA_ASKED_LATE if the panel's link is lost or late: a command that was sent
- * may have been carried out. OCA_ASKED_NOT_SENT with OCA_CLOSED, OCA_HANDLES_SPENT or OCA_SPAN_FULL in `result`: that
- * command was not sent. OCA_ASKED_UNANSWERED if no answer came in time: the command stays in flight under the handle in
- * `result`. OCA_ASKED_REFUSED if the answer's status is not OK, with that status. The status is OCA_STATUS_LOCKED if
- * another controller has the lock, and OCA_STATUS_INVALID_REQUEST if the object is not locked. */
-struct oca_outcome oca_panel_unlock(struct oca_panel *panel, uint32_t ono);
-
-/* Asks for the role of an object, by GetRole of OcaRoot (AES70-2). The call waits for the answer for at most the
- * panel's `wait_ms` milliseconds. Returns OCA_ASKED_DONE, and then alone `role` is written: 0 to 64 bytes of UTF-8.
- * Otherwise the outcome is one of these (enum oca_asked). OCA_ASKED_LOST or OCA_ASKED_LATE if the panel's link is lost
- * or late: a command that was sent may have been carried out. OCA_ASKED_NOT_SENT with OCA_CLOSED, OCA_HANDLES_SPENT or
- * OCA_SPAN_FULL in `result`: that command was not sent. OCA_ASKED_UNANSWERED if no answer came in time: the command
- * stays in flight under the handle in `result`. OCA_ASKED_REFUSED if the answer's status is not OK, with that status.
- * OCA_ASKED_UNREADABLE if the answer's parameters are not those of the method. */
-struct oca_outcome oca_panel_role(struct oca_panel *panel, uint32_t ono, struct oca_name *role);
-
-/* Asks for the label of an object, by GetLabel of OcaWorker (AES70-2). The call waits for the answer for at most the
- * panel's `wait_ms` milliseconds. Returns OCA_ASKED_DONE, and then alone `label` is written: 0 to 64 bytes of UTF-8.
- * Otherwise the outcome is one of these (enum oca_asked). OCA_ASKED_LOST or OCA_ASKED_LATE if the panel's link is lost
- * or late: a command that was sent may have been carried out. OCA_ASKED_NOT_SENT with OCA_CLOSED, OCA_HANDLES_SPENT or
- * OCA_SPAN_FULL in `result`: that command was not sent. OCA_ASKED_UNANSWERED if no answer came in time: the command
- * stays in flight under the handle in `result`. OCA_ASKED_REFUSED if the answer's status is not OK, with that status.
- * OCA_ASKED_UNREADABLE if the answer's parameters are not those of the method. */
-struct oca_outcome oca_panel_label(struct oca_panel *panel, uint32_t ono, struct oca_name *label);
-
-/* Gives an object a label of 0 to 64 bytes, by SetLabel of OcaWorker (AES70-2). The call waits for the answer for at
- * most the panel's `wait_ms` milliseconds. Returns OCA_ASKED_DONE if the object has the label. OCA_ASKED_NO_VALUE if
- * the label has more than 64 bytes or is not UTF-8: then nothing is sent. Otherwise the outcome is one of these (enum
- * oca_asked). OCA_ASKED_LOST or OCA_ASKED_LATE if the panel's link is lost or late: a command that was sent may have
- * been carried out. OCA_ASKED_NOT_SENT with OCA_CLOSED, OCA_HANDLES_SPENT or OCA_SPAN_FULL in `result`: that command
- * was not sent. OCA_ASKED_UNANSWERED if no answer came in time: the command stays in flight under the handle in
- * `result`. OCA_ASKED_REFUSED if the answer's status is not OK, with that status. */
-struct oca_outcome oca_panel_set_label(struct oca_panel *panel, uint32_t ono, const struct oca_name *label);
-
-/* Asks for the name of a switch's position, by GetPositionName of OcaSwitch (AES70-2), and waits for the answer.
- * `position` is counted from 0. The call waits for the answer for at most the panel's `wait_ms` milliseconds. Returns
- * OCA_ASKED_DONE, and then alone `name` is written. Otherwise the outcome is one of these (enum oca_asked).
- * OCA_ASKED_LOST or OCA_ASKED_LATE if the panel's link is lost or late: a command that was sent may have been carried
- * out. OCA_ASKED_NOT_SENT with OCA_CLOSED, OCA_HANDLES_SPENT or OCA_SPAN_FULL in `result`: that command was not sent.
- * OCA_ASKED_UNANSWERED if no answer came in time: the command stays in flight under the handle in `result`.
- * OCA_ASKED_REFUSED if the answer's status is not OK, with that status. The status is OCA_STATUS_PARAMETER_OUT_OF_RANGE
- * if the switch has no such position. OCA_ASKED_UNREADABLE if the answer's parameters are not those of the method. */
-struct oca_outcome oca_panel_position_name(struct oca_panel *panel, uint32_t ono, uint16_t position, struct oca_name *name);
-
-/* Asks for the names of a switch's positions, by GetPositionNames of OcaSwitch (AES70-2). The call waits for the answer
- * for at most the panel's `wait_ms` milliseconds. Returns OCA_ASKED_DONE, and then alone `names` is written: at most
- * 16, in the order of the positions. Otherwise the outcome is one of these (enum oca_asked). OCA_ASKED_LOST or
+/* Reads how the object with the number `ono`, of the class `class_number` (enum oca_class), is set, by the get method
+ * of the class (AES70-2), and waits for the answer. A switch and an integer have their least and greatest value too.
+ * The object is not asked for its class. The call waits for the answer for at most the panel's `wait_ms` milliseconds.
+ * Returns OCA_ASKED_DONE, and then alone `reading` is written. OCA_ASKED_NO_VALUE if no class has the number, or it is
+ * that of a block: then nothing is sent. Otherwise the outcome is one of these (enum oca_asked). OCA_ASKED_LOST or
  * OCA_ASKED_LATE if the panel's link is lost or late: a command that was sent may have been carried out.
  * OCA_ASKED_NOT_SENT with OCA_CLOSED, OCA_HANDLES_SPENT or OCA_SPAN_FULL in `result`: that command was not sent.
  * OCA_ASKED_UNANSWERED if no answer came in time: the command stays in flight under the handle in `result`.
  * OCA_ASKED_REFUSED if the answer's status is not OK, with that status. OCA_ASKED_UNREADABLE if the answer's parameters
  * are not those of the method. */
-struct oca_outcome oca_panel_position_names(struct oca_panel *panel, uint32_t ono, struct oca_names *names);
+struct oca_outcome oca_panel_get_of(struct oca_panel *panel, uint32_t ono, uint32_t class_number, struct oca_reading *reading);
 
-/* Asks for the numbers of a block's members, by GetMembers of OcaBlock (AES70-2). The call waits for the answer for at
- * most the panel's `wait_ms` milliseconds. Returns OCA_ASKED_DONE, and then alone `members` is written, in the order of
- * the answer. Otherwise the outcome is one of these (enum oca_asked). OCA_ASKED_LOST or OCA_ASKED_LATE if the panel's
- * link is lost or late: a command that was sent may have been carried out. OCA_ASKED_NOT_SENT with OCA_CLOSED,
+/* Asks for the class of the object with the number `ono`, by GetClassIdentification of OcaRoot (AES70-2). The call
+ * waits for the answer for at most the panel's `wait_ms` milliseconds. Returns OCA_ASKED_DONE, and then alone `id` is
+ * written. The class number in it is 0 for a class that is not of this profile. Otherwise the outcome is one of these
+ * (enum oca_asked). OCA_ASKED_LOST or OCA_ASKED_LATE if the panel's link is lost or late: a command that was sent may
+ * have been carried out. OCA_ASKED_NOT_SENT with OCA_CLOSED, OCA_HANDLES_SPENT or OCA_SPAN_FULL in `result`: that
+ * command was not sent. OCA_ASKED_UNANSWERED if no answer came in time: the command stays in flight under the handle in
+ * `result`. OCA_ASKED_REFUSED if the answer's status is not OK, with that status. OCA_ASKED_UNREADABLE if the answer's
+ * parameters are not those of the method. */
+struct oca_outcome oca_panel_class(struct oca_panel *panel, uint32_t ono, struct oca_class_id *id);
+
+/* Reads how the object with the number `ono` is set: asks for its class (AES70-2, GetClassIdentification), and then for
+ * the value by the get method of the class, with the least and the greatest value of a switch and an integer. The call
+ * waits for each of the two answers for at most the panel's `wait_ms` milliseconds. Returns OCA_ASKED_DONE, and then
+ * alone `reading` is written. OCA_ASKED_NO_VALUE if the object is a block, or its class is not of this profile: then
+ * the value is not asked. Otherwise the outcome is one of these (enum oca_asked). OCA_ASKED_LOST or OCA_ASKED_LATE if
+ * the panel's link is lost or late: a command that was sent may have been carried out. OCA_ASKED_NOT_SENT with
+ * OCA_CLOSED, OCA_HANDLES_SPENT or OCA_SPAN_FULL in `result`: that command was not sent. OCA_ASKED_UNANSWERED if no
+ * answer came in time: the command stays in flight under the handle in `result`. OCA_ASKED_REFUSED if the answer's
+ * status is not OK, with that status. OCA_ASKED_UNREADABLE if the answer's parameters are not those of the method. */
+struct oca_outcome oca_panel_get(struct oca_panel *panel, uint32_t ono, struct oca_reading *reading);
+
+/* Locks the object with the number `ono`, by LockTotal of OcaRoot (AES70-2), and waits for the answer: other
+ * controllers can then neither read nor set it. The call waits for the answer for at most the panel's `wait_ms`
+ * milliseconds. Returns OCA_ASKED_DONE if the object is locked. Otherwise the outcome is one of these (enum oca_asked).
+ * OCA_ASKED_LOST or OCA_ASKED_LATE if the panel's link is lost or late: a command that was sent may have been carried
+ * out. OCA_ASKED_NOT_SENT with OCA_CLOSED, OCA_HANDLES_SPENT or OCA_SPAN_FULL in `result`: that command was not sent.
+ * OCA_ASKED_UNANSWERED if no answer came in time: the command stays in flight under the handle in `result`.
+ * OCA_ASKED_REFUSED if the answer's status is not OK, with that status. The status is OCA_STATUS_LOCKED if another
+ * controller has the lock. */
+struct oca_outcome oca_panel_lock(struct oca_panel *panel, uint32_t ono);
+
+/* Releases this panel's lock of the object with the number `ono`, by Unlock of OcaRoot (AES70-2). The call waits for
+ * the answer for at most the panel's `wait_ms` milliseconds. Returns OCA_ASKED_DONE if the lock is released. Otherwise
+ * the outcome is one of these (enum oca_asked). OCA_ASKED_LOST or OCA_ASKED_LATE if the panel's link is lost or late: a
+ * command that was sent may have been carried out. OCA_ASKED_NOT_SENT with OCA_CLOSED, OCA_HANDLES_SPENT or
+ * OCA_SPAN_FULL in `result`: that command was not sent. OCA_ASKED_UNANSWERED if no answer came in time: the command
+ * stays in flight under the handle in `result`. OCA_ASKED_REFUSED if the answer's status is not OK, with that status.
+ * The status is OCA_STATUS_LOCKED if another controller has the lock, and OCA_STATUS_INVALID_REQUEST if the object is
+ * not locked. */
+struct oca_outcome oca_panel_unlock(struct oca_panel *panel, uint32_t ono);
+
+/* Asks for the role of the object with the number `ono`, by GetRole of OcaRoot (AES70-2). The call waits for the answer
+ * for at most the panel's `wait_ms` milliseconds. Returns OCA_ASKED_DONE, and then alone `role` is written: 0 to 64
+ * bytes of UTF-8. Otherwise the outcome is one of these (enum oca_asked). OCA_ASKED_LOST or OCA_ASKED_LATE if the
+ * panel's link is lost or late: a command that was sent may have been carried out. OCA_ASKED_NOT_SENT with OCA_CLOSED,
  * OCA_HANDLES_SPENT or OCA_SPAN_FULL in `result`: that command was not sent. OCA_ASKED_UNANSWERED if no answer came in
  * time: the command stays in flight under the handle in `result`. OCA_ASKED_REFUSED if the answer's status is not OK,
- * with that status. The status is OCA_STATUS_BUFFER_OVERFLOW if there are more than a response has room for, some 90.
- * OCA_ASKED_UNREADABLE if the answer's parameters are not those of the method. */
+ * with that status. OCA_ASKED_UNREADABLE if the answer's parameters are not those of the method. */
+struct oca_outcome oca_panel_role(struct oca_panel *panel, uint32_t ono, struct oca_name *role);
+
+/* Asks for the label of the object with the number `ono`, by GetLabel of OcaWorker (AES70-2). The call waits for the
+ * answer for at most the panel's `wait_ms` milliseconds. Returns OCA_ASKED_DONE, and then alone `label` is written: 0
+ * to 64 bytes of UTF-8. Otherwise the outcome is one of these (enum oca_asked). OCA_ASKED_LOST or OCA_ASKED_LATE if the
+ * panel's link is lost or late: a command that was sent may have been carried out. OCA_ASKED_NOT_SENT with OCA_CLOSED,
+ * OCA_HANDLES_SPENT or OCA_SPAN_FULL in `result`: that command was not sent. OCA_ASKED_UNANSWERED if no answer came in
+ * time: the command stays in flight under the handle in `result`. OCA_ASKED_REFUSED if the answer's status is not OK,
+ * with that status. OCA_ASKED_UNREADABLE if the answer's parameters are not those of the method. */
+struct oca_outcome oca_panel_label(struct oca_panel *panel, uint32_t ono, struct oca_name *label);
+
+/* Gives the object with the number `ono` the label `label`, of 0 to 64 bytes, by SetLabel of OcaWorker (AES70-2). The
+ * call waits for the answer for at most the panel's `wait_ms` milliseconds. Returns OCA_ASKED_DONE if the object has
+ * the label. OCA_ASKED_NO_VALUE if the label has more than 64 bytes or is not UTF-8: then nothing is sent. Otherwise
+ * the outcome is one of these (enum oca_asked). OCA_ASKED_LOST or OCA_ASKED_LATE if the panel's link is lost or late: a
+ * command that was sent may have been carried out. OCA_ASKED_NOT_SENT with OCA_CLOSED, OCA_HANDLES_SPENT or
+ * OCA_SPAN_FULL in `result`: that command was not sent. OCA_ASKED_UNANSWERED if no answer came in time: the command
+ * stays in flight under the handle in `result`. OCA_ASKED_REFUSED if the answer's status is not OK, with that status.
+ */
+struct oca_outcome oca_panel_set_label(struct oca_panel *panel, uint32_t ono, const struct oca_name *label);
+
+/* Asks for the name of a position of the switch with the number `ono`, by GetPositionName of OcaSwitch (AES70-2), and
+ * waits for the answer. `position` is counted from 0. The call waits for the answer for at most the panel's `wait_ms`
+ * milliseconds. Returns OCA_ASKED_DONE, and then alone `name` is written. Otherwise the outcome is one of these (enum
+ * oca_asked). OCA_ASKED_LOST or OCA_ASKED_LATE if the panel's link is lost or late: a command that was sent may have
+ * been carried out. OCA_ASKED_NOT_SENT with OCA_CLOSED, OCA_HANDLES_SPENT or OCA_SPAN_FULL in `result`: that command
+ * was not sent. OCA_ASKED_UNANSWERED if no answer came in time: the command stays in flight under the handle in
+ * `result`. OCA_ASKED_REFUSED if the answer's status is not OK, with that status. The status is
+ * OCA_STATUS_PARAMETER_OUT_OF_RANGE if the switch has no such position. OCA_ASKED_UNREADABLE if the answer's parameters
+ * are not those of the method. */
+struct oca_outcome oca_panel_position_name(struct oca_panel *panel, uint32_t ono, uint16_t position, struct oca_name *name);
+
+/* Asks for the names of the positions of the switch with the number `ono`, by GetPositionNames of OcaSwitch (AES70-2).
+ * The call waits for the answer for at most the panel's `wait_ms` milliseconds. Returns OCA_ASKED_DONE, and then alone
+ * `names` is written: at most 16, in the order of the positions. Otherwise the outcome is one of these (enum
+ * oca_asked). OCA_ASKED_LOST or OCA_ASKED_LATE if the panel's link is lost or late: a command that was sent may have
+ * been carried out. OCA_ASKED_NOT_SENT with OCA_CLOSED, OCA_HANDLES_SPENT or OCA_SPAN_FULL in `result`: that command
+ * was not sent. OCA_ASKED_UNANSWERED if no answer came in time: the command stays in flight under the handle in
+ * `result`. OCA_ASKED_REFUSED if the answer's status is not OK, with that status. OCA_ASKED_UNREADABLE if the answer's
+ * parameters are not those of the method. */
+struct oca_outcome oca_panel_position_names(struct oca_panel *panel, uint32_t ono, struct oca_names *names);
+
+/* Asks for the numbers of the members of the block with the number `ono`, by GetMembers of OcaBlock (AES70-2). The call
+ * waits for the answer for at most the panel's `wait_ms` milliseconds. Returns OCA_ASKED_DONE, and then alone `members`
+ * is written, in the order of the answer. Otherwise the outcome is one of these (enum oca_asked). OCA_ASKED_LOST or
+ * OCA_ASKED_LATE if the panel's link is lost or late: a command that was sent may have been carried out.
+ * OCA_ASKED_NOT_SENT with OCA_CLOSED, OCA_HANDLES_SPENT or OCA_SPAN_FULL in `result`: that command was not sent.
+ * OCA_ASKED_UNANSWERED if no answer came in time: the command stays in flight under the handle in `result`.
+ * OCA_ASKED_REFUSED if the answer's status is not OK, with that status. The status is OCA_STATUS_BUFFER_OVERFLOW if
+ * there are more than a response has room for, some 90. OCA_ASKED_UNREADABLE if the answer's parameters are not those
+ * of the method. */
 struct oca_outcome oca_panel_members(struct oca_panel *panel, uint32_t ono, struct oca_members *members);
 
 /* What a walk finds of an object: its number, and the number of the block that lists it (0 for the root). `described`
@@ -1475,10 +1490,10 @@ enum oca_socket_result oca_socket_wait(struct oca_socket *own, uint64_t until);
  * socket has its name and errno. */
 enum oca_socket_result oca_socket_receive(struct oca_socket *own, uint8_t *out, size_t out_len, size_t *len, uint32_t *ip, uint16_t *port) OCA_LOOKED_AT;
 
-/* Sends `len` bytes as one datagram to the address `ip` (an IPv4 address as a number, the first byte highest) and the
- * port `port`, without waiting. Returns OCA_SOCKET_DONE if the system took it, which does not say that it arrives.
- * OCA_SOCKET_NULL if a pointer is null. OCA_SOCKET_CLOSED if the socket is closed. OCA_SOCKET_SYSTEM if the system has
- * no room for it or refuses it: the socket has the call's name and errno. After these it is not sent. */
+/* Sends the `len` bytes `bytes` as one datagram to the address `ip` (an IPv4 address as a number, the first byte
+ * highest) and the port `port`, without waiting. Returns OCA_SOCKET_DONE if the system took it, which does not say that
+ * it arrives. OCA_SOCKET_NULL if a pointer is null. OCA_SOCKET_CLOSED if the socket is closed. OCA_SOCKET_SYSTEM if the
+ * system has no room for it or refuses it: the socket has the call's name and errno. After these it is not sent. */
 enum oca_socket_result oca_socket_send(struct oca_socket *own, const uint8_t *bytes, size_t len, uint32_t ip, uint16_t port);
 
 /* Returns the end of a panel over a socket that was opened towards its device, for oca_panel_open. Nothing is checked,

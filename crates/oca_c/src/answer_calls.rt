@@ -88,7 +88,7 @@ pub extern "C" fn oca_class_with(fields: &[u16]) -> u32
     number_with(fields)
 }
 
-/// Encodes a text as the one parameter of SetLabel of OcaWorker (AES70-2): writes its bytes to the front of `out`, and
+/// Encodes `text` as the one parameter of SetLabel of OcaWorker (AES70-2): writes its bytes to the front of `out`, and
 /// their number, 2 to 66, to `len`.
 ///
 /// Returns the number of an answer: `Done`. `NoValue` if the text has more than 64 bytes or is not UTF-8: then nothing

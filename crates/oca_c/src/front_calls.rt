@@ -133,8 +133,8 @@ pub extern "C" fn oca_device_set_unsigned(
     set_integer(alloc, handle, ono, i128::from(number))
 }
 
-/// Sets an object at the local front panel to a value, which must be of the object's class. A lock of a controller does
-/// not refuse it, and no peer gets a message (the local front panel is the profile's, not AES70's).
+/// Sets the object `ono` at the local front panel to `value`, which must be of the object's class. A lock of a
+/// controller does not refuse it, and no peer gets a message (the local front panel is the profile's, not AES70's).
 ///
 /// Returns the number of an answer: `Done`. Otherwise the first of these that applies, and then nothing is changed.
 /// `Closed` if the device is closed. `NotStarted` before its start. `NoValue` if the struct holds no value. `NoObject`
@@ -162,8 +162,8 @@ pub extern "C" fn oca_device_set(
     answer.number()
 }
 
-/// Gives an object a label of 0 to 64 bytes of UTF-8 at the local front panel. A lock of a controller does not refuse
-/// it, and no peer gets a message (the local front panel is the profile's, not AES70's).
+/// Gives an object the label `label`, 0 to 64 bytes of UTF-8, at the local front panel. A lock of a controller does not
+/// refuse it, and no peer gets a message (the local front panel is the profile's, not AES70's).
 ///
 /// Returns the number of an answer: `Done`. Otherwise the first of these that applies, and then nothing is changed.
 /// `Closed` if the device is closed. `NotStarted` before its start. `BadText` if the bytes are not UTF-8. `NoObject` if
@@ -189,8 +189,9 @@ pub extern "C" fn oca_device_set_label(
     answer.number()
 }
 
-/// Enables or disables an object at the local front panel, as SetEnabled of OcaWorker does (AES70-2). A lock of a
-/// controller does not refuse it, and no peer gets a message (the local front panel is the profile's, not AES70's).
+/// Enables an object (`enabled` is true) or disables it at the local front panel, as SetEnabled of OcaWorker does
+/// (AES70-2). A lock of a controller does not refuse it, and no peer gets a message (the local front panel is the
+/// profile's, not AES70's).
 ///
 /// Returns the number of an answer: `Done`. Otherwise the first of these that applies, and then nothing is changed.
 /// `Closed` if the device is closed. `NotStarted` before its start. `NoObject` if no object has the number `ono`.

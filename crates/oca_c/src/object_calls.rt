@@ -71,7 +71,8 @@ pub extern "C" fn oca_device_object_words(
 
 /// Writes what lock an object has, and the address and the port of the peer that has it. `kind` becomes 1 if the lock
 /// keeps other peers from all access (LockTotal, AES70-2), and 2 if it lets them read (LockReadonly). `ip` becomes an
-/// IPv4 address as a number, the first byte highest. The lock of a block does not lock its members.
+/// IPv4 address as a number, the first byte highest, and `port` the UDP port. The lock of a block does not lock its
+/// members.
 ///
 /// Returns the number of an answer: `Done`. Otherwise the first of these that applies, and then nothing is changed or
 /// written. `Closed` if the device is closed. `NotStarted` before its start. `Nothing` if the object is not locked, or
@@ -185,7 +186,7 @@ pub extern "C" fn oca_device_peers(
 
 /// Writes the address and the port of a peer that has a session. `index` counts from 0, in the order in which the
 /// sessions were opened; if a session ends, the later ones move down by one. `ip` becomes an IPv4 address as a number,
-/// the first byte highest.
+/// the first byte highest, and `port` the UDP port.
 ///
 /// Returns the number of an answer: `Done`. Otherwise the first of these that applies, and then nothing is changed or
 /// written. `Closed` if the device is closed. `NotStarted` before its start. `Nothing` if there are `index` sessions or

@@ -10,7 +10,7 @@ use oca_calls::value_words::{ReadingWords, RequestWords, ValueWords, class_with}
 use oca_calls::words::put_bytes;
 use oca_model::{Reading, get_request, set_request};
 
-/// Encodes a value as the one parameter of a set method (AES70-3): writes its bytes to the front of `out`, and their
+/// Encodes `value` as the one parameter of a set method (AES70-3): writes its bytes to the front of `out`, and their
 /// number, 1 to 8, to `len`.
 ///
 /// Returns the number of an answer: `Done`. `NoValue` if the struct holds no value: then nothing is written. `TooSmall`
@@ -52,7 +52,7 @@ pub extern "C" fn oca_value_read(
     Answer::Done.number()
 }
 
-/// Writes to `request` the request that sets an object to a value: the set method of the value's class (AES70-2) with
+/// Writes to `request` the request that sets an object to `value`: the set method of the value's class (AES70-2) with
 /// the value as its parameter. Nothing is sent: `oca_link_ask` submits it.
 ///
 /// Returns the number of an answer: `Done`. `NoValue` if the struct holds no value: then nothing is written.
@@ -88,7 +88,7 @@ pub extern "C" fn oca_get_request(class_number: u32, request: &mut RequestWords)
     Answer::Done.number()
 }
 
-/// Writes the word for a value to the front of `out`, without a 0 after it, and the number of its bytes, 1 to 20, to
+/// Writes the word for `value` to the front of `out`, without a 0 after it, and the number of its bytes, 1 to 20, to
 /// `len`. The words are "muted", "unmuted", "non-inverted", "inverted", "on", "off", and decimal digits for a position
 /// and an integer.
 ///

@@ -15,7 +15,8 @@ use oca_net::End;
 use oca_types::{Handle, Request};
 
 /// Sends one command and waits for its answer, for at most `turns` turns ([`turn`]). Each turn receives once, at a
-/// socket for at most 50 ms, and sends what is due.
+/// socket for at most 50 ms, and sends what is due. `request` has the object, the method, ParamCount and the encoded
+/// parameters, which are not checked (AES70-3).
 ///
 /// - `Answered` with the answer, whatever its status: the command is then removed from the link.
 /// - `Lost` if the link was lost or late before, in which case nothing is changed or sent. `Lost` too if the link
@@ -38,7 +39,8 @@ pub fn ask<E: End>(link: &mut Link, end: &mut E, request: Request<'_>, turns: u3
 }
 
 /// Submits a command at the end's present moment, sends it at once, and returns its handle. If the end keeps no time,
-/// the moment is the latest that the link was given. The call does not wait.
+/// the moment is the latest that the link was given. The call does not wait. `request` has the object, the method,
+/// ParamCount and the encoded parameters, which are not checked (AES70-3).
 ///
 /// What else is due at this moment is sent too, older commands first. If an older command that is due was sent 20 times
 /// already, the link becomes lost: the handle is returned, and this command is not sent. Otherwise nothing is left to

@@ -160,8 +160,8 @@ impl Link {
         Ok(handle)
     }
 
-    /// Puts what is due at the moment `now` into the packet, for the caller to send to the device. `now` is in
-    /// milliseconds of the caller's clock. The packet is emptied first. Call it until it returns `Nothing` or `Lost`.
+    /// Puts what is due at the moment `now` into `packet`, for the caller to send to the device. `now` is in
+    /// milliseconds of the caller's clock. `packet` is emptied first. Call it until it returns `Nothing` or `Lost`.
     ///
     /// The first that applies (the numbers are the profile's):
     /// - `Lost`, with an empty packet, if the link is lost, or becomes lost now: of the commands that are due, the one
@@ -200,9 +200,9 @@ impl Link {
         }
     }
 
-    /// Handles a datagram that came from the address `from` at the moment `now`, in milliseconds of the caller's clock,
-    /// and returns what became of it. In all cases the link's clock moves on to `now`, and never back. No memory is
-    /// taken.
+    /// Handles the datagram `bytes` that came from the address `from` at the moment `now`, in milliseconds of the
+    /// caller's clock, and returns what became of it. In all cases the link's clock moves on to `now`, and never back.
+    /// No memory is taken.
     ///
     /// The first that applies:
     /// - `Stranger` if the address or the port is not the device's: nothing else is changed.

@@ -141,9 +141,9 @@ impl Device {
         })
     }
 
-    /// Handles a datagram that came from the peer `from` at the moment `now`, in milliseconds of the caller's clock,
-    /// and returns what became of it. The outbox then has the answers, all for that peer, and nothing else. No memory
-    /// is taken.
+    /// Handles the datagram `bytes` that came from the peer `from` at the moment `now`, in milliseconds of the caller's
+    /// clock, and returns what became of it. `outbox` then has the answers, all for that peer, and nothing else. No
+    /// memory is taken.
     ///
     /// First the clock moves on to `now` as [`tick`](Device::tick) does. Then the first that applies:
     /// - `Malformed` with the first fault if the bytes are no well-formed datagram (AES70-3).
@@ -166,10 +166,10 @@ impl Device {
         self.datagram_within(from, bytes, now, &mut outbox.first)
     }
 
-    /// Handles a datagram that came from the peer `from` as [`Device::datagram`] does, with an outbox of a chosen size.
-    /// `now` is the moment in milliseconds of the caller's clock. The outbox then has the first packets of the answers,
-    /// as many as it has room for. [`is_cut`](BoundedOutbox::is_cut) says whether others were left out. No memory is
-    /// taken.
+    /// Handles the datagram `bytes` that came from the peer `from` as [`Device::datagram`] does, with an outbox of a
+    /// chosen size. `now` is the moment in milliseconds of the caller's clock. `outbox` then has the first packets of
+    /// the answers, as many as it has room for. [`is_cut`](BoundedOutbox::is_cut) says whether others were left out. No
+    /// memory is taken.
     ///
     /// `Malformed` with the first fault, `NoRoom` or `Served` with counts, as in `datagram`. After the first two no
     /// object and no session is changed, and nothing is answered. All commands are executed, whether their answers have
@@ -213,9 +213,9 @@ impl Device {
         self.move_clock(now);
     }
 
-    /// Sets an object to a value at the local front panel, as the set method of the object's class does (AES70-2). A
-    /// lock of a controller does not refuse it, and neither does [`set_failing`](Device::set_failing). The clock and
-    /// the sessions stay as they are, and no peer gets a message.
+    /// Sets the object `ono` to the value `value` at the local front panel, as the set method of the object's class
+    /// does (AES70-2). A lock of a controller does not refuse it, and neither does
+    /// [`set_failing`](Device::set_failing). The clock and the sessions stay as they are, and no peer gets a message.
     ///
     /// Refusals, the first that applies, which change nothing:
     /// - `NoObject` if no object has the number `ono`.
@@ -234,8 +234,8 @@ impl Device {
         self.tree.set(ono, value)
     }
 
-    /// Gives an object a label at the local front panel, as SetLabel of OcaWorker does (AES70-2). The label has 0 to 64
-    /// bytes of UTF-8. A lock of a controller does not refuse it, and neither does
+    /// Gives the object `ono` the label `label` at the local front panel, as SetLabel of OcaWorker does (AES70-2). The
+    /// label has 0 to 64 bytes of UTF-8. A lock of a controller does not refuse it, and neither does
     /// [`set_failing`](Device::set_failing). The clock and the sessions stay as they are, and no peer gets a message.
     ///
     /// Refusals, the first that applies, which change nothing: `NoObject` if no object has the number `ono`. `BadLabel`
@@ -251,10 +251,10 @@ impl Device {
         self.tree.set_label(ono, label)
     }
 
-    /// Enables (`true`) or disables an object at the local front panel, as SetEnabled of OcaWorker does (AES70-2). A
-    /// lock of a controller does not refuse it, and neither does [`set_failing`](Device::set_failing). The clock and
-    /// the sessions stay as they are, and no peer gets a message. Refusal: `NoObject` if no object has the number
-    /// `ono`; then nothing is changed.
+    /// Enables the object `ono` (`enabled` is `true`) or disables it at the local front panel, as SetEnabled of
+    /// OcaWorker does (AES70-2). A lock of a controller does not refuse it, and neither does
+    /// [`set_failing`](Device::set_failing). The clock and the sessions stay as they are, and no peer gets a message.
+    /// Refusal: `NoObject` if no object has the number `ono`; then nothing is changed.
     pub fn set_enabled(&mut self, ono: Ono, enabled: bool) -> Result<(), FrontFault>
         ensures represents { (w : DeviceSizes) (T : List Object) (E : List Event) → Represents w self.old T E →
             Represents w self.new T (Local ono.0 (ToEnabled enabled) ∷ E) }
@@ -266,8 +266,8 @@ impl Device {
         self.tree.set_enabled(ono, enabled)
     }
 
-    /// Releases the lock of an object at the local front panel, whichever peer has it, as Unlock of OcaRoot does for
-    /// the peer that has it (AES70-2). That peer gets no message, and keeps its session. The clock stays.
+    /// Releases the lock of the object `ono` at the local front panel, whichever peer has it, as Unlock of OcaRoot does
+    /// for the peer that has it (AES70-2). That peer gets no message, and keeps its session. The clock stays.
     ///
     /// Refusals, the first that applies, which change nothing: `NoObject` if no object has the number `ono`.
     /// `NotLocked` if the object is not locked.

@@ -166,10 +166,10 @@ impl fmt::Debug for Keeping {
     }
 }
 
-/// Serves an end for at most `turns` turns as [`serve_with`](crate::serve_with) does, and keeps the objects in a store.
-/// Returns how often each thing was done; a number stays at 2^64 - 1 if it would pass that. The loop ends early if the
-/// end is closed. `outbox` is memory for the answers to one datagram, and is empty at the end. No answer waits in
-/// `keeping` at the end.
+/// Serves an end for at most `turns` turns as [`serve_with`](crate::serve_with) does, and keeps the objects in `store`.
+/// `electronics` follow the objects of each datagram. Returns how often each thing was done; a number stays at 2^64 - 1
+/// if it would pass that. The loop ends early if the end is closed. `outbox` is memory for the answers to one datagram,
+/// and is empty at the end. No answer waits in `keeping` at the end.
 ///
 /// The answers to a datagram that wrote to an object wait until the store says that it has the objects. Meanwhile
 /// further datagrams that have come already are served, in at most 64 turns. Then the objects are stored once, and the

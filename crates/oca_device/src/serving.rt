@@ -37,7 +37,7 @@ pub fn serve<E: End>(device: &mut Device, end: &mut E, outbox: &mut Outbox, turn
     serve_with(device, end, outbox, &mut none, turns)
 }
 
-/// Serves an end for at most `turns` turns as [`serve`] does, and lets the electronics follow the objects. Returns how
+/// Serves an end for at most `turns` turns as [`serve`] does, and lets `electronics` follow the objects. Returns how
 /// often each thing was done. A turn receives once, at a socket for at most 50 ms. A datagram goes to the device, and
 /// its answers are sent. `outbox` is memory for the answers, and is empty at the end.
 ///

@@ -48,8 +48,8 @@ impl<E: End> Panel<E> {
     }
 }
 
-/// Reads the answer to a command from its outcome: what an object of the class `class` answers to the method `method`
-/// (AES70-2). The class matters only for the get method of a value. Nothing is changed.
+/// Reads the answer to a command from the command's outcome `outcome`: what an object of the class `class` answers to
+/// the method `method` (AES70-2). The class matters only for the get method of a value. Nothing is changed.
 ///
 /// Faults:
 /// - `NotSubmitted` with the reason if the link refused the command. `Lost` or `Unanswered` if that is the outcome.

@@ -122,7 +122,7 @@ impl<T: Copy + Default> InFlight<T> {
         self.commands.is_full()
     }
 
-    /// Adds a command at the end of the queue, with an item that the caller gets back when the command is finished.
+    /// Adds a command at the end of the queue, with `item`, which the caller gets back when the command is finished.
     /// `handle` is what [`Panel::begin`], [`Panel::begin_set`] or [`Panel::begin_request`] returned for it. The queue
     /// must have fewer than 32 commands: this is a premise, so ask [`is_full`](InFlight::is_full) before. Nothing is
     /// sent.
@@ -133,9 +133,10 @@ impl<T: Copy + Default> InFlight<T> {
         self.commands.push(Begun { handle, item });
     }
 
-    /// Begins a command as [`Panel::begin`] does, adds it at the end of the queue with an item of the caller's, and
-    /// returns its handle. The item comes back when the command is finished. If the link becomes lost in this call, the
-    /// handle is returned and the command is not sent.
+    /// Begins the command `request` as [`Panel::begin`] does, adds it at the end of the queue with `item`, and returns
+    /// its handle. The item comes back when the command is finished. `request` has the object, the method, ParamCount
+    /// and the encoded parameters (AES70-3). If the link becomes lost in this call, the handle is returned and the
+    /// command is not sent.
     ///
     /// Refusals, the first that applies, which change neither the queue nor the panel and send nothing:
     /// - `SpanFull` if the queue has 32 commands.

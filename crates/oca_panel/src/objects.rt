@@ -23,8 +23,8 @@ impl<E: End> Panel<E> {
     ghost use Rattle.oca_panel.specs.Outcomes.{text_answered, truth_answered};
     ghost use Rattle.oca_panel.specs.Objects.{AsksClass, Finishes, GetsValue, Reads, ReadsBy, ReadsObject, SetsValue};
 
-    /// Asks the device for the class of an object, by GetClassIdentification of OcaRoot (AES70-2). The command changes
-    /// no object. The call waits for the answer for at most the panel's `wait` milliseconds.
+    /// Asks the device for the class of the object `ono`, by GetClassIdentification of OcaRoot (AES70-2). The command
+    /// changes no object. The call waits for the answer for at most the panel's `wait` milliseconds.
     ///
     /// Faults ([`Trouble`]):
     /// - `NotSubmitted` with the reason if the link refuses the command ([`begin`](Panel::begin)): nothing is sent.
@@ -42,9 +42,9 @@ impl<E: End> Panel<E> {
         class_in(&outcome)
     }
 
-    /// Asks the device for the fields of an object's class identifier, by GetClassIdentification of OcaRoot (AES70-2).
-    /// Returns at most 16 fields, also for a class that is not in this profile. The command changes no object. The call
-    /// waits for the answer for at most the panel's `wait` milliseconds.
+    /// Asks the device for the fields of the class identifier of the object `ono`, by GetClassIdentification of OcaRoot
+    /// (AES70-2). Returns at most 16 fields, also for a class that is not in this profile. The command changes no
+    /// object. The call waits for the answer for at most the panel's `wait` milliseconds.
     ///
     /// Faults ([`Trouble`]):
     /// - `NotSubmitted` with the reason if the link refuses the command ([`begin`](Panel::begin)): nothing is sent.
@@ -62,8 +62,8 @@ impl<E: End> Panel<E> {
         fields_in(&outcome)
     }
 
-    /// Reads the value of an object: asks the device for the object's class, and then for its value by the get method
-    /// of the class (AES70-2). The two commands change no object. The call waits for each answer for at most the
+    /// Reads the value of the object `ono`: asks the device for the object's class, and then for its value by the get
+    /// method of the class (AES70-2). The two commands change no object. The call waits for each answer for at most the
     /// panel's `wait` milliseconds.
     ///
     /// Faults ([`Trouble`]); after a fault of the first command the second is not sent:
@@ -83,9 +83,10 @@ impl<E: End> Panel<E> {
         }
     }
 
-    /// Reads the value of an object with its limits: asks the device for the object's class, and then for its value by
-    /// the get method of the class (AES70-2). A switch and an integer have the least and the greatest value too. The
-    /// two commands change no object. The call waits for each answer for at most the panel's `wait` milliseconds.
+    /// Reads the value of the object `ono` with its limits: asks the device for the object's class, and then for its
+    /// value by the get method of the class (AES70-2). A switch and an integer have the least and the greatest value
+    /// too. The two commands change no object. The call waits for each answer for at most the panel's `wait`
+    /// milliseconds.
     ///
     /// Faults ([`Trouble`]); after a fault of the first command the second is not sent:
     /// - `NotSubmitted` with the reason if the link refuses a command ([`begin`](Panel::begin)): that command is not
@@ -104,9 +105,9 @@ impl<E: End> Panel<E> {
         }
     }
 
-    /// Reads the value of an object of the class `class` with its limits, by the get method of the class (AES70-2). A
-    /// switch and an integer have the least and the greatest value too. The object's class is not asked. The command
-    /// changes no object. The call waits for the answer for at most the panel's `wait` milliseconds.
+    /// Reads the value of the object `ono` of the class `class` with its limits, by the get method of the class
+    /// (AES70-2). A switch and an integer have the least and the greatest value too. The object's class is not asked.
+    /// The command changes no object. The call waits for the answer for at most the panel's `wait` milliseconds.
     ///
     /// Faults ([`Trouble`]):
     /// - `NoValue` if `class` is a block: nothing is sent.
@@ -127,9 +128,9 @@ impl<E: End> Panel<E> {
         }
     }
 
-    /// Sets an object to a value, by the set method of the value's class (AES70-2), and waits for the answer for at
-    /// most the panel's `wait` milliseconds. The object must be of this class. If not, the device refuses the command,
-    /// or takes the value as one of the object's own class.
+    /// Sets the object `ono` to the value `value`, by the set method of the value's class (AES70-2), and waits for the
+    /// answer for at most the panel's `wait` milliseconds. The object must be of this class. If not, the device refuses
+    /// the command, or takes the value as one of the object's own class.
     ///
     /// Faults ([`Trouble`]):
     /// - `NotSubmitted` with the reason if the link refuses the command ([`begin`](Panel::begin)): nothing is sent.
@@ -162,9 +163,9 @@ impl<E: End> Panel<E> {
         done_in(&outcome)
     }
 
-    /// Locks an object, by LockTotal of OcaRoot (AES70-2): other controllers can then neither read nor set the object.
-    /// Waits for the answer for at most the panel's `wait` milliseconds. A device of this profile releases the lock
-    /// once it hears nothing from this panel for more than 15,000 ms.
+    /// Locks the object `ono`, by LockTotal of OcaRoot (AES70-2): other controllers can then neither read nor set the
+    /// object. Waits for the answer for at most the panel's `wait` milliseconds. A device of this profile releases the
+    /// lock once it hears nothing from this panel for more than 15,000 ms.
     ///
     /// Faults ([`Trouble`]):
     /// - `NotSubmitted` with the reason if the link refuses the command ([`begin`](Panel::begin)): nothing is sent.
@@ -180,8 +181,8 @@ impl<E: End> Panel<E> {
         done_in(&outcome)
     }
 
-    /// Releases this panel's lock of an object, by Unlock of OcaRoot (AES70-2), and waits for the answer for at most
-    /// the panel's `wait` milliseconds.
+    /// Releases this panel's lock of the object `ono`, by Unlock of OcaRoot (AES70-2), and waits for the answer for at
+    /// most the panel's `wait` milliseconds.
     ///
     /// Faults ([`Trouble`]):
     /// - `NotSubmitted` with the reason if the link refuses the command ([`begin`](Panel::begin)): nothing is sent.
@@ -197,8 +198,8 @@ impl<E: End> Panel<E> {
         done_in(&outcome)
     }
 
-    /// Asks the device for the label of an object, by GetLabel of OcaWorker (AES70-2). Returns a text of 0 to 64 bytes
-    /// of UTF-8. The command changes no object. The call waits for the answer for at most the panel's `wait`
+    /// Asks the device for the label of the object `ono`, by GetLabel of OcaWorker (AES70-2). Returns a text of 0 to 64
+    /// bytes of UTF-8. The command changes no object. The call waits for the answer for at most the panel's `wait`
     /// milliseconds.
     ///
     /// Faults ([`Trouble`]):
@@ -215,8 +216,8 @@ impl<E: End> Panel<E> {
         text_in(&outcome)
     }
 
-    /// Gives an object a label, by SetLabel of OcaWorker (AES70-2), and waits for the answer for at most the panel's
-    /// `wait` milliseconds. The label has 0 to 64 bytes: a longer one is no [`Text`].
+    /// Gives the object `ono` the label `label`, by SetLabel of OcaWorker (AES70-2), and waits for the answer for at
+    /// most the panel's `wait` milliseconds. The label has 0 to 64 bytes: a longer one is no [`Text`].
     ///
     /// Faults ([`Trouble`]):
     /// - `NotSubmitted` with the reason if the link refuses the command ([`begin`](Panel::begin)): nothing is sent.
@@ -233,8 +234,9 @@ impl<E: End> Panel<E> {
         done_in(&outcome)
     }
 
-    /// Asks the device for the role of an object, by GetRole of OcaRoot (AES70-2). Returns a text of 0 to 64 bytes of
-    /// UTF-8. The command changes no object. The call waits for the answer for at most the panel's `wait` milliseconds.
+    /// Asks the device for the role of the object `ono`, by GetRole of OcaRoot (AES70-2). Returns a text of 0 to 64
+    /// bytes of UTF-8. The command changes no object. The call waits for the answer for at most the panel's `wait`
+    /// milliseconds.
     ///
     /// Faults ([`Trouble`]):
     /// - `NotSubmitted` with the reason if the link refuses the command ([`begin`](Panel::begin)): nothing is sent.
@@ -250,8 +252,8 @@ impl<E: End> Panel<E> {
         text_in(&outcome)
     }
 
-    /// Asks the device whether an object is enabled, by GetEnabled of OcaWorker (AES70-2). The command changes no
-    /// object. The call waits for the answer for at most the panel's `wait` milliseconds.
+    /// Asks the device whether the object `ono` is enabled, by GetEnabled of OcaWorker (AES70-2). The command changes
+    /// no object. The call waits for the answer for at most the panel's `wait` milliseconds.
     ///
     /// Faults ([`Trouble`]):
     /// - `NotSubmitted` with the reason if the link refuses the command ([`begin`](Panel::begin)): nothing is sent.
@@ -267,9 +269,9 @@ impl<E: End> Panel<E> {
         truth_in(&outcome)
     }
 
-    /// Asks the device for the numbers of a block's members, by GetMembers of OcaBlock (AES70-2). Returns 0 to 181
-    /// numbers, in the order of the answer. The command changes no object. The call waits for the answer for at most
-    /// the panel's `wait` milliseconds.
+    /// Asks the device for the numbers of the members of the block `ono`, by GetMembers of OcaBlock (AES70-2). Returns
+    /// 0 to 181 numbers, in the order of the answer. The command changes no object. The call waits for the answer for
+    /// at most the panel's `wait` milliseconds.
     ///
     /// Faults ([`Trouble`]):
     /// - `NotSubmitted` with the reason if the link refuses the command ([`begin`](Panel::begin)): nothing is sent.
@@ -287,9 +289,9 @@ impl<E: End> Panel<E> {
         members_in(&outcome)
     }
 
-    /// Asks the device for the name of a switch's position, by GetPositionName of OcaSwitch (AES70-2). Returns a text
-    /// of 0 to 64 bytes of UTF-8. `position` is counted from 0. The command changes no object. The call waits for the
-    /// answer for at most the panel's `wait` milliseconds.
+    /// Asks the device for the name of a position of the switch `ono`, by GetPositionName of OcaSwitch (AES70-2).
+    /// Returns a text of 0 to 64 bytes of UTF-8. `position` is counted from 0. The command changes no object. The call
+    /// waits for the answer for at most the panel's `wait` milliseconds.
     ///
     /// Faults ([`Trouble`]):
     /// - `NotSubmitted` with the reason if the link refuses the command ([`begin`](Panel::begin)): nothing is sent.
@@ -306,9 +308,9 @@ impl<E: End> Panel<E> {
         text_in(&outcome)
     }
 
-    /// Asks the device for the names of a switch's positions, by GetPositionNames of OcaSwitch (AES70-2). Returns at
-    /// most 16 names of 0 to 64 bytes of UTF-8 each, in the order of the positions. The command changes no object. The
-    /// call waits for the answer for at most the panel's `wait` milliseconds.
+    /// Asks the device for the names of the positions of the switch `ono`, by GetPositionNames of OcaSwitch (AES70-2).
+    /// Returns at most 16 names of 0 to 64 bytes of UTF-8 each, in the order of the positions. The command changes no
+    /// object. The call waits for the answer for at most the panel's `wait` milliseconds.
     ///
     /// Faults ([`Trouble`]):
     /// - `NotSubmitted` with the reason if the link refuses the command ([`begin`](Panel::begin)): nothing is sent.

@@ -33,7 +33,8 @@ fn parameters_in(outcome: &Outcome) -> Result<&[u8], Trouble>
     }
 }
 
-/// Returns Ok if a command was answered with the status OK (AES70-2), whatever its parameters are. Nothing is changed.
+/// Returns Ok if `outcome` says that a command was answered with the status OK (AES70-2), whatever its parameters are.
+/// Nothing is changed.
 ///
 /// Faults: `Refused` with the status, 1 to 255, if the status of the answer is not OK. `NotSubmitted` with the reason
 /// if the link refused the command. `Lost` or `Unanswered` if that is the outcome: then the device may have carried out

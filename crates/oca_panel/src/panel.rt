@@ -223,6 +223,7 @@ impl<E: End> Panel<E> {
     }
 
     /// Submits one command, sends it at once, and waits for its answer for at most the panel's `wait` milliseconds.
+    /// `request` has the object, the method, ParamCount and the encoded parameters, which are not checked (AES70-3).
     ///
     /// - `Answered` with the answer, whatever its status. The command is then removed from the link.
     /// - `Refused` with the reason if the link refuses the command, in the cases of [`begin`](Panel::begin). Nothing is
@@ -243,7 +244,8 @@ impl<E: End> Panel<E> {
     }
 
     /// Submits a command, sends it at once, and returns its handle, for [`finish`](Panel::finish) or
-    /// [`InFlight::push`](crate::InFlight::push). What else is due is sent too, older commands first. If the link
+    /// [`InFlight::push`](crate::InFlight::push). `request` has the object, the method, ParamCount and the encoded
+    /// parameters, which are not checked (AES70-3). What else is due is sent too, older commands first. If the link
     /// becomes lost in this call, the handle is returned and the command is not sent. A send that fails is not
     /// reported: the link sends the command again after 250 ms.
     ///
