@@ -183,7 +183,7 @@ static inline struct oca_value oca_polarity(bool inverted) { return oca_value_of
  * position is checked when the switch is set. */
 static inline struct oca_value oca_position(uint16_t position) { return oca_value_of(OCA_CLASS_SWITCH, position); }
 
-/* Returns the value of an OcaBooleanActuator (AES70-2): `setting`. */
+/* Returns the value of an OcaBooleanActuator (AES70-2): `setting`, true or false. */
 static inline struct oca_value oca_boolean(bool setting) { return oca_value_of(OCA_CLASS_BOOLEAN, setting ? 1 : 0); }
 
 /* Returns the value of an OcaInt8Actuator (AES70-2) with the number `setting`: -128 to 127. The limits of an object are
@@ -972,9 +972,9 @@ static inline void oca_link_close_any(struct oca_link *link) {
 enum oca_result oca_link_submit(struct oca_link *link, uint32_t target, uint16_t level, uint16_t index, uint8_t count, const uint8_t *params, size_t params_len, uint64_t now, uint32_t *handle) OCA_CHECKED;
 
 /* Submits the request `request`, which sets or reads a value, at the moment `now` in milliseconds, and writes the
- * handle of the command to `handle`. `target` is the number of the object. oca_set_request or oca_get_request makes it.
- * The call sends nothing: call oca_link_due then. Returns OCA_DONE. Otherwise the first of these that applies, and then
- * nothing is changed, written or sent. OCA_CLOSED if the link is closed. OCA_LOST if the link is lost.
+ * handle of the command to `handle`. `target` is the number of the object. oca_set_request or oca_get_request makes the
+ * request. The call sends nothing: call oca_link_due then. Returns OCA_DONE. Otherwise the first of these that applies,
+ * and then nothing is changed, written or sent. OCA_CLOSED if the link is closed. OCA_LOST if the link is lost.
  * OCA_HANDLES_SPENT if a command has the handle 4294967295 already. OCA_SPAN_FULL if the next handle is not below the
  * lowest handle whose answer was not taken yet, plus the span. OCA_TOO_LONG if the parameters have more than 1,445
  * bytes. */

@@ -65,7 +65,8 @@ pub fn law_of_sending()
     ensures in_time { EveryCommandIsSentInTime }
 {}
 
-/// Law: a link that runs over an end is asked what is due in time, which is the premise of [`law_of_sending`].
+/// Law: a link that runs over an end is asked often enough what is due, which is the premise of [`law_of_sending`].
+/// Asked means that [`due`](crate::Link::due) is called.
 ///
 /// A run is what [`drive`](crate::drive), [`turn`](crate::turn), [`begin`](crate::begin), [`ask`](crate::ask) and the
 /// waits do with a link. Its moments are those of what the end delivered, and those at which commands were begun. The

@@ -53,7 +53,7 @@ impl Outbox {
         self.packets().len()
     }
 
-    /// Whether the outbox has no packet: the last datagram is not answered. `true` for a new outbox, and after
+    /// Whether the outbox has no packet, so that the last datagram gets no answer. `true` for a new outbox, and after
     /// [`clear`](Outbox::clear).
     pub fn is_empty(&self) -> bool
         ensures { result ≡ (length self.now == 0) }
