@@ -62,8 +62,8 @@ pub fn run_pair(
 /// device is at 127.0.0.1:65000, has the objects of `tree`, and has the sizes `sizes`: 1 to 64 commands and 1 to 64
 /// peers. There is a link with the span `span` (1 to 32) for each of `starts`, made at moment 0.
 ///
-/// The steps run in order, and each has its own moment in milliseconds. Datagrams go from list to list: nothing is sent
-/// over a network. The call takes memory for the run.
+/// The steps run in order. [`Step`] says which steps have a moment, in milliseconds. Datagrams go from list to list:
+/// nothing is sent over a network. The call takes memory for the run.
 ///
 /// Refusals, after which nothing of the run is returned. `SamePeer`, checked first, if two starts have the same peer,
 /// or one has the device's. `BadStep` with the number, from 0, of the first step that names a link or a datagram that
