@@ -11,12 +11,15 @@ use oca_calls::name::Name;
 use oca_tree::{Kind, MuteState, PolarityState};
 use std::alloc::Global;
 
-/// Adds an OcaBlock with the number `ono` to the block `container`, before the start. `role` is its role, and
-/// `lockable` says whether it can be locked. Returns the number of an answer: `Done`; otherwise the first of these that
-/// applies, and nothing is changed. `Closed` if the struct is closed, `Started` after the start, `BadText` if the role
-/// is not UTF-8. Then `Full` if there is no room for another object, `Reserved` if the number is below 4,096, `Taken`
-/// if an object has the number. Then `NoSuchBlock` if the container is no block of the tree, `TooDeep` if the object
-/// would stand at depth 9 (block 100 is at depth 1). Then `BadText` if the role is empty or has more than 64 bytes.
+/// Adds an OcaBlock (AES70-2) to the tree, before the start. `container` is the number of the block that contains the
+/// object (the number of the root is 100), `ono` is the object's own number, and `role` is its role, 1 to 64 bytes of
+/// UTF-8. `lockable` says whether the object can be locked.
+///
+/// Returns the number of an answer: `Done`. Otherwise the first of these that applies, and then nothing is changed.
+/// `Closed` if the device is closed. `Started` after its start. `BadText` if the role is not UTF-8. `Full` if there is
+/// no room for another object. `Reserved` if `ono` is below 4,096. `Taken` if an object has that number. `NoSuchBlock`
+/// if no block has the number `container`. `TooDeep` if the object would be at depth 9 (the root is at depth 1).
+/// `BadText` if the role is empty or has more than 64 bytes.
 #[unsafe(no_mangle)]
 pub extern "C" fn oca_device_add_block(
     alloc: Global,
@@ -34,13 +37,15 @@ pub extern "C" fn oca_device_add_block(
     add(alloc, handle, container, ono, role, lockable, Kind::Block)
 }
 
-/// Adds an OcaMute with the number `ono` to the block `container`, before the start. `role` is its role, and `lockable`
-/// says whether it can be locked. `muted` is its first state. Returns the number of an answer: `Done`; otherwise the
-/// first of these that applies, and nothing is changed. `Closed` if the struct is closed, `Started` after the start,
-/// `BadText` if the role is not UTF-8. Then `Full` if there is no room for another object, `Reserved` if the number is
-/// below 4,096, `Taken` if an object has the number. Then `NoSuchBlock` if the container is no block of the tree,
-/// `TooDeep` if the object would stand at depth 9 (block 100 is at depth 1). Then `BadText` if the role is empty or has
-/// more than 64 bytes.
+/// Adds an OcaMute (AES70-2) to the tree, before the start. `container` is the number of the block that contains the
+/// object (the number of the root is 100), `ono` is the object's own number, and `role` is its role, 1 to 64 bytes of
+/// UTF-8. `lockable` says whether the object can be locked. `muted` is its first state.
+///
+/// Returns the number of an answer: `Done`. Otherwise the first of these that applies, and then nothing is changed.
+/// `Closed` if the device is closed. `Started` after its start. `BadText` if the role is not UTF-8. `Full` if there is
+/// no room for another object. `Reserved` if `ono` is below 4,096. `Taken` if an object has that number. `NoSuchBlock`
+/// if no block has the number `container`. `TooDeep` if the object would be at depth 9 (the root is at depth 1).
+/// `BadText` if the role is empty or has more than 64 bytes.
 #[unsafe(no_mangle)]
 pub extern "C" fn oca_device_add_mute(
     alloc: Global,
@@ -72,13 +77,15 @@ pub extern "C" fn oca_device_add_mute(
     )
 }
 
-/// Adds an OcaPolarity with the number `ono` to the block `container`, before the start. `role` is its role, and
-/// `lockable` says whether it can be locked. `inverted` is its first state. Returns the number of an answer: `Done`;
-/// otherwise the first of these that applies, and nothing is changed. `Closed` if the struct is closed, `Started` after
-/// the start, `BadText` if the role is not UTF-8. Then `Full` if there is no room for another object, `Reserved` if the
-/// number is below 4,096, `Taken` if an object has the number. Then `NoSuchBlock` if the container is no block of the
-/// tree, `TooDeep` if the object would stand at depth 9 (block 100 is at depth 1). Then `BadText` if the role is empty
-/// or has more than 64 bytes.
+/// Adds an OcaPolarity (AES70-2) to the tree, before the start. `container` is the number of the block that contains
+/// the object (the number of the root is 100), `ono` is the object's own number, and `role` is its role, 1 to 64 bytes
+/// of UTF-8. `lockable` says whether the object can be locked. `inverted` is its first state.
+///
+/// Returns the number of an answer: `Done`. Otherwise the first of these that applies, and then nothing is changed.
+/// `Closed` if the device is closed. `Started` after its start. `BadText` if the role is not UTF-8. `Full` if there is
+/// no room for another object. `Reserved` if `ono` is below 4,096. `Taken` if an object has that number. `NoSuchBlock`
+/// if no block has the number `container`. `TooDeep` if the object would be at depth 9 (the root is at depth 1).
+/// `BadText` if the role is empty or has more than 64 bytes.
 #[unsafe(no_mangle)]
 pub extern "C" fn oca_device_add_polarity(
     alloc: Global,
@@ -111,15 +118,17 @@ pub extern "C" fn oca_device_add_polarity(
     )
 }
 
-/// Adds an OcaSwitch with the number `ono` to the block `container`, before the start. `role` is its role, and
-/// `lockable` says whether it can be locked. The switch has 1 to 16 positions with these names, all of them enabled.
-/// `position` is the one at which it stands first, counted from 0. Returns the number of an answer: `Done`; otherwise
-/// the first of these that applies, and nothing is changed. `Closed` if the struct is closed, `Started` after the
-/// start, `BadRange` if there are more than 16 names. `BadText` if a name has more than 64 bytes, or the role or a name
-/// is not UTF-8. Then `Full` if there is no room for another object, `Reserved` if the number is below 4,096, `Taken`
-/// if an object has the number. Then `NoSuchBlock` if the container is no block of the tree, `TooDeep` if the object
-/// would stand at depth 9 (block 100 is at depth 1). Then `BadText` if the role is empty or has more than 64 bytes.
-/// Last `BadRange` if there is no name, or none for the position.
+/// Adds an OcaSwitch (AES70-2) with 1 to 16 positions, all of them enabled, to the tree, before the start. `container`
+/// is the number of the block that contains the object (the number of the root is 100), `ono` is the object's own
+/// number, and `role` is its role, 1 to 64 bytes of UTF-8. `lockable` says whether the object can be locked. `names`
+/// are the names of its positions, each of 0 to 64 bytes of UTF-8. `position` is its first position, counted from 0.
+///
+/// Returns the number of an answer: `Done`. Otherwise the first of these that applies, and then nothing is changed.
+/// `Closed` if the device is closed. `Started` after its start. `BadRange` if there are more than 16 names. `BadText`
+/// if a name has more than 64 bytes, or the role or a name is not UTF-8. `Full` if there is no room for another object.
+/// `Reserved` if `ono` is below 4,096. `Taken` if an object has that number. `NoSuchBlock` if no block has the number
+/// `container`. `TooDeep` if the object would be at depth 9 (the root is at depth 1). `BadText` if the role is empty or
+/// has more than 64 bytes. `BadRange` if there is no name, or none for the position.
 #[unsafe(no_mangle)]
 pub extern "C" fn oca_device_add_switch(
     alloc: Global,
@@ -144,13 +153,15 @@ pub extern "C" fn oca_device_add_switch(
     answer.number()
 }
 
-/// Adds an OcaBooleanActuator with the number `ono` to the block `container`, before the start. `role` is its role, and
-/// `lockable` says whether it can be locked. `setting` is its first setting. Returns the number of an answer: `Done`;
-/// otherwise the first of these that applies, and nothing is changed. `Closed` if the struct is closed, `Started` after
-/// the start, `BadText` if the role is not UTF-8. Then `Full` if there is no room for another object, `Reserved` if the
-/// number is below 4,096, `Taken` if an object has the number. Then `NoSuchBlock` if the container is no block of the
-/// tree, `TooDeep` if the object would stand at depth 9 (block 100 is at depth 1). Then `BadText` if the role is empty
-/// or has more than 64 bytes.
+/// Adds an OcaBooleanActuator (AES70-2) to the tree, before the start. `container` is the number of the block that
+/// contains the object (the number of the root is 100), `ono` is the object's own number, and `role` is its role, 1 to
+/// 64 bytes of UTF-8. `lockable` says whether the object can be locked. `setting` is its first setting.
+///
+/// Returns the number of an answer: `Done`. Otherwise the first of these that applies, and then nothing is changed.
+/// `Closed` if the device is closed. `Started` after its start. `BadText` if the role is not UTF-8. `Full` if there is
+/// no room for another object. `Reserved` if `ono` is below 4,096. `Taken` if an object has that number. `NoSuchBlock`
+/// if no block has the number `container`. `TooDeep` if the object would be at depth 9 (the root is at depth 1).
+/// `BadText` if the role is empty or has more than 64 bytes.
 #[unsafe(no_mangle)]
 pub extern "C" fn oca_device_add_boolean(
     alloc: Global,
@@ -177,14 +188,17 @@ pub extern "C" fn oca_device_add_boolean(
     )
 }
 
-/// Adds an OcaInt8Actuator with the number `ono` to the block `container`, before the start. `role` is its role, and
-/// `lockable` says whether it can be locked. The object's first setting lies within `least` to `greatest`, as all later
-/// ones do. Returns the number of an answer: `Done`; otherwise the first of these that applies, and nothing is changed.
-/// `Closed` if the struct is closed, `Started` after the start, `BadText` if the role is not UTF-8. Then `Full` if
-/// there is no room for another object, `Reserved` if the number is below 4,096, `Taken` if an object has the number.
-/// Then `NoSuchBlock` if the container is no block of the tree, `TooDeep` if the object would stand at depth 9 (block
-/// 100 is at depth 1). Then `BadText` if the role is empty or has more than 64 bytes. Last `BadRange` if the setting is
-/// outside its limits.
+/// Adds an OcaInt8Actuator (AES70-2) to the tree, before the start. `container` is the number of the block that
+/// contains the object (the number of the root is 100), `ono` is the object's own number, and `role` is its role, 1 to
+/// 64 bytes of UTF-8. `lockable` says whether the object can be locked. `setting` is its first setting. Its settings
+/// must lie within `least` to `greatest`, now and later.
+///
+/// Returns the number of an answer: `Done`. Otherwise the first of these that applies, and then nothing is changed.
+/// `Closed` if the device is closed. `Started` after its start. `BadText` if the role is not UTF-8. `Full` if there is
+/// no room for another object. `Reserved` if `ono` is below 4,096. `Taken` if an object has that number. `NoSuchBlock`
+/// if no block has the number `container`. `TooDeep` if the object would be at depth 9 (the root is at depth 1).
+/// `BadText` if the role is empty or has more than 64 bytes. `BadRange` if the setting is outside `least` to
+/// `greatest`.
 #[unsafe(no_mangle)]
 pub extern "C" fn oca_device_add_int8(
     alloc: Global,
@@ -210,14 +224,17 @@ pub extern "C" fn oca_device_add_int8(
     add(alloc, handle, container, ono, role, lockable, kind)
 }
 
-/// Adds an OcaInt16Actuator with the number `ono` to the block `container`, before the start. `role` is its role, and
-/// `lockable` says whether it can be locked. The object's first setting lies within `least` to `greatest`, as all later
-/// ones do. Returns the number of an answer: `Done`; otherwise the first of these that applies, and nothing is changed.
-/// `Closed` if the struct is closed, `Started` after the start, `BadText` if the role is not UTF-8. Then `Full` if
-/// there is no room for another object, `Reserved` if the number is below 4,096, `Taken` if an object has the number.
-/// Then `NoSuchBlock` if the container is no block of the tree, `TooDeep` if the object would stand at depth 9 (block
-/// 100 is at depth 1). Then `BadText` if the role is empty or has more than 64 bytes. Last `BadRange` if the setting is
-/// outside its limits.
+/// Adds an OcaInt16Actuator (AES70-2) to the tree, before the start. `container` is the number of the block that
+/// contains the object (the number of the root is 100), `ono` is the object's own number, and `role` is its role, 1 to
+/// 64 bytes of UTF-8. `lockable` says whether the object can be locked. `setting` is its first setting. Its settings
+/// must lie within `least` to `greatest`, now and later.
+///
+/// Returns the number of an answer: `Done`. Otherwise the first of these that applies, and then nothing is changed.
+/// `Closed` if the device is closed. `Started` after its start. `BadText` if the role is not UTF-8. `Full` if there is
+/// no room for another object. `Reserved` if `ono` is below 4,096. `Taken` if an object has that number. `NoSuchBlock`
+/// if no block has the number `container`. `TooDeep` if the object would be at depth 9 (the root is at depth 1).
+/// `BadText` if the role is empty or has more than 64 bytes. `BadRange` if the setting is outside `least` to
+/// `greatest`.
 #[unsafe(no_mangle)]
 pub extern "C" fn oca_device_add_int16(
     alloc: Global,
@@ -243,14 +260,17 @@ pub extern "C" fn oca_device_add_int16(
     add(alloc, handle, container, ono, role, lockable, kind)
 }
 
-/// Adds an OcaInt32Actuator with the number `ono` to the block `container`, before the start. `role` is its role, and
-/// `lockable` says whether it can be locked. The object's first setting lies within `least` to `greatest`, as all later
-/// ones do. Returns the number of an answer: `Done`; otherwise the first of these that applies, and nothing is changed.
-/// `Closed` if the struct is closed, `Started` after the start, `BadText` if the role is not UTF-8. Then `Full` if
-/// there is no room for another object, `Reserved` if the number is below 4,096, `Taken` if an object has the number.
-/// Then `NoSuchBlock` if the container is no block of the tree, `TooDeep` if the object would stand at depth 9 (block
-/// 100 is at depth 1). Then `BadText` if the role is empty or has more than 64 bytes. Last `BadRange` if the setting is
-/// outside its limits.
+/// Adds an OcaInt32Actuator (AES70-2) to the tree, before the start. `container` is the number of the block that
+/// contains the object (the number of the root is 100), `ono` is the object's own number, and `role` is its role, 1 to
+/// 64 bytes of UTF-8. `lockable` says whether the object can be locked. `setting` is its first setting. Its settings
+/// must lie within `least` to `greatest`, now and later.
+///
+/// Returns the number of an answer: `Done`. Otherwise the first of these that applies, and then nothing is changed.
+/// `Closed` if the device is closed. `Started` after its start. `BadText` if the role is not UTF-8. `Full` if there is
+/// no room for another object. `Reserved` if `ono` is below 4,096. `Taken` if an object has that number. `NoSuchBlock`
+/// if no block has the number `container`. `TooDeep` if the object would be at depth 9 (the root is at depth 1).
+/// `BadText` if the role is empty or has more than 64 bytes. `BadRange` if the setting is outside `least` to
+/// `greatest`.
 #[unsafe(no_mangle)]
 pub extern "C" fn oca_device_add_int32(
     alloc: Global,
@@ -276,14 +296,17 @@ pub extern "C" fn oca_device_add_int32(
     add(alloc, handle, container, ono, role, lockable, kind)
 }
 
-/// Adds an OcaInt64Actuator with the number `ono` to the block `container`, before the start. `role` is its role, and
-/// `lockable` says whether it can be locked. The object's first setting lies within `least` to `greatest`, as all later
-/// ones do. Returns the number of an answer: `Done`; otherwise the first of these that applies, and nothing is changed.
-/// `Closed` if the struct is closed, `Started` after the start, `BadText` if the role is not UTF-8. Then `Full` if
-/// there is no room for another object, `Reserved` if the number is below 4,096, `Taken` if an object has the number.
-/// Then `NoSuchBlock` if the container is no block of the tree, `TooDeep` if the object would stand at depth 9 (block
-/// 100 is at depth 1). Then `BadText` if the role is empty or has more than 64 bytes. Last `BadRange` if the setting is
-/// outside its limits.
+/// Adds an OcaInt64Actuator (AES70-2) to the tree, before the start. `container` is the number of the block that
+/// contains the object (the number of the root is 100), `ono` is the object's own number, and `role` is its role, 1 to
+/// 64 bytes of UTF-8. `lockable` says whether the object can be locked. `setting` is its first setting. Its settings
+/// must lie within `least` to `greatest`, now and later.
+///
+/// Returns the number of an answer: `Done`. Otherwise the first of these that applies, and then nothing is changed.
+/// `Closed` if the device is closed. `Started` after its start. `BadText` if the role is not UTF-8. `Full` if there is
+/// no room for another object. `Reserved` if `ono` is below 4,096. `Taken` if an object has that number. `NoSuchBlock`
+/// if no block has the number `container`. `TooDeep` if the object would be at depth 9 (the root is at depth 1).
+/// `BadText` if the role is empty or has more than 64 bytes. `BadRange` if the setting is outside `least` to
+/// `greatest`.
 #[unsafe(no_mangle)]
 pub extern "C" fn oca_device_add_int64(
     alloc: Global,
@@ -309,14 +332,17 @@ pub extern "C" fn oca_device_add_int64(
     add(alloc, handle, container, ono, role, lockable, kind)
 }
 
-/// Adds an OcaUint8Actuator with the number `ono` to the block `container`, before the start. `role` is its role, and
-/// `lockable` says whether it can be locked. The object's first setting lies within `least` to `greatest`, as all later
-/// ones do. Returns the number of an answer: `Done`; otherwise the first of these that applies, and nothing is changed.
-/// `Closed` if the struct is closed, `Started` after the start, `BadText` if the role is not UTF-8. Then `Full` if
-/// there is no room for another object, `Reserved` if the number is below 4,096, `Taken` if an object has the number.
-/// Then `NoSuchBlock` if the container is no block of the tree, `TooDeep` if the object would stand at depth 9 (block
-/// 100 is at depth 1). Then `BadText` if the role is empty or has more than 64 bytes. Last `BadRange` if the setting is
-/// outside its limits.
+/// Adds an OcaUint8Actuator (AES70-2) to the tree, before the start. `container` is the number of the block that
+/// contains the object (the number of the root is 100), `ono` is the object's own number, and `role` is its role, 1 to
+/// 64 bytes of UTF-8. `lockable` says whether the object can be locked. `setting` is its first setting. Its settings
+/// must lie within `least` to `greatest`, now and later.
+///
+/// Returns the number of an answer: `Done`. Otherwise the first of these that applies, and then nothing is changed.
+/// `Closed` if the device is closed. `Started` after its start. `BadText` if the role is not UTF-8. `Full` if there is
+/// no room for another object. `Reserved` if `ono` is below 4,096. `Taken` if an object has that number. `NoSuchBlock`
+/// if no block has the number `container`. `TooDeep` if the object would be at depth 9 (the root is at depth 1).
+/// `BadText` if the role is empty or has more than 64 bytes. `BadRange` if the setting is outside `least` to
+/// `greatest`.
 #[unsafe(no_mangle)]
 pub extern "C" fn oca_device_add_uint8(
     alloc: Global,
@@ -342,14 +368,17 @@ pub extern "C" fn oca_device_add_uint8(
     add(alloc, handle, container, ono, role, lockable, kind)
 }
 
-/// Adds an OcaUint16Actuator with the number `ono` to the block `container`, before the start. `role` is its role, and
-/// `lockable` says whether it can be locked. The object's first setting lies within `least` to `greatest`, as all later
-/// ones do. Returns the number of an answer: `Done`; otherwise the first of these that applies, and nothing is changed.
-/// `Closed` if the struct is closed, `Started` after the start, `BadText` if the role is not UTF-8. Then `Full` if
-/// there is no room for another object, `Reserved` if the number is below 4,096, `Taken` if an object has the number.
-/// Then `NoSuchBlock` if the container is no block of the tree, `TooDeep` if the object would stand at depth 9 (block
-/// 100 is at depth 1). Then `BadText` if the role is empty or has more than 64 bytes. Last `BadRange` if the setting is
-/// outside its limits.
+/// Adds an OcaUint16Actuator (AES70-2) to the tree, before the start. `container` is the number of the block that
+/// contains the object (the number of the root is 100), `ono` is the object's own number, and `role` is its role, 1 to
+/// 64 bytes of UTF-8. `lockable` says whether the object can be locked. `setting` is its first setting. Its settings
+/// must lie within `least` to `greatest`, now and later.
+///
+/// Returns the number of an answer: `Done`. Otherwise the first of these that applies, and then nothing is changed.
+/// `Closed` if the device is closed. `Started` after its start. `BadText` if the role is not UTF-8. `Full` if there is
+/// no room for another object. `Reserved` if `ono` is below 4,096. `Taken` if an object has that number. `NoSuchBlock`
+/// if no block has the number `container`. `TooDeep` if the object would be at depth 9 (the root is at depth 1).
+/// `BadText` if the role is empty or has more than 64 bytes. `BadRange` if the setting is outside `least` to
+/// `greatest`.
 #[unsafe(no_mangle)]
 pub extern "C" fn oca_device_add_uint16(
     alloc: Global,
@@ -376,14 +405,17 @@ pub extern "C" fn oca_device_add_uint16(
     add(alloc, handle, container, ono, role, lockable, kind)
 }
 
-/// Adds an OcaUint32Actuator with the number `ono` to the block `container`, before the start. `role` is its role, and
-/// `lockable` says whether it can be locked. The object's first setting lies within `least` to `greatest`, as all later
-/// ones do. Returns the number of an answer: `Done`; otherwise the first of these that applies, and nothing is changed.
-/// `Closed` if the struct is closed, `Started` after the start, `BadText` if the role is not UTF-8. Then `Full` if
-/// there is no room for another object, `Reserved` if the number is below 4,096, `Taken` if an object has the number.
-/// Then `NoSuchBlock` if the container is no block of the tree, `TooDeep` if the object would stand at depth 9 (block
-/// 100 is at depth 1). Then `BadText` if the role is empty or has more than 64 bytes. Last `BadRange` if the setting is
-/// outside its limits.
+/// Adds an OcaUint32Actuator (AES70-2) to the tree, before the start. `container` is the number of the block that
+/// contains the object (the number of the root is 100), `ono` is the object's own number, and `role` is its role, 1 to
+/// 64 bytes of UTF-8. `lockable` says whether the object can be locked. `setting` is its first setting. Its settings
+/// must lie within `least` to `greatest`, now and later.
+///
+/// Returns the number of an answer: `Done`. Otherwise the first of these that applies, and then nothing is changed.
+/// `Closed` if the device is closed. `Started` after its start. `BadText` if the role is not UTF-8. `Full` if there is
+/// no room for another object. `Reserved` if `ono` is below 4,096. `Taken` if an object has that number. `NoSuchBlock`
+/// if no block has the number `container`. `TooDeep` if the object would be at depth 9 (the root is at depth 1).
+/// `BadText` if the role is empty or has more than 64 bytes. `BadRange` if the setting is outside `least` to
+/// `greatest`.
 #[unsafe(no_mangle)]
 pub extern "C" fn oca_device_add_uint32(
     alloc: Global,
@@ -410,14 +442,17 @@ pub extern "C" fn oca_device_add_uint32(
     add(alloc, handle, container, ono, role, lockable, kind)
 }
 
-/// Adds an OcaUint64Actuator with the number `ono` to the block `container`, before the start. `role` is its role, and
-/// `lockable` says whether it can be locked. The object's first setting lies within `least` to `greatest`, as all later
-/// ones do. Returns the number of an answer: `Done`; otherwise the first of these that applies, and nothing is changed.
-/// `Closed` if the struct is closed, `Started` after the start, `BadText` if the role is not UTF-8. Then `Full` if
-/// there is no room for another object, `Reserved` if the number is below 4,096, `Taken` if an object has the number.
-/// Then `NoSuchBlock` if the container is no block of the tree, `TooDeep` if the object would stand at depth 9 (block
-/// 100 is at depth 1). Then `BadText` if the role is empty or has more than 64 bytes. Last `BadRange` if the setting is
-/// outside its limits.
+/// Adds an OcaUint64Actuator (AES70-2) to the tree, before the start. `container` is the number of the block that
+/// contains the object (the number of the root is 100), `ono` is the object's own number, and `role` is its role, 1 to
+/// 64 bytes of UTF-8. `lockable` says whether the object can be locked. `setting` is its first setting. Its settings
+/// must lie within `least` to `greatest`, now and later.
+///
+/// Returns the number of an answer: `Done`. Otherwise the first of these that applies, and then nothing is changed.
+/// `Closed` if the device is closed. `Started` after its start. `BadText` if the role is not UTF-8. `Full` if there is
+/// no room for another object. `Reserved` if `ono` is below 4,096. `Taken` if an object has that number. `NoSuchBlock`
+/// if no block has the number `container`. `TooDeep` if the object would be at depth 9 (the root is at depth 1).
+/// `BadText` if the role is empty or has more than 64 bytes. `BadRange` if the setting is outside `least` to
+/// `greatest`.
 #[unsafe(no_mangle)]
 pub extern "C" fn oca_device_add_uint64(
     alloc: Global,

@@ -14,9 +14,11 @@ use oca_calls::words::put_bytes;
 use oca_model::{read_class_fields, read_members, read_names, read_text};
 use oca_types::{Params, Text, put_text};
 
-/// Reads `params`, the parameters of an answer to GetRole, GetLabel or GetPositionName (AES70-2), and writes the text
-/// that they are into `text`. Returns the number of `Done`. The number of `NoValue` if `params` is not exactly one text
-/// of at most 64 bytes: then `text` is unchanged.
+/// Reads the text from the answer to GetRole, GetLabel or GetPositionName (AES70-2), and writes it to `text`. `params`
+/// are the parameters of the answer.
+///
+/// Returns the number of an answer: `Done`. `NoValue` if they are not exactly one text of at most 64 bytes of UTF-8:
+/// then nothing is written.
 #[unsafe(no_mangle)]
 pub extern "C" fn oca_text_read(params: &[u8], text: &mut Name) -> u32
     ensures { WritesText (whole (text_at params.now)) text.old text.new result }
@@ -28,9 +30,11 @@ pub extern "C" fn oca_text_read(params: &[u8], text: &mut Name) -> u32
     Answer::Done.number()
 }
 
-/// Reads `params`, the parameters of an answer to GetPositionNames (AES70-2), and writes into `names` the names of the
-/// positions, in order. Returns the number of `Done`. The number of `NoValue` if `params` is not exactly such an
-/// answer, or has more than 16 names or a name of more than 64 bytes: then `names` is unchanged.
+/// Reads the names of a switch's positions from the answer to GetPositionNames of OcaSwitch (AES70-2), and writes them
+/// to `names`, in the order of the positions. `params` are the parameters of the answer.
+///
+/// Returns the number of an answer: `Done`. `NoValue` if they are not exactly such an answer, or have more than 16
+/// names or a name of more than 64 bytes: then nothing is written.
 #[unsafe(no_mangle)]
 pub extern "C" fn oca_names_read(params: &[u8], names: &mut Names) -> u32
     ensures { WritesNames (switch_names_in params.now) names.old names.new result }
@@ -42,9 +46,11 @@ pub extern "C" fn oca_names_read(params: &[u8], names: &mut Names) -> u32
     Answer::Done.number()
 }
 
-/// Reads `params`, the parameters of an answer to GetMembers (AES70-2), and writes into `members` the numbers of the
-/// members, in order: 181 at most, since an answer has room for no more. Returns the number of `Done`. The number of
-/// `NoValue` if `params` is not exactly such an answer: then `members` is unchanged.
+/// Reads the numbers of a block's members from the answer to GetMembers of OcaBlock (AES70-2), and writes them to
+/// `members`, in their order: 0 to 181, since an answer has room for no more. `params` are the parameters of the
+/// answer.
+///
+/// Returns the number of an answer: `Done`. `NoValue` if they are not exactly such an answer: then nothing is written.
 #[unsafe(no_mangle)]
 pub extern "C" fn oca_members_read(params: &[u8], members: &mut Members) -> u32
     ensures { WritesMembers (members_in params.now) members.old members.new result }
@@ -56,10 +62,12 @@ pub extern "C" fn oca_members_read(params: &[u8], members: &mut Members) -> u32
     Answer::Done.number()
 }
 
-/// Reads `params`, the parameters of an answer to GetClassIdentification (AES70-2), and writes into `id` the fields of
-/// the class identifier and the number of the class. The number is 0 if the class is not of this profile. The class's
-/// version is ignored. Returns the number of `Done`. The number of `NoValue` if `params` is not exactly such an answer,
-/// or has more than 16 fields: then `id` is unchanged.
+/// Reads the class from the answer to GetClassIdentification of OcaRoot (AES70-2), and writes it to `id`: its fields,
+/// and its number in `enum oca_class`, 0 for a class that is not of this profile. `params` are the parameters of the
+/// answer; the class's version is ignored.
+///
+/// Returns the number of an answer: `Done`. `NoValue` if `params` is not exactly such an answer, or has more than 16
+/// fields: then `id` is unchanged.
 #[unsafe(no_mangle)]
 pub extern "C" fn oca_class_read(params: &[u8], id: &mut ClassId) -> u32
     ensures { WritesClass (class_id_in params.now) id.old id.new result }
@@ -71,7 +79,8 @@ pub extern "C" fn oca_class_read(params: &[u8], id: &mut ClassId) -> u32
     Answer::Done.number()
 }
 
-/// The number of the class whose identifier has these fields: 1 to 13; 0 if no class of this profile has them.
+/// The number of the class whose identifier (OcaClassID, AES70-2) has these fields: 1 to 13 (`enum oca_class`). 0 if no
+/// class of this profile has them.
 #[unsafe(no_mangle)]
 pub extern "C" fn oca_class_with(fields: &[u16]) -> u32
     ensures { result ≡ number_of_class (class_with fields.now) }
@@ -79,10 +88,11 @@ pub extern "C" fn oca_class_with(fields: &[u16]) -> u32
     number_with(fields)
 }
 
-/// Encodes a text as the one parameter of SetLabel: writes its bytes to the front of `out`, and how many they are, 2 to
-/// 66, into `len`. Returns the number of an answer: `Done`. Otherwise `NoValue` if the text has more than 64 bytes or
-/// is not UTF-8, and then nothing is written. `TooSmall` if `out` has no room for the bytes, and then only `len` is
-/// written.
+/// Encodes `text` as the one parameter of SetLabel of OcaWorker (AES70-2): writes its bytes to the front of `out`, and
+/// their number, 2 to 66, to `len`.
+///
+/// Returns the number of an answer: `Done`. `NoValue` if the text has more than 64 bytes or is not UTF-8: then nothing
+/// is written. `TooSmall` if `out` has fewer bytes than are needed: then only `len` is written.
 #[unsafe(no_mangle)]
 pub extern "C" fn oca_text_put(text: &Name, out: &mut [u8], len: &mut usize) -> u32
     ensures writes { WritesEncoding text.now out.old out.new len.new result }

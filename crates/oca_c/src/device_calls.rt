@@ -24,9 +24,11 @@ use oca_types::Peer;
 use std::alloc::Global;
 
 /// Opens a device that has its root alone (the block 100), with room for `room` objects, the root counted: 1 to 4,096.
-/// The call takes the memory for them. Returns the number of an answer: `Done`; otherwise the first of these that
-/// applies, and nothing is changed. `Open` if the struct is open already. `BadSize` if `room` is outside its range.
-/// `NoMemory` if memory was refused.
+/// The call takes the memory for them.
+///
+/// Returns the number of an answer: `Done`. Otherwise the first of these that applies, and then nothing is changed.
+/// `Open` if the struct is open already. `BadSize` if `room` is outside its range. `NoMemory` if memory was refused:
+/// then none is kept.
 #[unsafe(no_mangle)]
 pub extern "C" fn oca_device_open(alloc: Global, handle: &mut DeviceHandle, room: u16) -> u32
     ensures open { IsSome handle.old.slot.inner → (result ≡ 10) × (handle.new.slot.inner ≡ handle.old.slot.inner) }
@@ -44,7 +46,8 @@ pub extern "C" fn oca_device_open(alloc: Global, handle: &mut DeviceHandle, room
     }
 }
 
-/// Closes a device, and frees its memory. A closed one stays closed.
+/// Closes a device and frees its memory. Its objects and sessions are lost; nothing is sent. A closed device stays
+/// closed. The device can be opened again.
 #[unsafe(no_mangle)]
 pub extern "C" fn oca_device_close(alloc: Global, handle: &mut DeviceHandle)
     ensures { handle.new.slot.inner ≡ None }
@@ -52,11 +55,14 @@ pub extern "C" fn oca_device_close(alloc: Global, handle: &mut DeviceHandle)
     handle.close(alloc);
 }
 
-/// Starts the device, with reply windows of `window` commands (1 to 64) and room for the sessions of `peers` peers (1
-/// to 64). The device has room for 122 packets that answer a datagram, which always suffices. After the start no object
-/// can be added. Returns the number of an answer: `Done`; otherwise the first of these that applies. `Closed` if the
-/// struct is closed, `Started` if the device is started already, `BadSize` if a size is outside its range: then nothing
-/// is changed. `NoMemory` if memory was refused: then the objects are lost, and the struct is closed.
+/// Starts the device: from then on datagrams are handled, and no object can be added. `window` is for how many commands
+/// of one peer the device keeps the replies: 1 to 64; 32 is usual. It must be at least twice the panels' span less one.
+/// `peers` is how many peers can have a session at once: 1 to 64; 16 is usual. The call takes the memory for both, and
+/// for 122 packets that answer a datagram.
+///
+/// Returns the number of an answer: `Done`. Otherwise the first of these that applies. `Closed` if the device is
+/// closed, `Started` if it is started already, `BadSize` if a size is outside its range: then nothing is changed.
+/// `NoMemory` if memory was refused: then the objects are lost and the struct is closed; it can be opened again.
 #[unsafe(no_mangle)]
 pub extern "C" fn oca_device_start(
     alloc: Global,
@@ -72,12 +78,16 @@ pub extern "C" fn oca_device_start(
     oca_device_start_within(alloc, handle, window, peers, MOST_PACKETS)
 }
 
-/// Starts the device, with reply windows of `window` commands (1 to 64) and room for the sessions of `peers` peers (1
-/// to 64). The device has room for `packets` packets that answer a datagram, 1 to 122, of some 1,480 bytes each. After
-/// the start no object can be added. Returns the number of an answer: `Done`; otherwise the first of these that
-/// applies. `Closed` if the struct is closed, `Started` if the device is started already, `BadSize` if a size is
-/// outside its range: then nothing is changed. `NoMemory` if memory was refused: then the objects are lost, and the
-/// struct is closed.
+/// Starts a small device as `oca_device_start` does, but with room for `packets` packets that answer a datagram: 1 to
+/// 122, of some 1,480 bytes each. `window` is for how many commands of one peer the device keeps the replies, and
+/// `peers` is how many peers can have a session at once: both 1 to 64. All commands of a datagram are executed,
+/// whatever the room. Packets for which there is no room are left out, as if the network had lost them: a controller
+/// that sends such a command again gets the retained reply. A datagram never gets more packets than it has commands and
+/// keep-alives.
+///
+/// Returns the number of an answer: `Done`. Otherwise the first of these that applies. `Closed` if the device is
+/// closed, `Started` if it is started already, `BadSize` if a size is outside its range: then nothing is changed.
+/// `NoMemory` if memory was refused: then the objects are lost and the struct is closed; it can be opened again.
 #[unsafe(no_mangle)]
 pub extern "C" fn oca_device_start_within(
     alloc: Global,
@@ -99,16 +109,19 @@ pub extern "C" fn oca_device_start_within(
     answer.number()
 }
 
-/// Handles a datagram that came from the address `ip` (an IPv4 address as a number, the first byte highest) and a port.
-/// `now` is the moment, in milliseconds of the caller's clock; a moment earlier than the latest one so far counts as
-/// that latest one. The answers replace the packets of the last datagram, as many as there is room for.
+/// Handles a datagram that came from the address `ip` and the port `port` at the moment `now`, in milliseconds, and
+/// writes what became of it to `out`. `ip` is an IPv4 address as a number, the first byte highest. The device's clock
+/// moves to `now` first, as `oca_device_tick` does. The answers are then the device's packets, all for the sender,
+/// until the next datagram: `oca_device_packet` has their bytes.
 ///
-/// The words of the verdict go to the front of `out`, as many as it has room for. There are seven. If the datagram was
-/// served, the first is 0. Then come four counts of its commands (executed, duplicates, too old, and those that ask
-/// something else under a known handle) and two zeros. For a malformed datagram the first is 1; after four zeros come
-/// the number of the fault (1 to 9) and its offset in bytes. If there was no room for the sender, the first is 2, and
-/// the others are 0. Returns the number of an answer: `Done`; otherwise `Closed` if the struct is closed, or
-/// `NotStarted` before the start. Then nothing is changed or written.
+/// The words of the verdict go to the front of `out`, as many as it has room for. There are seven (`struct
+/// oca_verdict`). If the datagram was served, the first is 0. Then come four counts of its commands (executed,
+/// duplicates, too old, and those that ask something else under the handle of a retained command) and two zeros. For a
+/// malformed datagram the first is 1; after four zeros come the number of the fault (1 to 9) and its offset in bytes.
+/// If there was no room for a session of the sender, the first is 2, and the others are 0.
+///
+/// Returns the number of an answer: `Done`. `Closed` if the device is closed, and `NotStarted` before its start: then
+/// nothing is changed or written.
 #[unsafe(no_mangle)]
 pub extern "C" fn oca_device_datagram_words(
     alloc: Global,
@@ -142,10 +155,13 @@ pub extern "C" fn oca_device_datagram_words(
     answer.number()
 }
 
-/// Moves the device's clock on to `now`, in milliseconds of the caller's clock. Locks of peers that are silent for more
-/// than three heartbeats are released, and sessions that are silent for more than 120,000 ms are forgotten. A moment
-/// earlier than the latest one so far counts as that latest one. Returns the number of an answer: `Done`; otherwise
-/// `Closed` if the struct is closed, or `NotStarted` before the start. Then nothing is changed.
+/// Moves the device's clock on to `now`, in milliseconds, when no datagram comes: sessions and locks lapse by it. The
+/// lock of a peer is released if the device heard nothing from the peer for more than three of its heartbeats. A
+/// session is forgotten if its peer was silent for more than 120,000 ms. A moment earlier than the latest one so far is
+/// taken as that latest one. Nothing is answered.
+///
+/// Returns the number of an answer: `Done`. `Closed` if the device is closed, and `NotStarted` before its start: then
+/// nothing is changed or written.
 #[unsafe(no_mangle)]
 pub extern "C" fn oca_device_tick(alloc: Global, handle: &mut DeviceHandle, now: u64) -> u32
     ensures closed { RefusesClosed handle.old.slot.inner handle.new.slot.inner result }
@@ -163,10 +179,12 @@ pub extern "C" fn oca_device_tick(alloc: Global, handle: &mut DeviceHandle, now:
     answer.number()
 }
 
-/// Writes into `moment` the earliest moment at which a clock reading changes the objects or the sessions. This moment
-/// is in milliseconds of the caller's clock, and not before the device's present moment. Returns the number of an
-/// answer: `Done`; otherwise `Closed` if the struct is closed, `NotStarted` before the start, or `Nothing` if there is
-/// no such moment within 64 bits. Then nothing is changed or written.
+/// Writes to `moment` the earliest moment, in milliseconds, at which `oca_device_tick` releases a lock or forgets a
+/// session. The moment is not before the device's own. A loop may sleep until then if no datagram comes.
+///
+/// Returns the number of an answer: `Done`. Otherwise the first of these that applies, and then nothing is changed or
+/// written. `Closed` if the device is closed. `NotStarted` before its start. `Nothing` if there is no such moment
+/// within 64 bits, as without sessions.
 #[unsafe(no_mangle)]
 pub extern "C" fn oca_device_next_lapse(
     alloc: Global,
@@ -188,8 +206,10 @@ pub extern "C" fn oca_device_next_lapse(
     answer.number()
 }
 
-/// Writes into `count` how many packets answer the last datagram: 0 to 122, and 0 before the first datagram. Returns
-/// the number of an answer: `Done`; otherwise `Closed` if the struct is closed, or `NotStarted` before the start. Then
+/// Writes to `count` how many packets answer the last datagram: 0 to 122, and 0 before the first datagram. Each is sent
+/// to the sender of the datagram, in order.
+///
+/// Returns the number of an answer: `Done`. `Closed` if the device is closed, and `NotStarted` before its start: then
 /// nothing is changed or written.
 #[unsafe(no_mangle)]
 pub extern "C" fn oca_device_packets(
@@ -212,9 +232,11 @@ pub extern "C" fn oca_device_packets(
     answer.number()
 }
 
-/// Writes into `left_out` whether answers to the last datagram were left out because there was no room for them; false
-/// before the first datagram. Returns the number of an answer: `Done`; otherwise `Closed` if the struct is closed, or
-/// `NotStarted` before the start. Then nothing is changed or written.
+/// Writes to `left_out` whether answers to the last datagram were left out because the device had no room for them
+/// (`oca_device_start_within`). False before the first datagram.
+///
+/// Returns the number of an answer: `Done`. `Closed` if the device is closed, and `NotStarted` before its start: then
+/// nothing is changed or written.
 #[unsafe(no_mangle)]
 pub extern "C" fn oca_device_left_out(
     alloc: Global,
@@ -236,10 +258,12 @@ pub extern "C" fn oca_device_left_out(
     answer.number()
 }
 
-/// Copies a packet, by its index from 0, to the front of `out`, and writes its size in bytes, at most 1,472, into
-/// `len`. Returns the number of an answer: `Done`; otherwise `Closed` if the struct is closed, `NotStarted` before the
-/// start, or `Nothing` after the last packet. Then nothing is changed or written. `TooSmall` if `out` has no room for
-/// the packet, and then only `len` is written.
+/// Writes the bytes of a packet that answers the last datagram to the front of `out`, and their number, at most 1,472,
+/// to `len`. `i` is the index of the packet, from 0 in the order in which the packets are sent. The packet stays.
+///
+/// Returns the number of an answer: `Done`. `Closed` if the device is closed, `NotStarted` before its start, and
+/// `Nothing` if there are `i` packets or fewer: then nothing is written. `TooSmall` if `out` has fewer bytes than the
+/// packet: then only `len` is written.
 #[unsafe(no_mangle)]
 pub extern "C" fn oca_device_packet(
     alloc: Global,
@@ -270,10 +294,14 @@ pub extern "C" fn oca_device_packet(
     answer.number()
 }
 
-/// Copies the numbers of the objects that the last datagram wrote to to the front of `out`, in order, and writes into
-/// `count` how many they are, at most 86. Returns the number of an answer: `Done`; otherwise `Closed` if the struct is
-/// closed, or `NotStarted` before the start. Then nothing is changed or written. `TooSmall` if `out` has no room for
-/// all: then it has the first of them, and `count` is written too.
+/// Copies the numbers of the objects that the last datagram wrote to to the front of `out`, in order, each as often as
+/// it was written. `count` becomes how many there are: 0 to 86, and 0 before the first datagram. Each command that
+/// writes and was executed with the status OK is in the list. A lock, a refused command and a duplicate are not. Clock
+/// readings and settings at the local front panel leave the list as it is.
+///
+/// Returns the number of an answer: `Done`. `Closed` if the device is closed, and `NotStarted` before its start: then
+/// nothing is changed or written. `TooSmall` if `out` has no room for all: then it gets the first of them, and `count`
+/// is written too.
 #[unsafe(no_mangle)]
 pub extern "C" fn oca_device_written(
     alloc: Global,
@@ -296,8 +324,15 @@ pub extern "C" fn oca_device_written(
     answer.number()
 }
 
-/// Writes into `waits` whether the answers to the last datagram must wait until the objects are stored. Returns the
-/// number of an answer: `Done`; otherwise `Closed` if the struct is closed, or `NotStarted` before the start. Then
+/// Writes to `waits` whether the answers to the last datagram must wait until the objects are stored. This is for a
+/// device on which everything that was answered with OK must be there after a power cut. The answers wait if the
+/// datagram wrote to an object (`oca_device_written` lists one). While something that datagrams wrote is not stored,
+/// they also wait if the datagram had a duplicate, whose answer is that of an earlier command. Then store the objects
+/// (`oca_store_save`), call `oca_device_stored`, and send the packets. If the objects cannot be stored, send none of
+/// the packets. For the controller it is as if the network had lost them, and the answers to its next transmission of
+/// the command wait too. False before the first datagram.
+///
+/// Returns the number of an answer: `Done`. `Closed` if the device is closed, and `NotStarted` before its start: then
 /// nothing is changed or written.
 #[unsafe(no_mangle)]
 pub extern "C" fn oca_device_waits(
@@ -320,8 +355,11 @@ pub extern "C" fn oca_device_waits(
     answer.number()
 }
 
-/// Records that the objects are stored as they are now: no answers wait. Returns the number of an answer: `Done`;
-/// otherwise `Closed` if the struct is closed, or `NotStarted` before the start. Then nothing is changed.
+/// Notes that the objects are stored as they are now: `oca_device_waits` is then false. Call it before the next
+/// datagram is handled. What is set at the local front panel makes no answers wait. Nothing is sent.
+///
+/// Returns the number of an answer: `Done`. `Closed` if the device is closed, and `NotStarted` before its start: then
+/// nothing is changed or written.
 #[unsafe(no_mangle)]
 pub extern "C" fn oca_device_stored(alloc: Global, handle: &mut DeviceHandle) -> u32
     ensures closed { RefusesClosed handle.old.slot.inner handle.new.slot.inner result }

@@ -14,11 +14,12 @@ use oca_calls::value_words::ValueWords;
 use oca_tree::Value;
 use std::alloc::Global;
 
-/// Sets a mute (1 Muted, 2 Unmuted) or a polarity (1 NonInverted, 2 Inverted) at the local front panel. Locks do not
-/// prevent it. Returns the number of an answer: `Done`; otherwise the first of these that applies, and nothing is
-/// changed. `Closed` if the struct is closed, `NotStarted` before the start, `NoObject` if there is no such object,
-/// `NoSetting` if it is a block. Then `OtherKind` if it is of another class, `OutOfRange` if `state` is neither 1 nor
-/// 2.
+/// Sets a mute (1 Muted, 2 Unmuted) or a polarity (1 NonInverted, 2 Inverted) at the local front panel. A lock of a
+/// controller does not refuse it, and no peer gets a message (the local front panel is the profile's, not AES70's).
+///
+/// Returns the number of an answer: `Done`. Otherwise the first of these that applies, and then nothing is changed.
+/// `Closed` if the device is closed. `NotStarted` before its start. `NoObject` if no object has the number `ono`.
+/// `NoSetting` if it is a block. `OtherKind` if it is of another class. `OutOfRange` if `state` is neither 1 nor 2.
 #[unsafe(no_mangle)]
 pub extern "C" fn oca_device_set_state(
     alloc: Global,
@@ -40,10 +41,13 @@ pub extern "C" fn oca_device_set_state(
     answer.number()
 }
 
-/// Sets a switch at the local front panel to a position, which is counted from 0. Locks do not prevent it. Returns the
-/// number of an answer: `Done`; otherwise the first of these that applies, and nothing is changed. `Closed` if the
-/// struct is closed, `NotStarted` before the start, `NoObject` if there is no such object, `NoSetting` if it is a
-/// block. Then `OtherKind` if it is of another class, `OutOfRange` if the position is not there or disabled.
+/// Sets a switch to a position at the local front panel. `position` is counted from 0. A lock of a controller does not
+/// refuse it, and no peer gets a message (the local front panel is the profile's, not AES70's).
+///
+/// Returns the number of an answer: `Done`. Otherwise the first of these that applies, and then nothing is changed.
+/// `Closed` if the device is closed. `NotStarted` before its start. `NoObject` if no object has the number `ono`.
+/// `NoSetting` if it is a block. `OtherKind` if it is of another class. `OutOfRange` if the switch has no such
+/// position, or the position is disabled.
 #[unsafe(no_mangle)]
 pub extern "C" fn oca_device_set_position(
     alloc: Global,
@@ -60,10 +64,12 @@ pub extern "C" fn oca_device_set_position(
     set(alloc, handle, ono, Value::Switch(position))
 }
 
-/// Sets a Boolean actuator to `truth` at the local front panel. Locks do not prevent it. Returns the number of an
-/// answer: `Done`; otherwise the first of these that applies, and nothing is changed. `Closed` if the struct is closed,
-/// `NotStarted` before the start, `NoObject` if there is no such object, `NoSetting` if it is a block. Then `OtherKind`
-/// if it is of another class. `OutOfRange` never comes.
+/// Sets a Boolean actuator to `truth` at the local front panel. A lock of a controller does not refuse it, and no peer
+/// gets a message (the local front panel is the profile's, not AES70's).
+///
+/// Returns the number of an answer: `Done`. Otherwise the first of these that applies, and then nothing is changed.
+/// `Closed` if the device is closed. `NotStarted` before its start. `NoObject` if no object has the number `ono`.
+/// `NoSetting` if it is a block. `OtherKind` if it is of another class.
 #[unsafe(no_mangle)]
 pub extern "C" fn oca_device_set_truth(
     alloc: Global,
@@ -80,11 +86,13 @@ pub extern "C" fn oca_device_set_truth(
     set(alloc, handle, ono, Value::Boolean(truth))
 }
 
-/// Sets an actuator of integers, whatever its type, to `number` at the local front panel. Locks do not prevent it.
-/// Returns the number of an answer: `Done`; otherwise the first of these that applies, and nothing is changed. `Closed`
-/// if the struct is closed, `NotStarted` before the start, `NoObject` if there is no such object, `NoSetting` if it is
-/// a block. Then `OtherKind` if its class is not one of integers, `OutOfRange` if the number is outside the object's
-/// limits.
+/// Sets an actuator of integers, of any type, to `number` at the local front panel. A lock of a controller does not
+/// refuse it, and no peer gets a message (the local front panel is the profile's, not AES70's).
+///
+/// Returns the number of an answer: `Done`. Otherwise the first of these that applies, and then nothing is changed.
+/// `Closed` if the device is closed. `NotStarted` before its start. `NoObject` if no object has the number `ono`.
+/// `NoSetting` if it is a block. `OtherKind` if it is of another class. `OutOfRange` if the number is outside the
+/// object's limits.
 #[unsafe(no_mangle)]
 pub extern "C" fn oca_device_set_signed(
     alloc: Global,
@@ -101,11 +109,14 @@ pub extern "C" fn oca_device_set_signed(
     set_integer(alloc, handle, ono, i128::from(number))
 }
 
-/// Sets an actuator of integers, whatever its type, to `number` at the local front panel. Locks do not prevent it.
-/// Returns the number of an answer: `Done`; otherwise the first of these that applies, and nothing is changed. `Closed`
-/// if the struct is closed, `NotStarted` before the start, `NoObject` if there is no such object, `NoSetting` if it is
-/// a block. Then `OtherKind` if its class is not one of integers, `OutOfRange` if the number is outside the object's
-/// limits.
+/// Sets an actuator of integers, of any type, to `number` at the local front panel, also to a number above those of
+/// `oca_device_set_signed`. A lock of a controller does not refuse it, and no peer gets a message (the local front
+/// panel is the profile's, not AES70's).
+///
+/// Returns the number of an answer: `Done`. Otherwise the first of these that applies, and then nothing is changed.
+/// `Closed` if the device is closed. `NotStarted` before its start. `NoObject` if no object has the number `ono`.
+/// `NoSetting` if it is a block. `OtherKind` if it is of another class. `OutOfRange` if the number is outside the
+/// object's limits.
 #[unsafe(no_mangle)]
 pub extern "C" fn oca_device_set_unsigned(
     alloc: Global,
@@ -122,11 +133,14 @@ pub extern "C" fn oca_device_set_unsigned(
     set_integer(alloc, handle, ono, i128::from(number))
 }
 
-/// Sets an object at the local front panel to a value, which must be of its class. Locks do not prevent it. Returns the
-/// number of an answer: `Done`; otherwise the first of these that applies, and nothing is changed. `Closed` if the
-/// struct is closed, `NotStarted` before the start, `NoValue` if `value` holds no value. Then `NoObject` if there is no
-/// such object, `NoSetting` if it is a block, `OtherKind` if it is of another class. Last `OutOfRange` if the position
-/// is not there or disabled, or the number is outside the object's limits.
+/// Sets the object `ono` at the local front panel to `value`, which must be of the object's class. A lock of a
+/// controller does not refuse it, and no peer gets a message (the local front panel is the profile's, not AES70's).
+///
+/// Returns the number of an answer: `Done`. Otherwise the first of these that applies, and then nothing is changed.
+/// `Closed` if the device is closed. `NotStarted` before its start. `NoValue` if the struct holds no value. `NoObject`
+/// if no object has the number `ono`. `NoSetting` if it is a block. `OtherKind` if the value is of another class, such
+/// as a polarity's for a mute, or an integer of another type. `OutOfRange` if a switch has no such position or it is
+/// disabled, or a number is outside the object's limits.
 #[unsafe(no_mangle)]
 pub extern "C" fn oca_device_set(
     alloc: Global,
@@ -148,10 +162,12 @@ pub extern "C" fn oca_device_set(
     answer.number()
 }
 
-/// Gives an object a label of at most 64 bytes of UTF-8 at the local front panel. Locks do not prevent it. Returns the
-/// number of an answer: `Done`; otherwise the first of these that applies, and nothing is changed. `Closed` if the
-/// struct is closed, `NotStarted` before the start, `BadText` if the bytes are not UTF-8. Then `NoObject` if there is
-/// no such object, `BadText` if the label is longer.
+/// Gives an object the label `label`, 0 to 64 bytes of UTF-8, at the local front panel. A lock of a controller does not
+/// refuse it, and no peer gets a message (the local front panel is the profile's, not AES70's).
+///
+/// Returns the number of an answer: `Done`. Otherwise the first of these that applies, and then nothing is changed.
+/// `Closed` if the device is closed. `NotStarted` before its start. `BadText` if the bytes are not UTF-8. `NoObject` if
+/// no object has the number `ono`. `BadText` if the label has more than 64 bytes.
 #[unsafe(no_mangle)]
 pub extern "C" fn oca_device_set_label(
     alloc: Global,
@@ -173,9 +189,12 @@ pub extern "C" fn oca_device_set_label(
     answer.number()
 }
 
-/// Enables or disables an object at the local front panel. Locks do not prevent it. Returns the number of an answer:
-/// `Done`; otherwise `Closed` if the struct is closed, `NotStarted` before the start, or `NoObject` if there is no such
-/// object. Then nothing is changed.
+/// Enables an object (`enabled` is true) or disables it at the local front panel, as SetEnabled of OcaWorker does
+/// (AES70-2). A lock of a controller does not refuse it, and no peer gets a message (the local front panel is the
+/// profile's, not AES70's).
+///
+/// Returns the number of an answer: `Done`. Otherwise the first of these that applies, and then nothing is changed.
+/// `Closed` if the device is closed. `NotStarted` before its start. `NoObject` if no object has the number `ono`.
 #[unsafe(no_mangle)]
 pub extern "C" fn oca_device_set_enabled(
     alloc: Global,
@@ -197,10 +216,12 @@ pub extern "C" fn oca_device_set_enabled(
     answer.number()
 }
 
-/// Releases the lock of an object at the local front panel, whichever peer holds it. The peer gets no message. Returns
-/// the number of an answer: `Done`; otherwise the first of these that applies, and nothing is changed. `Closed` if the
-/// struct is closed, `NotStarted` before the start, `NoObject` if there is no such object, `Nothing` if the object is
-/// not locked.
+/// Releases the lock of an object at the local front panel, whichever peer has it (`oca_device_lock` writes which). The
+/// peer gets no message. It keeps its session and its other locks, and may lock the object again.
+///
+/// Returns the number of an answer: `Done`. Otherwise the first of these that applies, and then nothing is changed.
+/// `Closed` if the device is closed. `NotStarted` before its start. `NoObject` if no object has the number `ono`.
+/// `Nothing` if the object is not locked.
 #[unsafe(no_mangle)]
 pub extern "C" fn oca_device_unlock(alloc: Global, handle: &mut DeviceHandle, ono: u32) -> u32
     ensures closed { RefusesClosed handle.old.slot.inner handle.new.slot.inner result }
@@ -217,10 +238,14 @@ pub extern "C" fn oca_device_unlock(alloc: Global, handle: &mut DeviceHandle, on
     answer.number()
 }
 
-/// Sets, at the local front panel, whether the hardware of an object refuses changes (`failing`). While it does, a
-/// command that writes to the object is answered `ProcessingFailed` and changes nothing; if the command is refused for
-/// another reason too, the answer names that reason. Returns the number of an answer: `Done`; otherwise `Closed` if the
-/// struct is closed, `NotStarted` before the start, or `NoObject` if there is no such object. Then nothing is changed.
+/// Sets whether the hardware of an object refuses changes (`failing`), until the next such call for the object. At
+/// first it does not. While it does, a command that writes to the object changes nothing and is answered
+/// ProcessingFailed, or with the status of another fault that the command has. When this status is sent is the
+/// profile's choice. A duplicate gets its retained reply. Commands that read or lock work as before, and so do the
+/// calls of the local front panel. The setting is in no `struct oca_spec` and is not stored.
+///
+/// Returns the number of an answer: `Done`. Otherwise the first of these that applies, and then nothing is changed.
+/// `Closed` if the device is closed. `NotStarted` before its start. `NoObject` if no object has the number `ono`.
 #[unsafe(no_mangle)]
 pub extern "C" fn oca_device_set_failing(
     alloc: Global,

@@ -13,9 +13,10 @@ use oca_calls::device_handle::DeviceHandle;
 use oca_calls::reading::Reading;
 use std::alloc::Global;
 
-/// Writes into `count` how many objects there are, the root included: 1 to 4,096. Returns the number of an answer:
-/// `Done`; otherwise `Closed` if the struct is closed, or `NotStarted` before the start. Then nothing is changed or
-/// written.
+/// Writes to `count` how many objects the device has, the root counted: 1 to 4,096.
+///
+/// Returns the number of an answer: `Done`. `Closed` if the device is closed, and `NotStarted` before its start: then
+/// nothing is changed or written.
 #[unsafe(no_mangle)]
 pub extern "C" fn oca_device_objects(
     alloc: Global,
@@ -37,11 +38,14 @@ pub extern "C" fn oca_device_objects(
     answer.number()
 }
 
-/// Writes what the object at this index is; indices count from 0 at the root, in order of adding. To `out` go the
-/// object's number, its container's number (0 for the root), the number of its class (1 to 13, `enum oca_class`) and
-/// the size of its role in bytes. The object's role goes to `role`. Each is written as far as there is room. Returns
-/// the number of an answer: `Done`; otherwise `Closed` if the struct is closed, `NotStarted` before the start, or
-/// `Nothing` after the last object. Then nothing is changed or written.
+/// Writes what the object with this index is. `index` counts from 0 for the root, in the order of adding. To `out` go
+/// the object's number, its container's number (0 for the root), the number of its class (1 to 13, `enum oca_class`)
+/// and the size of its role in bytes. The object's role, 1 to 64 bytes of UTF-8, goes to `role`. Each is written as far
+/// as there is room.
+///
+/// Returns the number of an answer: `Done`. Otherwise the first of these that applies, and then nothing is changed or
+/// written. `Closed` if the device is closed. `NotStarted` before its start. `Nothing` if there are `index` objects or
+/// fewer.
 #[unsafe(no_mangle)]
 pub extern "C" fn oca_device_object_words(
     alloc: Global,
@@ -65,10 +69,14 @@ pub extern "C" fn oca_device_object_words(
     answer.number()
 }
 
-/// Writes the kind of an object's lock into `kind`, and the address (an IPv4 address as a number, the first byte
-/// highest) and the port of its holder into `ip` and `port`. Kind 1 keeps other peers from all access, kind 2 from all
-/// but reading. Returns the number of an answer: `Done`; otherwise `Closed` if the struct is closed, `NotStarted`
-/// before the start, or `Nothing` if the object is not locked or not there. Then nothing is changed or written.
+/// Writes what lock an object has, and the address and the port of the peer that has it. `kind` becomes 1 if the lock
+/// keeps other peers from all access (LockTotal, AES70-2), and 2 if it lets them read (LockReadonly). `ip` becomes an
+/// IPv4 address as a number, the first byte highest, and `port` the UDP port. The lock of a block does not lock its
+/// members.
+///
+/// Returns the number of an answer: `Done`. Otherwise the first of these that applies, and then nothing is changed or
+/// written. `Closed` if the device is closed. `NotStarted` before its start. `Nothing` if the object is not locked, or
+/// no object has the number `ono`.
 #[unsafe(no_mangle)]
 pub extern "C" fn oca_device_lock(
     alloc: Global,
@@ -93,9 +101,12 @@ pub extern "C" fn oca_device_lock(
     answer.number()
 }
 
-/// Writes into `failing` whether the hardware of an object refuses changes, as `oca_device_set_failing` last set it;
-/// false before the first such call. Returns the number of an answer: `Done`; otherwise `Closed` if the struct is
-/// closed, `NotStarted` before the start, or `NoObject` if there is no such object. Then nothing is changed or written.
+/// Writes to `failing` whether the hardware of an object refuses changes, as `oca_device_set_failing` last set it.
+/// False before the first such call.
+///
+/// Returns the number of an answer: `Done`. Otherwise the first of these that applies, and then nothing is changed or
+/// written. `Closed` if the device is closed. `NotStarted` before its start. `NoObject` if no object has the number
+/// `ono`.
 #[unsafe(no_mangle)]
 pub extern "C" fn oca_device_is_failing(
     alloc: Global,
@@ -118,10 +129,13 @@ pub extern "C" fn oca_device_is_failing(
     answer.number()
 }
 
-/// Writes into `reading` how an object is set. The kind is 1 for a state, 2 for a position, 3 for a Boolean and 4 for
-/// an integer. With it come whether the number is negative (0 or 1), and its magnitude (1 or 2 for a state, 0 or 1 for
-/// a Boolean). Returns the number of an answer: `Done`; otherwise `Closed` if the struct is closed, `NotStarted` before
-/// the start, or `Nothing` for a block and if the object is not there. Then nothing is changed or written.
+/// Writes to `reading` how an object is set. Its kind is 1 for a state, 2 for a position, 3 for a Boolean and 4 for an
+/// integer. `negative` is 1 if the number is below 0, and otherwise 0. `magnitude` is the number without its sign: 1 or
+/// 2 for a state (AES70-2), 0 or 1 for a Boolean, and a position counted from 0.
+///
+/// Returns the number of an answer: `Done`. Otherwise the first of these that applies, and then nothing is changed or
+/// written. `Closed` if the device is closed. `NotStarted` before its start. `Nothing` if the object is a block, or no
+/// object has the number `ono`.
 #[unsafe(no_mangle)]
 pub extern "C" fn oca_device_setting(
     alloc: Global,
@@ -144,8 +158,11 @@ pub extern "C" fn oca_device_setting(
     answer.number()
 }
 
-/// Writes into `count` how many peers have a session: 0 to 64. Returns the number of an answer: `Done`; otherwise
-/// `Closed` if the struct is closed, or `NotStarted` before the start. Then nothing is changed or written.
+/// Writes to `count` how many peers have a session at the device's present moment: 0 to 64. A session ends when the
+/// clock finds that its peer was not heard for more than 120,000 ms.
+///
+/// Returns the number of an answer: `Done`. `Closed` if the device is closed, and `NotStarted` before its start: then
+/// nothing is changed or written.
 #[unsafe(no_mangle)]
 pub extern "C" fn oca_device_peers(
     alloc: Global,
@@ -167,10 +184,13 @@ pub extern "C" fn oca_device_peers(
     answer.number()
 }
 
-/// Writes into `ip` and `port` the address (an IPv4 address as a number, the first byte highest) and the port of the
-/// peer of the session at this index. Sessions are counted from 0, in order of opening; if one is forgotten, the later
-/// ones move up. Returns the number of an answer: `Done`; otherwise `Closed` if the struct is closed, `NotStarted`
-/// before the start, or `Nothing` after the last session. Then nothing is changed or written.
+/// Writes the address and the port of a peer that has a session. `index` counts from 0, in the order in which the
+/// sessions were opened; if a session ends, the later ones move down by one. `ip` becomes an IPv4 address as a number,
+/// the first byte highest, and `port` the UDP port.
+///
+/// Returns the number of an answer: `Done`. Otherwise the first of these that applies, and then nothing is changed or
+/// written. `Closed` if the device is closed. `NotStarted` before its start. `Nothing` if there are `index` sessions or
+/// fewer.
 #[unsafe(no_mangle)]
 pub extern "C" fn oca_device_peer(
     alloc: Global,

@@ -7,10 +7,15 @@ use crate::device_handle::DeviceHandle;
 use oca_tree::Kind;
 use std::alloc::Global;
 
-/// Adds an object with the number `ono` to the block `container` of a handle's device, before its start. `role` is the
-/// object's role, `lockable` says whether it can be locked, and `kind` is its class with its first setting. Returns the
-/// number of an [`Answer`]: `Closed` if the handle is closed, `Started` after the start. Otherwise it is what
-/// [`DeviceBehind::add`](crate::device::DeviceBehind::add) returns. If it is not `Done`, nothing is added.
+/// Adds an object to the device of the struct `handle`, before its start. `container` is the number of its block, `ono`
+/// its own number, and `role` its role, 1 to 64 bytes of UTF-8. `lockable` says whether it can be locked, and `kind` is
+/// its class with its first setting. Returns the number of an [`Answer`]: `Done`. Otherwise the first of these that
+/// applies, and then nothing is added.
+///
+/// `Closed` if the device is closed. `Started` after its start. `BadText` if the role is not UTF-8. `Full` if there is
+/// no room for another object. `Reserved` if `ono` is below 4,096. `Taken` if an object has that number. `NoSuchBlock`
+/// if no block has the number `container`. `TooDeep` if the object would be at depth 9. `BadText` if the role is empty
+/// or has more than 64 bytes. `BadRange` if the setting is outside its limits.
 pub fn add(
     alloc: Global,
     handle: &mut DeviceHandle,

@@ -6,53 +6,71 @@ ghost use Rattle.oca_calls.specs.Numbers.{submission_answer};
 use oca_control::ControlFault;
 use oca_tree::{AddFault, FrontFault, SetFault, StartFault};
 
-/// What a call returns. The numbers are promised; 1 to 8 are those of `AddFault`.
+/// What a call for C returns, as `enum oca_result` of `oca.h`. The numbers are promised (*profile*); 1 to 8 are those
+/// of `AddFault`.
 #[derive(Clone, Copy)]
 pub enum Answer {
+    /// The call did what was asked.
     Done = 0,
+    /// There is no room for another object.
     Full = 1,
+    /// The number of the object is below 4,096.
     Reserved = 2,
+    /// An object has the number.
     Taken = 3,
+    /// No block has the number of the container.
     NoSuchBlock = 4,
+    /// The object would be at depth 9.
     TooDeep = 5,
+    /// A text is empty, has more than 64 bytes, or is not UTF-8.
     BadText = 6,
+    /// A setting is outside its limits, or a switch has no position or more than 16.
     BadRange = 7,
+    /// Memory was refused.
     NoMemory = 8,
-    /// The handle is closed.
+    /// The struct of the device or of the link is closed.
     Closed = 9,
-    /// The handle is open.
+    /// The struct of the device or of the link is open.
     Open = 10,
     /// The device is not started.
     NotStarted = 11,
-    /// The device is started, so its tree is fixed.
+    /// The device is started: no object can be added.
     Started = 12,
     /// There is no such packet, object, setting, lock, moment or answer.
     Nothing = 13,
-    /// The bytes do not fit where they were to go.
+    /// The place of the caller's has no room for all that was to be written.
     TooSmall = 14,
-    /// A size is outside its range.
+    /// A size is outside its range, or a struct is of another size.
     BadSize = 15,
+    /// No object has the number.
     NoObject = 16,
+    /// The object is a block, which has no setting.
     NoSetting = 17,
+    /// The value is of another class than the object.
     OtherKind = 18,
+    /// The position is not there or disabled, or the number is outside its limits.
     OutOfRange = 19,
+    /// The link is lost: a command got no answer to 20 transmissions.
     Lost = 20,
+    /// A command has the handle 4294967295 already.
     HandlesSpent = 21,
+    /// The next handle is not below the lowest handle whose answer was not taken yet, plus the span.
     SpanFull = 22,
+    /// The parameters have more than 1,445 bytes.
     TooLong = 23,
-    /// The words are those of no value, or no answer gives one of the class.
+    /// The struct holds no value, or an answer gives no value of the class.
     NoValue = 24,
 }
 
 impl Answer {
-    /// The number of the answer in C: 0 to 24.
+    /// Returns the number of the answer in C (`enum oca_result`): 0 for `Done` to 24 for `NoValue`.
     pub fn number(self) -> u32
         ensures { result ≡ answer_number self }
     {
         self as u32
     }
 
-    /// The answer for an addition that was refused with this fault: the one of the same name.
+    /// Returns the answer for an addition that was refused with this fault: the answer of the same name.
     pub fn of_add(fault: AddFault) -> Answer
         ensures { result ≡ add_answer fault }
     {
@@ -68,9 +86,9 @@ impl Answer {
         }
     }
 
-    /// The answer for an object or a root that was to be made with what was stored of it, and was refused with this
-    /// fault. `BadText` for `BadLabel`, `BadRange` for `BadFlags`, otherwise the answer for the fault in `Add`
-    /// ([`of_add`](Answer::of_add)).
+    /// Returns the answer for an object or a root that was to be made with what was stored of it, and was refused with
+    /// this fault. `BadText` for `BadLabel`, and `BadRange` for `BadFlags`. For `Add` it is the answer for the fault in
+    /// it ([`of_add`](Answer::of_add)).
     pub fn of_start(fault: StartFault) -> Answer
         ensures { result ≡ start_answer fault }
     {
@@ -81,8 +99,8 @@ impl Answer {
         }
     }
 
-    /// The answer for a setting that was refused with this fault: the one of the same name (`NoObject`, `NoSetting`,
-    /// `OtherKind` or `OutOfRange`).
+    /// Returns the answer for a setting at the local front panel that was refused with this fault: the answer of the
+    /// same name, which is `NoObject`, `NoSetting`, `OtherKind` or `OutOfRange`.
     pub fn of_set(fault: SetFault) -> Answer
         ensures { result ≡ set_answer fault }
     {
@@ -94,9 +112,9 @@ impl Answer {
         }
     }
 
-    /// The answer for a change of a label, of whether an object is enabled, or of its lock, that was refused with this
-    /// fault. `NoObject` if there is no such object. `BadText` if a label has more than 64 bytes. `Nothing` if the
-    /// object is not locked.
+    /// Returns the answer for a change at the local front panel that was refused with this fault: a change of a label,
+    /// of whether an object is enabled, or of its lock. `NoObject` for `NoObject`, `BadText` for `BadLabel` (more than
+    /// 64 bytes), and `Nothing` for `NotLocked`.
     pub fn of_front(fault: FrontFault) -> Answer
         ensures { result ≡ front_answer fault }
     {
@@ -107,8 +125,8 @@ impl Answer {
         }
     }
 
-    /// The answer for a command that was not submitted because of this fault: the one of the same name (`Lost`,
-    /// `HandlesSpent`, `SpanFull` or `TooLong`).
+    /// Returns the answer for a command that the link refused with this fault: the answer of the same name, which is
+    /// `Lost`, `HandlesSpent`, `SpanFull` or `TooLong`.
     pub fn of_submission(fault: ControlFault) -> Answer
         ensures { result ≡ submission_answer fault }
     {

@@ -9,7 +9,8 @@ use crate::words::{class_number, put_words};
 use oca_model::{MOST_FIELDS, MOST_MEMBERS, class_with};
 use oca_types::Text;
 
-/// The names of a switch's positions: how many there are, at most 16, and they at the front.
+/// The names of a switch's positions, as `struct oca_names` of C: how many there are, at most 16, and the names at the
+/// front of the array.
 #[repr(C)]
 #[derive(Clone, Copy)]
 pub struct Names {
@@ -17,7 +18,8 @@ pub struct Names {
     pub names: [Name; 16],
 }
 
-/// The numbers of a block's members: how many there are, at most 181, and they at the front.
+/// The numbers of a block's members, as `struct oca_members` of C: how many there are, at most 181, and the numbers at
+/// the front of the array.
 #[repr(C)]
 #[derive(Clone, Copy)]
 pub struct Members {
@@ -25,8 +27,8 @@ pub struct Members {
     pub onos: [u32; 181],
 }
 
-/// The identifier of a class (OcaClassID): how many fields it has, at most 16, and they at the front; and the number of
-/// the class, 0 for one that is not of this profile.
+/// The identifier of a class (OcaClassID, AES70-2), as `struct oca_class_id` of C: how many fields it has, at most 16,
+/// the fields at the front of the array, and the number of the class, 0 for a class that is not of this profile.
 #[repr(C)]
 #[derive(Clone, Copy)]
 pub struct ClassId {
@@ -36,7 +38,8 @@ pub struct ClassId {
 }
 
 impl Names {
-    /// These names as a struct for C. There must be at most 16 (a premise).
+    /// Returns these names as a struct for C, in their order. There must be at most 16 (a premise). The other places
+    /// are empty names.
     pub fn of(texts: &[Text]) -> Names
         requires { length texts.now ≤ 16 }
         ensures count { result.count ≡ length texts.now }
@@ -51,7 +54,8 @@ impl Names {
 }
 
 impl Members {
-    /// The numbers of these members as a struct for C. There must be at most 181 (a premise).
+    /// Returns the numbers of these members as a struct for C, in their order. There must be at most 181 (a premise).
+    /// The other places are 0.
     pub fn of(onos: &[u32]) -> Members
         requires { length onos.now ≤ 181 }
         ensures count { result.count ≡ length onos.now }
@@ -67,8 +71,8 @@ impl Members {
 }
 
 impl ClassId {
-    /// The class identifier with these fields as a struct for C, with the number of the class ([`number_with`]). There
-    /// must be at most 16 fields (a premise).
+    /// Returns the class identifier with these fields as a struct for C, with the number of the class
+    /// ([`number_with`]). There must be at most 16 fields (a premise). The other places are 0.
     pub fn of(fields: &[u16]) -> ClassId
         requires { length fields.now ≤ 16 }
         ensures count { result.count ≡ length fields.now }
@@ -85,9 +89,9 @@ impl ClassId {
     }
 }
 
-/// The number in C of the class whose identifier (OcaClassID, AES70-2) has these fields, as
-/// [`class_number`](crate::words::class_number) lists them: 1 for OcaBlock to 13 for OcaUint64Actuator. 0 if no class
-/// of this profile has these fields.
+/// Returns the number in C of the class whose identifier (OcaClassID, AES70-2) has these fields: 1 for OcaBlock to 13
+/// for OcaUint64Actuator ([`class_number`](crate::words::class_number) lists them). 0 if no class of this profile has
+/// these fields.
 pub fn number_with(fields: &[u16]) -> u32
     ensures { result ≡ number_of_class (class_with fields.now) }
 {

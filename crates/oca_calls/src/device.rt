@@ -43,10 +43,11 @@ use oca_types::{NoMemory, Ono, Peer, Peers, Sizes, Window};
 use std::alloc::Global;
 use std::str;
 
-/// The most packets that a datagram is answered with.
+/// The most packets that answer one datagram: 122 (*profile*).
 pub const MOST_PACKETS: usize = 122;
 
-/// The objects of a device before its start, the device after it, and where it puts its answers.
+/// A device as the calls for C have it: the objects before its start, the device after it, the packets that answer the
+/// last datagram, and whether something that datagrams wrote is not stored.
 #[derive(Drop)]
 pub struct DeviceBehind {
     builder: Option<TreeBuilder>,
@@ -56,8 +57,8 @@ pub struct DeviceBehind {
 }
 
 impl DeviceBehind {
-    /// A device that is not started, with the objects of this builder. `outbox` is its outbox until the start. Nothing
-    /// waits to be stored.
+    /// Makes a device that is not started, with the objects of this builder. `outbox` has its packets until the start.
+    /// Nothing waits to be stored. The call takes no memory.
     pub fn over(builder: TreeBuilder, outbox: BoundedOutbox) -> DeviceBehind
         ensures { Builds result builder }
     {
@@ -69,10 +70,11 @@ impl DeviceBehind {
         }
     }
 
-    /// Adds an object with the number `ono` to the block `container`, before the start. `role` is its role, `lockable`
-    /// says whether it can be locked, and `kind` is its class with its first setting. Returns `Done`. `Started` after
-    /// the start, `BadText` if the role is not UTF-8, otherwise the answer for the builder's fault
-    /// ([`Answer::of_add`]): then nothing is added.
+    /// Adds an object, before the start. `container` is the number of its block, `ono` its own number, and `role` its
+    /// role, 1 to 64 bytes of UTF-8. `lockable` says whether it can be locked, and `kind` is its class with its first
+    /// setting. Returns `Done`. Otherwise the first of these that applies, and then nothing is added. `Started` after
+    /// the start. `BadText` if the role is not UTF-8. Then the answer for the builder's fault ([`Answer::of_add`]):
+    /// `Full`, `Reserved`, `Taken`, `NoSuchBlock`, `TooDeep`, `BadText`, `BadRange`.
     pub fn add(
         &mut self,
         container: u32,
@@ -97,11 +99,14 @@ impl DeviceBehind {
         }
     }
 
-    /// Adds a switch with the number `ono` to the block `container`, before the start. `role` is its role, and
-    /// `lockable` says whether it can be locked. `names` are the names of its positions, 1 to 16, and `position` is the
-    /// current one, counted from 0. Returns `Done`; otherwise the first of these that applies, and nothing is added.
-    /// `Started` after the start. `BadRange` if there are more than 16 names. `BadText` if a name has more than 64
-    /// bytes, or the role or a name is not UTF-8. Then the answer for the builder's fault ([`Answer::of_add`]).
+    /// Adds a switch, before the start. `container` is the number of its block, `ono` its own number, and `role` its
+    /// role, 1 to 64 bytes of UTF-8. `lockable` says whether it can be locked. `names` are the names of its positions,
+    /// 1 to 16, and `position` is its first position, counted from 0. All positions are enabled.
+    ///
+    /// Returns `Done`. Otherwise the first of these that applies, and then nothing is added. `Started` after the start.
+    /// `BadRange` if there are more than 16 names. `BadText` if a name has more than 64 bytes, or the role or a name is
+    /// not UTF-8. Then the answer for the builder's fault ([`Answer::of_add`]): `Full`, `Reserved`, `Taken`,
+    /// `NoSuchBlock`, `TooDeep`, `BadText`, and `BadRange` if there is no name or none for the position.
     pub fn add_switch(
         &mut self,
         container: u32,
@@ -132,9 +137,9 @@ impl DeviceBehind {
         self.add(container, ono, role, lockable, kind)
     }
 
-    /// Adds the object that `words` describe, under the number `ono`, to the block `container`, before the start.
-    /// Returns `Done`. `Started` after the start, otherwise the answers of [`add_spec`](crate::spec_adding::add_spec):
-    /// then nothing is added.
+    /// Adds the object that `words` describe, under the number `ono`, to the block with the number `container`, before
+    /// the start. Returns `Done`. `Started` after the start, otherwise the answers of
+    /// [`add_spec`](crate::spec_adding::add_spec): then nothing is added.
     pub fn add_spec(&mut self, container: u32, ono: u32, words: &SpecWords) -> Answer
         ensures adds { (B : Store) → Builds self.old B →
             (B' : Store) × Builds self.new B' × SpecAddedBy result B B' container ono words.now }
@@ -146,10 +151,13 @@ impl DeviceBehind {
         add_spec(builder, container, ono, words)
     }
 
-    /// Starts the device with the objects that were added. The device has reply windows of `window` commands, room for
-    /// the sessions of `peers` peers, and room for `packets` packets that answer a datagram. Returns `Done`. `Started`
-    /// if it is started already, or `BadSize` unless the window and the peers are 1 to 64 and the packets 1 to 122:
-    /// then nothing is changed. `NoMemory` if memory was refused: then the objects are lost.
+    /// Starts the device with the objects that were added. `window` is for how many commands of each peer it keeps the
+    /// replies, `peers` is how many peers can have a session, and `packets` is for how many packets of answers it has
+    /// room, some 1,480 bytes each. The call takes the memory for all of them.
+    ///
+    /// Returns `Done`. Otherwise the first of these that applies. `Started` if the device is started already, `BadSize`
+    /// if the window or the peers are not 1 to 64 or the packets not 1 to 122: then nothing is changed. `NoMemory` if
+    /// memory was refused: then the objects are lost.
     pub fn start(&mut self, alloc: Global, window: u8, peers: u8, packets: usize) -> Answer
         ensures starts { (B : Store) → Builds self.old B → Starts result self.old self.new window peers packets B.list }
         ensures started { self.old.builder ≡ None → (result ≡ Started) × (self.new ≡ self.old) }
@@ -213,10 +221,9 @@ impl DeviceBehind {
     }
 
     /// Handles a datagram that came from a peer at the moment `now`, in milliseconds of the caller's clock, as
-    /// [`Device::datagram_within`](oca_device::Device::datagram_within) does. The datagram's commands are executed, and
-    /// sessions, locks and the list of what was written change accordingly. The answers replace the packets of the last
-    /// datagram, as many as there is room for ([`left_out`](DeviceBehind::left_out)). A moment earlier than the latest
-    /// one so far counts as that latest one.
+    /// [`Device::datagram_within`](oca_device::Device::datagram_within) does. The answers replace the packets of the
+    /// last datagram, as many as there is room for ([`left_out`](DeviceBehind::left_out)). A moment earlier than the
+    /// latest one so far is taken as that latest one.
     ///
     /// The words of the verdict ([`words_of`](crate::words::words_of)) go to the front of `out`, as many as it has room
     /// for. Returns `Done`. `NotStarted` before the start: then nothing is changed or written.
@@ -242,10 +249,10 @@ impl DeviceBehind {
         Answer::Done
     }
 
-    /// Moves the device's clock on to `now`, in milliseconds of the caller's clock. Locks of peers that are silent for
-    /// more than three heartbeats are released, and sessions that are silent for more than 120,000 ms are forgotten. A
-    /// moment earlier than the latest one so far counts as that latest one. Returns `Done`. `NotStarted` before the
-    /// start: then nothing is changed.
+    /// Moves the device's clock on to `now`, in milliseconds of the caller's clock. The lock of a peer is released if
+    /// the device heard nothing from the peer for more than three of its heartbeats. A session is forgotten if its peer
+    /// was silent for more than 120,000 ms. A moment earlier than the latest one so far is taken as that latest one.
+    /// Returns `Done`. `NotStarted` before the start: then nothing is changed.
     pub fn tick(&mut self, now: u64) -> Answer
         ensures serves { (w : DeviceSizes) (T : List Object) (E : List Event) → RunsBehind w self.old T E →
             RunsBehind w self.new T (Tick now ∷ E) × (result ≡ Done) }
@@ -260,10 +267,10 @@ impl DeviceBehind {
         Answer::Done
     }
 
-    /// Writes into `moment` the earliest moment at which [`tick`](DeviceBehind::tick) would change the objects or the
-    /// sessions. This moment is in milliseconds of the caller's clock, and not before the device's present moment.
-    /// Returns `Done`. `Nothing` if there is no such moment within 64 bits, or `NotStarted` before the start: then
-    /// nothing is written.
+    /// Writes to `moment` the earliest moment at which [`tick`](DeviceBehind::tick) would release a lock or forget a
+    /// session, in milliseconds of the caller's clock. The moment is not before the device's present moment. Returns
+    /// `Done`. `Nothing` if there is no such moment within 64 bits, as without sessions, or `NotStarted` before the
+    /// start: then nothing is written.
     pub fn next_lapse(&self, moment: &mut u64) -> Answer
         ensures writes { (w : DeviceSizes) (T : List Object) (E : List Event) → RunsBehind w self.now T E →
             WritesNextLapse w (state_after w T E) moment.new (answer_number result) }
@@ -282,11 +289,11 @@ impl DeviceBehind {
         }
     }
 
-    /// Sets an object at the local front panel. Returns `Done`; otherwise the first of these that applies, and then
-    /// nothing is changed. `NotStarted` before the start. `NoObject` if no object has the number. `NoSetting` if the
-    /// object is a block. `OtherKind` if the value is of another class. `OutOfRange` if a switch has no such position
-    /// or the position is disabled, or a number is outside the object's limits. In all cases the packets, and whether
-    /// answers wait, stay as they are.
+    /// Sets an object to a value at the local front panel. A lock does not refuse it. Returns `Done`. Otherwise the
+    /// first of these that applies, and then nothing is changed. `NotStarted` before the start. `NoObject` if no object
+    /// has the number `ono`. `NoSetting` if the object is a block. `OtherKind` if the value is of another class.
+    /// `OutOfRange` if a switch has no such position or the position is disabled, or a number is outside the object's
+    /// limits. In all cases the packets, and whether answers wait, stay as they are.
     pub fn set(&mut self, ono: u32, value: Value) -> Answer
         ensures sets { (w : DeviceSizes) (T : List Object) (E : List Event) → RunsBehind w self.old T E →
             RunsBehind w self.new T (Local ono (ToValue value) ∷ E)
@@ -304,9 +311,9 @@ impl DeviceBehind {
         }
     }
 
-    /// Sets an object at the local front panel to the value that `words` hold. Returns `Done`; otherwise the first of
-    /// these that applies, and then nothing is changed. `NotStarted` before the start. `NoValue` if `words` hold no
-    /// value. Then the answers of [`set`](DeviceBehind::set).
+    /// Sets an object at the local front panel to the value that `words` hold. A lock does not refuse it. Returns
+    /// `Done`. Otherwise the first of these that applies, and then nothing is changed. `NotStarted` before the start.
+    /// `NoValue` if `words` hold no value. Then the answers of [`set`](DeviceBehind::set).
     pub fn set_words(&mut self, ono: u32, words: ValueWords) -> Answer
         ensures sets { (w : DeviceSizes) (T : List Object) (E : List Event) → RunsBehind w self.old T E →
             (value : Option ValueItself) × AreWordsOf words value × SetsWords w result self.new T E ono value }
@@ -323,10 +330,10 @@ impl DeviceBehind {
         }
     }
 
-    /// Sets a mute (1 Muted, 2 Unmuted) or a polarity (1 NonInverted, 2 Inverted) at the local front panel. Returns
-    /// `Done`; otherwise the first of these that applies, and then nothing is changed. `NotStarted` before the start.
-    /// `NoObject` if no object has the number. `NoSetting` if the object is a block. `OtherKind` if it is of another
-    /// class. `OutOfRange` if `state` is neither 1 nor 2.
+    /// Sets a mute (1 Muted, 2 Unmuted) or a polarity (1 NonInverted, 2 Inverted) at the local front panel. A lock does
+    /// not refuse it. Returns `Done`. Otherwise the first of these that applies, and then nothing is changed.
+    /// `NotStarted` before the start. `NoObject` if no object has the number `ono`. `NoSetting` if the object is a
+    /// block. `OtherKind` if it is of another class. `OutOfRange` if `state` is neither 1 nor 2.
     pub fn set_state(&mut self, ono: u32, state: u8) -> Answer
         ensures sets { (w : DeviceSizes) (T : List Object) (E : List Event) → RunsBehind w self.old T E →
             SetsEntry w result self.new T E ono (State state) }
@@ -341,10 +348,10 @@ impl DeviceBehind {
         self.set_found(ono, found)
     }
 
-    /// Sets an actuator of integers at the local front panel. Returns `Done`; otherwise the first of these that
-    /// applies, and then nothing is changed. `NotStarted` before the start. `NoObject` if no object is numbered `ono`.
-    /// `NoSetting` if the object is a block. `OtherKind` if its class is not one of integers. `OutOfRange` if `number`
-    /// is outside the object's limits.
+    /// Sets an actuator of integers, of any type, to `number` at the local front panel. A lock does not refuse it.
+    /// Returns `Done`. Otherwise the first of these that applies, and then nothing is changed. `NotStarted` before the
+    /// start. `NoObject` if no object has the number `ono`. `NoSetting` if the object is a block. `OtherKind` if its
+    /// class is not one of integers. `OutOfRange` if `number` is outside the object's limits.
     pub fn set_integer(&mut self, ono: u32, number: i128) -> Answer
         ensures sets { (w : DeviceSizes) (T : List Object) (E : List Event) → RunsBehind w self.old T E →
             SetsEntry w result self.new T E ono (Integer number) }
@@ -372,9 +379,10 @@ impl DeviceBehind {
         }
     }
 
-    /// Gives an object a label of at most 64 bytes at the local front panel. Returns `Done`; otherwise the first of
-    /// these that applies, and then nothing is changed. `NotStarted` before the start. `BadText` if the bytes are not
-    /// UTF-8. `NoObject` if no object has the number. `BadText` if the label is longer.
+    /// Gives an object a label of 0 to 64 bytes of UTF-8 at the local front panel. A lock does not refuse it. Returns
+    /// `Done`. Otherwise the first of these that applies, and then nothing is changed. `NotStarted` before the start.
+    /// `BadText` if the bytes are not UTF-8. `NoObject` if no object has the number `ono`. `BadText` if the label has
+    /// more than 64 bytes.
     pub fn set_label(&mut self, ono: u32, label: &[u8]) -> Answer
         ensures labels { IsUtf8 label.now → (w : DeviceSizes) (T : List Object) (E : List Event) →
             RunsBehind w self.old T E →
@@ -397,8 +405,8 @@ impl DeviceBehind {
         }
     }
 
-    /// Enables or disables an object at the local front panel. Returns `Done`. `NotStarted` before the start, or
-    /// `NoObject` if no object has the number: then nothing is changed.
+    /// Enables or disables an object at the local front panel. A lock does not refuse it. Returns `Done`. `NotStarted`
+    /// before the start, or `NoObject` if no object has the number `ono`: then nothing is changed.
     pub fn set_enabled(&mut self, ono: u32, enabled: bool) -> Answer
         ensures sets { (w : DeviceSizes) (T : List Object) (E : List Event) → RunsBehind w self.old T E →
             ChangesFront w result self.new T E ono (ToEnabled enabled) (asked.SetEnabled enabled) }
@@ -415,9 +423,9 @@ impl DeviceBehind {
         }
     }
 
-    /// Releases the lock of an object at the local front panel, whichever peer holds it. Returns `Done`; otherwise the
-    /// first of these that applies, and then nothing is changed. `NotStarted` before the start. `NoObject` if no object
-    /// has the number. `Nothing` if the object is not locked.
+    /// Releases the lock of an object at the local front panel, whichever peer has it. The peer gets no message.
+    /// Returns `Done`. Otherwise the first of these that applies, and then nothing is changed. `NotStarted` before the
+    /// start. `NoObject` if no object has the number `ono`. `Nothing` if the object is not locked.
     pub fn unlock(&mut self, ono: u32) -> Answer
         ensures unlocks { (w : DeviceSizes) (T : List Object) (E : List Event) → RunsBehind w self.old T E →
             ChangesFront w result self.new T E ono ToUnlocked asked.Unlock }
@@ -435,9 +443,9 @@ impl DeviceBehind {
     }
 
     /// Sets, at the local front panel, whether the hardware of an object refuses changes (`failing`). While it does, a
-    /// command that writes to the object is answered `ProcessingFailed` and changes nothing; if the command is refused
-    /// for another reason too, the answer names that reason ([`Device::set_failing`](oca_device::Device::set_failing)).
-    /// Returns `Done`. `NotStarted` before the start, or `NoObject` if no object has the number: then nothing is
+    /// command that writes to the object changes nothing and is answered ProcessingFailed (AES70-2, OcaStatus), or with
+    /// the status of another fault that the command has ([`Device::set_failing`](oca_device::Device::set_failing)).
+    /// Returns `Done`. `NotStarted` before the start, or `NoObject` if no object has the number `ono`: then nothing is
     /// changed.
     pub fn set_failing(&mut self, ono: u32, failing: bool) -> Answer
         ensures tells { (w : DeviceSizes) (T : List Object) (E : List Event) → RunsBehind w self.old T E →
@@ -455,8 +463,8 @@ impl DeviceBehind {
         }
     }
 
-    /// Writes into `count` how many packets answer the last datagram: 0 to 122. Returns `Done`. `NotStarted` before the
-    /// start: then nothing is written.
+    /// Writes to `count` how many packets answer the last datagram: 0 to 122, and 0 before the first datagram. Returns
+    /// `Done`. `NotStarted` before the start: then nothing is written.
     pub fn packets(&self, count: &mut usize) -> Answer
         ensures writes { IsSome self.now.device → (result ≡ Done) × (count.new ≡ length self.now.outbox.packets) }
         ensures building { self.now.device ≡ None → (result ≡ NotStarted) × (count.new ≡ count.old) }
@@ -468,9 +476,9 @@ impl DeviceBehind {
         Answer::Done
     }
 
-    /// Writes into `left_out` whether answers to the last datagram were left out because there was no room for them.
-    /// The peer then sends these commands again. Returns `Done`. `NotStarted` before the start: then nothing is
-    /// written.
+    /// Writes to `left_out` whether answers to the last datagram were left out because there was no room for them. The
+    /// peer then sends these commands again. False before the first datagram. Returns `Done`. `NotStarted` before the
+    /// start: then nothing is written.
     pub fn left_out(&self, left_out: &mut bool) -> Answer
         ensures writes { IsSome self.now.device → (result ≡ Done) × (left_out.new ≡ self.now.outbox.is_cut) }
         ensures building { self.now.device ≡ None → (result ≡ NotStarted) × (left_out.new ≡ left_out.old) }
@@ -483,8 +491,9 @@ impl DeviceBehind {
     }
 
     /// Copies the packet with the index `i`, counted from 0, to the front of `out`, and writes its size, at most 1,472
-    /// bytes, into `len`. Returns `Done`. `TooSmall` if `out` has no room for it: then only `len` is written. `Nothing`
-    /// after the last packet, or `NotStarted` before the start: then nothing is written.
+    /// bytes, to `len`. The packet stays. Returns `Done`. `TooSmall` if `out` has fewer bytes than the packet: then
+    /// only `len` is written. `Nothing` if there are `i` packets or fewer, or `NotStarted` before the start: then
+    /// nothing is written.
     pub fn packet(&self, i: usize, out: &mut [u8], len: &mut usize) -> Answer
         ensures nothing { IsSome self.now.device → IfNone (slice_get self.now.outbox.packets i) (result ≡ Nothing) }
         ensures packet { IsSome self.now.device →
@@ -513,9 +522,10 @@ impl DeviceBehind {
         Answer::Done
     }
 
-    /// Copies the numbers of the objects that the last datagram wrote to, in order, to the front of `out`. Writes into
-    /// `count` how many they are. Returns `Done`. `TooSmall` if they do not all fit: then `out` has the first of them,
-    /// and `count` is written too. `NotStarted` before the start: then nothing is written.
+    /// Copies the numbers of the objects that the last datagram wrote to to the front of `out`, in order, each as often
+    /// as it was written. Writes to `count` how many they are: 0 to 86. Returns `Done`. `TooSmall` if `out` has no room
+    /// for all: then it gets the first of them, and `count` is written too. `NotStarted` before the start: then nothing
+    /// is written.
     pub fn written(&self, out: &mut [u32], count: &mut usize) -> Answer
         ensures writes { (w : DeviceSizes) (T : List Object) (E : List Event) → RunsBehind w self.now T E →
             WritesWords (written w T E) out.old out.new count.new (answer_number result) }
@@ -536,8 +546,10 @@ impl DeviceBehind {
         }
     }
 
-    /// Writes into `waits` whether the answers to the last datagram must wait until the objects are stored. Returns
-    /// `Done`. `NotStarted` before the start: then nothing is written.
+    /// Writes to `waits` whether the answers to the last datagram must wait until the objects are stored. They wait if
+    /// the datagram wrote to an object. They also wait if it had a duplicate while something that datagrams wrote is
+    /// not stored. False before the first datagram. Returns `Done`. `NotStarted` before the start: then nothing is
+    /// written.
     pub fn waits(&self, waits: &mut bool) -> Answer
         ensures writes { IsSome self.now.device → (result ≡ Done) × (waits.new ≡ self.now.unstored.waits) }
         ensures building { self.now.device ≡ None → (result ≡ NotStarted) × (waits.new ≡ waits.old) }
@@ -549,8 +561,8 @@ impl DeviceBehind {
         Answer::Done
     }
 
-    /// Notes that the objects are stored as they are now, so that no answers wait. Returns `Done`. `NotStarted` before
-    /// the start: then nothing is changed.
+    /// Notes that the objects are stored as they are now: no answers wait then. Nothing is sent. Returns `Done`.
+    /// `NotStarted` before the start: then nothing is changed.
     pub fn stored(&mut self) -> Answer
         ensures notes { IsSome self.old.device → (result ≡ Done) × (self.new.unstored ≡ all_stored) }
         ensures building { self.old.device ≡ None → (result ≡ NotStarted) × (self.new ≡ self.old) }
@@ -566,7 +578,7 @@ impl DeviceBehind {
         Answer::Done
     }
 
-    /// Writes into `count` how many objects there are, the root included: 1 to 4,096. Returns `Done`. `NotStarted`
+    /// Writes to `count` how many objects the device has, the root counted: 1 to 4,096. Returns `Done`. `NotStarted`
     /// before the start: then nothing is written.
     pub fn objects(&self, count: &mut usize) -> Answer
         ensures writes { (w : DeviceSizes) (T : List Object) (E : List Event) → RunsBehind w self.now T E →
@@ -581,11 +593,11 @@ impl DeviceBehind {
         Answer::Done
     }
 
-    /// Writes what the object at this index is; indices count from 0 at the root, in order of adding. To the front of
-    /// `out` go its number, its container's number, the number of its class and the size of its role
-    /// ([`object_words`](crate::words::object_words)). To the front of `role` go the bytes of its role. Each is written
-    /// as far as there is room. Returns `Done`. `Nothing` after the last object, or `NotStarted` before the start: then
-    /// nothing is written.
+    /// Writes what the object with this index is. `index` counts from 0 for the root, in the order of adding. To the
+    /// front of `out` go its number, its container's number (0 for the root), the number of its class and the size of
+    /// its role in bytes ([`object_words`](crate::words::object_words)). To the front of `role` go the bytes of its
+    /// role. Each is written as far as there is room. Returns `Done`. `Nothing` if there are `index` objects or fewer,
+    /// or `NotStarted` before the start: then nothing is written.
     pub fn object(&self, index: usize, out: &mut [u32], role: &mut [u8]) -> Answer
         ensures writes { (w : DeviceSizes) (T : List Object) (E : List Event) → RunsBehind w self.now T E →
             WritesObject (info_at (state_after w T E).tree index) out.old out.new role.old role.new
@@ -604,9 +616,10 @@ impl DeviceBehind {
         Answer::Done
     }
 
-    /// Writes into `out` the description of the object at this index, by which it can be added again; indices count
-    /// from 0 at the root, in order of adding. Returns `Done`. `BadSize` if `out.size` is not 1,248 (the size of the
-    /// struct in bytes), `Nothing` after the last object, or `NotStarted` before the start: then nothing is written.
+    /// Writes to `out` the description of the object with this index, by which it can be added again. `index` counts
+    /// from 0 for the root, in the order of adding. Returns `Done`. Otherwise nothing is written: `NotStarted` before
+    /// the start, `BadSize` if `out.size` is not 1,248 (the size of the struct in bytes), `Nothing` if there are
+    /// `index` objects or fewer.
     pub fn spec(&self, index: usize, out: &mut SpecWords) -> Answer
         ensures writes { (w : DeviceSizes) (T : List Object) (E : List Event) → RunsBehind w self.now T E →
             WritesSpec (state_after w T E).tree (info_at (state_after w T E).tree index) out.old out.new
@@ -620,9 +633,9 @@ impl DeviceBehind {
         read_spec(device.tree(), index, out)
     }
 
-    /// Writes into `out` the description of the object with this number, by which it can be added again. Returns
-    /// `Done`. `BadSize` if `out.size` is not 1,248 (the size of the struct in bytes), `Nothing` if no object has the
-    /// number, or `NotStarted` before the start: then nothing is written.
+    /// Writes to `out` the description of the object with the number `ono`, by which it can be added again. Returns
+    /// `Done`. Otherwise nothing is written: `NotStarted` before the start, `BadSize` if `out.size` is not 1,248 (the
+    /// size of the struct in bytes), `Nothing` if no object has the number.
     pub fn spec_of(&self, ono: u32, out: &mut SpecWords) -> Answer
         ensures writes { (w : DeviceSizes) (T : List Object) (E : List Event) → RunsBehind w self.now T E →
             WritesSpec (state_after w T E).tree (info_of_ono (state_after w T E).tree ono) out.old out.new
@@ -636,7 +649,7 @@ impl DeviceBehind {
         read_spec_of(device.tree(), Ono(ono), out)
     }
 
-    /// Writes into `count` how many peers have a session: 0 to 64. Returns `Done`. `NotStarted` before the start: then
+    /// Writes to `count` how many peers have a session: 0 to 64. Returns `Done`. `NotStarted` before the start: then
     /// nothing is written.
     pub fn peers(&self, count: &mut usize) -> Answer
         ensures writes { (w : DeviceSizes) (T : List Object) (E : List Event) → RunsBehind w self.now T E →
@@ -651,10 +664,10 @@ impl DeviceBehind {
         Answer::Done
     }
 
-    /// Writes into `ip` and `port` the address (an IPv4 address as a number, the first byte highest) and the port of
-    /// the peer of the session at this index. Sessions are counted from 0, in order of opening; if one is forgotten,
-    /// the later ones move up. Returns `Done`. `Nothing` after the last session, or `NotStarted` before the start: then
-    /// nothing is written.
+    /// Writes the address and the port of a peer that has a session to `ip` (an IPv4 address as a number, the first
+    /// byte highest) and `port`. `index` counts from 0, in the order in which the sessions were opened; if a session is
+    /// forgotten, the later ones move down by one. Returns `Done`. `Nothing` if there are `index` sessions or fewer, or
+    /// `NotStarted` before the start: then nothing is written.
     pub fn peer(&self, index: usize, ip: &mut u32, port: &mut u16) -> Answer
         ensures writes { (w : DeviceSizes) (T : List Object) (E : List Event) → RunsBehind w self.now T E →
             WritesPeer (slice_get (known_after (state_after w T E)) index) ip.new port.new (answer_number result) }
@@ -672,10 +685,10 @@ impl DeviceBehind {
         Answer::Done
     }
 
-    /// Writes the kind of an object's lock into `kind`, and the address (an IPv4 address as a number, the first byte
-    /// highest) and the port of its holder into `ip` and `port`. Kind 1 keeps other peers from all access, kind 2 from
-    /// all but reading. Returns `Done`. `Nothing` if the object is not locked or not there, or `NotStarted` before the
-    /// start: then nothing is written.
+    /// Writes what lock an object has to `kind`, and the address and the port of the peer that has it to `ip` (an IPv4
+    /// address as a number, the first byte highest) and `port`. Kind 1 keeps other peers from all access, and kind 2
+    /// lets them read. Returns `Done`. `Nothing` if the object is not locked or no object has the number `ono`, or
+    /// `NotStarted` before the start: then nothing is written.
     pub fn lock(&self, ono: u32, kind: &mut u32, ip: &mut u32, port: &mut u16) -> Answer
         ensures writes { (w : DeviceSizes) (T : List Object) (E : List Event) → RunsBehind w self.now T E →
             WritesLock (lock_at (state_after w T E).tree ono) kind.new ip.new port.new (answer_number result) }
@@ -694,8 +707,9 @@ impl DeviceBehind {
         Answer::Done
     }
 
-    /// Writes into `failing` whether the hardware of an object refuses changes. Returns `Done`. `NoObject` if no object
-    /// has the number, or `NotStarted` before the start: then nothing is written.
+    /// Writes to `failing` whether the hardware of an object refuses changes, as
+    /// [`set_failing`](DeviceBehind::set_failing) last set it. False before the first such call. Returns `Done`.
+    /// `NoObject` if no object has the number `ono`, or `NotStarted` before the start: then nothing is written.
     pub fn is_failing(&self, ono: u32, failing: &mut bool) -> Answer
         ensures writes { (w : DeviceSizes) (T : List Object) (E : List Event) → RunsBehind w self.now T E →
             WritesFailing (failing_at (state_after w T E).tree ono) failing.new (answer_number result) }
@@ -712,10 +726,10 @@ impl DeviceBehind {
         Answer::Done
     }
 
-    /// Writes into `reading` how the object `ono` is set, without limits. `kind` is 1 for a state, 2 for a position, 3
-    /// for a Boolean and 4 for an integer. With it come whether the value is below 0 (`negative`, 0 or 1), and its
-    /// absolute value (`magnitude`: 1 or 2 for a state, 0 or 1 for a Boolean). Returns `Done`. `NotStarted` before the
-    /// start, or `Nothing` if the object is a block, or no object has the number `ono`: then nothing is written.
+    /// Writes to `reading` how the object `ono` is set, without limits. `kind` is 1 for a state, 2 for a position, 3
+    /// for a Boolean and 4 for an integer. `negative` is 1 if the value is below 0, and otherwise 0. `magnitude` is the
+    /// number without its sign: 1 or 2 for a state, 0 or 1 for a Boolean. Returns `Done`. `NotStarted` before the
+    /// start, or `Nothing` if the object is a block or no object has the number `ono`: then nothing is written.
     pub fn reading(&self, ono: u32, reading: &mut Reading) -> Answer
         ensures writes { (w : DeviceSizes) (T : List Object) (E : List Event) → RunsBehind w self.now T E →
             WritesSetting (setting_at (state_after w T E).tree ono) reading.new (answer_number result) }
@@ -750,7 +764,8 @@ fn sizes_for(window: u8, peers: u8, packets: usize) -> Option<Sizes>
     Some(Sizes { window, peers })
 }
 
-/// An empty outbox with room for `packets` packets, some 1,480 bytes each. `None` if memory was refused.
+/// Makes an empty outbox with room for `packets` packets, some 1,480 bytes each, and takes the memory for them. `None`
+/// if that memory was refused.
 pub fn room_for(alloc: Global, packets: usize) -> Option<BoundedOutbox>
     ensures { IfSome result (λ outbox. outbox ≡ first_packets packets []) }
 {

@@ -8,7 +8,7 @@ use crate::device_slot::DeviceSlot;
 use crate::parts::Parts;
 use std::alloc::Global;
 
-/// A handle, in storage that C gives. Zeroed, it is closed.
+/// The struct of a device that C owns (`struct oca_device`): open with a device, or closed. Zeroed, it is closed.
 #[repr(C)]
 #[derive(Drop)]
 pub struct DeviceHandle {
@@ -20,7 +20,8 @@ pub struct DeviceHandle {
 const _: () = prove!(std::mem::size_of::<DeviceHandle>() == 16);
 
 impl DeviceHandle {
-    /// Returns the device of the handle, which is then closed. `None` if it was closed already.
+    /// Takes the device out of the struct, which is then closed. `None` if it was closed already. No memory is taken or
+    /// freed. [`put`](DeviceHandle::put) puts the device back.
     pub fn take(&mut self, alloc: Global) -> Option<Box<DeviceBehind>>
         ensures closed { self.new.slot.inner ≡ None }
         ensures was { MatchOption result (self.old.slot.inner ≡ None) (λ b. self.old.slot.inner ≡ Some b.value) }
@@ -37,16 +38,16 @@ impl DeviceHandle {
         }
     }
 
-    /// Closes the handle, and frees the memory of its device. A closed one stays closed.
+    /// Closes the struct, and frees the memory of its device. A closed struct stays closed.
     pub fn close(&mut self, alloc: Global)
         ensures { self.new.slot.inner ≡ None }
     {
         drop(self.take(alloc));
     }
 
-    /// Puts back a device (`behind`) for which a start was tried; `answer` is how the start ended. The handle must be
-    /// closed (a premise). If the answer is `NoMemory`, the objects are lost: the device is dropped and the handle
-    /// stays closed. Otherwise the handle is then open.
+    /// Puts back a device (`behind`) after a try to start it; `answer` is how the try ended. The struct must be closed
+    /// (a premise). If the answer is `NoMemory`, the objects are lost: the device is dropped, and the struct stays
+    /// closed. Otherwise the struct is then open.
     pub fn put_started(&mut self, behind: Box<DeviceBehind>, answer: Answer)
         requires { self.old.slot.inner ≡ None }
         ensures { self.new.slot.inner ≡ left_by_start answer behind.value }
@@ -57,7 +58,7 @@ impl DeviceHandle {
         }
     }
 
-    /// Makes this the device of the handle, which is then open.
+    /// Makes `behind` the device of the struct, which is then open. A device that was in the struct is dropped.
     pub fn put(&mut self, behind: Box<DeviceBehind>)
         ensures { self.new.slot.inner ≡ Some behind.value }
     {

@@ -8,7 +8,7 @@ use crate::parts::Parts;
 use std::alloc::Global;
 use std::marker::Model;
 
-/// The owner of what is behind a handle, or nothing.
+/// The owner of the device of a struct of C, or of nothing.
 #[repr(C)]
 #[derive(Drop)]
 pub struct DeviceSlot {
@@ -22,7 +22,7 @@ impl Model for DeviceSlot {
 }
 
 impl DeviceSlot {
-    /// A slot that owns nothing.
+    /// Makes a slot that owns nothing. No memory is taken.
     pub fn empty(alloc: Global) -> DeviceSlot
         ensures { result.inner ≡ None }
     {
@@ -32,7 +32,7 @@ impl DeviceSlot {
         }
     }
 
-    /// A slot that owns what these parts of a box own.
+    /// Makes a slot that owns the device of the box with these parts. No memory is taken.
     pub fn of_parts(parts: Parts<DeviceBehind, Global>) -> DeviceSlot
         ensures { result.inner ≡ Some parts.value }
     {
@@ -43,7 +43,7 @@ impl DeviceSlot {
         }
     }
 
-    /// The parts of the box that the slot owns. The slot must own one (a premise).
+    /// Returns the parts of the box that the slot owns. The slot must own one (a premise).
     pub fn into_parts(self) -> Parts<DeviceBehind, Global>
         requires { is_some self.inner ≡ true }
         ensures { self.inner ≡ Some result.value }

@@ -8,9 +8,10 @@ use crate::device_handle::DeviceHandle;
 use oca_tree::Value;
 use std::alloc::Global;
 
-/// Sets an object at the local front panel of the device of a handle. Returns the number of an [`Answer`]; if it is not
-/// `Done`, nothing is changed. `Closed` if the handle is closed, otherwise the answers of
-/// [`DeviceBehind::set`](crate::device::DeviceBehind::set).
+/// Sets an object at the local front panel of the device of the struct `handle`. Returns the number of an [`Answer`]:
+/// `Done`. Otherwise the first of these that applies, and then nothing is changed. `Closed` if the device is closed,
+/// `NotStarted` before its start, then `NoObject`, `NoSetting`, `OtherKind` or `OutOfRange` as
+/// [`DeviceBehind::set`](crate::device::DeviceBehind::set) says.
 pub fn set(alloc: Global, handle: &mut DeviceHandle, ono: u32, value: Value) -> u32
     ensures closed { RefusesClosed handle.old.slot.inner handle.new.slot.inner result }
     ensures building { RefusesBuilding handle.old.slot.inner handle.new.slot.inner result }
@@ -26,9 +27,10 @@ pub fn set(alloc: Global, handle: &mut DeviceHandle, ono: u32, value: Value) -> 
     answer.number()
 }
 
-/// Sets an actuator of integers at the local front panel of the device of a handle. Returns the number of an
-/// [`Answer`]; if it is not `Done`, nothing is changed. `Closed` if the handle is closed, otherwise the answers of
-/// [`DeviceBehind::set_integer`](crate::device::DeviceBehind::set_integer).
+/// Sets an actuator of integers at the local front panel of the device of the struct `handle`. Returns the number of an
+/// [`Answer`]: `Done`. Otherwise the first of these that applies, and then nothing is changed. `Closed` if the device
+/// is closed, `NotStarted` before its start, then `NoObject`, `NoSetting`, `OtherKind` or `OutOfRange` as
+/// [`DeviceBehind::set_integer`](crate::device::DeviceBehind::set_integer) says.
 pub fn set_integer(alloc: Global, handle: &mut DeviceHandle, ono: u32, number: i128) -> u32
     ensures closed { RefusesClosed handle.old.slot.inner handle.new.slot.inner result }
     ensures building { RefusesBuilding handle.old.slot.inner handle.new.slot.inner result }

@@ -34,9 +34,10 @@ fn has_integers(class: Class) -> bool
     }
 }
 
-/// The value of an object of this class by the number of its state: of a mute 1 Muted and 2 Unmuted, of a polarity 1
-/// NonInverted and 2 Inverted. `class` is `None` if there is no such object. Refusals: `NoObject` if `class` is `None`.
-/// `NoSetting` for a block. `OtherKind` for a class without states. `OutOfRange` if `state` is neither 1 nor 2.
+/// Returns the value of an object of the class `class` by the number of its state: of a mute 1 Muted and 2 Unmuted, of
+/// a polarity 1 NonInverted and 2 Inverted (AES70-2). `class` is `None` if there is no such object. Refusals, the first
+/// that applies: `NoObject` if `class` is `None`. `NoSetting` for a block. `OtherKind` for a class without states.
+/// `OutOfRange` if `state` is neither 1 nor 2.
 pub fn state_at(class: Option<Class>, state: u8) -> Result<Value, SetFault>
     ensures { FindsWith state_in has_states class state result }
 {
@@ -49,9 +50,10 @@ pub fn state_at(class: Option<Class>, state: u8) -> Result<Value, SetFault>
     }
 }
 
-/// The value of an object of this class with this integer. `class` is `None` if there is no such object. Refusals:
-/// `NoObject` if `class` is `None`. `NoSetting` for a block. `OtherKind` for a class that is not one of integers.
-/// `OutOfRange` for a number outside the class's type.
+/// Returns the value of an object of the class `class` with this integer. `class` is `None` if there is no such object.
+/// Refusals, the first that applies: `NoObject` if `class` is `None`. `NoSetting` for a block. `OtherKind` for a class
+/// that is not one of integers. `OutOfRange` for a number outside the class's type. The limits of the object are not
+/// checked.
 pub fn integer_at(class: Option<Class>, number: i128) -> Result<Value, SetFault>
     ensures { FindsWith integer_in has_integers class number result }
 {

@@ -5,8 +5,8 @@ ghost use Rattle.oca_calls.specs.Storings.{WaitsAsKept};
 
 use oca_tree::law_of_copies;
 
-/// Law: take the struct that describes an object of a device. An object that is added by this struct is the same
-/// object, except that it is not locked and that its hardware does not refuse. The function does nothing at run time.
+/// Law: the struct that describes an object of a device makes the same object again when it is added. The new object is
+/// not locked, and its hardware does not refuse. The function does nothing at run time.
 pub fn law_of_specs()
     ensures { WrittenMakesAgain }
 {
@@ -20,8 +20,8 @@ pub fn law_of_waits()
     ensures { WaitsAsKept }
 {}
 
-/// Law: take the word that is written for a value. Read as a word of the value's class, it gives this value again. The
-/// function does nothing at run time.
+/// Law: the word that is written for a value, read as a word of the value's class, gives this value again. The function
+/// does nothing at run time.
 #[tactic(auto, using(crate::proofs::WordsAgain::read_back))]
 pub fn law_of_words()
     ensures { WordsAreReadBack }

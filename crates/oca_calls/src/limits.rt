@@ -97,10 +97,10 @@ fn uint64_in(value: Option<Value>) -> Option<u64>
     }
 }
 
-/// The reading that these words hold. `None` if the words of the value hold no value ([`ValueWords::value`]). `None`
-/// also if the value is an integer, and its least or its greatest is not a value of the same class. For values of other
-/// classes the limits in the words are ignored; a switch's reading has the position as its least and as its greatest.
-/// Whether an integer lies within its limits is not checked.
+/// Returns the reading that the words of a struct for C hold. `None` if the words of the value hold no value
+/// ([`ValueWords::value`]). `None` also if the value is an integer, and its least or its greatest is not a value of the
+/// same class. For other classes the limits in the words are ignored; a switch's reading has the position as its least
+/// and as its greatest. Whether an integer lies within its limits is not checked.
 pub fn reading_of(words: &ReadingWords) -> Option<Reading>
     ensures { AreReadingOf words.now result }
 {

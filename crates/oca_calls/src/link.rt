@@ -18,20 +18,21 @@ use crate::words::put_front;
 use oca_control::{Due, Link, Reception, is_late};
 use oca_types::{Handle, MOST_BYTES, MOST_PARAMETER_BYTES, MethodId, Ono, Packet, Peer};
 
-/// A link.
+/// A link as the calls for C have it.
 #[derive(Drop)]
 pub struct LinkBehind {
     pub link: Link,
 }
 
 impl LinkBehind {
-    /// Submits a command at the moment `now`, in milliseconds of the caller's clock, and writes its handle into
-    /// `handle`. `target` is the number of the object, `method` has the method's DefLevel and MethodIndex, `count` is
-    /// ParamCount, and `params` are the encoded parameters. Returns the number of an answer, always `Done`. If the link
-    /// refuses the command, it is the first of these that applies, and then nothing is changed or written. `Lost` if
-    /// the link is lost. `HandlesSpent` after the handle 4294967295. `SpanFull` if the next handle is not below the
-    /// lowest one whose answer was not taken yet, plus the span. `TooLong` if the parameters have more than 1,445
-    /// bytes.
+    /// Submits a command at the moment `now`, in milliseconds of the caller's clock, and writes its handle to `handle`.
+    /// `target` is the number of the object, `method` has the method's DefLevel and MethodIndex (AES70-2), `count` is
+    /// ParamCount, and `params` are the encoded parameters. Nothing is sent.
+    ///
+    /// Returns the number of an answer: `Done`. Otherwise the first of these that applies, and then nothing is changed
+    /// or written. `Lost` if the link is lost. `HandlesSpent` if a command has the handle 4294967295 already.
+    /// `SpanFull` if the next handle is not below the lowest handle whose answer was not taken yet, plus the span.
+    /// `TooLong` if the parameters have more than 1,445 bytes.
     pub fn submit(
         &mut self,
         target: Ono,
@@ -69,10 +70,10 @@ impl LinkBehind {
     }
 
     /// Puts the next packet that is due at the moment `now`, in milliseconds of the caller's clock, to the front of
-    /// `out`. Each call puts one packet there: call again until `kind` is 0 or 3. `len` becomes the size of the packet,
-    /// at most 1,472 bytes, and 0 if there is none. `kind` becomes 0 if nothing is due, 1 for a command, 2 for a
-    /// keep-alive, 3 if the link is lost. `handle` becomes the handle of the command, or 0 if no command is due. A
-    /// moment earlier than the latest one so far counts as that latest one. Returns the number of an answer: `Done`.
+    /// `out`, for the caller to send. Call it until `kind` is 0 or 3. `len` becomes the size of the packet, at most
+    /// 1,472 bytes, and 0 if there is none. `kind` becomes 0 if nothing is due, 1 for a command, 2 for a keep-alive,
+    /// and 3 if the link is lost. `handle` becomes the handle of the command, or 0 if no command is due. A moment
+    /// earlier than the latest one so far is taken as that latest one. Returns the number of an answer: `Done`.
     /// `TooSmall` if `out` has fewer than 1,472 bytes: then nothing is changed or written.
     pub fn due(
         &mut self,
@@ -103,9 +104,9 @@ impl LinkBehind {
     }
 
     /// Handles a datagram that came from a peer at the moment `now`, in milliseconds of the caller's clock. `kind`
-    /// becomes 2 if the datagram came from another address or port than the device's. Otherwise it becomes 3 if the
-    /// datagram is not well-formed. Otherwise it becomes 1 if commands got their first answer in it, and 0 if none did.
-    /// `answered` becomes how many commands got theirs: 0 to 32.
+    /// becomes 2 if the datagram came from another address or port than the device's. Otherwise 3 if it is not
+    /// well-formed (AES70-3). Otherwise 1 if commands got their first answer in it, and 0 if none did. `answered`
+    /// becomes how many commands got theirs: 0 to 32.
     ///
     /// An answer to a command in flight is stored, even if the link is lost. If `kind` becomes 2 or 3, only the link's
     /// clock is changed. Returns the number of an answer, always `Done`.
@@ -129,10 +130,11 @@ impl LinkBehind {
         Answer::Done.number()
     }
 
-    /// Takes the answer under the handle `handle`, and removes the command. Writes the answer's status into `status`,
-    /// its ParamCount into `count`, its parameters to the front of `out`, and their size in bytes into `len`. Returns
-    /// the number of an answer: `Done`. `TooSmall` if `out` has fewer than 1,452 bytes, or `Nothing` if there is no
-    /// answer under the handle: then nothing is changed or written.
+    /// Takes the answer under the handle `handle`, and removes the command. Writes the number of the answer's status to
+    /// `status` (AES70-2, OcaStatus), its ParamCount to `count`, its parameters to the front of `out`, and their size
+    /// in bytes to `len`. Returns the number of an answer: `Done`. Otherwise the first of these that applies, and then
+    /// nothing is changed or written. `TooSmall` if `out` has fewer than 1,452 bytes. `Nothing` if no answer is there
+    /// under the handle.
     pub fn take(
         &mut self,
         handle: u32,
@@ -162,9 +164,9 @@ impl LinkBehind {
         }
     }
 
-    /// Writes into `moment` the earliest moment at which something is due or the link is lost. This moment is in
-    /// milliseconds of the caller's clock, and not before the latest moment that the link was given. Returns the number
-    /// of an answer: `Done`. `Nothing` if the moment lies beyond 64 bits: then nothing is written.
+    /// Writes to `moment` the earliest moment at which something is due or the link is lost, in milliseconds of the
+    /// caller's clock. The moment is not before the latest one that the link was given. Returns the number of an
+    /// answer: `Done`. `Nothing` if the moment does not fit 64 bits: then nothing is written.
     pub fn next_due(&self, moment: &mut u64) -> u32
         ensures writes { WritesNextDue result moment.new self.now.link }
         ensures unwritten { (result ≡ 0) ⊎ (moment.new ≡ moment.old) }
@@ -178,8 +180,8 @@ impl LinkBehind {
         }
     }
 
-    /// Writes into `handle` the lowest handle whose answer came and was not taken yet. Returns the number of an answer:
-    /// `Done`. `Nothing` if no answer waits to be taken: then nothing is written.
+    /// Writes to `handle` the lowest handle whose answer came and was not taken yet. The answer stays. Returns the
+    /// number of an answer: `Done`. `Nothing` if no answer waits: then nothing is written.
     pub fn answered(&self, handle: &mut u32) -> u32
         ensures writes { WritesNumber result handle.new (first_answered self.now.link.untaken) }
         ensures unwritten { (result ≡ 0) ⊎ (handle.new ≡ handle.old) }
@@ -193,8 +195,9 @@ impl LinkBehind {
         }
     }
 
-    /// Writes into `in_flight` whether the command under the handle `handle` was submitted and has no answer yet: false
-    /// also for a handle that no command has. Returns the number of an answer, always `Done`.
+    /// Writes to `in_flight` whether the command under the handle `handle` was submitted and has no answer yet. False
+    /// for a command whose answer came and was not taken, and for a handle that no command has. Returns the number of
+    /// an answer, always `Done`.
     pub fn is_in_flight(&self, handle: u32, in_flight: &mut bool) -> u32
         ensures { (result ≡ 0) × (in_flight.new ≡ list_any (waits handle) self.now.link.untaken) }
     {
@@ -202,8 +205,8 @@ impl LinkBehind {
         Answer::Done.number()
     }
 
-    /// Writes into `handle` the handle that the next command gets. Returns the number of an answer: `Done`. `Nothing`
-    /// after the last handle, 4294967295: then nothing is written.
+    /// Writes to `handle` the handle that the next command gets. Returns the number of an answer: `Done`. `Nothing`
+    /// once a command has the handle 4294967295: then nothing is written.
     pub fn next_handle(&self, handle: &mut u32) -> u32
         ensures writes { WritesNumber result handle.new self.now.link.next }
         ensures unwritten { (result ≡ 0) ⊎ (handle.new ≡ handle.old) }
@@ -217,7 +220,7 @@ impl LinkBehind {
         }
     }
 
-    /// Writes into `moment` the moment, in milliseconds of the caller's clock, at which the last well-formed datagram
+    /// Writes to `moment` the moment, in milliseconds of the caller's clock, at which the last well-formed datagram
     /// came from the device. Before the first one it is the moment of the opening. Returns the number of an answer,
     /// always `Done`.
     pub fn last_heard(&self, moment: &mut u64) -> u32
@@ -227,8 +230,8 @@ impl LinkBehind {
         Answer::Done.number()
     }
 
-    /// Writes into `lost` whether the link is lost: a command got no answer to 20 transmissions. Returns the number of
-    /// an answer, always `Done`.
+    /// Writes to `lost` whether the link is lost: a command got no answer to 20 transmissions. False at first. A lost
+    /// link stays lost. Returns the number of an answer, always `Done`.
     pub fn is_lost(&self, lost: &mut bool) -> u32
         ensures { (result ≡ 0) × (lost.new ≡ self.now.link.lost) }
     {
@@ -236,9 +239,9 @@ impl LinkBehind {
         Answer::Done.number()
     }
 
-    /// Writes into `late` whether the link is late at the moment `now`, in milliseconds of the caller's clock: a
-    /// command is unanswered that was submitted more than 15,000 ms before. Whether it was sent does not matter.
-    /// Returns the number of an answer, always `Done`.
+    /// Writes to `late` whether the link is late at the moment `now`, in milliseconds of the caller's clock: a command
+    /// was submitted more than 15,000 ms ago and has no answer, whether it was sent or not (*profile*). Returns the
+    /// number of an answer, always `Done`.
     pub fn is_late(&self, now: u64, late: &mut bool) -> u32
         ensures { (result ≡ 0) × (late.new ≡ late_at now self.now.link) }
     {

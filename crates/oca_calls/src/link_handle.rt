@@ -6,7 +6,7 @@ use crate::link_slot::LinkSlot;
 use crate::parts::Parts;
 use std::alloc::Global;
 
-/// A handle, in storage that C gives. Zeroed, it is closed.
+/// The struct of a link that C owns (`struct oca_link`): open with a link, or closed. Zeroed, it is closed.
 #[repr(C)]
 #[derive(Drop)]
 pub struct LinkHandle {
@@ -18,7 +18,8 @@ pub struct LinkHandle {
 const _: () = prove!(std::mem::size_of::<LinkHandle>() == 16);
 
 impl LinkHandle {
-    /// Returns the link of the handle, which is then closed. `None` if it was closed already.
+    /// Takes the link out of the struct, which is then closed. `None` if it was closed already. No memory is taken or
+    /// freed. [`put`](LinkHandle::put) puts the link back.
     pub fn take(&mut self, alloc: Global) -> Option<Box<LinkBehind>>
         ensures closed { self.new.slot.inner ≡ None }
         ensures was { MatchOption result (self.old.slot.inner ≡ None) (λ b. self.old.slot.inner ≡ Some b.value) }
@@ -35,14 +36,14 @@ impl LinkHandle {
         }
     }
 
-    /// Closes the handle, and frees the memory of its link. A closed one stays closed.
+    /// Closes the struct, and frees the memory of its link. A closed struct stays closed.
     pub fn close(&mut self, alloc: Global)
         ensures { self.new.slot.inner ≡ None }
     {
         drop(self.take(alloc));
     }
 
-    /// Makes this the link of the handle, which is then open.
+    /// Makes `behind` the link of the struct, which is then open. A link that was in the struct is dropped.
     pub fn put(&mut self, behind: Box<LinkBehind>)
         ensures { self.new.slot.inner ≡ Some behind.value }
     {

@@ -8,7 +8,7 @@ use crate::parts::Parts;
 use std::alloc::Global;
 use std::marker::Model;
 
-/// The owner of what is behind a handle, or nothing.
+/// The owner of the link of a struct of C, or of nothing.
 #[repr(C)]
 #[derive(Drop)]
 pub struct LinkSlot {
@@ -22,7 +22,7 @@ impl Model for LinkSlot {
 }
 
 impl LinkSlot {
-    /// A slot that owns nothing.
+    /// Makes a slot that owns nothing. No memory is taken.
     pub fn empty(alloc: Global) -> LinkSlot
         ensures { result.inner ≡ None }
     {
@@ -32,7 +32,7 @@ impl LinkSlot {
         }
     }
 
-    /// A slot that owns what these parts of a box own.
+    /// Makes a slot that owns the link of the box with these parts. No memory is taken.
     pub fn of_parts(parts: Parts<LinkBehind, Global>) -> LinkSlot
         ensures { result.inner ≡ Some parts.value }
     {
@@ -43,7 +43,7 @@ impl LinkSlot {
         }
     }
 
-    /// The parts of the box that the slot owns. The slot must own one (a premise).
+    /// Returns the parts of the box that the slot owns. The slot must own one (a premise).
     pub fn into_parts(self) -> Parts<LinkBehind, Global>
         requires { is_some self.inner ≡ true }
         ensures { self.inner ≡ Some result.value }

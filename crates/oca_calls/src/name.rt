@@ -8,10 +8,10 @@ use arrayvec::ArrayVec;
 use oca_types::Text;
 use std::str;
 
-/// How many positions a switch has at most.
+/// The most positions of a switch: 16 (*profile*).
 pub const MOST_POSITIONS: usize = 16;
 
-/// A name: how many bytes it has, at most 64, and they at the front of `text`.
+/// A text for C (`struct oca_name`): how many bytes it has, at most 64, and the bytes at the front of `text`.
 #[repr(C)]
 #[derive(Clone, Copy)]
 pub struct Name {
@@ -34,7 +34,7 @@ impl Default for Name {
 }
 
 impl Name {
-    /// This text as a struct for C. It must have at most 64 bytes (a premise).
+    /// Returns this text as a struct for C. The text must have at most 64 bytes (a premise).
     pub fn of(text: &str) -> Name
         requires { length text.now ≤ 64 }
         ensures text { name_bytes result ≡ text.now }
@@ -49,7 +49,8 @@ impl Name {
     }
 }
 
-/// These texts as structs for C, at the front of an array of 16. There must be at most 16 (a premise).
+/// Returns these texts as structs for C, at the front of an array of 16; the others are empty. There must be at most 16
+/// (a premise).
 pub fn names_with(texts: &[Text]) -> [Name; MOST_POSITIONS]
     requires { length texts.now ≤ 16 }
     ensures texts { map name_bytes (take (length texts.now) result) ≡ texts.now }
@@ -64,7 +65,7 @@ pub fn names_with(texts: &[Text]) -> [Name; MOST_POSITIONS]
     place
 }
 
-/// The text of a name. `None` if the name says that it has more than 64 bytes, or its bytes are not UTF-8.
+/// Returns the text of a struct of C. `None` if its size is above 64, or its bytes are not UTF-8.
 pub fn text_of(name: &Name) -> Option<&str>
     ensures text { IfSome result (λ text. IsName name.now × (text.now ≡ name_bytes name.now)) }
     ensures none { IfNone result (IsName name.now → ⊥) }
@@ -73,8 +74,8 @@ pub fn text_of(name: &Name) -> Option<&str>
     str::from_utf8(bytes).ok()
 }
 
-/// The texts of these names. There must be at most 16 (a premise). `None` if a name says that it has more than 64
-/// bytes, or its bytes are not UTF-8.
+/// Returns the texts of these structs of C, in their order. There must be at most 16 (a premise). `None` if the size of
+/// one is above 64, or its bytes are not UTF-8.
 pub fn texts_of(names: &[Name]) -> Option<ArrayVec<&str, MOST_POSITIONS>>
     requires { length names.now ≤ 16 }
     ensures texts { IfSome result (λ texts. AllByRecursion IsName names.now

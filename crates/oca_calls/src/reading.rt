@@ -4,7 +4,9 @@ ghost use Rattle.oca_calls.specs.Outputs.{FitsReading, reading_of};
 
 use oca_tree::Setting;
 
-/// A setting: `kind` is 1 for a state, 2 for a position, 3 for a truth and 4 for a number; `negative` is 0 or 1.
+/// How an object is set, for C (`struct oca_setting`): `kind` is 1 for a state, 2 for a position, 3 for a Boolean and 4
+/// for an integer. `negative` is 1 if the number is below 0, and otherwise 0. `magnitude` is the number without its
+/// sign.
 #[repr(C)]
 #[derive(Clone, Copy)]
 pub struct Reading {
@@ -14,7 +16,8 @@ pub struct Reading {
 }
 
 impl Reading {
-    /// This setting as a struct for C. `None` if its number needs more than 64 bits, which that of no object does.
+    /// Returns this setting as a struct for C. `None` if its number needs more than 64 bits, which no setting of an
+    /// object does.
     pub fn of(setting: Setting) -> Option<Reading>
         ensures writes { IfSome result (λ reading. reading ≡ reading_of setting) }
         ensures fits { FitsReading setting → IsSome result }

@@ -11,12 +11,12 @@ use arrayvec::ArrayVec;
 use oca_model::Reading;
 use oca_tree::Kind;
 
-/// How many bytes the struct has.
+/// The size of [`SpecWords`] in bytes: 1,248.
 pub const SPEC_SIZE: u32 = 1248;
 
-/// An object: whether it can be locked, its class with its setting and limits, its role, and what was stored of it: its
-/// label, whether it is enabled, and of a switch the names of its positions and which of them are. A byte that is 0
-/// says no, any other yes.
+/// The description of an object, for C (`struct oca_spec`): whether it can be locked, its class with its setting and
+/// limits, its role, and what was stored of it. That is its label, whether it is enabled, and of a switch the names of
+/// its positions and which positions are enabled. A byte that is 0 is false, any other byte is true.
 #[repr(C)]
 #[derive(Clone, Copy)]
 pub struct SpecWords {
@@ -35,7 +35,8 @@ pub struct SpecWords {
 const _: () = prove!(std::mem::size_of::<SpecWords>() == 1248);
 
 impl SpecWords {
-    /// Whether the struct is of this version: it says its own size, and the bytes that a later version may use are 0.
+    /// Whether the struct is of this version: its field `size` is 1,248, and the bytes that a later version may use are
+    /// 0.
     pub fn is_of_this_version(&self) -> bool
         ensures { IsTrue result ↔ IsOfThisVersion self.now }
     {
@@ -43,7 +44,8 @@ impl SpecWords {
     }
 }
 
-/// These bytes as flags: 0 is false, any other byte is true. There must be at most 16 (a premise).
+/// Returns these bytes as flags, in their order: 0 is false, any other byte is true. There must be at most 16 (a
+/// premise).
 pub fn flags_of(bytes: &[u8]) -> ArrayVec<bool, MOST_POSITIONS>
     requires { length bytes.now ≤ 16 }
     ensures { result.items ≡ map is_yes bytes.now }
@@ -55,8 +57,8 @@ pub fn flags_of(bytes: &[u8]) -> ArrayVec<bool, MOST_POSITIONS>
     flags
 }
 
-/// These flags as bytes, at the front of an array of 16: 0 is false and 1 is true; the bytes after them are 0. There
-/// must be at most 16 (a premise).
+/// Returns these flags as bytes, at the front of an array of 16: 0 is false and 1 is true. The bytes after them are 0.
+/// There must be at most 16 (a premise).
 pub fn bytes_of(flags: &[bool]) -> [u8; MOST_POSITIONS]
     requires { length flags.now ≤ 16 }
     ensures { map is_yes (take (length flags.now) result) ≡ flags.now }
@@ -125,9 +127,9 @@ fn kind_with<'a>(reading: Reading, names: &'a [&'a str]) -> Kind<'a>
     }
 }
 
-/// The kind of object that `words` hold: its class, its value and its limits. `names` are the names of a switch's
-/// positions; other kinds ignore them. If the class number is 1, it is a block, and the rest of `words` is not looked
-/// at. Otherwise `None` if `words` hold no reading.
+/// Returns the kind of object that `words` hold: its class, its value and its limits. `names` are the names of a
+/// switch's positions; other kinds ignore them. If the class number is 1, it is a block, and the rest of `words` is not
+/// looked at. Otherwise `None` if `words` hold no reading.
 pub fn kind_of<'a>(words: &ReadingWords, names: &'a [&'a str]) -> Option<Kind<'a>>
     ensures { GivesKind words.now (map (λ name. name.now) names.now) result }
 {
@@ -138,7 +140,7 @@ pub fn kind_of<'a>(words: &ReadingWords, names: &'a [&'a str]) -> Option<Kind<'a
     Some(kind_with(reading, names))
 }
 
-/// The flags if the object is a switch. `None` for any other kind of object, which has no positions.
+/// Returns `flags` if the object is a switch. `None` for an object of another kind, which has no positions.
 pub fn flags_for<'a>(kind: &Kind<'_>, flags: &'a [bool]) -> Option<&'a [bool]>
     ensures { option_copied result ≡ flags_for kind.now flags.now }
 {

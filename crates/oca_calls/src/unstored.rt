@@ -12,7 +12,7 @@ pub struct Unstored {
 }
 
 impl Unstored {
-    /// The state in which everything that was written is stored, and no answers wait.
+    /// Returns the state in which everything that was written is stored, and no answers wait.
     pub fn none() -> Unstored
         ensures { result ≡ all_stored }
     {
@@ -22,8 +22,8 @@ impl Unstored {
         }
     }
 
-    /// The state after a datagram that wrote to an object or not (`wrote`), and that held `duplicates` duplicates. The
-    /// answers wait if the datagram wrote. The answers also wait if the datagram held a duplicate while something that
+    /// Returns the state after a datagram that wrote to an object or not (`wrote`), and that had `duplicates`
+    /// duplicates. The answers wait if the datagram wrote. They also wait if it had a duplicate while something that
     /// was written is not stored.
     pub fn after(self, wrote: bool, duplicates: u32) -> Unstored
         ensures { result ≡ unstored_after self wrote duplicates }
@@ -35,14 +35,14 @@ impl Unstored {
     }
 }
 
-/// Whether the last datagram wrote to an object.
+/// Whether the last datagram wrote to an object. `false` before the first datagram.
 pub fn has_written(device: &Device) -> bool
     ensures { result ≡ not (length device.now.written == 0) }
 {
     !device.written().is_empty()
 }
 
-/// How many duplicates the datagram with this verdict held; 0 if it was malformed or found no room.
+/// Returns how many duplicates the datagram with this verdict had. 0 if it was malformed or found no room.
 pub fn duplicates_in(verdict: Verdict) -> u32
     ensures { result ≡ duplicates_of verdict }
 {

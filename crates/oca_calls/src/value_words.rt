@@ -6,8 +6,9 @@ use crate::words::put_front;
 use oca_model::{MuteState, PolarityState, Reading, Value, ValueRequest};
 use oca_types::Class;
 
-/// A value: the number of its class, 2 for a mute to 13 for a Uint64, and its number in 64 bits: of a state, a
-/// position, a truth (0 or 1) or a setting, a signed one in two's complement. `zero` is not looked at.
+/// A value for C (`struct oca_value`): the number of its class, 2 for a mute to 13 for a Uint64, and its number in 64
+/// bits. That is a state (1 or 2), a position, a Boolean (0 or 1) or an integer, a signed one in two's complement.
+/// `zero` is not looked at.
 #[repr(C)]
 #[derive(Clone, Copy)]
 pub struct ValueWords {
@@ -16,8 +17,8 @@ pub struct ValueWords {
     pub bits: u64,
 }
 
-/// A value with the least and the greatest that the object can be set to. Where its class has no limits both are the
-/// value.
+/// A value for C with the least and the greatest to which the object can be set (`struct oca_reading`). For a class
+/// without limits both are the value.
 #[repr(C)]
 #[derive(Clone, Copy)]
 pub struct ReadingWords {
@@ -49,7 +50,7 @@ fn unsigned(class_number: u32, number: u64) -> ValueWords
 }
 
 impl ValueWords {
-    /// This value as a struct for C: the number of its class, and its number in 64 bits.
+    /// Returns this value as a struct for C: the number of its class, 0, and its number in 64 bits.
     pub fn of(value: Value) -> ValueWords
         ensures { result ≡ Rattle.oca_calls.specs.CValues.words_of value }
     {
@@ -69,9 +70,9 @@ impl ValueWords {
         }
     }
 
-    /// The value that these words hold. `None` if `class_number` is not 2 to 13, or the bits are no number of such a
-    /// value. They must be 1 or 2 for a state, 0 or 1 for a Boolean, and within the class's type for a position or an
-    /// integer.
+    /// Returns the value that these words hold. `None` if `class_number` is not 2 to 13, or the bits are no number of
+    /// such a value. They must be 1 or 2 for a state, 0 or 1 for a Boolean, and within the class's type for a position
+    /// or an integer.
     pub fn value(self) -> Option<Value>
         ensures { AreWordsOf self result }
     {
@@ -139,7 +140,8 @@ fn within(value: Value, least: Value, greatest: Value) -> ReadingWords
 }
 
 impl ReadingWords {
-    /// This reading as a struct for C. For a class without limits, both limits are the value.
+    /// Returns this reading as a struct for C: the value, its least and its greatest. For a class without limits both
+    /// limits are the value.
     pub fn of(reading: Reading) -> ReadingWords
         ensures { result ≡ Rattle.oca_calls.specs.CValues.reading_words reading }
     {
@@ -161,8 +163,8 @@ impl ReadingWords {
     }
 }
 
-/// What is asked of an object: a method by its level and index, ParamCount, and how many bytes of parameters there are,
-/// which stand at the front of `params`.
+/// A request that sets or reads a value, for C (`struct oca_request`): the method by its level and index (AES70-2),
+/// ParamCount, and how many bytes of parameters there are, 0 to 8, at the front of `params`.
 #[repr(C)]
 #[derive(Clone, Copy)]
 pub struct RequestWords {
@@ -174,7 +176,8 @@ pub struct RequestWords {
 }
 
 impl RequestWords {
-    /// This request as a struct for C: its method, ParamCount, and its parameters, at most 8 bytes.
+    /// Returns this request as a struct for C: its method, ParamCount, and its parameters, at most 8 bytes. The other
+    /// bytes of `params` are 0.
     pub fn of(request: &ValueRequest) -> RequestWords
         ensures { HasRequestWords request.now result }
     {
@@ -191,7 +194,7 @@ impl RequestWords {
     }
 }
 
-/// The class with this number, 1 for OcaBlock to 13 for OcaUint64Actuator. `None` for any other number.
+/// Returns the class with this number: 1 for OcaBlock to 13 for OcaUint64Actuator. `None` for any other number.
 pub fn class_with(number: u32) -> Option<Class>
     ensures { HasClass number result }
 {

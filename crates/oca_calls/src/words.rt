@@ -11,15 +11,16 @@ use oca_device::Verdict;
 use oca_tree::{LockKind, ObjectInfo};
 use oca_types::{Class, Ono};
 
-/// How many words tell of a verdict.
+/// The number of words of a verdict for C: 7 (`struct oca_verdict`).
 pub const VERDICT_WORDS: usize = 7;
 
-/// How many words tell of an object.
+/// The number of words of an object for C, beside its role: 4 (`struct oca_object`).
 pub const OBJECT_WORDS: usize = 4;
 
-/// The verdict as seven words. For a datagram that was served: 0, four counts of its commands (executed, duplicates,
-/// too old, and those that ask something else under a known handle), and two zeros. For a malformed one: 1, four zeros,
-/// the number of the fault (1 to 9) and its offset in bytes. If there was no room for the sender: 2 and six zeros.
+/// Returns the verdict as seven words for C. For a datagram that was served: 0, four counts of its commands, and two
+/// zeros. The counts are those of commands that were executed, were duplicates, were too old, and asked something else
+/// under the handle of a retained command. For a malformed datagram: 1, four zeros, the number of the fault (1 to 9)
+/// and its offset in bytes. If there was no room for the sender: 2 and six zeros.
 pub fn words_of(verdict: Verdict) -> [u32; VERDICT_WORDS]
     ensures { result ≡ verdict_words verdict }
 {
@@ -43,8 +44,8 @@ pub fn words_of(verdict: Verdict) -> [u32; VERDICT_WORDS]
     }
 }
 
-/// What an object is, as four words. They are its number, its container's number (0 for the root), the number of its
-/// class (1 to 13, [`class_number`]) and the size of its role in bytes.
+/// Returns what an object is, as four words for C: its number, its container's number (0 for the root), the number of
+/// its class (1 to 13, [`class_number`]) and the size of its role in bytes.
 pub fn object_words(object: &ObjectInfo) -> [u32; OBJECT_WORDS]
     ensures { result ≡ object_words object.now }
 {
@@ -57,8 +58,8 @@ pub fn object_words(object: &ObjectInfo) -> [u32; OBJECT_WORDS]
     ]
 }
 
-/// The number of a class in C: 1 OcaBlock, 2 OcaMute, 3 OcaPolarity, 4 OcaSwitch, 5 OcaBooleanActuator. Then 6 to 9 are
-/// OcaInt8Actuator to OcaInt64Actuator, and 10 to 13 are OcaUint8Actuator to OcaUint64Actuator.
+/// Returns the number of a class in C: 1 OcaBlock, 2 OcaMute, 3 OcaPolarity, 4 OcaSwitch, 5 OcaBooleanActuator. 6 to 9
+/// are OcaInt8Actuator to OcaInt64Actuator, and 10 to 13 are OcaUint8Actuator to OcaUint64Actuator.
 pub fn class_number(class: Class) -> u32
     ensures { result ≡ class_number class }
 {
@@ -79,7 +80,8 @@ pub fn class_number(class: Class) -> u32
     }
 }
 
-/// The number of a kind of lock in C. 1 keeps other peers from all access, 2 from all but reading.
+/// Returns the number of a kind of lock in C: 1 for a lock that keeps other peers from all access, 2 for a lock that
+/// lets them read.
 pub fn lock_number(kind: LockKind) -> u32
     ensures { result ≡ lock_number kind }
 {
@@ -89,7 +91,8 @@ pub fn lock_number(kind: LockKind) -> u32
     }
 }
 
-/// Copies words to the front of `place`, as many as it has room for. The rest of `place` stays as it is.
+/// Copies words to the front of `place`, as many as it has room for. The rest of `place` stays as it is. What has no
+/// room is left out.
 pub fn put_words<T: Copy>(words: &[T], place: &mut [T])
     ensures { place.new ≡ put_words words.now place.old }
 {
@@ -109,7 +112,8 @@ pub fn put_numbers(onos: &[Ono], place: &mut [u32])
     }
 }
 
-/// Copies bytes to the front of `place`, which must have room for them (a premise), and returns how many they are.
+/// Copies bytes to the front of `place`, and returns how many they are. `place` must have room for them (a premise).
+/// The rest of `place` stays as it is.
 pub fn put_front(bytes: &[u8], place: &mut [u8]) -> usize
     requires { length bytes.now ≤ length place.old }
     ensures { LiesIn bytes.now place.new result }
@@ -119,8 +123,8 @@ pub fn put_front(bytes: &[u8], place: &mut [u8]) -> usize
     bytes.len()
 }
 
-/// Copies bytes to the front of `place`, and writes into `len` how many they are. Returns `Done`. `TooSmall` if they do
-/// not fit: then only `len` is written.
+/// Copies bytes to the front of `place`, and writes to `len` how many they are. Returns `Done`. `TooSmall` if `place`
+/// has fewer bytes: then only `len` is written.
 pub fn put_bytes(bytes: &[u8], place: &mut [u8], len: &mut usize) -> Answer
     ensures { WritesToBuffer bytes.now place.old place.new len.new (answer_number result) }
 {

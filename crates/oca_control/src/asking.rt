@@ -14,11 +14,19 @@ use crate::turning::turn;
 use oca_net::End;
 use oca_types::{Handle, Request};
 
-/// Sends a command as [`begin`] does, and waits for its answer for at most `turns` turns, as [`wait_for`] does.
+/// Sends one command and waits for its answer, for at most `turns` turns ([`turn`]). Each turn receives once, at a
+/// socket for at most 50 ms, and sends what is due. `request` has the object, the method, ParamCount and the encoded
+/// parameters, which are not checked (AES70-3).
 ///
-/// `Lost` if the link is lost or late before the command is submitted, and `Refused` with the reason if the link
-/// refuses the command otherwise. After these two nothing is changed or sent. All other results are those of
-/// `wait_for`. A command that got no answer stays in the link, and can be waited for again.
+/// - `Answered` with the answer, whatever its status: the command is then removed from the link.
+/// - `Lost` if the link was lost or late before, in which case nothing is changed or sent. `Lost` too if the link
+///   becomes lost, or is found late, before an answer comes.
+/// - `Refused` with `HandlesSpent`, `SpanFull` or `TooLong`, in the cases of [`Link::submit`]. Nothing is changed or
+///   sent.
+/// - `Unanswered` if no answer comes in `turns` turns; with 0 turns the command is sent and not waited for. The command
+///   stays in the link, is sent again, and can be waited for again.
+///
+/// After `Unanswered`, and after a `Lost` in the wait, the device may have carried out the command.
 pub fn ask<E: End>(link: &mut Link, end: &mut E, request: Request<'_>, turns: u32) -> Outcome
     ensures asks { Asks (request_of request.entry) turns link.old result link.new (E.state end.old) (E.state end.new) }
     ensures receives { (E.state end.new).receives < last_u64 →
@@ -31,14 +39,15 @@ pub fn ask<E: End>(link: &mut Link, end: &mut E, request: Request<'_>, turns: u3
 }
 
 /// Submits a command at the end's present moment, sends it at once, and returns its handle. If the end keeps no time,
-/// the moment is the latest that the link was given.
+/// the moment is the latest that the link was given. The call does not wait. `request` has the object, the method,
+/// ParamCount and the encoded parameters, which are not checked (AES70-3).
 ///
-/// All else that is due at this moment is sent too, older commands first. If an older command is due that was sent 20
-/// times, the link becomes lost, and this command is not sent. Otherwise nothing is left to send at this moment
-/// (`law_of_running`).
+/// What else is due at this moment is sent too, older commands first. If an older command that is due was sent 20 times
+/// already, the link becomes lost: the handle is returned, and this command is not sent. Otherwise nothing is left to
+/// send at this moment (`law_of_running`). A send that fails is not reported: the command is due again after 250 ms.
 ///
-/// Refusals, which change nothing and send nothing: `Lost` if the link is late at this moment
-/// ([`is_late`](crate::is_late)), then those of [`submit`](Link::submit).
+/// Refusals, the first that applies, which change and send nothing: `Lost` if the link is late at this moment
+/// ([`is_late`](crate::is_late)) or lost. `HandlesSpent`, `SpanFull` and `TooLong` in the cases of [`Link::submit`].
 pub fn begin<E: End>(
     link: &mut Link,
     end: &mut E,
@@ -62,12 +71,14 @@ pub fn begin<E: End>(
 }
 
 /// Waits for the answer under this handle, for at most `turns` turns ([`turn`]), and takes the answer. Each turn
-/// receives once, at a socket for at most 50 ms, even if the end is closed.
+/// receives once, at a socket for at most 50 ms, also if the end is closed. With 0 turns the call only looks.
 ///
-/// Before each turn, and after the last, the call checks, in this order: `Answered` if the answer is there. `Lost` if
-/// the link is lost, or the last turn found it late. After `turns` turns without either it is `Unanswered`. A handle
-/// that no command has is never answered. After `Unanswered` the command stays in flight: the link still sends it, and
-/// a later wait may take its answer.
+/// Before each turn and after the last, the first that applies:
+/// - `Answered` if the answer is there: the command is then removed from the link.
+/// - `Lost` if the link is lost, or the last turn found it late.
+///
+/// `Unanswered` if neither applies after `turns` turns, as for a handle that no command has. The command then stays in
+/// flight: the link still sends it, and a later wait may take its answer. `Refused` does not come.
 pub fn wait_for<E: End>(link: &mut Link, end: &mut E, handle: Handle, turns: u32) -> Outcome
     ensures waits { Waits handle.0 turns link.old result link.new (E.state end.old) (E.state end.new) }
     ensures receives { (E.state end.new).receives < last_u64 →
@@ -86,18 +97,18 @@ pub fn wait_for<E: End>(link: &mut Link, end: &mut E, handle: Handle, turns: u32
     }
 }
 
-/// Waits until the moment `until`, in milliseconds of the end's clock, for the answer under this handle, and takes the
-/// answer. The present moment is what [`now`](End::now) of the end returns, or the latest moment that the link was
-/// given if that is later.
+/// Waits for the answer under this handle until the moment `until`, in milliseconds of the end's clock, and takes the
+/// answer. Datagrams of other senders do not end the wait. The present moment is what [`now`](End::now) of the end
+/// returns, or the latest moment that the link was given, if that is later.
 ///
-/// Before each turn the call checks, in this order: `Answered` if the answer is there, even if `until` is past. `Lost`
-/// if the link is lost, or the last turn found it late. `Unanswered` if the last turn found the end closed, or the
-/// present moment is `until` or later. A handle that no command has is never answered. `Unanswered` also after
-/// 4,294,967,295 turns, in case the end's clock stands still. After `Unanswered` the command stays in flight, as after
-/// [`wait_for`].
+/// Before each turn ([`turn`]) the first that applies:
+/// - `Answered` if the answer is there, even if `until` is past: the command is then removed from the link.
+/// - `Lost` if the link is lost, or the last turn found it late.
+/// - `Unanswered` if the last turn found the end closed, or the present moment is `until` or later.
 ///
-/// A turn begins only before `until`, and takes at most 50 ms at a socket. Datagrams from other senders do not end the
-/// wait.
+/// A turn begins only before `until`, and takes at most 50 ms at a socket. `Unanswered` also for a handle that no
+/// command has, and after 4,294,967,295 turns, in case the clock stands still. The command then stays in flight, and
+/// can be waited for again.
 pub fn wait_until<E: End>(link: &mut Link, end: &mut E, handle: Handle, until: u64) -> Outcome
     ensures waits { WaitsUntil handle.0 until link.old result link.new (E.state end.old) (E.state end.new) }
     ensures receives { ReceivesInAWait (E.state end.old).receives (E.state end.new).receives }
@@ -118,11 +129,14 @@ pub fn wait_until<E: End>(link: &mut Link, end: &mut E, handle: Handle, until: u
     }
 }
 
-/// Waits for the answer under this handle, as [`wait_until`] does, until `milliseconds` have passed since the present
-/// moment. The present moment is what [`now`](End::now) of the end returns, or the latest moment that the link was
-/// given if that is later. The last turn may end later than that, at a socket by at most 50 ms. If `milliseconds` is 0,
-/// the call looks for the answer once and takes no turn. The results, and what stays after them, are those of
-/// `wait_until`.
+/// Waits for the answer under this handle for at most `milliseconds` from the present moment on, and takes the answer.
+/// The present moment is what [`now`](End::now) of the end returns, or the latest moment that the link was given, if
+/// that is later. The last turn may end later, at a socket by at most 50 ms. With 0 milliseconds the call looks once
+/// and takes no turn.
+///
+/// `Answered` with the answer: the command is then removed from the link. `Lost` if the link is lost or found late, and
+/// no answer is there. `Unanswered` if no answer comes in time, if the end is closed, and for a handle that no command
+/// has: the command then stays in flight, and can be waited for again. The order is that of [`wait_until`].
 pub fn wait_while<E: End>(
     link: &mut Link,
     end: &mut E,
@@ -216,8 +230,8 @@ fn take_one<E: End>(link: &mut Link, end: &mut E) -> bool
     turn(link, end).lost
 }
 
-/// The outcome of a command that the link refuses for this reason: `Lost` if the link is lost, otherwise `Refused` with
-/// the reason.
+/// Returns the outcome of a command that the link refused for the reason `fault`: [`Outcome::Lost`] for
+/// `ControlFault::Lost`, and otherwise [`Outcome::Refused`] with the reason. Nothing is changed.
 pub fn refused(fault: ControlFault) -> Outcome
     ensures { result ≡ refused_by fault }
 {

@@ -15,16 +15,16 @@ use oca_types::{Packet, Peer};
 
 /// Drives a link over an end for at most `turns` turns, and returns how often each thing was done.
 ///
-/// A turn receives once: at a socket for at most 50 ms. A datagram goes to the link. After a datagram, an oversize
-/// datagram, or if none came, everything that is due is sent to the device. [`due`](Link::due) is called until it
-/// returns `Nothing` or `Lost`, and at most once more than the span. A send that fails is counted. After a failed
-/// receive nothing is sent.
+/// A turn receives once: at a socket for at most 50 ms. A datagram goes to the link. After a datagram, after an
+/// oversize datagram, and if none came, everything that is due is sent to the device. A send that fails is counted.
+/// After a failed receive nothing is sent.
 ///
-/// The loop ends after `turns` turns, or after a turn in which `due` returns `Lost`. It also ends if the end is closed,
-/// which does not count as a turn.
+/// The loop ends after `turns` turns, or after a turn in which [`due`](Link::due) returns `Lost`: then `lost` is
+/// `true`. It also ends if the end is closed, which does not count as a turn. With 0 turns nothing is done.
 ///
-/// The call does not check whether the link is late: after a pause of the program it may send a command more than 15 s
-/// after its submit. Use [`turn`](crate::turn) unless the program checks that itself.
+/// The call does not check whether the link is late: after a pause of the program it may send a command more than
+/// 15,000 ms after its submit. Use [`turn`](crate::turn) unless the program checks that itself
+/// ([`is_late`](crate::is_late)).
 pub fn drive<E: End>(link: &mut Link, end: &mut E, turns: u32) -> DriveReport
     ensures driven { DrivesEnd link.old link.new (E.state end.old) (E.state end.new) result }
     ensures turns { result.turns ≤ turns }
@@ -49,12 +49,12 @@ pub fn drive<E: End>(link: &mut Link, end: &mut E, turns: u32) -> DriveReport
 }
 
 /// Sends the device everything that is due at the moment `now`, in milliseconds of the link's clock, and returns how
-/// often each thing was done; `turns` is 0 in it. A moment earlier than the latest one so far counts as that latest
-/// one. Nothing is received. A send that fails is counted.
+/// often each thing was done. `turns` is 0 in the report. A moment earlier than the latest one so far is taken as that
+/// latest one. Nothing is received. A send that fails is counted: its command is due again after 250 ms.
 ///
-/// [`due`](Link::due) is called until it returns `Nothing` or `Lost`, and at most once more than the span. That reaches
-/// every command, since no more commands are in flight than the span (`law_of_histories`, `law_of_sending`). So
-/// afterwards nothing is left to send at that moment, or the link is lost.
+/// Afterwards nothing is left to send at that moment, or the link is lost and `lost` is `true` (`law_of_sending`). A
+/// lost link sends nothing. The call does not check whether the link is late: [`send_in_time`](crate::send_in_time)
+/// does.
 pub fn send_due<E: End>(link: &mut Link, end: &mut E, now: u64) -> DriveReport
     ensures gives { SendsDue now (link.old.span + 1) link.old link.new (E.state end.old) (E.state end.new) result }
     ensures lost { result.lost ≡ link.new.lost }

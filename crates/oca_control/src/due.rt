@@ -1,15 +1,15 @@
 //! What a link sends.
 use oca_types::Handle;
 
-/// What a link sends at a moment.
+/// What [`Link::due`](crate::Link::due) puts into the packet, for the caller to send to the device.
 #[derive(Clone, Copy, Debug, PartialEq, Eq)]
 pub enum Due {
     /// The command of this handle, for the first time or again.
     Send(Handle),
-    /// A keep-alive of 5 seconds.
+    /// A keep-alive with a heartbeat of 5 seconds (AES70-3).
     KeepAlive,
-    /// Nothing.
+    /// Nothing is due: the packet is empty.
     Nothing,
-    /// Nothing, since a command got no answer to 20 transmissions: the link is lost, and stays so.
+    /// The link is lost, since a command got no answer to 20 transmissions. It stays lost. The packet is empty.
     Lost,
 }

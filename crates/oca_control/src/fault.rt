@@ -5,14 +5,16 @@ ghost use Rattle.oca_control.specs.FaultWords.{control_fault_words};
 use std::error::Error;
 use std::fmt::{self, Display, Formatter};
 
-/// Why a command is not submitted, in the order of the tests. The numbers are promised (*profile*).
+/// Why a link refuses a command, in the order of the tests: the first that applies is returned. The numbers are
+/// promised (*profile*).
 #[derive(Clone, Copy, Debug, PartialEq, Eq)]
 pub enum ControlFault {
-    /// The link is lost.
+    /// The link is lost: a command got no answer to 20 transmissions. Calls over an end also return it for a link that
+    /// is late.
     Lost = 1,
-    /// A command got the handle 4294967295: none is left.
+    /// A command has the handle 4294967295, the highest: no handle is left.
     HandlesSpent = 2,
-    /// The next handle would not lie below the lowest one in flight plus the span.
+    /// The next handle is not below the lowest handle whose answer was not taken yet, plus the span.
     SpanFull = 3,
     /// The parameters have more than 1,445 bytes.
     TooLong = 4,

@@ -19,8 +19,8 @@ use oca_pdu::law_one_list_of_messages;
 /// 32 bits is left. The next handle is not below each one in flight plus the span. The parameters have more than 1,445
 /// bytes.
 ///
-/// Sending: what is sent for a handle has the same bytes each time: a PDU of type 1 with its command alone. It is sent
-/// at most 20 times, at least 250 ms apart by the link's clock, which is the latest moment so far.
+/// Sending: what is sent for a handle has the same bytes each time: a PDU of type 1 with its command alone (AES70-3).
+/// It is sent at most 20 times, at least 250 ms apart by the link's clock, which is the latest moment so far.
 /// [`due`](crate::Link::due) returns the lowest handle that is unanswered and was not sent for 250 ms. If there is no
 /// such handle, it returns a keep-alive if nothing was sent for 2,500 ms, and otherwise nothing. The link is lost
 /// exactly if `due` finds a handle that was sent 20 times.
@@ -43,16 +43,17 @@ pub fn law_of_histories()
     law_one_list_of_messages();
 }
 
-/// Law: one answer that comes is enough. Take a well-formed datagram of the device with a response to a command in
-/// flight, whatever else is in the datagram. From then on the link holds an answer to this command, until a take of its
-/// handle returns it: the first that came. The function does nothing at run time.
+/// Law: once an answer to a command has come, the link has an answer to that command until it is taken. Take a
+/// well-formed datagram of the device with a response to a command in flight, whatever else is in the datagram. From
+/// then on the link stores the first answer that came, until a take of its handle returns it. The function does nothing
+/// at run time.
 pub fn law_of_answering()
     ensures { EveryAnswerIsKept }
 {}
 
-/// Law: a link goes on sending. A command is due while it is unanswered, and was never sent, or was last sent 250 ms
-/// ago or earlier. If k commands are due at a moment, each of them is sent within k calls of `due` at that moment, or
-/// the link is lost.
+/// Law: a link that is asked often enough sends each command again until it has its answer or is lost. A command is due
+/// while it is unanswered, and was never sent, or was last sent 250 ms ago or earlier. If k commands are due at a
+/// moment, each of them is sent within k calls of `due` at that moment, or the link is lost.
 ///
 /// Take a link whose `due` is called at least every `ms` milliseconds from the submit of a command on, each time until
 /// it does not return `Send`. It sends the command within `ms` of its submit, and again less than `250 + ms` after each
@@ -64,7 +65,8 @@ pub fn law_of_sending()
     ensures in_time { EveryCommandIsSentInTime }
 {}
 
-/// Law: a link that runs over an end is asked what is due in time, which is the premise of [`law_of_sending`].
+/// Law: a link that runs over an end is asked often enough what is due, which is the premise of [`law_of_sending`].
+/// Asked means that [`due`](crate::Link::due) is called.
 ///
 /// A run is what [`drive`](crate::drive), [`turn`](crate::turn), [`begin`](crate::begin), [`ask`](crate::ask) and the
 /// waits do with a link. Its moments are those of what the end delivered, and those at which commands were begun. The
@@ -92,13 +94,13 @@ pub fn law_of_running()
     ensures in_memory { EveryScriptIsKept }
 {}
 
-/// Law: no transmission of a command is too late. The premise is that [`due`](crate::Link::due) is never called at a
-/// moment at which the link is late ([`is_late`](crate::is_late)). Then each transmission of a command leaves at most
-/// 15,000 ms after the submit of the command, by the link's clock. The law holds for every list of calls of a link.
+/// Law: no transmission of a command is too late if its link is never asked what is due while the link is late
+/// ([`is_late`](crate::is_late)). Then each transmission of a command leaves at most 15,000 ms after the submit of the
+/// command, by the link's clock. Asked means that [`due`](crate::Link::due) is called. The law holds for every list of
+/// calls of a link. The function does nothing at run time.
 ///
 /// [`send_in_time`](crate::send_in_time), [`turn`](crate::turn), [`begin`](crate::begin), [`ask`](crate::ask) and the
 /// waits make only such calls. A link that is late at a moment is late at each later one, if nothing is called between.
-/// The function does nothing at run time.
 pub fn law_copies_in_time()
     ensures copies { EveryCopyIsInTime }
     ensures steps { EveryStepIsInTime }

@@ -34,13 +34,16 @@ use std::marker::Model;
 /// A keep-alive is sent after so many milliseconds without anything.
 const KEEP_ALIVE_MS: u64 = 2500;
 
-/// A controller's link to one device.
+/// A controller's link to one device: it decides what is sent and when, and stores the answers.
 ///
-/// Commands are submitted and get handles that rise by one. What is due is sent, a command again each 250 ms until
-/// its answer comes, and keep-alives in silence. Answers come in with the device's datagrams, and are taken by handle.
-/// A command that got no answer to 20 transmissions loses the link. Moments are in milliseconds; one that is earlier
-/// than a moment already seen counts as the one already seen. No call takes memory: the commands, at most 32, lie in
-/// the link itself.
+/// A command is submitted, and gets a *handle*, a 32-bit number (AES70-3). It is *in flight* until its answer is taken.
+/// The link sends it, and again each 250 ms until its answer comes. A link that sent nothing for 2,500 ms sends a
+/// keep-alive. The link is *lost* once a command got no answer to 20 transmissions. The *span* limits the commands in
+/// flight ([`Span`]).
+///
+/// The caller gives the link each datagram and the moment, in milliseconds of a clock of its own. A moment that is
+/// earlier than the latest one so far is taken as the latest one: that is the *link's clock*. No call takes memory: the
+/// commands, at most 32, lie in the link itself.
 #[derive(Drop)]
 pub struct Link {
     device: Peer,
@@ -75,15 +78,16 @@ impl Model for Link {
 }
 
 impl Link {
-    /// A link to the device at this address. `now` is the moment at which it is made, in milliseconds of the caller's
-    /// clock. The link's first command gets the handle `first_handle`. Each later handle is one higher, and lies below
-    /// the lowest handle in flight plus the span.
+    /// Makes a link to the device at the address `device`. `now` is the present moment, in milliseconds of the caller's
+    /// clock. Nothing is sent, no memory is taken, and nothing is refused. The first command gets the handle
+    /// `first_handle`, 0 to 4294967295. Each later handle is one higher, and lies below the lowest handle in flight
+    /// plus `span` (*profile*).
     ///
     /// A device remembers what it executed for an address and port until it has heard nothing from there for 120
     /// seconds. So the first handle must be above all handles that an earlier link used from this address and port in
-    /// that time. Otherwise the device may not answer a command, because it counts its handle as old, or another
-    /// command had that handle. A late answer to a command of an earlier link would also be taken for one to this
-    /// link's command under that handle.
+    /// that time. If it is not, the device may leave a command unanswered, as an old one or as another command under a
+    /// used handle. A late answer to a command of the earlier link would also be taken for the answer to this link's
+    /// command under that handle.
     pub fn new(device: Peer, first_handle: Handle, now: u64, span: Span) -> Link
         ensures { result ≡ new_link device first_handle.0 now (span_size span) }
     {
@@ -99,12 +103,15 @@ impl Link {
     }
 
     /// Submits a command, to be sent when it is due, and returns its handle (AES70-3). `target` is the number of the
-    /// object, `method` has the method's DefLevel and MethodIndex, `count` is ParamCount, `params` are the encoded
-    /// parameters, and `now` is the moment in milliseconds of the caller's clock.
+    /// object, `method` has the method's DefLevel and MethodIndex, and `count` is ParamCount. `params` are the encoded
+    /// parameters, which are copied and not checked. `now` is the moment in milliseconds of the caller's clock. Nothing
+    /// is sent: [`due`](Link::due) gives the bytes. No memory is taken.
     ///
-    /// Refusals, the first that applies, each of which changes nothing, not even the link's clock. `Lost` if the link
-    /// is lost. `HandlesSpent` after the handle 4294967295. `SpanFull` if the next handle is not below the lowest one
-    /// whose answer was not taken yet, plus the span. `TooLong` if the parameters have more than 1,445 bytes.
+    /// Refusals, the first that applies, which change nothing, not even the link's clock:
+    /// - `Lost` if the link is lost.
+    /// - `HandlesSpent` if a command has the handle 4294967295 already.
+    /// - `SpanFull` if the next handle is not below the lowest handle whose answer was not taken yet, plus the span.
+    /// - `TooLong` if the parameters have more than 1,445 bytes.
     pub fn submit(
         &mut self,
         target: Ono,
@@ -153,14 +160,16 @@ impl Link {
         Ok(handle)
     }
 
-    /// Puts what is due at the moment `now`, in milliseconds of the caller's clock, into the packet, which it empties
-    /// first. Call it until it returns `Nothing` or `Lost`.
+    /// Puts what is due at the moment `now` into `packet`, for the caller to send to the device. `now` is in
+    /// milliseconds of the caller's clock. `packet` is emptied first. Call it until it returns `Nothing` or `Lost`.
     ///
-    /// `Send` with its handle if a command is due, the one with the lowest handle; its bytes are the same at each
-    /// transmission. A command is due while it is unanswered, and was never sent or was sent 250 ms ago or earlier.
-    /// `KeepAlive` if no command is due and nothing was sent for 2,500 ms: the packet is then a keep-alive with a
-    /// heartbeat of 5 seconds. `Nothing` if nothing is due. `Lost` if the command with the lowest handle that is due
-    /// was sent 20 times, and at each later call. The packet is empty at `Nothing` and `Lost`.
+    /// The first that applies (the numbers are the profile's):
+    /// - `Lost`, with an empty packet, if the link is lost, or becomes lost now: of the commands that are due, the one
+    ///   with the lowest handle was sent 20 times. A command is due if it has no answer, and was never sent or was last
+    ///   sent 250 ms ago or earlier.
+    /// - `Send` with the lowest handle of the commands that are due. Its bytes are the same at each transmission.
+    /// - `KeepAlive` if nothing was sent for 2,500 ms: a keep-alive with a heartbeat of 5 seconds (AES70-3).
+    /// - `Nothing`, with an empty packet.
     pub fn due(&mut self, now: u64, packet: &mut Packet) -> Due
         ensures answer { result ≡ due_answer (decision now self.old) }
         ensures packet { packet.new.items ≡ due_bytes (decision now self.old) }
@@ -191,16 +200,19 @@ impl Link {
         }
     }
 
-    /// Handles a datagram that came from the address `from` at the moment `now`, in milliseconds of the caller's clock,
-    /// and returns what became of it. `Stranger` if the address or the port is not the device's. Otherwise `Malformed`
-    /// if the bytes are not well-formed (AES70-3). Otherwise `Answered` with how many commands in flight got their
-    /// first answer, or `NothingNew` if none did.
+    /// Handles the datagram `bytes` that came from the address `from` at the moment `now`, in milliseconds of the
+    /// caller's clock, and returns what became of it. In all cases the link's clock moves on to `now`, and never back.
+    /// No memory is taken.
     ///
-    /// In all cases the link's clock moves on to `now`. A moment earlier than the latest one so far counts as that
-    /// latest one. A stranger's or malformed datagram changes nothing else. Any other datagram sets
-    /// [`last_heard`](Link::last_heard) to this moment, and its responses are handled in order. A response is stored if
-    /// its handle is the handle of a command in flight without an answer. Commands and keep-alives in the datagram have
-    /// no other effect. A lost link still stores answers.
+    /// The first that applies:
+    /// - `Stranger` if the address or the port is not the device's: nothing else is changed.
+    /// - `Malformed` if the bytes are no well-formed datagram (AES70-3): nothing else is changed.
+    /// - `Answered` with the number of commands that got their first answer in it, 1 or more. Each such answer is
+    ///   stored.
+    /// - `NothingNew` if no command got its first answer.
+    ///
+    /// After the last two [`last_heard`](Link::last_heard) is this moment. Commands and keep-alives in the datagram do
+    /// nothing else. A lost link stores answers too.
     pub fn datagram(&mut self, from: Peer, bytes: &[u8], now: u64) -> Reception
         ensures receives { ReceivesDatagram from bytes.now now self.old result self.new }
         ensures answer { (content : Option (List Msg)) → IsContent content bytes.now →
@@ -221,8 +233,9 @@ impl Link {
         }
     }
 
-    /// Takes the answer under this handle, and removes the command. `None` if there is no answer under the handle: then
-    /// nothing is changed.
+    /// Takes the answer to the command with this handle, and removes the command from the link. The answer has the
+    /// status and the parameters as the device sent them. `None` if no answer is there, as for a handle that no command
+    /// has: then nothing is changed. A lost link gives its answers too.
     pub fn take(&mut self, handle: Handle) -> Option<Answer>
         ensures answer { option_map answer_fields result ≡ answer_under handle.0 self.old.untaken }
         ensures link { self.new ≡ taken handle.0 self.old }
@@ -230,9 +243,10 @@ impl Link {
         self.table.take(handle)
     }
 
-    /// The earliest moment at which [`due`](Link::due) returns anything but `Nothing`: a loop may wait until then. This
+    /// The earliest moment at which [`due`](Link::due) does not return `Nothing`: a loop may wait until then. The
     /// moment is in milliseconds of the caller's clock, and not before the latest moment that the link was given. For a
-    /// lost link it is that latest moment. `None` if the moment lies beyond 64 bits.
+    /// new link it is 2,500 ms after the link was made, when a keep-alive is due. For a lost link it is the latest
+    /// moment that the link was given. `None` if the moment does not fit 64 bits. Nothing is changed.
     pub fn next_due(&self) -> Option<u64>
         ensures { MatchOption result (NeverIsDue self.now) (λ t. IsNextDue self.now t) }
     {
@@ -245,23 +259,26 @@ impl Link {
         }
     }
 
-    /// The lowest handle whose answer came and was not taken yet. `None` if no answer waits to be taken.
+    /// The lowest handle whose answer came and was not taken yet. `None` if no answer waits, as in a new link. The
+    /// answer stays: [`take`](Link::take) takes it.
     pub fn answered(&self) -> Option<Handle>
         ensures { option_map (λ h. h.0) result ≡ first_answered self.now.untaken }
     {
         self.table.answered()
     }
 
-    /// Whether a command with this handle was submitted and has no answer yet. Despite the name it is `false` for a
-    /// command whose answer came and was not taken. `false` also for a command whose answer was taken, and for a handle
-    /// that no command has. So a wait can end at once if this is `false` and [`take`](Link::take) returns `None`.
+    /// Whether a command with this handle was submitted and has no answer yet. `false` for a command whose answer came
+    /// and was not taken, though that command keeps its place in the span. `false` too for a command whose answer was
+    /// taken, and for a handle that no command has. In a lost link the commands without an answer stay `true`. So a
+    /// wait can end at once if the result is `false` and [`take`](Link::take) returns `None`. Nothing is changed.
     pub fn is_in_flight(&self, handle: Handle) -> bool
         ensures { result ≡ list_any (waits handle.0) self.now.untaken }
     {
         self.table.waits(handle)
     }
 
-    /// The handle that the next command gets. `None` after the last handle, 4294967295.
+    /// The handle that the next command gets. At first it is the first handle that the link was given, and each command
+    /// moves it up by one. `None` once a command has the handle 4294967295: [`submit`](Link::submit) then refuses.
     pub fn next_handle(&self) -> Option<Handle>
         ensures { option_map (λ h. h.0) result ≡ self.now.next }
     {
@@ -269,21 +286,22 @@ impl Link {
     }
 
     /// The moment, in milliseconds of the caller's clock, at which the last well-formed datagram from the device came.
-    /// Before the first one it is the moment at which the link was made. Datagrams from other addresses, and those that
-    /// are not well-formed, do not count.
+    /// Before the first one it is the moment at which the link was made. A datagram from another address, and one that
+    /// is not well-formed (AES70-3), do not move it.
     ///
-    /// A device that is there and has room returns each keep-alive. So this lags by little more than 2,500 ms while the
-    /// link is driven and no command waits for its answer. While a command waits, it is sent again and no keep-alive is
-    /// sent. A device that ignores it, because another command had its handle on this address and port, is then not
-    /// heard at all.
+    /// A device that is there and has room for a session returns each keep-alive. So the moment is little more than
+    /// 2,500 ms old while the link is driven and no command waits. While a command waits, it is sent again and no
+    /// keep-alive is sent. A device that ignores that command, because another command had its handle on this address
+    /// and port, is then not heard.
     pub fn last_heard(&self) -> u64
         ensures { result ≡ self.now.heard }
     {
         self.heard
     }
 
-    /// Whether the link is lost: a command got no answer to 20 transmissions. A lost link stays lost and sends nothing
-    /// more; answers that still come are stored as before.
+    /// Whether the link is lost: a command got no answer to 20 transmissions, and [`due`](Link::due) found that.
+    /// `false` at first. A lost link stays lost, sends nothing more and takes no command; answers that still come are
+    /// stored and can be taken. A link that is late is not lost: see [`is_late`](crate::is_late).
     pub fn is_lost(&self) -> bool
         ensures { result ≡ self.now.lost }
     {

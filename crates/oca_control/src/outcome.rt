@@ -3,16 +3,17 @@ use crate::answer::Answer;
 use crate::fault::ControlFault;
 use std::fmt;
 
-/// The outcome of a command that was asked over an end.
+/// How a command ended that was sent over an end of a network.
 #[derive(Debug, Drop)]
 pub enum Outcome {
-    /// It was answered.
+    /// The device answered it, with any status.
     Answered(Answer),
-    /// The link refused it, since no handle is left, the span is full or the parameters are too long.
+    /// The link refused it, for this reason: it was never sent.
     Refused(ControlFault),
-    /// The link is lost, or it is late: a copy of a command would be sent too late.
+    /// The link is lost, or it is late ([`is_late`](crate::is_late)), and no answer is there. The device may have
+    /// carried out the command, or not.
     Lost,
-    /// No answer came in the turns that were allowed.
+    /// No answer came in the turns or the time that were allowed. The command stays in flight.
     Unanswered,
 }
 

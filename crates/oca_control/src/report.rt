@@ -1,23 +1,24 @@
 //! What a loop did with a link.
 use std::ops::Add;
 
-/// What the loop [`drive`](crate::drive) did, or a [`turn`](crate::turn), or what was sent. Two are added number
-/// by number: a number that would pass 64 bits stays at its last value; lost is what either says.
+/// How often a turn, a loop or a sending did each thing. All numbers are 0 by default. Two reports are added number by
+/// number: a sum above 2^64 - 1 stays at 2^64 - 1, and `lost` is `true` if it is in one of the two.
 #[derive(Clone, Copy, Debug, PartialEq, Eq)]
 pub struct DriveReport {
-    /// The turns: receives that delivered something: a datagram, an oversize one, silence or a failure.
+    /// The turns: receives that returned a datagram, an oversize one, silence or a failure. A closed end is no turn.
     pub turns: u64,
-    /// The commands that were handed to the end, first transmissions and retransmissions, failed sends included.
+    /// The commands that were given to the end to send, first transmissions and retransmissions, failed sends included.
     pub sent: u64,
-    /// The keep-alives that were handed to the end, failed sends included.
+    /// The keep-alives that were given to the end to send, failed sends included.
     pub keep_alives: u64,
-    /// The commands that were answered.
+    /// The commands that got their first answer.
     pub answered: u64,
     /// The receives that failed.
     pub failed_receives: u64,
-    /// The sends that failed.
+    /// The sends that failed, of commands and of keep-alives.
     pub failed_sends: u64,
-    /// Whether `due` returned `Lost`, which ends the loop; or the link was late, where that is looked at.
+    /// Whether the link was found lost. In the calls that look at it ([`turn`](crate::turn),
+    /// [`send_in_time`](crate::send_in_time)) also whether it was found late.
     pub lost: bool,
 }
 

@@ -25,8 +25,8 @@ use std::marker::Model;
 /// A command is sent again after so many milliseconds without an answer.
 const REPEAT_MS: u64 = 250;
 
-/// How long after its submit a command may leave, in milliseconds (*profile*): one that is unanswered later is late, and
-/// no copy of it is sent. While its link is asked in time, its answer has come by then, or the link is lost.
+/// The longest time, in milliseconds, between the submit of a command and its last transmission (*profile*): 15,000. A
+/// command without an answer after that makes its link late ([`is_late`](crate::is_late)).
 pub const LONGEST_LIFE_MS: u64 = 15_000;
 
 /// A command is sent at most so often.

@@ -14,24 +14,28 @@ use oca_types::Packet;
 /// How long a turn receives at most, in milliseconds.
 const WAIT_MS: u64 = 50;
 
-/// Whether a link is late at the moment `now`, in milliseconds of the link's clock: a command is unanswered, and was
-/// submitted more than 15,000 ms before (*profile*). Whether it was sent does not matter. A moment earlier than the
-/// latest one so far counts as that latest one.
+/// Whether a link is late at the moment `now`: a command was submitted more than 15,000 ms ago and has no answer
+/// (*profile*). `now` is in milliseconds of the link's clock. A moment earlier than the latest one so far is taken as
+/// that latest one. Whether the command was sent does not matter. `false` for a link without commands. Nothing is
+/// changed.
 ///
-/// A link that is asked in time has its answer by then or is lost, so this finds a program that was suspended. A
-/// command must not act so long after it was submitted. Besides, a device that hears nothing for 120 seconds forgets
-/// what it executed, and would execute a command a second time. If no late link sends, no transmission leaves so late
-/// that the network, which may hold it for up to 100 seconds, delivers it then. A late link stays late as long as the
-/// command is in it and has no answer.
+/// A late link means that the program was paused: a link that is asked in time has its answer by then, or is lost. A
+/// command must not act so long after it was submitted. After 120 seconds without a datagram a device forgets what it
+/// executed, and would execute a command a second time. The network may hold a datagram for up to 100 seconds. So a
+/// late link must send nothing. It stays late until the answer comes.
 pub fn is_late(link: &Link, now: u64) -> bool
     ensures { result ≡ late_at now link.now }
 {
     link.late_at(now)
 }
 
-/// Sends what is due at the moment `now`, in milliseconds of the link's clock, as [`send_due`] does, unless the link is
-/// late at that moment. If it is late, nothing is changed or sent, and `lost` is true in the report. If `lost` is
-/// false, nothing is left to send at that moment.
+/// Sends everything that is due at the moment `now` as [`send_due`] does, if the link is not late at that moment
+/// ([`is_late`]). Returns how often each thing was done; `turns` is 0 in it. `now` is in milliseconds of the link's
+/// clock.
+///
+/// If the link is late, nothing is changed or sent, and `lost` is `true` in the report. `lost` is also `true` if the
+/// link is lost or becomes lost. If `lost` is `false`, nothing is left to send at that moment. A send that fails is
+/// counted.
 pub fn send_in_time<E: End>(link: &mut Link, end: &mut E, now: u64) -> DriveReport
     ensures gives { SendsInTime now link.old link.new (E.state end.old) (E.state end.new) result }
     ensures left { result.lost ≡ false → NothingIsLeft link.new }
@@ -46,10 +50,12 @@ pub fn send_in_time<E: End>(link: &mut Link, end: &mut E, now: u64) -> DriveRepo
 /// done.
 ///
 /// An end that keeps time receives until something is due ([`Link::next_due`]), and for at most 50 ms. A datagram goes
-/// to the link, even if the link is late. After a datagram, an oversize datagram, or if none came, [`send_in_time`]
-/// follows. After a failed receive nothing is sent. If the end is closed, nothing is done and `turns` is 0. `lost` is
-/// true if the link is lost or late: it will send nothing more. After any other turn nothing is left to send at the
-/// link's moment.
+/// to the link, even if the link is late. After a datagram, after an oversize datagram, and if none came,
+/// [`send_in_time`] follows: `lost` is `true` if it finds the link lost or late. Otherwise nothing is left to send at
+/// the link's moment.
+///
+/// After a failed receive nothing is sent, `failed_receives` is 1, and `lost` is `false`. If the end is closed, the
+/// link is unchanged and `turns` is 0.
 pub fn turn<E: End>(link: &mut Link, end: &mut E) -> DriveReport
     ensures turns { Turns link.old link.new (E.state end.old) (E.state end.new) result }
     ensures left { LeavesNothing result link.new }

@@ -15,8 +15,8 @@ use std::alloc::Global;
 use std::fmt;
 use std::marker::Model;
 
-/// The first packets that answer a datagram, in order, for the peer that sent it: as many as there is room for. The
-/// others are left out, and are for the peer as if the network had lost them.
+/// The first packets that answer a datagram, in order, for the peer that sent it: at most a number that its maker
+/// chooses. Packets above that number are left out. For the peer they are as if the network had lost them.
 #[derive(Drop)]
 pub struct BoundedOutbox {
     count: usize,
@@ -44,8 +44,9 @@ impl Model for BoundedOutbox {
 impl BoundedOutbox {
     ghost use Rattle.oca_device.specs.Outboxes.{bytes_of_packets, first_packets};
 
-    /// An empty outbox with room for `room` packets, of at most 1,472 bytes each. The call takes all the memory that it
-    /// will need, some 1,480 bytes a packet. Refusal: `NoMemory`, if memory was refused.
+    /// Makes an empty outbox with room for `room` packets, of at most 1,472 bytes each. With a room of 0 every answer
+    /// is left out. No datagram has more than 122 packets of answers. The call takes all the memory that the outbox
+    /// will need, some 1,480 bytes a packet. Refusal: `NoMemory` if that memory is refused; then none is kept.
     pub fn with_room(alloc: Global, room: usize) -> Result<BoundedOutbox, NoMemory>
         ensures { IfOk result (λ outbox. outbox ≡ first_packets room []) }
     {
@@ -60,21 +61,24 @@ impl BoundedOutbox {
         }
     }
 
-    /// For how many packets there is room: the number that [`with_room`](BoundedOutbox::with_room) was given.
+    /// The number of packets for which the outbox has room: what [`with_room`](BoundedOutbox::with_room) was given. It
+    /// never changes.
     pub fn room(&self) -> usize
         ensures { result ≡ self.now.room }
     {
         self.room
     }
 
-    /// Whether answers to the last datagram were left out because the outbox had no room for them.
+    /// Whether answers to the last datagram were left out because the outbox had no room for them. `false` in a new
+    /// outbox, and after [`clear`](BoundedOutbox::clear).
     pub fn is_cut(&self) -> bool
         ensures { result ≡ self.now.is_cut }
     {
         self.is_cut
     }
 
-    /// Removes all packets. [`is_cut`](BoundedOutbox::is_cut) is then false, and the room stays.
+    /// Removes all packets, and keeps the room and the memory. [`is_cut`](BoundedOutbox::is_cut) is then `false`.
+    /// Nothing is sent.
     pub fn clear(&mut self)
         ensures { self.new ≡ first_packets self.old.room [] }
     {
@@ -82,7 +86,8 @@ impl BoundedOutbox {
         self.is_cut = false;
     }
 
-    /// The packets that answer the last datagram, in order: at most as many as there is room for.
+    /// The packets that answer the last datagram, in the order in which they are sent: 0 to the room of the outbox.
+    /// Empty in a new outbox, and after [`clear`](BoundedOutbox::clear). The packets stay in the outbox.
     pub fn packets(&self) -> &[Packet]
         ensures packets { bytes_of_packets result.now ≡ self.now.packets }
         ensures most { length result.now ≤ self.now.room }
@@ -90,7 +95,8 @@ impl BoundedOutbox {
         &self.places[..self.count]
     }
 
-    /// The packet with the index `i`, counted from 0; `None` if there are only `i` packets or fewer.
+    /// The packet with the index `i`, counted from 0 in the order in which the packets are sent. `None` if the outbox
+    /// has `i` packets or fewer. The packet stays in the outbox.
     pub fn get(&self, i: usize) -> Option<&Packet>
         ensures { option_map (λ p. p.now.items) result ≡ slice_get self.now.packets i }
     {

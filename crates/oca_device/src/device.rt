@@ -62,9 +62,14 @@ const MOST_WRITTEN: usize = 86;
 /// }
 /// ```
 ///
-/// What it is follows from the tree that it was made with and the events that it was given: datagrams, clock readings
-/// and changes at its local front panel. Moments are in milliseconds; one that is earlier than a moment already seen
-/// counts as the one already seen.
+/// A *peer* is an address and a port. The device opens a *session* at the first well-formed datagram of a peer, if
+/// there is room. A session has the moment at which the peer was last heard, its heartbeat, and the replies to its last
+/// commands: as many as the *reply window* is large (*profile*). A *duplicate* is a command whose reply is among those,
+/// and an *old* command is one before them.
+///
+/// What a device is follows from its first tree and its events alone: datagrams, clock readings and changes at its
+/// local front panel. Moments are in milliseconds of the caller's clock. A moment that is earlier than the latest one
+/// so far is taken as the latest one: that is the *device's clock*.
 #[derive(Drop)]
 pub struct Device {
     tree: Tree,
@@ -92,9 +97,12 @@ impl Device {
     ghost use Rattle.oca_device.specs.PrivateServing.{ServesMessage, ServesMessages, TakesDatagram, AreGrouped};
     ghost use Rattle.oca_device.specs.PrivateServing.{IsShort, commands_in, commands_of, all_commands};
 
-    /// A device of these objects, with reply windows of this size and sessions of at most 16 peers, before any event.
-    /// The call takes all the memory that its sessions will need. Refusal: `NoMemory`, if memory was refused; the
-    /// objects are then lost.
+    /// Makes a device of the objects in `tree`, with sessions of at most 16 peers. `window` is the size of the reply
+    /// window: for 1 to 64 commands of each peer the replies are kept (*profile*). No peer has a session yet, and the
+    /// device's clock is at 0.
+    ///
+    /// The call takes all the memory that the device will need beside `tree` and an outbox. Refusal: `NoMemory` if that
+    /// memory is refused; the objects are then lost.
     pub fn new(alloc: Global, tree: Tree, window: Window) -> Result<Device, NoMemory>
         ensures { IfOk result (λ device. Represents (record {
           window = window_size window;
@@ -111,9 +119,11 @@ impl Device {
         )
     }
 
-    /// A device of these objects, with reply windows of 1 to 64 commands and sessions of 1 to 64 peers, as `sizes`
-    /// says, before any event. The call takes all the memory that its sessions will need. Refusal: `NoMemory`, if
-    /// memory was refused; the objects are then lost.
+    /// Makes a device of the objects in `tree`, with the sizes in `sizes`: reply windows of 1 to 64 commands, and
+    /// sessions of 1 to 64 peers (*profile*). No peer has a session yet, and the device's clock is at 0.
+    ///
+    /// The call takes all the memory that the device will need beside `tree` and an outbox. Refusal: `NoMemory` if that
+    /// memory is refused; the objects are then lost.
     pub fn with_sizes(alloc: Global, tree: Tree, sizes: Sizes) -> Result<Device, NoMemory>
         ensures { IfOk result (λ device. Represents (sizes_of sizes) device tree []) }
     {
@@ -131,22 +141,20 @@ impl Device {
         })
     }
 
-    /// Handles a datagram that came from a peer at the moment `now`, in milliseconds of the caller's clock, and returns
-    /// what became of it. The outbox then holds the datagram's answers, all for that peer, and nothing else. A moment
-    /// earlier than the latest one so far counts as that latest one.
+    /// Handles the datagram `bytes` that came from the peer `from` at the moment `now`, in milliseconds of the caller's
+    /// clock, and returns what became of it. `outbox` then has the answers, all for that peer, and nothing else. No
+    /// memory is taken.
     ///
-    /// First the clock moves: locks of peers that are silent for more than three heartbeats are released, and sessions
-    /// that are silent for more than 120,000 ms are forgotten. Then the verdict is one of three:
+    /// First the clock moves on to `now` as [`tick`](Device::tick) does. Then the first that applies:
+    /// - `Malformed` with the first fault if the bytes are no well-formed datagram (AES70-3).
+    /// - `NoRoom` if the sender has no session, and there is no room for another session (*profile*).
+    /// - `Served` with the numbers of commands that were served in each way. The messages are served in order. A new
+    ///   command is executed, and a duplicate gets its retained reply. A command that is old, or that asks something
+    ///   else under the handle of a retained command, is ignored. A keep-alive sets the heartbeat and is returned
+    ///   (AES70-3).
     ///
-    /// `Malformed` with the first fault if the bytes are no well-formed datagram. `NoRoom` if the sender has no session
-    /// and there is no room for another one. After these two no object and no session is changed, nothing is answered,
-    /// and the list of what was written is empty.
-    ///
-    /// `Served` otherwise, with the numbers of commands that were served in each way. The messages are served in order:
-    /// a fresh command is executed, and a duplicate gets the retained reply. An old command is ignored, and so is one
-    /// that asks something else under the handle of a retained command. A keep-alive sets the heartbeat and is
-    /// returned. Neighbouring responses leave in one PDU while the PDU has at most 1,472 bytes. (AES70-3; sessions,
-    /// windows and grouping are the profile's.)
+    /// After `Malformed` and `NoRoom` no object and no session is changed, nothing is answered, and [`Device::written`]
+    /// is empty. Neighbouring responses share a PDU of at most 1,472 bytes (*profile*).
     pub fn datagram(&mut self, from: Peer, bytes: &[u8], now: u64, outbox: &mut Outbox) -> Verdict
         ensures represents { (w : DeviceSizes) (T : List Object) (E : List Event) → Represents w self.old T E →
             Represents w self.new T (DatagramEvent from bytes.now now ∷ E) }
@@ -158,14 +166,15 @@ impl Device {
         self.datagram_within(from, bytes, now, &mut outbox.first)
     }
 
-    /// Handles a datagram that came from the peer `from` as [`Device::datagram`] does, with the same verdicts, and with
-    /// an outbox that has room for a chosen number of packets. The outbox then holds the first of the answers, as many
-    /// as there is room for. [`is_cut`](BoundedOutbox::is_cut) is true if others were left out. `now` is in
-    /// milliseconds of the caller's clock.
+    /// Handles the datagram `bytes` that came from the peer `from` as [`Device::datagram`] does, with an outbox of a
+    /// chosen size. `now` is the moment in milliseconds of the caller's clock. `outbox` then has the first packets of
+    /// the answers, as many as it has room for. [`is_cut`](BoundedOutbox::is_cut) says whether others were left out. No
+    /// memory is taken.
     ///
-    /// All commands are executed, whether their answers have room or not. A peer that repeats a command whose answer
-    /// was left out gets the retained reply, as after a loss. There are never more packets than the datagram has
-    /// commands and keep-alives, and never more than 122.
+    /// `Malformed` with the first fault, `NoRoom` or `Served` with counts, as in `datagram`. After the first two no
+    /// object and no session is changed, and nothing is answered. All commands are executed, whether their answers have
+    /// room or not. A peer that repeats a command whose answer was left out gets the retained reply, as after a loss.
+    /// The answers never have more packets than the datagram has commands and keep-alives, and never more than 122.
     pub fn datagram_within(
         &mut self,
         from: Peer,
@@ -191,9 +200,12 @@ impl Device {
         self.receive(from, bytes, now, outbox)
     }
 
-    /// Moves the device's clock on to `now`, in milliseconds of the caller's clock. Locks of peers that are silent for
-    /// more than three heartbeats are released, and sessions that are silent for more than 120,000 ms are forgotten. A
-    /// moment earlier than the latest one so far counts as that latest one. The list of what was written stays.
+    /// Moves the device's clock on to `now`, in milliseconds of the caller's clock. A moment earlier than the latest
+    /// one so far is taken as that latest one. [`Device::written`] stays as it is, nothing is answered, and no memory
+    /// is taken.
+    ///
+    /// The lock of a peer is released if the device heard nothing from the peer for more than three of its heartbeats
+    /// (AES70-3 has the heartbeat). A session is forgotten if its peer was silent for more than 120,000 ms (*profile*).
     pub fn tick(&mut self, now: u64)
         ensures { (w : DeviceSizes) (T : List Object) (E : List Event) → Represents w self.old T E →
             Represents w self.new T (Tick now ∷ E) }
@@ -201,12 +213,16 @@ impl Device {
         self.move_clock(now);
     }
 
-    /// Sets an object at the local front panel. The call acts as the set method of the object's class, except that
-    /// neither a lock nor the object's hardware refuses it. Neither the clock nor a session is changed.
+    /// Sets the object `ono` to the value `value` at the local front panel, as the set method of the object's class
+    /// does (AES70-2). A lock of a controller does not refuse it, and neither does
+    /// [`set_failing`](Device::set_failing). The clock and the sessions stay as they are, and no peer gets a message.
     ///
-    /// Refusals, the first of [`SetFault`] that applies: `NoObject` if no object has the number. `NoSetting` if the
-    /// object is a block. `OtherKind` if the value is of another class. `OutOfRange` if a switch has no such position
-    /// or the position is disabled, or a number is outside its limits. A refusal changes nothing.
+    /// Refusals, the first that applies, which change nothing:
+    /// - `NoObject` if no object has the number `ono`.
+    /// - `NoSetting` if the object is a block.
+    /// - `OtherKind` if the value is of another class than the object.
+    /// - `OutOfRange` if a switch has no such position or the position is disabled, or a number is outside the object's
+    ///   limits.
     pub fn set(&mut self, ono: Ono, value: Value) -> Result<(), SetFault>
         ensures represents { (w : DeviceSizes) (T : List Object) (E : List Event) → Represents w self.old T E →
             Represents w self.new T (Local ono.0 (ToValue value) ∷ E) }
@@ -218,12 +234,12 @@ impl Device {
         self.tree.set(ono, value)
     }
 
-    /// Gives an object a label of at most 64 bytes at the local front panel. The call acts as SetLabel of OcaWorker
-    /// (AES70-2), except that neither a lock nor the object's hardware refuses it. Neither the clock nor a session is
-    /// changed.
+    /// Gives the object `ono` the label `label` at the local front panel, as SetLabel of OcaWorker does (AES70-2). The
+    /// label has 0 to 64 bytes of UTF-8. A lock of a controller does not refuse it, and neither does
+    /// [`set_failing`](Device::set_failing). The clock and the sessions stay as they are, and no peer gets a message.
     ///
-    /// Refusals, the first that applies: `NoObject` if no object has the number, `BadLabel` if the label is longer. A
-    /// refusal changes nothing.
+    /// Refusals, the first that applies, which change nothing: `NoObject` if no object has the number `ono`. `BadLabel`
+    /// if the label has more than 64 bytes.
     pub fn set_label(&mut self, ono: Ono, label: &str) -> Result<(), FrontFault>
         ensures represents { (w : DeviceSizes) (T : List Object) (E : List Event) → Represents w self.old T E →
             Represents w self.new T (Local ono.0 (ToLabel label.now) ∷ E) }
@@ -235,9 +251,10 @@ impl Device {
         self.tree.set_label(ono, label)
     }
 
-    /// Enables or disables an object at the local front panel. The call acts as SetEnabled of OcaWorker (AES70-2),
-    /// except that neither a lock nor the object's hardware refuses it. Neither the clock nor a session is changed.
-    /// Refusal: `NoObject` if no object has the number; then nothing is changed.
+    /// Enables the object `ono` (`enabled` is `true`) or disables it at the local front panel, as SetEnabled of
+    /// OcaWorker does (AES70-2). A lock of a controller does not refuse it, and neither does
+    /// [`set_failing`](Device::set_failing). The clock and the sessions stay as they are, and no peer gets a message.
+    /// Refusal: `NoObject` if no object has the number `ono`; then nothing is changed.
     pub fn set_enabled(&mut self, ono: Ono, enabled: bool) -> Result<(), FrontFault>
         ensures represents { (w : DeviceSizes) (T : List Object) (E : List Event) → Represents w self.old T E →
             Represents w self.new T (Local ono.0 (ToEnabled enabled) ∷ E) }
@@ -249,9 +266,11 @@ impl Device {
         self.tree.set_enabled(ono, enabled)
     }
 
-    /// Releases the lock of an object at the local front panel, whichever peer holds it, as Unlock of OcaRoot does for
-    /// its holder (AES70-2). The holder gets no message, and keeps its session. The clock stays. Refusals: `NoObject`
-    /// if no object has the number, `NotLocked` if the object is not locked. A refusal changes nothing.
+    /// Releases the lock of the object `ono` at the local front panel, whichever peer has it, as Unlock of OcaRoot does
+    /// for the peer that has it (AES70-2). That peer gets no message, and keeps its session. The clock stays.
+    ///
+    /// Refusals, the first that applies, which change nothing: `NoObject` if no object has the number `ono`.
+    /// `NotLocked` if the object is not locked.
     pub fn unlock(&mut self, ono: Ono) -> Result<(), FrontFault>
         ensures represents { (w : DeviceSizes) (T : List Object) (E : List Event) → Represents w self.old T E →
             Represents w self.new T (Local ono.0 ToUnlocked ∷ E) }
@@ -264,13 +283,13 @@ impl Device {
     }
 
     /// Sets, at the local front panel, whether the hardware of an object refuses changes (`failing`). At first it does
-    /// not. While it does, a command that writes to the object is answered `ProcessingFailed` and changes nothing; if
-    /// the command is refused for another reason too, the answer names that reason. A duplicate gets its retained
-    /// reply. Commands that read or lock work as before, and the local front panel can still change the object. The
-    /// setting is not saved to a store. (AES70-3 has this status; when it is answered is the profile's choice.)
+    /// not. While it does, a command that writes to the object changes nothing and is answered ProcessingFailed
+    /// (AES70-2, OcaStatus), or with the status of another fault that the command has. When this status is sent is the
+    /// profile's choice.
     ///
-    /// Neither the clock nor a session is changed. Refusal: `NoObject` if no object has the number; then nothing is
-    /// changed.
+    /// A duplicate gets its retained reply. Commands that read or lock work as before, and so do the calls of the local
+    /// front panel. The setting is not saved to a store. The clock and the sessions stay as they are. Refusal:
+    /// `NoObject` if no object has the number `ono`; then nothing is changed.
     pub fn set_failing(&mut self, ono: Ono, failing: bool) -> Result<(), FrontFault>
         ensures represents { (w : DeviceSizes) (T : List Object) (E : List Event) → Represents w self.old T E →
             Represents w self.new T (Local ono.0 (ToFailing failing) ∷ E) }
@@ -282,8 +301,8 @@ impl Device {
         self.tree.set_failing(ono, failing)
     }
 
-    /// Whether the hardware of an object refuses changes, as [`Device::set_failing`] last set it; `false` before the
-    /// first such call. `None` if no object has the number.
+    /// Whether the hardware of an object refuses changes, as [`Device::set_failing`] last set it. `false` before the
+    /// first such call. `None` if no object has the number `ono`. Nothing is changed.
     pub fn is_failing(&self, ono: Ono) -> Option<bool>
         ensures failing { result ≡ failing_at self.now.tree ono.0 }
         ensures represented { (w : DeviceSizes) (T : List Object) (E : List Event) → Represents w self.now T E →
@@ -292,7 +311,8 @@ impl Device {
         self.tree.is_failing(ono)
     }
 
-    /// The objects as they are now.
+    /// Returns a reference to the objects as they are now, to read them. After [`Device::new`] they are those that it
+    /// was given. They change only by commands of datagrams, by locks that are released, and at the local front panel.
     pub fn tree(&self) -> &Tree
         ensures tree { result.now ≡ self.now.tree }
         ensures represented { (w : DeviceSizes) (T : List Object) (E : List Event) → Represents w self.now T E →
@@ -301,7 +321,9 @@ impl Device {
         &self.tree
     }
 
-    /// How many peers have a session at the present moment: 0 to 64.
+    /// How many peers have a session at the device's present moment: 0 to the number of peers that the device was made
+    /// for, at most 64. 0 for a new device. A session is forgotten once the clock finds its peer silent for more than
+    /// 120,000 ms.
     #[tactic(auto, using(crate::proofs::Steps::known_counted))]
     pub fn sessions(&self) -> usize
         ensures sessions { result ≡ length self.now.sessions.sessions }
@@ -311,8 +333,9 @@ impl Device {
         self.sessions.len()
     }
 
-    /// The peer of the session at this index, counted from 0 in the order in which the sessions were opened. `None` if
-    /// there are no more sessions. Indices change when a session is forgotten.
+    /// The peer of the session with the index `index`, counted from 0 in the order in which the sessions were opened.
+    /// `None` if there are `index` sessions or fewer. When a session is forgotten, the sessions after it move down by
+    /// one.
     #[tactic(auto, using(crate::proofs::Steps::known_at))]
     pub fn peer_at(&self, index: usize) -> Option<Peer>
         ensures peer { result ≡ slice_get (peers_of self.now.sessions.sessions) index }
@@ -322,13 +345,13 @@ impl Device {
         self.sessions.peer_at(index)
     }
 
-    /// The targets of the commands of the last datagram that were executed with the status OK and whose method writes.
-    /// They are in order, and each stands there as often as it was written.
+    /// The numbers of the objects that the last datagram wrote to: the targets of its commands that were executed with
+    /// the status OK and whose method writes. They are in order, and each is there as often as it was written: 0 to 86
+    /// numbers.
     ///
-    /// A command that reads, locks or unlocks is not among them, nor one that was refused, a duplicate, an old one or
-    /// one that reuses a handle. After a malformed datagram or one that finds no room the list is empty, so read it
-    /// after each datagram. Clock readings and changes at the local front panel leave the list as it is; before the
-    /// first datagram it is empty.
+    /// A command that reads, locks or unlocks is not among them, and neither is a command that was refused or not
+    /// executed. The list is empty before the first datagram, and after a datagram that is malformed or finds no room.
+    /// So read it after each datagram. Clock readings and changes at the local front panel leave the list as it is.
     pub fn written(&self) -> &[Ono]
         ensures written { numbers_of result.now ≡ self.now.written }
         ensures represented { (w : DeviceSizes) (T : List Object) (E : List Event) → Represents w self.now T E →
@@ -337,10 +360,10 @@ impl Device {
         self.written.as_slice()
     }
 
-    /// The earliest moment at which [`Device::tick`] would change the device: release a lock of a silent peer, or
-    /// forget a session. This moment is in milliseconds of the caller's clock, and not before the device's present
-    /// moment. An event loop may wait until then. `None` if there is no such moment within 64 bits, as without
-    /// sessions.
+    /// The earliest moment at which [`Device::tick`] would release a lock of a silent peer or forget a session. A loop
+    /// may wait until then, if no datagram comes. The moment is in milliseconds of the caller's clock, and not before
+    /// the device's present moment. `None` if there is no such moment within 64 bits, as without sessions. Nothing is
+    /// changed.
     pub fn next_lapse(&self) -> Option<u64>
         ensures { (w : DeviceSizes) (T : List Object) (E : List Event) → Represents w self.now T E →
             let s = state_after w T E in MatchOption result (NeverLapses w s) (λ t. IsNextLapse w s t) }

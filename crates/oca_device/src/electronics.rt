@@ -5,22 +5,23 @@ ghost use Rattle.oca_device.specs.Written.{numbers_of};
 use oca_tree::Tree;
 use oca_types::Ono;
 
-/// The electronics of a device, which do what its objects say.
+/// The electronics of a device, which do what its objects say: a program implements this trait for its hardware.
 ///
-/// Where they tell, `followed` of their state is all that they were handed. Of electronics that do not tell, it says
-/// nothing.
+/// Electronics that tell say in the contract what they were given (`followed` of their state). Of electronics that do
+/// not tell, the contracts say nothing.
 pub trait Electronics {
     /// What the electronics say of themselves.
     ghost state: { Self → ElectronicsState };
 
     /// Is called after each datagram was served, so that the electronics do what the objects say. `tree` has the
     /// objects as the datagram left them. `written` are the numbers of the objects that it wrote to, in order, each as
-    /// often as it was written ([`Device::written`](crate::Device::written)). `written` may be empty.
+    /// often as it was written ([`Device::written`](crate::Device::written)): 0 to 86 numbers. A program that takes
+    /// long here delays the next receive.
     fn follow(&mut self, tree: &Tree, written: &[Ono])
         ensures { Follows tree.now (numbers_of written.now) (state self.old) (state self.new) };
 }
 
-/// No electronics.
+/// Electronics that do nothing, for a device without hardware.
 #[derive(Clone, Copy, Debug, PartialEq, Eq)]
 pub struct NoElectronics;
 

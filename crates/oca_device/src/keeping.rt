@@ -38,8 +38,8 @@ struct Answer {
     packet: Packet,
 }
 
-/// What [`serve_keeping`] holds back: the answers that wait until the objects are stored, with room for 366 packets, and
-/// whether something written is not stored.
+/// What [`serve_keeping`] needs between its turns: room for 366 packets of answers that wait until the objects are
+/// stored, and whether something written is not stored.
 #[derive(Drop)]
 pub struct Keeping {
     is_behind: bool,
@@ -60,9 +60,9 @@ impl Model for Keeping {
 impl Keeping {
     ghost use Rattle.std.specs.Prelude.{false};
 
-    /// The state of a device that starts: no answer waits, and everything counts as stored. The caller must make sure
-    /// that the store holds the device's objects. The call takes the memory for 366 packets, some 1,480 bytes each.
-    /// Refusal: `NoMemory`, if memory was refused.
+    /// Makes the state of a device that starts: no answer waits, and the objects are taken as stored. The caller must
+    /// make sure that the store has the device's objects. The call takes the memory for 366 packets, some 1,480 bytes
+    /// each. Refusal: `NoMemory` if that memory is refused; then none is kept.
     pub fn new(alloc: Global) -> Result<Keeping, NoMemory>
         ensures { IfOk result (λ keeping. (keeping.is_behind ≡ false) × (keeping.held ≡ [])) }
     {
@@ -83,7 +83,8 @@ impl Keeping {
         self.places.clear();
     }
 
-    /// Whether something that datagrams wrote is not stored: `true` after a store that failed, until one succeeds.
+    /// Whether a datagram wrote something that is not stored. `false` at first. `true` after a store that failed, until
+    /// a store succeeds. What is set at the local front panel does not matter. Nothing is changed.
     pub fn is_behind(&self) -> bool
         ensures { result ≡ self.now.is_behind }
     {
@@ -165,21 +166,20 @@ impl fmt::Debug for Keeping {
     }
 }
 
-/// Serves an end for at most `turns` turns, as [`serve_with`](crate::serve_with) does, and keeps the objects in a
-/// store. Returns how often each thing was done; a number that would pass 64 bits stays at 2^64 - 1. The loop ends
-/// early if the end is closed. `outbox` is memory for the answers to one datagram, and is empty at the end; `keeping`
-/// holds the answers that wait.
+/// Serves an end for at most `turns` turns as [`serve_with`](crate::serve_with) does, and keeps the objects in `store`.
+/// `electronics` follow the objects of each datagram. Returns how often each thing was done; a number stays at 2^64 - 1
+/// if it would pass that. The loop ends early if the end is closed. `outbox` is memory for the answers to one datagram,
+/// and is empty at the end. No answer waits in `keeping` at the end.
 ///
-/// The answers to a datagram that wrote to an object wait until the store has confirmed that it holds the objects.
-/// While answers wait, further datagrams that have already come are served, in at most 64 turns. Then the objects are
-/// stored, once for all of them, and the answers are sent.
+/// The answers to a datagram that wrote to an object wait until the store says that it has the objects. Meanwhile
+/// further datagrams that have come already are served, in at most 64 turns. Then the objects are stored once, and the
+/// answers are sent. All other answers are sent at once, even if they report what is not stored yet.
 ///
 /// If the store fails, the answers that wait are dropped, as if the network had lost them. The objects stay as they are
-/// and each reply stays retained, so a peer that repeats its command gets it. While something written is not stored,
-/// the answers to a datagram with a duplicate wait too, and the objects are stored again.
-///
-/// All other answers are sent at once, even if they report what is not stored yet. The electronics follow each datagram
-/// at once, before it is stored. What was set at the local front panel is stored with the next datagram that writes.
+/// and the replies stay retained, so a peer that repeats its command gets its reply. While something written is not
+/// stored, the answers to a datagram with a duplicate wait too, and the objects are stored again. The electronics
+/// follow each datagram before it is stored. What was set at the local front panel is stored with the next datagram
+/// that writes.
 pub fn serve_keeping<E: End, S: Store, L: Electronics>(
     device: &mut Device,
     end: &mut E,

@@ -24,10 +24,10 @@ pub fn law_by_events()
     law_one_list_of_messages();
 }
 
-/// Law: the answers to a datagram are grouped into PDUs in exactly one way (`Groups`). All groups together, in order,
-/// are the answers in order. Each group is one keep-alive, or responses in a PDU of at most 1,472 bytes. Of two
-/// neighbouring groups of responses, the first has no room for the first response of the second. The function does
-/// nothing at run time.
+/// Law: the answers to a datagram are grouped into PDUs of OCP.1 (AES70-3) in exactly one way, which is the profile's
+/// (`Groups` of the crate's specs). All groups together, in order, are the answers in order. Each group is one
+/// keep-alive, or responses in a PDU of at most 1,472 bytes. Of two neighbouring groups of responses, the first has no
+/// room for the first response of the second. The function does nothing at run time.
 pub fn law_of_groups()
     ensures { AnswersHaveOneGrouping }
 {}

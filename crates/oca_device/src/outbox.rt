@@ -14,7 +14,8 @@ use std::marker::Model;
 /// of 1,472 bytes has at most 122 messages that are answered.
 const MOST_PACKETS: usize = 122;
 
-/// The packets that answer a datagram, in order, for the peer that sent it. There are at most 122, and room for all.
+/// The packets that answer a datagram, in order, for the peer that sent it. There is room for 122, the most that one
+/// datagram gets, so no answer is left out.
 #[derive(Drop)]
 pub struct Outbox {
     pub(crate) first: BoundedOutbox,
@@ -33,8 +34,8 @@ impl Model for Outbox {
 impl Outbox {
     ghost use Rattle.oca_device.specs.Outboxes.{bytes_of_packets};
 
-    /// An empty outbox with room for 122 packets, the most that answer one datagram. The call takes the memory for
-    /// them, some 180 kB. Refusal: `NoMemory`, if memory was refused.
+    /// Makes an empty outbox with room for 122 packets, the most that answer one datagram. The call takes all the
+    /// memory that the outbox will need, some 180 kB. Refusal: `NoMemory` if that memory is refused; then none is kept.
     pub fn new(alloc: Global) -> Result<Outbox, NoMemory>
         ensures { IfOk result (λ outbox. outbox ≡ []) }
     {
@@ -43,7 +44,8 @@ impl Outbox {
         })
     }
 
-    /// The number of packets that answer the last datagram: 0 to 122.
+    /// The number of packets that answer the last datagram: 0 to 122. 0 in a new outbox, and after
+    /// [`clear`](Outbox::clear).
     pub fn len(&self) -> usize
         ensures len { result ≡ length self.now }
         ensures most { result ≤ most_answered }
@@ -51,28 +53,31 @@ impl Outbox {
         self.packets().len()
     }
 
-    /// Whether the outbox holds no packet.
+    /// Whether the outbox has no packet, so that the last datagram gets no answer. `true` for a new outbox, and after
+    /// [`clear`](Outbox::clear).
     pub fn is_empty(&self) -> bool
         ensures { result ≡ (length self.now == 0) }
     {
         self.packets().is_empty()
     }
 
-    /// The packet with the index `i`, counted from 0; `None` if there are only `i` packets or fewer.
+    /// The packet with the index `i`, counted from 0 in the order in which the packets are sent. `None` if the outbox
+    /// has `i` packets or fewer, as for every `i` above 121. The packet stays in the outbox.
     pub fn get(&self, i: usize) -> Option<&Packet>
         ensures { option_map (λ p. p.now.items) result ≡ slice_get self.now i }
     {
         self.first.get(i)
     }
 
-    /// Removes all packets.
+    /// Removes all packets, and keeps the memory. Nothing is sent.
     pub fn clear(&mut self)
         ensures { self.new ≡ [] }
     {
         self.first.clear();
     }
 
-    /// The packets that answer the last datagram, in order: at most 122.
+    /// The packets that answer the last datagram, in the order in which they are sent: 0 to 122. Empty in a new outbox,
+    /// and after [`clear`](Outbox::clear). The packets stay in the outbox.
     pub fn packets(&self) -> &[Packet]
         ensures packets { bytes_of_packets result.now ≡ self.now }
         ensures most { length result.now ≤ most_answered }

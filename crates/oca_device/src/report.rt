@@ -1,25 +1,25 @@
 //! What a run of the loop did.
 use std::ops::Add;
 
-/// What [`serve`](crate::serve) did. Two are added number by number: a number that would pass 64 bits stays at its last
-/// value.
+/// How often [`serve`](crate::serve) did each thing. All numbers are 0 by default. Two reports are added number by
+/// number: a sum above 2^64 - 1 stays at 2^64 - 1.
 #[derive(Clone, Copy, Debug, PartialEq, Eq)]
 pub struct Report {
-    /// Receives that delivered something: a datagram, an oversize one, silence or a failure.
+    /// Receives that returned a datagram, an oversize one, silence or a failure. A closed end is no turn.
     pub turns: u64,
-    /// Commands that were executed.
+    /// Commands that were executed, whatever their status.
     pub executed: u64,
-    /// Duplicates whose reply was retained.
+    /// Duplicates, which got their retained reply.
     pub kept: u64,
-    /// Commands that were too old.
+    /// Commands that were too old for the reply window, and were ignored.
     pub old: u64,
-    /// Commands that asked something else under the handle of a retained one.
+    /// Commands that asked something else under the handle of a retained command, and were ignored.
     pub reused: u64,
-    /// Datagrams that were malformed.
+    /// Datagrams that are not well-formed (AES70-3).
     pub malformed: u64,
-    /// Datagrams that found no room for their sender's session.
+    /// Datagrams whose sender has no session, and for which there was no room for one.
     pub no_room: u64,
-    /// Datagrams of more than 1,472 bytes.
+    /// Datagrams of more than 1,472 bytes, which were dropped.
     pub oversize: u64,
     /// Receives in which no datagram came.
     pub quiet: u64,

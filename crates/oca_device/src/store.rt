@@ -8,22 +8,25 @@ use crate::report::Report;
 use oca_net::Heard;
 use oca_tree::Tree;
 
-/// What keeps the objects of a device over a stop.
+/// Where the objects of a device are kept over a stop of the program: a program implements this trait for its memory.
 ///
-/// Where it tells, `storings` of its state are all the objects that it was handed, and whether it said that it holds
-/// them. Of a store that does not tell, it says nothing.
+/// A store that tells says in the contract what it was given and whether it said that it has that (`storings` of its
+/// state). Of a store that does not tell, the contracts say nothing.
 pub trait Store {
     /// What the store says of itself.
     ghost state: { Self → StoreState };
 
-    /// Stores the objects. `true` if they will be there after any stop, even after a power cut. `false` if that failed:
-    /// a later start then finds what was stored before, or these objects.
+    /// Stores the objects. Return `true` if they will be there after any stop, even after a power cut. Return `false`
+    /// if that failed: a later start then finds what was stored before, or these objects. `tree` has all objects of the
+    /// device as they are now.
     fn store(&mut self, tree: &Tree) -> bool
         ensures { Stores result tree.now (state self.old) (state self.new) };
 
-    /// Is called for each turn as soon as its datagram is served, so that the store can write a log. Its arguments are
-    /// what was heard, the datagram's bytes and answers, what the turn did, and the device after it. A send that fails
-    /// later is in no turn's report. It does nothing unless the store defines it.
+    /// Is called for each turn as soon as its datagram is served, so that the store can write a log. It does nothing if
+    /// the store does not define it.
+    ///
+    /// `_heard` is what was received, `_bytes` and `_answers` are the datagram and its answers, `_turn` is what the
+    /// turn did, and `_device` is the device after it. A send that fails later is in no turn's report.
     fn tell(
         &mut self,
         _heard: Heard,

@@ -2,26 +2,28 @@
 use oca_pdu::PduFault;
 use std::fmt;
 
-/// What a device made of a datagram. In all cases the clock moved first: locks of peers that are silent for more than
-/// three heartbeats are released, and sessions that are silent for more than 120,000 ms forgotten.
+/// What a device made of a datagram ([`Device::datagram`](crate::Device::datagram)). In all cases the clock moved
+/// first: locks of peers that are silent for more than three heartbeats are released, and sessions that are silent for
+/// more than 120,000 ms are forgotten.
 #[derive(Clone, Copy, Debug, PartialEq, Eq)]
 pub enum Verdict {
-    /// The datagram was admitted: how many of its commands, with and without response, were served in which way.
+    /// The datagram is well-formed and its sender has a session. The numbers say how many of its commands, with and
+    /// without response, were served in each way.
     Served {
-        /// Commands that were executed.
+        /// Commands that were executed, whatever their status.
         executed: u32,
-        /// Duplicates whose reply was retained.
+        /// Duplicates, which got their retained reply.
         kept: u32,
-        /// Commands that were too old.
+        /// Commands that were too old for the reply window, and were ignored.
         old: u32,
-        /// Commands that asked something else under the handle of a retained one.
+        /// Commands that asked something else under the handle of a retained command, and were ignored.
         reused: u32,
     },
-    /// The bytes are no well-formed datagram, and this is their first fault. No object and no session changed;
-    /// nothing was written.
+    /// The bytes are no well-formed datagram (AES70-3), and this is their first fault. No object and no session
+    /// changed, and nothing is answered.
     Malformed(PduFault),
-    /// The sender has no session, and as many other peers as were chosen have one. No object and no session
-    /// changed; nothing was written.
+    /// The sender has no session, and all sessions that the device was made for are in use. No object and no session
+    /// changed, and nothing is answered.
     NoRoom,
 }
 

@@ -5,40 +5,48 @@ ghost use Rattle.oca_net.specs.EndStates.{EndState, IsPresent, Receives, Sends};
 
 use oca_types::{Packet, Peer};
 
-/// What a receive returns. Moments are in milliseconds.
+/// What a receive returns. `now` is the moment of the end's clock, in milliseconds.
 #[derive(Clone, Copy, Debug, PartialEq, Eq)]
 pub enum Heard {
-    /// A datagram of at most 1,472 bytes, which the packet holds.
+    /// A datagram of at most 1,472 bytes came from the peer `from`: the packet has its bytes.
     Datagram { from: Peer, now: u64 },
-    /// No datagram came.
+    /// No datagram came. The packet is empty.
     Quiet { now: u64 },
-    /// A datagram of more than 1,472 bytes came, and is dropped.
+    /// A datagram of more than 1,472 bytes came, and is dropped. The packet is empty.
     Oversize { now: u64 },
-    /// The end failed in this call.
+    /// The receive failed. The packet is empty. A later receive may succeed.
     Failed,
-    /// Nothing more will come.
+    /// The end is closed: nothing more will come. The packet is empty.
     Closed,
 }
 
-/// An end of a network: it receives and sends datagrams.
+/// An end of a network: it receives and sends datagrams. The loops of the device and of the controller run over it.
 ///
-/// Where an end tells, `delivered` and `taken` of its state are all that it delivered and took. Of an end that does not
-/// tell, these two say nothing; whether it has returned Closed, and its counts, are said of every end. An end that
-/// keeps time says the latest moment that it has returned; of one that keeps none, nothing is said of its moments. And
-/// each end says the earliest and the latest moment that it may return as its present one.
+/// An end that *keeps time* has a clock of its own. A program may implement this trait for a network of its own.
+///
+/// An end that tells says in the contract what it delivered and took (`delivered` and `taken` of its state). Of an end
+/// that does not tell, these two say nothing; whether it has returned Closed, and its counts, are said of every end. An
+/// end that keeps time says the latest moment that it has returned. Each end says the earliest and the latest moment
+/// that it may return as its present one.
 pub trait End {
     /// What the end says of itself.
     ghost state: { Self → EndState };
 
-    /// Receives once. How long that waits is the end's choice: a socket waits for at most 50 ms. `Datagram` with its
-    /// sender if a datagram came, and its bytes are in `packet`. Otherwise `packet` is empty: `Quiet` if none came,
-    /// `Oversize` if one of more than 1,472 bytes came. `Failed` if receiving failed, and `Closed` if nothing more will
-    /// come.
+    /// Receives once, and waits for as long as the end chooses: a socket waits for at most 50 ms. `packet` is emptied
+    /// first.
+    ///
+    /// `Datagram` with its sender if a datagram came: its bytes are in `packet`. `Quiet` if none came. `Oversize` if a
+    /// datagram of more than 1,472 bytes came: it is dropped. `Failed` if receiving failed. `Closed` if nothing more
+    /// will come.
     fn receive(&mut self, packet: &mut Packet) -> Heard
         ensures { Receives result packet.new.items (state self.old) (state self.new) };
 
-    /// Receives once, with the results of [`receive`](End::receive). An end that keeps time waits until this moment of
-    /// its own clock, in milliseconds, at most. An end that keeps no time receives as `receive` does.
+    /// Receives once, and waits until the moment `moment` at most, in milliseconds of the end's own clock. An end that
+    /// keeps no time ignores `moment`, and receives as [`receive`](End::receive) does. `packet` is emptied first.
+    ///
+    /// `Datagram` with its sender if a datagram came: its bytes are in `packet`. `Quiet` if none came. `Oversize` if a
+    /// datagram of more than 1,472 bytes came: it is dropped. `Failed` if receiving failed. `Closed` if nothing more
+    /// will come.
     fn receive_by(&mut self, packet: &mut Packet, moment: u64) -> Heard
         ensures { Receives result packet.new.items (state self.old) (state self.new) }
     {
@@ -46,13 +54,13 @@ pub trait End {
         self.receive(packet)
     }
 
-    /// The present moment of the end's clock, in milliseconds: no earlier than any that a receive has returned. 0 if
-    /// the end keeps no time.
+    /// The present moment of the end's clock, in milliseconds. It is not before any moment that a receive has returned.
+    /// 0 if the end keeps no time. Nothing is received or sent.
     fn now(&self) -> u64
         ensures { IsPresent result (state self.now) };
 
-    /// Sends a datagram of at most 1,472 bytes (a premise) to the peer `to`. `true` if the end took it, which does not
-    /// say that it arrives; `false` if sending failed.
+    /// Sends a datagram to the peer `to`. `bytes` must have at most 1,472 bytes (a premise). `true` if the end took the
+    /// whole datagram, which does not say that it arrives. `false` if sending failed: the datagram is then not sent.
     fn send(&mut self, to: Peer, bytes: &[u8]) -> bool
         requires { length bytes.now ≤ largest_datagram }
         ensures { Sends result to bytes.now (state self.old) (state self.new) };

@@ -12,24 +12,25 @@ use std::alloc::Global;
 use std::fmt;
 use std::marker::Model;
 
-/// An entry of the script of a [`MemoryEnd`]. Moments are in milliseconds.
+/// What one receive of a [`MemoryEnd`] returns: an entry of its script. `now` is a moment in milliseconds.
 #[derive(Debug, Drop)]
 pub enum Scripted {
-    /// A datagram. One of more than 1,472 bytes is heard as oversize.
+    /// A datagram from the peer `from`. If it has more than 1,472 bytes, the receive returns `Oversize`.
     Datagram {
         from: Peer,
         bytes: Vec<u8>,
         now: u64,
     },
-    /// No datagram came.
+    /// No datagram comes: the receive returns `Quiet`.
     Quiet {
         now: u64,
     },
-    /// A receive that fails.
+    /// The receive returns `Failed`, and counts as a failure.
     Failed,
 }
 
-/// An end that delivers a script, and keeps what it takes. It keeps no time: its moments are the script's.
+/// An end of a network in memory, for tests: its receives return the entries of a script, and it stores what is sent.
+/// It keeps no time: its moments are the script's.
 #[derive(Drop)]
 pub struct MemoryEnd {
     script: Vec<Scripted>,
@@ -77,10 +78,11 @@ impl fmt::Debug for MemoryEnd {
 }
 
 impl MemoryEnd {
-    /// An end in memory whose receives return the entries of `script`, in order, and `Closed` after the last. It stores
-    /// up to `room` datagrams that are sent, and takes the memory for them. The send with the number `fail_send`,
-    /// counted from 0, fails (`None`: none does); each send beyond the room fails too. Refusal: `NoMemory`, if memory
-    /// was refused.
+    /// Makes an end in memory whose receives return the entries of `script`, in order, and `Closed` after the last.
+    ///
+    /// The end stores up to `room` datagrams that are sent, and the call takes the memory for them. `fail_send` is the
+    /// number of the send that fails, counted from 0; with `None` no send is chosen to fail. Each send beyond the room
+    /// fails too. Refusal: `NoMemory` if memory was refused; the script is then lost.
     pub fn new(
         alloc: Global,
         script: Vec<Scripted>,
@@ -104,21 +106,24 @@ impl MemoryEnd {
         })
     }
 
-    /// The part of the script that was delivered, in order.
+    /// The entries of the script that receives have returned, in order. Empty at first, and the whole script at the
+    /// end.
     pub fn delivered(&self) -> &[Scripted]
         ensures { deliveries_of result.now ≡ self.now.delivered }
     {
         &self.script[..self.next]
     }
 
-    /// The datagrams that were sent and stored, in order, each with the peer to which it was sent.
+    /// The datagrams that were sent and stored, in order, each with the peer to which it was sent. Empty at first. At
+    /// most as many as the room that [`new`](MemoryEnd::new) was given; a send that failed is not among them.
     pub fn taken(&self) -> &[(Peer, Packet)]
         ensures { sent_packets result.now ≡ self.now.taken }
     {
         &self.taken
     }
 
-    /// How many receives and sends failed so far; at 2^64 - 1 the count stays.
+    /// How many receives and sends failed so far, together: 0 at first. A count of 2^64 - 1 stays. A receive that
+    /// returns `Closed` or `Oversize` is no failure.
     pub fn failures(&self) -> u64
         ensures { result ≡ self.now.failures }
     {

@@ -8,11 +8,13 @@ use std::time::Duration;
 /// How long a refusal is awaited, in milliseconds.
 const WAIT_MS: u64 = 200;
 
-/// Whether the host of a peer refuses datagrams to the peer's port, as it does if no program has the port. The call
-/// binds a socket of its own at the address `ip` and a port of the system's choice. `ip` is an IPv4 address as a
-/// number, the first byte highest; 0 means all addresses of the machine. It sends the peer an empty datagram, which a
-/// device ignores as malformed, and waits for the refusal for at most 200 ms. `false` if no refusal came, or the system
-/// failed: then nothing is known.
+/// Whether the host of the peer `peer` refuses datagrams to the peer's port, as it does if no program has the port.
+/// `true` if the refusal came. `false` if none came within 200 ms, or a call of the system failed: then nothing is
+/// known.
+///
+/// The call binds a socket of its own at the address `ip` and a port of the system's choice, and closes it at the end.
+/// `ip` is an IPv4 address as a number, the first byte highest; 0 means all addresses of the machine. It sends the peer
+/// one empty datagram, which a device of this profile ignores as malformed, and waits for at most 200 ms.
 pub fn is_refused<R: Net>(rt: &R, ip: u32, peer: Peer) -> bool {
     match ask(rt, Peer { ip, port: 0 }, peer) {
         Ok(_) => false,
@@ -20,12 +22,13 @@ pub fn is_refused<R: Net>(rt: &R, ip: u32, peer: Peer) -> bool {
     }
 }
 
-/// Whether this machine no longer has the address `ip` (an IPv4 address as a number, the first byte highest). `true` if
-/// the system says that the address is not available when a socket is bound there. Then each send of an end that was
-/// bound at this address fails.
+/// Whether this machine no longer has the address `ip`, an IPv4 address as a number, the first byte highest. `true` if
+/// the system says that the address is not available when a socket is bound there. Each send of an end that was bound
+/// at this address then fails.
 ///
-/// `false` if a socket can be bound, as at an address whose interface is down: the system may then send by another
-/// interface. `false` also if the system refuses the socket for another reason: then nothing is known.
+/// `false` if a socket can be bound, also at an address whose interface is down: the system may then send by another
+/// interface. `false` too if the system refuses the socket for another reason: then nothing is known. The call binds a
+/// socket at a port of the system's choice, closes it, and sends nothing.
 pub fn is_gone<R: Net>(rt: &R, ip: u32) -> bool {
     let bound = UdpSocket::bind(rt, SocketAddrV4::from(Peer { ip, port: 0 }));
     lacks_address(reason_of(&bound))

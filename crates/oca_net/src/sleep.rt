@@ -5,9 +5,8 @@ use std::net::{Net, SocketAddr, UdpSocket};
 use std::rt::Clock;
 use std::time::Duration;
 
-/// The same system with another clock: its monotonic time goes on while the machine sleeps (Linux's CLOCK_BOOTTIME).
-/// Where the system has no such clock, it is the one that it had. An end that is bound over it says moments that count
-/// sleep, so that silence is as long as it was.
+/// The same system with another clock: its monotonic time goes on while the machine sleeps (Linux's CLOCK_BOOTTIME). If
+/// the system has no such clock, its own clock is used. An end that is bound over it returns moments that count sleep.
 #[derive(Clone, Copy, Debug)]
 pub struct CountsSleep<'a, S>(pub &'a S);
 

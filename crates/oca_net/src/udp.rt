@@ -36,10 +36,11 @@ const TRIES: u32 = 65_536;
 /// Why no end was bound. The numbers are promised (*profile*).
 #[derive(Clone, Copy, Debug, Drop, PartialEq, Eq, Error)]
 pub enum BindFault {
-    /// The system refused: the address is not this machine's, or the port is in use, or is not open to the caller.
+    /// The system refused the socket: the address is not this machine's, or the port is in use or not open to the
+    /// caller. Of [`UdpEnd::bind_towards`] also: the system has no route to the device.
     #[error("socket failed")]
     Io = 1,
-    /// The receive buffer's memory was refused.
+    /// The memory for the receive buffer, 1,473 bytes, was refused.
     #[error("no memory")]
     NoMemory = 2,
 }
@@ -48,19 +49,20 @@ const _: () = prove!(BindFault::Io as u8 == 1);
 
 const _: () = prove!(BindFault::NoMemory as u8 == 2);
 
-/// Why no end was bound, with the system's reason, which it says in the system's words.
+/// Why no end was bound, with the system's reason. As a text it is the system's words, or `no memory`.
 #[derive(Clone, Copy, Debug, Drop, Error)]
 pub enum BindError {
-    /// The system refused.
+    /// The system refused the socket, or has no route to the device, for this reason.
     #[error("{0}")]
     Io(io::Error),
-    /// The receive buffer's memory was refused.
+    /// The memory for the receive buffer, 1,473 bytes, was refused.
     #[error("no memory")]
     NoMemory,
 }
 
 impl BindError {
-    /// The fault, `Io` or `NoMemory`, without the system's reason.
+    /// Returns the fault without the system's reason: [`BindFault::Io`] or [`BindFault::NoMemory`], by the variant of
+    /// the same name.
     pub fn fault(&self) -> BindFault
         ensures { result ≡ fault_of self.now }
     {
@@ -71,18 +73,18 @@ impl BindError {
     }
 }
 
-/// An end at a UDP socket of IPv4.
+/// An end of a network at a UDP socket of IPv4.
 ///
-/// A receive waits 50 ms for a datagram, and returns `Quiet` where none has come by then; a signal does not end the
-/// wait. Its moments are the milliseconds since `bind`, and none is before an earlier one. A datagram of more than
-/// 1,472 bytes is heard as `Oversize`. What comes faster than it is received waits in the system's buffer; beyond that
-/// the system drops it, and nothing tells. Whatever else the system returns is `Failed`, once the 50 ms are over, and
+/// A receive waits for at most 50 ms, and returns `Quiet` if no datagram has come by then; a signal does not end the
+/// wait. Moments are the milliseconds since the end was bound, and never go back. A datagram of more than 1,472 bytes
+/// is `Oversize`. Datagrams that come faster than they are received wait in the system's buffer; beyond that the system
+/// drops them, and no call reports it. If the system returns an error, the receive is `Failed` after the 50 ms, and
 /// counts as a failure.
 ///
-/// A send does not wait, and one that a signal interrupts is begun again. Where the system's buffer has no room, which
-/// datagrams to hosts that do not answer fill, it is `false`, as where a network can't be reached, and counts as a
-/// failure. `bind` asks for a buffer of 4,000,000 bytes; what the system granted, `send_buffer` says. That a send was
-/// taken does not say that the datagram arrives. No call but `bind` takes memory.
+/// A send does not wait, and a send that a signal interrupts is begun again. It is `false`, and counts as a failure, if
+/// the system's buffer has no room, which datagrams to hosts that do not answer fill, or the network can't be reached.
+/// `bind` asks for a buffer of 4,000,000 bytes; `send_buffer` returns what the system granted. Only the calls that bind
+/// take memory.
 ///
 /// ```
 /// let mut end = UdpEnd::bind(rt.alloc(), rt, LOOPBACK, port).map_err(|_| "socket failed")?;
@@ -141,15 +143,18 @@ impl<'a, C: Clock> fmt::Debug for UdpEnd<'a, C> {
 }
 
 impl<'a, C: Clock> UdpEnd<'a, C> {
-    /// An end bound at the address `ip` (an IPv4 address as a number, the first byte highest) and a port; at port 0 the
-    /// system chooses one. The call takes the memory for its receive buffer, then binds the socket. Refusals:
-    /// `NoMemory` if the memory for the receive buffer was refused; otherwise `Io` if the system refused the socket.
+    /// Binds an end at the address `ip` and the port `port`. `ip` is an IPv4 address as a number, the first byte
+    /// highest. At port 0 the system chooses a port ([`local`](UdpEnd::local) returns it). The end's clock is at 0. The
+    /// call takes the memory for its receive buffer, 1,473 bytes, and sends nothing.
+    ///
+    /// Refusals, the first that applies, after which no socket is open: `NoMemory` if that memory was refused. `Io` if
+    /// the system refused the socket, for example because the port is in use.
     ///
     /// Bind a device at the address at which it is asked, and a controller by [`bind_towards`](UdpEnd::bind_towards).
     /// Address 0 means all addresses of the machine: the system then chooses for each datagram from which address it
     /// leaves. A device's answers may then leave from another address than was asked, and its controllers drop them. A
-    /// controller's transmissions of one command may leave from two addresses: these are two peers, and the device
-    /// executes the command for each.
+    /// controller's transmissions of one command may leave from two addresses: the device then takes them for two
+    /// peers, and executes the command for each.
     pub fn bind(alloc: Global, rt: &'a C, ip: u32, port: u16) -> Result<UdpEnd<'a, C>, BindFault>
     where
         C: Net,
@@ -162,9 +167,12 @@ impl<'a, C: Clock> UdpEnd<'a, C> {
         }
     }
 
-    /// An end bound at the address `ip` and the port `port` as [`bind`](UdpEnd::bind) does it. Refusals: `NoMemory` if
-    /// the memory for the receive buffer was refused; otherwise `Io` with the system's reason if the system refused the
-    /// socket.
+    /// Binds an end at the address `ip` and the port `port` as [`bind`](UdpEnd::bind) does, and returns the system's
+    /// reason if it fails. `ip` is an IPv4 address as a number, the first byte highest; at port 0 the system chooses a
+    /// port. The call takes the memory for its receive buffer, 1,473 bytes.
+    ///
+    /// Refusals, the first that applies, after which no socket is open: `NoMemory` if that memory was refused. `Io`
+    /// with the system's reason if the system refused the socket.
     pub fn bind_with_reason(
         alloc: Global,
         rt: &'a C,
@@ -193,13 +201,15 @@ impl<'a, C: Clock> UdpEnd<'a, C> {
         })
     }
 
-    /// An end for a controller of this device, at the one address from which the system reaches the device. It is bound
-    /// at the port `port`; at 0 the system chooses one. The address comes from the system's routes, without a datagram.
-    /// So all transmissions of a command leave from this address or not at all, and the device takes them as those of
-    /// one peer.
+    /// Binds an end for a controller of the device at the address `device`, at the one address from which the system
+    /// reaches that device. The end is bound at the port `port`; at 0 the system chooses one. The address comes from
+    /// the system's routes: no datagram is sent. So all transmissions of a command leave from this address or not at
+    /// all, and the device takes them as those of one peer. The call takes the memory for its receive buffer, 1,473
+    /// bytes.
     ///
-    /// Refusals: `Io` if the system has no route to the device, or refused the socket. `NoMemory` if the memory for the
-    /// receive buffer was refused.
+    /// Refusals, the first that applies, after which no socket is open: `Io` if the system has no route to the device.
+    /// `NoMemory` if that memory was refused. `Io` if the system refused the socket, for example because the port is in
+    /// use.
     pub fn bind_towards(
         alloc: Global,
         rt: &'a C,
@@ -217,9 +227,12 @@ impl<'a, C: Clock> UdpEnd<'a, C> {
         }
     }
 
-    /// An end for a controller of this device, bound at the port `port` as [`bind_towards`](UdpEnd::bind_towards) does
-    /// it. Refusals: `Io` with the system's reason if the system has no route to the device, or refused the socket;
-    /// `NoMemory` if the memory for the receive buffer was refused.
+    /// Binds an end for a controller of the device at the address `device` as [`bind_towards`](UdpEnd::bind_towards)
+    /// does, and returns the system's reason if it fails. The end is bound at the port `port`; at 0 the system chooses
+    /// one. No datagram is sent. The call takes the memory for its receive buffer, 1,473 bytes.
+    ///
+    /// Refusals, the first that applies, after which no socket is open: `Io` with the reason if the system has no route
+    /// to the device. `NoMemory` if that memory was refused. `Io` with the reason if the system refused the socket.
     pub fn bind_towards_with_reason(
         alloc: Global,
         rt: &'a C,
@@ -237,7 +250,8 @@ impl<'a, C: Clock> UdpEnd<'a, C> {
         }
     }
 
-    /// The address and port at which the end is bound; the port is the one that the system chose, if it chose one.
+    /// The address and the port at which the end is bound. If it was bound at port 0, this is the port that the system
+    /// chose. If it was bound at the address 0, the address is 0. They never change.
     pub fn local(&self) -> Peer
         ensures { result ≡ self.now.local }
     {
@@ -245,21 +259,24 @@ impl<'a, C: Clock> UdpEnd<'a, C> {
     }
 
     /// The present moment of the end's clock: the milliseconds since the end was bound. It is never before a moment
-    /// that a receive has returned; if the clock can't be read, it is the last of those.
+    /// that a receive has returned. If the system's clock can't be read, it is the last of those moments. Nothing is
+    /// received or sent.
     pub fn now(&self) -> u64
         ensures { self.now.moment ≤ result }
     {
         self.socket.now()
     }
 
-    /// Why the last receive that returned `Failed` failed. `None` if none has failed so far.
+    /// The system's reason why the last receive that returned `Failed` failed. `None` if none has failed so far. A
+    /// receive that succeeds later does not change it.
     pub fn last_failed_receive(&self) -> Option<io::Error>
         ensures { result ≡ self.now.receive_fault }
     {
         self.failed_receive
     }
 
-    /// Why the last send that returned `false` failed. `None` if none has failed so far.
+    /// The system's reason why the last send that returned `false` failed. `None` if none has failed so far. A send
+    /// that succeeds later does not change it.
     pub fn last_failed_send(&self) -> Option<io::Error>
         ensures { result ≡ self.now.send_fault }
     {
@@ -267,17 +284,19 @@ impl<'a, C: Clock> UdpEnd<'a, C> {
     }
 
     /// How many bytes the system granted for datagrams that were sent and have not left yet, by the system's own count.
-    /// 0 if the system does not say. Datagrams to a neighbour that does not answer take up to some 213,000 of these
-    /// bytes, so a larger grant leaves room for others.
+    /// 0 if the system does not say. It is set when the end is bound, and never changes. Datagrams to a neighbour that
+    /// does not answer take up to some 213,000 of these bytes, so a larger grant leaves room for others.
     pub fn send_buffer(&self) -> u32 {
         self.socket.send_buffer
     }
 
-    /// Receives once. The call waits until the moment `moment` of the end's clock, in milliseconds, for at most an
-    /// hour, and not at all if that moment is past. `Datagram` with its sender if a datagram came, and its bytes are in
-    /// `packet`. Otherwise `packet` is empty: `Quiet` if none came, `Oversize` if one of more than 1,472 bytes came.
-    /// `Failed` if the system returned anything else, such as an error. That counts as a failure, and the call then
-    /// waits until 50 ms after its beginning, or until `moment` if that is sooner.
+    /// Receives once, and waits until the moment `moment` of the end's clock, in milliseconds, for at most an hour. If
+    /// that moment is past, the call does not wait. `packet` is emptied first. A signal does not end the wait.
+    ///
+    /// `Datagram` with its sender if a datagram came: its bytes are in `packet`. `Quiet` if none came. `Oversize` if a
+    /// datagram of more than 1,472 bytes came: it is dropped. `Failed` if the system returned an error
+    /// ([`last_failed_receive`](UdpEnd::last_failed_receive)). That counts as a failure, and the call then waits until
+    /// 50 ms after its beginning, or until `moment` if that is sooner. `Closed` never comes.
     #[tactic(auto, using(crate::proofs::Waiting::until_most, crate::proofs::Waiting::until_later))]
     pub fn receive_by(&mut self, packet: &mut Packet, moment: u64) -> Heard
         ensures packet { HoldsOnlyADatagram result packet.new.items }

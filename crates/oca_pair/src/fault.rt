@@ -10,15 +10,16 @@ use std::fmt;
 pub enum PairFault {
     /// Number 1: memory was refused.
     NoMemory,
-    /// Number 2: the step of this number, from 0, is the first that names a link or a datagram that is not there, or is
-    /// an `Other` from the peer of a link.
+    /// Number 2: the step with this number, from 0, is the first that names a link or a datagram that is not there, or
+    /// is an `Other` from the peer of a link.
     BadStep(usize),
-    /// Number 3: two starts have one peer, or one has the device's.
+    /// Number 3: two starts have the same peer, or one has the device's, 127.0.0.1:65000.
     SamePeer,
 }
 
 impl PairFault {
-    /// The number of the fault (*profile*): 1 for `NoMemory`, 2 for `BadStep`, 3 for `SamePeer`.
+    /// Returns the number of the fault, for a program that reports numbers: 1 for `NoMemory`, 2 for `BadStep`, 3 for
+    /// `SamePeer`. The numbers are promised (*profile*).
     pub fn number(&self) -> u8
         ensures { result ≡ pair_fault_number self.now }
     {

@@ -17,10 +17,11 @@ use oca_model::{law_of_answers, law_of_requests};
 use oca_pdu::{law_reading, law_written_is_read_back};
 use oca_tree::law_of_typed_requests;
 
-/// Law: over every schedule, and for all sizes of window, peers and span, each answer is the answer to its command. It
-/// holds of each answer that a link holds, or that was taken from it, under a handle. The answer is what an execution
-/// returned for that link's peer, of the very command that the link submitted under that handle. The handles of the
-/// commands that a link submitted rise by one.
+/// Law: over every schedule, and for all sizes of window, peers and span, each answer is the answer to its command. A
+/// schedule is a list of steps of a device and some links ([`Step`](crate::Step)). The law holds of each answer that a
+/// link has, or that was taken from it, under a handle. The answer is what an execution returned for that link's peer,
+/// of the very command that the link submitted under that handle. The handles of the commands that a link submitted
+/// rise by one.
 ///
 /// What is executed is what the device's law by events says of what happened. If the peer kept its session, it is the
 /// only execution for the peer under that handle. A peer keeps its session if each of its datagrams that the device
@@ -33,18 +34,22 @@ pub fn law_answers()
     law_reading();
 }
 
-/// Laws over every schedule. The first is for a span `s` of at least 1 and a window `w` with `2 * s <= w + 1`. Take a
-/// datagram with a command that is still in flight at its link. When it is delivered to the device, it is answered. The
-/// command is executed now, or its reply is found in the window. It is never rejected as old, and never taken for
-/// another command under its handle. The premises are that the datagram finds room, and that the link's peer kept its
-/// session, this datagram counted ([`law_answers`] says what that is).
+/// Laws: over every schedule, under the premises below, a datagram with a command in flight is answered, and no command
+/// is executed twice. A schedule is a list of steps of a device and some links ([`Step`](crate::Step)). The function
+/// does nothing at run time.
+///
+/// The first law is for a span `s` of at least 1 and a reply window `w` with `2 * s <= w + 1`. Take a datagram with a
+/// command that is still in flight at its link. When it is delivered to the device, it is answered: the command is
+/// executed now, or its reply is found in the window. It is never rejected as old, and never taken for another command
+/// under its handle. The premises are that the datagram finds room, and that the link's peer kept its session, this
+/// datagram counted ([`law_answers`] says what that is).
 ///
 /// Second, for all sizes: no command of a link is executed twice, if its peer kept its session.
 ///
 /// Third, for all sizes: a datagram finds room if its peer is known when it comes, or fewer peers are known than there
 /// is room for. A peer is known for 120,000 ms after each of its admitted datagrams. So a datagram finds room if few
 /// enough peers sent well-formed datagrams in the last 120,000 ms, its own peer counted. Few enough are at most as many
-/// as there is room for. The function does nothing at run time.
+/// as there is room for.
 pub fn law_never_old()
     ensures answered { NoUntakenCommandIsTooOld }
     ensures once { EveryCommandIsExecutedOnce }
@@ -53,23 +58,29 @@ pub fn law_never_old()
     law_written_is_read_back();
 }
 
-/// Law: over every schedule, for a span `s` of at least 1 and a window `w` with `2 * s <= w + 1`, one round trip brings
-/// the answer. Take a datagram with a command that is still in flight at its link, delivered to the device under the
-/// premises of [`law_never_old`]. The device then sends one datagram to the link. Any steps may follow, with no further
-/// premise, until that datagram is delivered to the link.
+/// Law: over every schedule, under the premises of [`law_never_old`], one delivered command and the delivered response
+/// bring the answer to the link. A schedule is a list of steps of a device and some links ([`Step`](crate::Step)). The
+/// premises include a span `s` of at least 1 and a reply window `w` with `2 * s <= w + 1`. The function does nothing at
+/// run time.
 ///
-/// If the link still held the command before that, it then holds the command's answer. Otherwise the answer was taken
+/// Take a datagram with a command that is still in flight at its link, delivered to the device under these premises.
+/// The device then sends one datagram to the link. Any steps may follow, with no further premise, until that datagram
+/// is delivered to the link.
+///
+/// If the link still had the command before that, it then has the command's answer. Otherwise the answer was taken
 /// earlier. The answer is the reply of an execution of that very command for that link's peer. If the peer kept its
-/// session till the end, the answer is the reply that this datagram carried. The function does nothing at run time.
+/// session till the end, the answer is the reply that this datagram carried.
 pub fn law_round_trip()
     ensures { EveryRoundTripBringsTheAnswer }
 {
     law_written_is_read_back();
 }
 
-/// Law: over every schedule, for a span `s` of at least 1 and a window `w` with `2 * s <= w + 1`, every command gets
-/// through. The premise is that the link's `due` is called at least every `ms` milliseconds from the submit on, each
-/// time until it returns no command.
+/// Law: over every schedule in which a link is asked often enough, each command of it is answered, or the link is lost,
+/// or the command was sent in time so far. A schedule is a list of steps of a device and some links
+/// ([`Step`](crate::Step)). The premises are a span `s` of at least 1, a reply window `w` with `2 * s <= w + 1`, and
+/// that the link's [`due`](oca_control::Link::due) is called at least every `ms` milliseconds from the submit on, each
+/// time until it returns no command. The function does nothing at run time.
 ///
 /// Then one of three things holds of each command that the link submitted. The link has its answer, or the answer was
 /// taken. Or the link is lost. Or the command still waits, and was sent in time. In time means within `ms` of its
@@ -78,15 +89,16 @@ pub fn law_round_trip()
 ///
 /// While it waits, one transmission that arrives at the device and the one response that comes back are enough. That is
 /// a round trip of [`law_round_trip`], under its premises. What the device, the other links and the network do is left
-/// open, and so is what is lost, duplicated or reordered. The function does nothing at run time.
+/// open, and so is what is lost, duplicated or reordered.
 pub fn law_getting_through()
     ensures { EveryCommandGetsThrough }
 {
     law_written_is_read_back();
 }
 
-/// Laws over every schedule and for all sizes, if a link and the network are in time. No command of the link is
-/// executed twice. That holds whatever sessions the device forgot meanwhile, and whatever became of the other links.
+/// Laws: over every schedule, no command of a link is executed twice if the link and the network are in time. That
+/// holds for all sizes, whatever sessions the device forgot meanwhile, and whatever became of the other links. A
+/// schedule is a list of steps of a device and some links ([`Step`](crate::Step)).
 ///
 /// In time means two things. First, the link is never asked what is due while it is late: a command of it is
 /// unanswered, and was submitted more than 15,000 ms ago. Second, each of the link's datagrams that comes to the device
@@ -94,7 +106,7 @@ pub fn law_getting_through()
 /// says that these clocks run alike, and that the network holds nothing for longer than 100,000 ms. A datagram that is
 /// lost, or has not arrived at the end, does not matter.
 ///
-/// So each answer that the link holds or returned is that of the only execution under its handle. And if a transmission
+/// So each answer that the link has or returned is that of the only execution under its handle. And if a transmission
 /// of an executed command comes to the device, the session in which the command was executed is not forgotten.
 ///
 /// A schedule has one device from its beginning to its end. So nothing is proved of a device that is started again. The
@@ -107,9 +119,9 @@ pub fn law_once_in_time()
     law_written_is_read_back();
 }
 
-/// Laws over every schedule and for all sizes: what the answer to a command says of the device. A link submits a
-/// command under a handle in a step, and holds its answer at the end of the schedule, or returned it before. The
-/// premises are those of [`law_once_in_time`]: the link and the network are in time. The function does nothing at run
+/// Laws: over every schedule and for all sizes, the answer to a command is true of the device if the link and the
+/// network are in time. A link submits a command under a handle in a step, and has its answer at the end of the
+/// schedule, or returned it before. The premises are those of [`law_once_in_time`]. The function does nothing at run
 /// time.
 ///
 /// Between: the answer is that of the only execution of the command. This happened when one of its transmissions was
@@ -119,9 +131,9 @@ pub fn law_once_in_time()
 /// Refused: if the status is not OK, this execution changed nothing, and the status is the first that applies.
 ///
 /// OK: this needs two more premises. The device's objects were a tree at first, with texts and numbers of their types.
-/// The answer is read by the object's class, or is to a method of OcaRoot or OcaWorker. If the status is OK, what is
-/// read is what the object with the command's number answered. The device then holds what the request made of this
-/// object, and the others as they were.
+/// The answer is read by the object's class, or is to a method of OcaRoot or OcaWorker (AES70-2). If the status is OK,
+/// what is read is what the object with the command's number answered. The device then holds what the request made of
+/// this object, and the others as they were.
 ///
 /// Reads: what is read of an OK answer to a get method is what the object read, with its limits, at a moment between
 /// the submit and the answer. Sets: if a set method is answered OK, the execution set the object to the value, once.

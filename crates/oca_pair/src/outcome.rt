@@ -4,36 +4,36 @@ use oca_device::Verdict;
 use oca_tree::{FrontFault, SetFault};
 use oca_types::Handle;
 
-/// What a step of a network led to.
+/// What a step of a schedule led to ([`Step`](crate::Step)).
 #[derive(Debug, Drop)]
 pub enum Outcome {
-    /// The link took the command, under this handle.
+    /// `Submit`: the link took the command, under this handle.
     Submitted(Handle),
-    /// The link refused the command.
+    /// `Submit`: the link refused the command, for this fault.
     Refused(ControlFault),
-    /// The link sent a command or a keep-alive: the datagram of this number, from 0, was sent to the device.
+    /// `Due`: the link sent a command or a keep-alive. It is the datagram of this number, from 0, of those that were
+    /// sent to the device.
     Sent(usize),
-    /// The link gave nothing out.
+    /// `Due`: nothing was due.
     Nothing,
-    /// The link is lost.
+    /// `Due`: the link is lost, and sent nothing.
     Lost,
-    /// What the device made of a datagram.
+    /// `ToDevice` or `Other`: what the device made of the datagram.
     Device(Verdict),
-    /// What the link made of a datagram.
+    /// `ToLink`: what the link made of the datagram.
     Link(Reception),
-    /// The device's clock was read.
+    /// `Tick`: the device's clock moved.
     Ticked,
-    /// The object was set at the local front panel.
+    /// `Local`: the object was set.
     Set,
-    /// The object was not set at the local front panel, for this fault.
+    /// `Local`: the object was not set, for this fault.
     NotSet(SetFault),
-    /// The object got its label at the local front panel, was enabled or disabled there, or lost its lock, or its
-    /// hardware was said to refuse or not to.
+    /// `Label`, `Enable`, `Unlock` or `Fail`: the object was changed.
     Changed,
-    /// The object was not changed so, for this fault.
+    /// `Label`, `Enable`, `Unlock` or `Fail`: the object was not changed, for this fault.
     NotChanged(FrontFault),
-    /// The link gave this answer.
+    /// `Take`: the answer to the command, which the link no longer has.
     Answer(Answer),
-    /// The link has no answer under the handle.
+    /// `Take`: the link has no answer under the handle. Nothing changed.
     NoAnswer,
 }

@@ -19,21 +19,28 @@ use oca_tree::Tree;
 use oca_types::{NoMemory, Peer, Peers, Sizes, Span, Window};
 use std::alloc::Global;
 
-/// What a schedule led to.
+/// What a run of a schedule led to: the device at its end, all datagrams, and the outcome of each step.
 #[derive(Debug, Drop)]
 pub struct Transcript {
-    /// The device at the end.
+    /// The device after the last step.
     pub device: Device,
-    /// All datagrams that were sent to the device, the first one first.
+    /// All datagrams that were sent to the device, in the order of sending, whether they were delivered or not.
     pub to_device: Vec<Sent>,
-    /// All datagrams that were sent to links, the first one first.
+    /// All datagrams that were sent to links, in the order of sending, whether they were delivered or not.
     pub to_links: Vec<Sent>,
-    /// What each step led to, in order.
+    /// The outcome of each step, in the order of the steps.
     pub log: Vec<Outcome>,
 }
 
-/// Runs a schedule as [`run_pair_with_sizes`] does, with reply windows of `window` commands and sessions of at most 16
-/// peers. The other parameters and the refusals are those of that call.
+/// Runs the steps of a schedule (`steps`) over a device and some links, for tests, and returns what each step did. It
+/// is [`run_pair_with_sizes`] with reply windows of `window` commands (1 to 64) and sessions of at most 16 peers.
+///
+/// The device is at 127.0.0.1:65000 and has the objects of `tree`. There is a link with the span `span` for each of
+/// `starts`, made at moment 0. The call takes memory for the run. Nothing is sent over a network.
+///
+/// Refusals, after which nothing of the run is returned. `SamePeer`, checked first, if two starts have the same peer,
+/// or one has the device's. `BadStep` with the number, from 0, of the first step that names a link or a datagram that
+/// is not there, or is an `Other` from a link's peer. `NoMemory` if memory was refused before such a step.
 pub fn run_pair(
     alloc: Global,
     tree: Tree,
@@ -51,14 +58,16 @@ pub fn run_pair(
     run_pair_with_sizes(alloc, tree, Sizes { window, peers }, span, starts, steps)
 }
 
-/// Runs the steps of a schedule (`steps`) over a device and some links, and returns what each step did. The device is
-/// at 127.0.0.1:65000 and has these objects and sizes. There is a link with this span for each of `starts`, made at
-/// moment 0.
+/// Runs the steps of a schedule (`steps`) over a device and some links, for tests, and returns what each step did. The
+/// device is at 127.0.0.1:65000, has the objects of `tree`, and has the sizes `sizes`: 1 to 64 commands and 1 to 64
+/// peers. There is a link with the span `span` (1 to 32) for each of `starts`, made at moment 0.
 ///
-/// Refusals, after which nothing of the run is returned. `SamePeer` if two starts have the same peer, or one has the
-/// device's; this is checked first. `BadStep` with the number, from 0, of the first step that is bad. A step is bad if
-/// it names a link or a datagram that is not there, or is an `Other` from a link's peer. `NoMemory` if memory was
-/// refused before such a step.
+/// The steps run in order. [`Step`] says which steps have a moment, in milliseconds. Datagrams go from list to list:
+/// nothing is sent over a network. The call takes memory for the run.
+///
+/// Refusals, after which nothing of the run is returned. `SamePeer`, checked first, if two starts have the same peer,
+/// or one has the device's. `BadStep` with the number, from 0, of the first step that names a link or a datagram that
+/// is not there, or is an `Other` from a link's peer. `NoMemory` if memory was refused before such a step.
 pub fn run_pair_with_sizes(
     alloc: Global,
     tree: Tree,

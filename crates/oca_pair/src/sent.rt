@@ -5,9 +5,10 @@ use std::marker::Model;
 /// A datagram that was sent, from a link to the device or from the device to a link.
 #[derive(Debug, Drop)]
 pub struct Sent {
-    /// The peer of the link.
+    /// The address and port of the link: the sender of a datagram to the device, and the receiver of a datagram to a
+    /// link.
     pub peer: Peer,
-    /// Its bytes.
+    /// The bytes of the datagram: at most 1,472.
     pub bytes: Packet,
 }
 

@@ -3,10 +3,11 @@ use oca_tree::Value;
 use oca_types::{Handle, MethodId, Ono, Peer};
 
 /// A step of a schedule. Links and datagrams are named by their number, from 0: links in the order of the starts,
-/// datagrams in the order in which they were sent, to the device and to links apart. Moments are in milliseconds.
+/// datagrams in the order in which they were sent. Datagrams to the device and datagrams to links are counted apart.
+/// `now` is a moment in milliseconds.
 #[derive(Clone, Copy, Debug)]
 pub enum Step<'a> {
-    /// A command is submitted to a link. `count` is ParamCount, and `params` the bytes of the parameters (AES70-3).
+    /// A command is submitted to a link. `count` is ParamCount, and `params` are the bytes of the parameters (AES70-3).
     Submit {
         link: usize,
         target: Ono,
@@ -15,33 +16,34 @@ pub enum Step<'a> {
         params: &'a [u8],
         now: u64,
     },
-    /// A link is asked what is due, and that is sent to the device.
+    /// A link is asked what is due, once, and that is sent to the device.
     Due {
         link: usize,
         now: u64,
     },
-    /// A datagram that was sent to the device is delivered to it, for the first time or again.
+    /// The datagram number `k` of those that were sent to the device is delivered to the device, for the first time or
+    /// again. Its answers are sent to the link.
     ToDevice {
         k: usize,
         now: u64,
     },
-    /// A datagram that was sent to a link is delivered to it, for the first time or again.
+    /// The datagram number `k` of those that were sent to links is delivered to its link, for the first time or again.
     ToLink {
         k: usize,
         now: u64,
     },
-    /// Any bytes come to the device from a peer that is no link's. What it answers goes nowhere.
+    /// Any bytes come to the device from a peer that is no link's. The device's answers to them are dropped.
     Other {
         from: Peer,
         bytes: &'a [u8],
         now: u64,
     },
-    /// The device's clock is read.
+    /// The device's clock moves on to `now`.
     Tick {
         now: u64,
     },
-    /// An object is set at the local front panel. That has no moment: it happens at that of the device's clock. So do
-    /// the next four.
+    /// An object is set at the local front panel. The step has no moment: it happens at the moment of the device's
+    /// clock. So do the next four steps.
     Local {
         ono: Ono,
         value: Value,
@@ -56,16 +58,16 @@ pub enum Step<'a> {
         ono: Ono,
         enabled: bool,
     },
-    /// The lock of an object is released at the local front panel, whichever peer holds it.
+    /// The lock of an object is released at the local front panel, whichever peer has it.
     Unlock {
         ono: Ono,
     },
-    /// The hardware of an object refuses to be changed from now on, or no longer does.
+    /// The hardware of an object refuses changes from now on (`failing`), or no longer does.
     Fail {
         ono: Ono,
         failing: bool,
     },
-    /// A link is asked for the answer to a command.
+    /// A link is asked for the answer to the command with this handle, which it then no longer has.
     Take {
         link: usize,
         handle: Handle,

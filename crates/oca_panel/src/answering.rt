@@ -29,21 +29,24 @@ const GET_CLASS: MethodId = MethodId { level: 1, index: 1 };
 /// Whether a device answers the commands of a port, as [`probe`] finds it.
 #[derive(Clone, Copy, PartialEq)]
 pub enum Probed {
-    /// It answered one.
+    /// The device answered the command.
     Answering,
-    /// It was heard, and answered none.
+    /// The end has heard the device, and no answer came: use another port.
     NotAnswering,
-    /// It was not heard.
+    /// The end has not heard the device.
     NotHeard,
 }
 
-/// Asks a device whether it answers commands from the end's port. It sends a command that reads the class of the root,
-/// under this handle, and up to four keep-alives, with five receives after each, until the answer comes. At a socket
-/// that takes at most a second. `device` must be the peer that the end watches.
+/// Finds out whether a device answers commands from the end's port. The call sends a command that reads the class of
+/// the root, again each 250 ms, and up to four keep-alives. After each keep-alive it receives five times, until the
+/// answer comes. At a socket the call takes at most a second. The command changes no object.
 ///
-/// `Answering` if the command is answered, whatever the status. Otherwise `NotAnswering` if the end has heard its peer,
-/// even before this call: then the panel must use another port. `NotHeard` if it has not. Nothing is changed on the
-/// device. The handle is used up: a link over the same end must begin above it.
+/// `device` is the device's address, and must be the peer that the end watches. `handle` is the handle of the command,
+/// 0 to 4294967295. The handle is then used: a link over the same end must begin above it.
+///
+/// Returns `Answering` if the command is answered, whatever the status. Otherwise `NotAnswering` if the end has heard
+/// its peer, even before this call: then use another port. Otherwise `NotHeard`. A send or receive that fails is not
+/// reported.
 pub fn probe<E: End>(end: &mut Watched<E>, device: Peer, handle: Handle) -> Probed
     ensures { Probes device handle.0 end.old.end_state end.new result }
 {
@@ -128,8 +131,9 @@ fn submit(link: &mut Link, now: u64) -> Option<Handle>
     }
 }
 
-/// Sends a device a keep-alive with a heartbeat of five seconds, which the device returns. `true` if the end took the
-/// datagram; `false` if sending failed. The call receives nothing.
+/// Sends a device one keep-alive with a heartbeat of five seconds (AES70-3), which a device returns. `true` if the end
+/// took the datagram, which does not say that it arrives. `false` if the send failed. The call receives nothing, and
+/// takes no memory.
 pub fn keep_alive<E: End>(end: &mut E, device: Peer) -> bool
     ensures { SendsKeepAlive device (E.state end.old) (E.state end.new) }
 {

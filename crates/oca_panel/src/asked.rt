@@ -47,11 +47,13 @@ impl<E: End> Panel<E> {
         self.ask_value(ono, &request)
     }
 
-    /// Submits the command that sets an object to a value, by the set method of the value's class, and sends it at
-    /// once. Returns its handle, for [`finish_set`](Panel::finish_set). If the link becomes lost in this call, the
-    /// command is not sent. Refusals, which change and send nothing: `Lost` if the link is lost or late, `HandlesSpent`
-    /// after the handle 4294967295. `SpanFull` if the next handle is not below the lowest one whose answer was not
-    /// taken yet, plus the span.
+    /// Submits the command that sets the object `ono` to the value `value`, by the set method of the value's class
+    /// (AES70-2), and sends it at once. Returns its handle, for [`finish_set`](Panel::finish_set). If the link becomes
+    /// lost in this call, the handle is returned and the command is not sent.
+    ///
+    /// Refusals, the first that applies, which change and send nothing: `Lost` if the link is lost or late.
+    /// `HandlesSpent` if a command has the handle 4294967295 already. `SpanFull` if the next handle is not below the
+    /// lowest handle whose answer was not taken yet, plus the span.
     pub fn begin_set(&mut self, ono: Ono, value: Value) -> Result<Handle, ControlFault>
         ensures { BeginsSetting ono.0 value result self.old self.new }
     {

@@ -14,11 +14,13 @@ use oca_types::{Class, Handle, Method, Ono, Params};
 impl<E: End> Panel<E> {
     ghost use Rattle.oca_panel.specs.Beginnings.{BeginsAsking};
 
-    /// Submits the request `asked` to the object `ono`, which is of this class, sends it at once, and returns its
-    /// handle. If the link becomes lost in this call, the command is not sent.
+    /// Submits the request `asked` to the object `ono`, which is of the class `class`, sends it at once, and returns
+    /// its handle. [`answer_of`] reads the answer. If the link becomes lost in this call, the handle is returned and
+    /// the command is not sent.
     ///
-    /// Refusals, which change and send nothing: `NoValue` if the class has no method for the request, or its parameters
-    /// have more than 1,445 bytes. `NotSubmitted` with the link's reason ([`begin`](Panel::begin)).
+    /// Refusals, the first that applies, which change and send nothing. `NoValue` if the class has no method for the
+    /// request, the value is of another class, or the encoded parameters do not fit in 1,452 bytes. `NotSubmitted` with
+    /// the link's reason in the cases of [`begin`](Panel::begin), as `TooLong` above 1,445 bytes.
     pub fn begin_request(
         &mut self,
         ono: Ono,
@@ -46,9 +48,13 @@ impl<E: End> Panel<E> {
     }
 }
 
-/// Reads the answer to a method of an object of this class from the outcome of its command. Faults: `Refused` with the
-/// status if the status is not OK. `Unreadable` if the status is OK and the parameters are no answer to the method.
-/// `NotSubmitted` with the reason if the link refused the command. `Lost` or `Unanswered` if that is the outcome.
+/// Reads the answer to a command from the command's outcome `outcome`: what an object of the class `class` answers to
+/// the method `method` (AES70-2). The class matters only for the get method of a value. Nothing is changed.
+///
+/// Faults:
+/// - `NotSubmitted` with the reason if the link refused the command. `Lost` or `Unanswered` if that is the outcome.
+/// - `Refused` with the status, 1 to 255, if the status of the answer is not OK.
+/// - `Unreadable` if the status is OK, and ParamCount or the parameters are not those of an answer to the method.
 pub fn answer_of(class: Class, method: Method, outcome: &Outcome) -> Result<Answer, Trouble>
     ensures { result ≡ model_answered class method outcome.now }
 {

@@ -33,8 +33,8 @@ impl<T: Copy + Default> Default for Begun<T> {
     }
 }
 
-/// The commands in flight on a panel, at most 32, in the order in which they were begun, each with what its caller says
-/// of it. As many can be in flight at once as the panel's span has handles; they are waited for in this order.
+/// A queue of commands in flight on a panel, at most 32, in the order in which they were begun. Each command has an
+/// item of the caller's, which comes back with its outcome. The panel's span limits how many can be in flight at once.
 ///
 /// ```
 /// let mut in_flight = InFlight::new();
@@ -50,8 +50,9 @@ impl<T: Copy + Default> Default for Begun<T> {
 /// }
 /// ```
 ///
-/// Give all calls the panel that the commands were begun on. Where its link is lost, each command that is waited for
-/// comes out `Lost`, unless its answer is there; after [`Panel::renew`] begin with a new queue.
+/// Give all calls the panel on which the commands were begun. If the panel's link is lost, each command that is waited
+/// for has the outcome `Lost`, unless its answer is there. After [`Panel::renew`] begin with a new queue. No call takes
+/// memory.
 pub struct InFlight<T: Copy + Default> {
     commands: ArrayVec<Begun<T>, MOST_IN_FLIGHT>,
 }
@@ -86,7 +87,7 @@ impl<T: Copy + Default> InFlight<T> {
     ghost use Rattle.oca_panel.specs.InFlight.{BeginsBehind, FinishesFirst, SettlesFirst, is_full};
     ghost use Rattle.oca_panel.specs.PrivateInFlight.{IsFirst, TakesOff};
 
-    /// An empty queue: no command is in flight.
+    /// Makes an empty queue: no command is in flight. The queue takes no memory beside itself, and nothing is refused.
     pub fn new() -> InFlight<T>
         ensures { result ≡ [] }
     {
@@ -95,7 +96,9 @@ impl<T: Copy + Default> InFlight<T> {
         }
     }
 
-    /// How many commands are in flight: 0 to 32.
+    /// How many commands are in the queue: 0 to 32. 0 at first. A command leaves the queue when
+    /// [`finish_first`](InFlight::finish_first) or [`try_finish_first`](InFlight::try_finish_first) returns its
+    /// outcome.
     pub fn len(&self) -> usize
         ensures value { result ≡ length self.now }
         ensures most { result ≤ 32 }
@@ -103,14 +106,15 @@ impl<T: Copy + Default> InFlight<T> {
         self.commands.len()
     }
 
-    /// Whether no command is in flight.
+    /// Whether the queue has no command. `true` at first. The call looks at the queue alone, not at the panel.
     pub fn is_empty(&self) -> bool
         ensures { result ≡ (length self.now == 0) }
     {
         self.commands.is_empty()
     }
 
-    /// Whether 32 commands are in flight, so that no other can be added.
+    /// Whether the queue has 32 commands. Then [`begin_behind`](InFlight::begin_behind) refuses with `SpanFull`, and
+    /// [`push`](InFlight::push) must not be called. `false` at first.
     pub fn is_full(&self) -> bool
         ensures value { result ≡ is_full self.now }
         ensures room { result ≡ false → length self.now < 32 }
@@ -118,9 +122,10 @@ impl<T: Copy + Default> InFlight<T> {
         self.commands.is_full()
     }
 
-    /// Adds a command at the end of the queue, with an item that the caller gets back when the command is finished.
-    /// `handle` is what [`Panel::begin_set`] or [`Panel::begin_request`] returned for it. Fewer than 32 commands may be
-    /// in flight (a premise).
+    /// Adds a command at the end of the queue, with `item`, which the caller gets back when the command is finished.
+    /// `handle` is what [`Panel::begin`], [`Panel::begin_set`] or [`Panel::begin_request`] returned for it. The queue
+    /// must have fewer than 32 commands: this is a premise, so ask [`is_full`](InFlight::is_full) before. Nothing is
+    /// sent.
     pub fn push(&mut self, handle: Handle, item: T)
         requires { length self.old < 32 }
         ensures { self.new ≡ self.old ++ (handle.0, item) ∷ [] }
@@ -128,13 +133,17 @@ impl<T: Copy + Default> InFlight<T> {
         self.commands.push(Begun { handle, item });
     }
 
-    /// Begins a command as [`Panel::begin`] does, and adds it at the end of the queue, with an item that the caller
-    /// gets back when the command is finished. Returns its handle.
+    /// Begins the command `request` as [`Panel::begin`] does, adds it at the end of the queue with `item`, and returns
+    /// its handle. The item comes back when the command is finished. `request` has the object, the method, ParamCount
+    /// and the encoded parameters (AES70-3). If the link becomes lost in this call, the handle is returned and the
+    /// command is not sent.
     ///
-    /// Refusals, which change neither the queue nor the panel: `SpanFull` if 32 commands are in flight. Then those of
-    /// [`Panel::begin`]: `Lost` if the link is lost or late, `HandlesSpent` after the handle 4294967295. `SpanFull` if
-    /// the next handle is not below the lowest one whose answer was not taken yet, plus the span, `TooLong` if the
-    /// parameters have more than 1,445 bytes.
+    /// Refusals, the first that applies, which change neither the queue nor the panel and send nothing:
+    /// - `SpanFull` if the queue has 32 commands.
+    /// - `Lost` if the link is lost or late.
+    /// - `HandlesSpent` if a command has the handle 4294967295 already.
+    /// - `SpanFull` if the next handle is not below the lowest handle whose answer was not taken yet, plus the span.
+    /// - `TooLong` if the parameters have more than 1,445 bytes.
     pub fn begin_behind<E: End>(
         &mut self,
         panel: &mut Panel<E>,
@@ -155,12 +164,14 @@ impl<T: Copy + Default> InFlight<T> {
         }
     }
 
-    /// Takes the first command out of the queue and waits for its answer, until the panel's `wait` milliseconds are
-    /// over. Returns its item, and its outcome as [`Panel::finish`] does. `None` if no command is in flight: then
-    /// nothing is changed.
+    /// Takes the first command out of the queue and waits for its answer, for at most the panel's `wait` milliseconds.
+    /// Returns the command's item and its outcome. `None` if the queue is empty: then nothing is changed.
     ///
-    /// A command with the outcome `Unanswered` stays in flight at the panel. [`Panel::answered`] returns its handle
-    /// once its answer has come.
+    /// The outcome is that of [`Panel::finish`]: `Answered` with the answer, whatever its status. `Lost` if the link is
+    /// lost or late and no answer is there. `Unanswered` if no answer comes in time. The command leaves the queue with
+    /// every outcome. After `Unanswered` it stays in flight at the panel, and keeps its place in the span:
+    /// [`Panel::answered`] returns its handle once its answer has come. After `Lost` and `Unanswered` the device may
+    /// have carried out the command.
     pub fn finish_first<E: End>(&mut self, panel: &mut Panel<E>) -> Option<(T, Outcome)>
         ensures { FinishesFirst result self.old self.new panel.old panel.new }
     {
@@ -170,9 +181,11 @@ impl<T: Copy + Default> InFlight<T> {
         Some((item, panel.finish(handle)))
     }
 
-    /// Takes the first command out of the queue if its outcome is known without a turn: its answer is there, or the
-    /// link is lost. Returns its item and the outcome. `None` if the outcome is not known, or no command is in flight:
-    /// then nothing is changed.
+    /// Takes the first command out of the queue if its outcome is known already, and does not wait. Returns the
+    /// command's item and its outcome: `Answered` with the answer, whatever its status, or `Lost` if the link is lost
+    /// and no answer is there. After `Lost` the device may have carried out the command.
+    ///
+    /// `None` if the outcome is not known, or the queue is empty: then nothing is changed. Nothing is received or sent.
     pub fn try_finish_first<E: End>(&mut self, panel: &mut Panel<E>) -> Option<(T, Outcome)>
         ensures { SettlesFirst result self.old self.new panel.old panel.new }
     {

@@ -23,14 +23,17 @@ impl<E: End> Panel<E> {
     ghost use Rattle.oca_panel.specs.Outcomes.{text_answered, truth_answered};
     ghost use Rattle.oca_panel.specs.Objects.{AsksClass, Finishes, GetsValue, Reads, ReadsBy, ReadsObject, SetsValue};
 
-    /// Asks for the class of an object, by GetClassIdentification of OcaRoot (AES70-2). `NoValue` if the class is not
-    /// of this profile.
+    /// Asks the device for the class of the object `ono`, by GetClassIdentification of OcaRoot (AES70-2). The command
+    /// changes no object. The call waits for the answer for at most the panel's `wait` milliseconds.
     ///
-    /// Waits for the answer until the panel's `wait` milliseconds are over. Nothing is changed at the device. Faults
-    /// ([`Trouble`]): `Refused` with the status if the answer's status is not OK. `Unreadable` if the answer is not one
-    /// to the command. `NotSubmitted` with the reason if the link refuses the command, as it does if it is lost or late
-    /// already: the command is then not sent. `Lost` if the link is lost, or found late, during the wait. `Unanswered`
-    /// if no answer comes in that time; the command then stays in flight.
+    /// Faults ([`Trouble`]):
+    /// - `NotSubmitted` with the reason if the link refuses the command ([`begin`](Panel::begin)): nothing is sent.
+    /// - `Lost` if the link becomes lost or late before an answer comes. `Unanswered` if no answer comes in time: the
+    ///   command then stays in flight.
+    /// - `Refused` with the status if the status of the answer is not OK, as BadONo for an object that the device does
+    ///   not have.
+    /// - `Unreadable` if the answer's parameters are no class identifier of at most 16 fields.
+    /// - `NoValue` if the class is not a class of this profile.
     #[tactic(auto, using(crate::proofs::RequestLemmas::ask_class))]
     pub fn class(&mut self, ono: Ono) -> Result<Class, Trouble>
         ensures { AsksClass ono.0 self.old self.new result }
@@ -39,14 +42,17 @@ impl<E: End> Panel<E> {
         class_in(&outcome)
     }
 
-    /// Asks for the fields of an object's class identifier, by GetClassIdentification of OcaRoot (AES70-2): at most 16.
-    /// The class may be any.
+    /// Asks the device for the fields of the class identifier of the object `ono`, by GetClassIdentification of OcaRoot
+    /// (AES70-2). Returns at most 16 fields, also for a class that is not in this profile. The command changes no
+    /// object. The call waits for the answer for at most the panel's `wait` milliseconds.
     ///
-    /// Waits for the answer until the panel's `wait` milliseconds are over. Nothing is changed at the device. Faults
-    /// ([`Trouble`]): `Refused` with the status if the answer's status is not OK. `Unreadable` if the answer is not one
-    /// to the command. `NotSubmitted` with the reason if the link refuses the command, as it does if it is lost or late
-    /// already: the command is then not sent. `Lost` if the link is lost, or found late, during the wait. `Unanswered`
-    /// if no answer comes in that time; the command then stays in flight.
+    /// Faults ([`Trouble`]):
+    /// - `NotSubmitted` with the reason if the link refuses the command ([`begin`](Panel::begin)): nothing is sent.
+    /// - `Lost` if the link becomes lost or late before an answer comes. `Unanswered` if no answer comes in time: the
+    ///   command then stays in flight.
+    /// - `Refused` with the status if the status of the answer is not OK, as BadONo for an object that the device does
+    ///   not have.
+    /// - `Unreadable` if the answer's parameters are no class identifier of at most 16 fields.
     #[tactic(auto, using(crate::proofs::RequestLemmas::ask_class))]
     pub fn class_fields(&mut self, ono: Ono) -> Result<ClassFields, Trouble>
         ensures { Reads ono.0 Block GetClassIdentification fields_answered self.old self.new
@@ -56,14 +62,18 @@ impl<E: End> Panel<E> {
         fields_in(&outcome)
     }
 
-    /// Asks how an object is set: first for its class, then for its value. `NoValue` for a block, and if the class is
-    /// not of this profile.
+    /// Reads the value of the object `ono`: asks the device for the object's class, and then for its value by the get
+    /// method of the class (AES70-2). The two commands change no object. The call waits for each answer for at most the
+    /// panel's `wait` milliseconds.
     ///
-    /// Waits for each answer until the panel's `wait` milliseconds are over. Nothing is changed at the device. Faults
-    /// ([`Trouble`]): `Refused` with the status if the answer's status is not OK. `Unreadable` if the answer is not one
-    /// to the command. `NotSubmitted` with the reason if the link refuses the command, as it does if it is lost or late
-    /// already: the command is then not sent. `Lost` if the link is lost, or found late, during the wait. `Unanswered`
-    /// if no answer comes in that time; the command then stays in flight.
+    /// Faults ([`Trouble`]); after a fault of the first command the second is not sent:
+    /// - `NotSubmitted` with the reason if the link refuses a command ([`begin`](Panel::begin)): that command is not
+    ///   sent.
+    /// - `Lost` if the link becomes lost or late before an answer comes. `Unanswered` if no answer comes in time: the
+    ///   command then stays in flight.
+    /// - `Refused` with the status if the status of an answer is not OK.
+    /// - `Unreadable` if the parameters of an answer are not those of the method.
+    /// - `NoValue` if the object is a block, or its class is not a class of this profile.
     pub fn get(&mut self, ono: Ono) -> Result<Value, Trouble>
         ensures { GetsValue ono.0 self.old self.new result }
     {
@@ -73,15 +83,19 @@ impl<E: End> Panel<E> {
         }
     }
 
-    /// Asks how an object is set: first for its class, then for what the class's get method answers (AES70-2). The
-    /// reading of a switch or an integer has the least and the greatest value too. `NoValue` for a block, and if the
-    /// class is not of this profile.
+    /// Reads the value of the object `ono` with its limits: asks the device for the object's class, and then for its
+    /// value by the get method of the class (AES70-2). A switch and an integer have the least and the greatest value
+    /// too. The two commands change no object. The call waits for each answer for at most the panel's `wait`
+    /// milliseconds.
     ///
-    /// Waits for each answer until the panel's `wait` milliseconds are over. Nothing is changed at the device. Faults
-    /// ([`Trouble`]): `Refused` with the status if the answer's status is not OK. `Unreadable` if the answer is not one
-    /// to the command. `NotSubmitted` with the reason if the link refuses the command, as it does if it is lost or late
-    /// already: the command is then not sent. `Lost` if the link is lost, or found late, during the wait. `Unanswered`
-    /// if no answer comes in that time; the command then stays in flight.
+    /// Faults ([`Trouble`]); after a fault of the first command the second is not sent:
+    /// - `NotSubmitted` with the reason if the link refuses a command ([`begin`](Panel::begin)): that command is not
+    ///   sent.
+    /// - `Lost` if the link becomes lost or late before an answer comes. `Unanswered` if no answer comes in time: the
+    ///   command then stays in flight.
+    /// - `Refused` with the status if the status of an answer is not OK.
+    /// - `Unreadable` if the parameters of an answer are not those of the method.
+    /// - `NoValue` if the object is a block, or its class is not a class of this profile.
     pub fn reading(&mut self, ono: Ono) -> Result<Reading, Trouble>
         ensures { ReadsObject ono.0 self.old self.new result }
     {
@@ -91,14 +105,17 @@ impl<E: End> Panel<E> {
         }
     }
 
-    /// Asks how an object of this class is set, with the least and the greatest value of a switch or an integer. The
-    /// object's class is not asked. `NoValue` for a block: then nothing is asked.
+    /// Reads the value of the object `ono` of the class `class` with its limits, by the get method of the class
+    /// (AES70-2). A switch and an integer have the least and the greatest value too. The object's class is not asked.
+    /// The command changes no object. The call waits for the answer for at most the panel's `wait` milliseconds.
     ///
-    /// Waits for the answer until the panel's `wait` milliseconds are over. Nothing is changed at the device. Faults
-    /// ([`Trouble`]): `Refused` with the status if the answer's status is not OK. `Unreadable` if the answer is not one
-    /// to the command. `NotSubmitted` with the reason if the link refuses the command, as it does if it is lost or late
-    /// already: the command is then not sent. `Lost` if the link is lost, or found late, during the wait. `Unanswered`
-    /// if no answer comes in that time; the command then stays in flight.
+    /// Faults ([`Trouble`]):
+    /// - `NoValue` if `class` is a block: nothing is sent.
+    /// - `NotSubmitted` with the reason if the link refuses the command ([`begin`](Panel::begin)): nothing is sent.
+    /// - `Lost` if the link becomes lost or late before an answer comes. `Unanswered` if no answer comes in time: the
+    ///   command then stays in flight.
+    /// - `Refused` with the status if the status of the answer is not OK.
+    /// - `Unreadable` if the answer's parameters are not those of the get method of `class`.
     pub fn reading_of(&mut self, ono: Ono, class: Class) -> Result<Reading, Trouble>
         ensures { ReadsBy ono.0 class (get_method class) self.old self.new result }
     {
@@ -111,14 +128,16 @@ impl<E: End> Panel<E> {
         }
     }
 
-    /// Sets an object to a value, by the set method of the value's class (AES70-2). The object must be of this class.
-    /// Otherwise the device refuses the command or takes it as a value of the object's own class.
+    /// Sets the object `ono` to the value `value`, by the set method of the value's class (AES70-2), and waits for the
+    /// answer for at most the panel's `wait` milliseconds. The object must be of this class. If not, the device refuses
+    /// the command, or takes the value as one of the object's own class.
     ///
-    /// Waits for the answer until the panel's `wait` milliseconds are over. Faults ([`Trouble`]): `Refused` with the
-    /// status if the answer's status is not OK: then nothing was changed. `NotSubmitted` with the reason if the link
-    /// refuses the command, as it does if it is lost or late already: then nothing was sent. `Lost` if the link is
-    /// lost, or found late, during the wait. `Unanswered` if no answer comes in that time; the command then stays in
-    /// flight. After `Lost` and `Unanswered` the command may have been carried out, or may still be.
+    /// Faults ([`Trouble`]):
+    /// - `NotSubmitted` with the reason if the link refuses the command ([`begin`](Panel::begin)): nothing is sent.
+    /// - `Lost` if the link becomes lost or late before an answer comes. `Unanswered` if no answer comes in time: the
+    ///   command then stays in flight. After both the device may have carried out the command, or may still do that.
+    /// - `Refused` with the status if the status of the answer is not OK, as ParameterOutOfRange for a value outside
+    ///   the object's limits. A device of this profile then changed nothing.
     pub fn set(&mut self, ono: Ono, value: Value) -> Result<(), Trouble>
         ensures { SetsValue ono.0 value self.old self.new result }
     {
@@ -126,13 +145,17 @@ impl<E: End> Panel<E> {
         done_in(&outcome)
     }
 
-    /// Waits for the answer to a command that [`begin_set`](Panel::begin_set) began, until the panel's `wait`
-    /// milliseconds are over. Ok if the device carried it out.
+    /// Waits for the answer to a command that [`begin_set`](Panel::begin_set) began, for at most the panel's `wait`
+    /// milliseconds, and takes the answer. `handle` is what `begin_set` returned. Returns Ok if the status of the
+    /// answer is OK.
     ///
-    /// Faults ([`Trouble`]): `Refused` with the status if the answer's status is not OK: then nothing was changed.
-    /// `Lost` if the link is lost or late. `Unanswered` if no answer comes in that time, and for a handle that no
-    /// command has. After `Unanswered` the command stays in flight and can be waited for again. After `Lost` and
-    /// `Unanswered` the command may have been carried out, or may still be.
+    /// Faults ([`Trouble`]):
+    /// - `Lost` if the link is lost or late and no answer is there.
+    /// - `Unanswered` if no answer comes in time, and for a handle that no command has. The command stays in flight,
+    ///   and can be waited for again. After `Lost` and `Unanswered` the device may have carried out the command, or may
+    ///   still do that.
+    /// - `Refused` with the status if the status of the answer is not OK. A device of this profile then changed
+    ///   nothing.
     pub fn finish_set(&mut self, handle: Handle) -> Result<(), Trouble>
         ensures { Finishes handle.0 self.old self.new result }
     {
@@ -140,14 +163,16 @@ impl<E: End> Panel<E> {
         done_in(&outcome)
     }
 
-    /// Locks an object, by LockTotal of OcaRoot (AES70-2): other controllers can then neither read nor set it. The lock
-    /// ends once the device hears nothing from this panel for more than 15,000 ms.
+    /// Locks the object `ono`, by LockTotal of OcaRoot (AES70-2): other controllers can then neither read nor set the
+    /// object. Waits for the answer for at most the panel's `wait` milliseconds. A device of this profile releases the
+    /// lock once it hears nothing from this panel for more than 15,000 ms.
     ///
-    /// Waits for the answer until the panel's `wait` milliseconds are over. Faults ([`Trouble`]): `Refused` with the
-    /// status if the answer's status is not OK: then nothing was changed. `NotSubmitted` with the reason if the link
-    /// refuses the command, as it does if it is lost or late already: then nothing was sent. `Lost` if the link is
-    /// lost, or found late, during the wait. `Unanswered` if no answer comes in that time; the command then stays in
-    /// flight. After `Lost` and `Unanswered` the command may have been carried out, or may still be.
+    /// Faults ([`Trouble`]):
+    /// - `NotSubmitted` with the reason if the link refuses the command ([`begin`](Panel::begin)): nothing is sent.
+    /// - `Lost` if the link becomes lost or late before an answer comes. `Unanswered` if no answer comes in time: the
+    ///   command then stays in flight. After both the device may have carried out the command, or may still do that.
+    /// - `Refused` with the status if the status of the answer is not OK: Locked if another controller holds the lock,
+    ///   InvalidRequest if the object cannot be locked. A device of this profile then changed nothing.
     #[tactic(auto, using(crate::proofs::RequestLemmas::ask_lock))]
     pub fn lock(&mut self, ono: Ono) -> Result<(), Trouble>
         ensures { Reads ono.0 Block LockTotal done_answered self.old self.new result }
@@ -156,13 +181,15 @@ impl<E: End> Panel<E> {
         done_in(&outcome)
     }
 
-    /// Releases this panel's lock of an object, by Unlock of OcaRoot (AES70-2).
+    /// Releases this panel's lock of the object `ono`, by Unlock of OcaRoot (AES70-2), and waits for the answer for at
+    /// most the panel's `wait` milliseconds.
     ///
-    /// Waits for the answer until the panel's `wait` milliseconds are over. Faults ([`Trouble`]): `Refused` with the
-    /// status if the answer's status is not OK: then nothing was changed. `NotSubmitted` with the reason if the link
-    /// refuses the command, as it does if it is lost or late already: then nothing was sent. `Lost` if the link is
-    /// lost, or found late, during the wait. `Unanswered` if no answer comes in that time; the command then stays in
-    /// flight. After `Lost` and `Unanswered` the command may have been carried out, or may still be.
+    /// Faults ([`Trouble`]):
+    /// - `NotSubmitted` with the reason if the link refuses the command ([`begin`](Panel::begin)): nothing is sent.
+    /// - `Lost` if the link becomes lost or late before an answer comes. `Unanswered` if no answer comes in time: the
+    ///   command then stays in flight. After both the device may have carried out the command, or may still do that.
+    /// - `Refused` with the status if the status of the answer is not OK: Locked if another controller holds the lock,
+    ///   InvalidRequest if the object is not locked. A device of this profile then changed nothing.
     #[tactic(auto, using(crate::proofs::RequestLemmas::ask_unlock))]
     pub fn unlock(&mut self, ono: Ono) -> Result<(), Trouble>
         ensures { Reads ono.0 Block Unlock done_answered self.old self.new result }
@@ -171,13 +198,16 @@ impl<E: End> Panel<E> {
         done_in(&outcome)
     }
 
-    /// Asks for the label of an object, by GetLabel of OcaWorker (AES70-2): at most 64 bytes.
+    /// Asks the device for the label of the object `ono`, by GetLabel of OcaWorker (AES70-2). Returns a text of 0 to 64
+    /// bytes of UTF-8. The command changes no object. The call waits for the answer for at most the panel's `wait`
+    /// milliseconds.
     ///
-    /// Waits for the answer until the panel's `wait` milliseconds are over. Nothing is changed at the device. Faults
-    /// ([`Trouble`]): `Refused` with the status if the answer's status is not OK. `Unreadable` if the answer is not one
-    /// to the command. `NotSubmitted` with the reason if the link refuses the command, as it does if it is lost or late
-    /// already: the command is then not sent. `Lost` if the link is lost, or found late, during the wait. `Unanswered`
-    /// if no answer comes in that time; the command then stays in flight.
+    /// Faults ([`Trouble`]):
+    /// - `NotSubmitted` with the reason if the link refuses the command ([`begin`](Panel::begin)): nothing is sent.
+    /// - `Lost` if the link becomes lost or late before an answer comes. `Unanswered` if no answer comes in time: the
+    ///   command then stays in flight.
+    /// - `Refused` with the status if the status of the answer is not OK.
+    /// - `Unreadable` if the answer's parameters are not exactly one text of at most 64 bytes of UTF-8.
     #[tactic(auto, using(crate::proofs::RequestLemmas::ask_label))]
     pub fn label(&mut self, ono: Ono) -> Result<Text, Trouble>
         ensures { Reads ono.0 Block GetLabel text_answered self.old self.new result }
@@ -186,13 +216,15 @@ impl<E: End> Panel<E> {
         text_in(&outcome)
     }
 
-    /// Gives an object a label of at most 64 bytes, by SetLabel of OcaWorker (AES70-2).
+    /// Gives the object `ono` the label `label`, by SetLabel of OcaWorker (AES70-2), and waits for the answer for at
+    /// most the panel's `wait` milliseconds. The label has 0 to 64 bytes: a longer one is no [`Text`].
     ///
-    /// Waits for the answer until the panel's `wait` milliseconds are over. Faults ([`Trouble`]): `Refused` with the
-    /// status if the answer's status is not OK: then nothing was changed. `NotSubmitted` with the reason if the link
-    /// refuses the command, as it does if it is lost or late already: then nothing was sent. `Lost` if the link is
-    /// lost, or found late, during the wait. `Unanswered` if no answer comes in that time; the command then stays in
-    /// flight. After `Lost` and `Unanswered` the command may have been carried out, or may still be.
+    /// Faults ([`Trouble`]):
+    /// - `NotSubmitted` with the reason if the link refuses the command ([`begin`](Panel::begin)): nothing is sent.
+    /// - `Lost` if the link becomes lost or late before an answer comes. `Unanswered` if no answer comes in time: the
+    ///   command then stays in flight. After both the device may have carried out the command, or may still do that.
+    /// - `Refused` with the status if the status of the answer is not OK. A device of this profile then changed
+    ///   nothing.
     #[tactic(auto, using(crate::proofs::RequestLemmas::ask_set_label))]
     pub fn set_label(&mut self, ono: Ono, label: Text) -> Result<(), Trouble>
         ensures { Reads ono.0 Block (SetLabel label) done_answered self.old self.new result }
@@ -202,13 +234,16 @@ impl<E: End> Panel<E> {
         done_in(&outcome)
     }
 
-    /// Asks for the role of an object, by GetRole of OcaRoot (AES70-2): at most 64 bytes.
+    /// Asks the device for the role of the object `ono`, by GetRole of OcaRoot (AES70-2). Returns a text of 0 to 64
+    /// bytes of UTF-8. The command changes no object. The call waits for the answer for at most the panel's `wait`
+    /// milliseconds.
     ///
-    /// Waits for the answer until the panel's `wait` milliseconds are over. Nothing is changed at the device. Faults
-    /// ([`Trouble`]): `Refused` with the status if the answer's status is not OK. `Unreadable` if the answer is not one
-    /// to the command. `NotSubmitted` with the reason if the link refuses the command, as it does if it is lost or late
-    /// already: the command is then not sent. `Lost` if the link is lost, or found late, during the wait. `Unanswered`
-    /// if no answer comes in that time; the command then stays in flight.
+    /// Faults ([`Trouble`]):
+    /// - `NotSubmitted` with the reason if the link refuses the command ([`begin`](Panel::begin)): nothing is sent.
+    /// - `Lost` if the link becomes lost or late before an answer comes. `Unanswered` if no answer comes in time: the
+    ///   command then stays in flight.
+    /// - `Refused` with the status if the status of the answer is not OK.
+    /// - `Unreadable` if the answer's parameters are not exactly one text of at most 64 bytes of UTF-8.
     #[tactic(auto, using(crate::proofs::RequestLemmas::ask_role))]
     pub fn role(&mut self, ono: Ono) -> Result<Text, Trouble>
         ensures { Reads ono.0 Block GetRole text_answered self.old self.new result }
@@ -217,13 +252,15 @@ impl<E: End> Panel<E> {
         text_in(&outcome)
     }
 
-    /// Asks whether an object is enabled, by GetEnabled of OcaWorker (AES70-2).
+    /// Asks the device whether the object `ono` is enabled, by GetEnabled of OcaWorker (AES70-2). The command changes
+    /// no object. The call waits for the answer for at most the panel's `wait` milliseconds.
     ///
-    /// Waits for the answer until the panel's `wait` milliseconds are over. Nothing is changed at the device. Faults
-    /// ([`Trouble`]): `Refused` with the status if the answer's status is not OK. `Unreadable` if the answer is not one
-    /// to the command. `NotSubmitted` with the reason if the link refuses the command, as it does if it is lost or late
-    /// already: the command is then not sent. `Lost` if the link is lost, or found late, during the wait. `Unanswered`
-    /// if no answer comes in that time; the command then stays in flight.
+    /// Faults ([`Trouble`]):
+    /// - `NotSubmitted` with the reason if the link refuses the command ([`begin`](Panel::begin)): nothing is sent.
+    /// - `Lost` if the link becomes lost or late before an answer comes. `Unanswered` if no answer comes in time: the
+    ///   command then stays in flight.
+    /// - `Refused` with the status if the status of the answer is not OK.
+    /// - `Unreadable` if the answer is not exactly one Boolean.
     #[tactic(auto, using(crate::proofs::RequestLemmas::ask_enabled))]
     pub fn enabled(&mut self, ono: Ono) -> Result<bool, Trouble>
         ensures { Reads ono.0 Block GetEnabled truth_answered self.old self.new result }
@@ -232,14 +269,17 @@ impl<E: End> Panel<E> {
         truth_in(&outcome)
     }
 
-    /// Asks for the numbers of a block's members, by GetMembers of OcaBlock (AES70-2): in their order, at most 181.
-    /// `Refused` with the status BufferOverflow if the block has more members than a response has room for.
+    /// Asks the device for the numbers of the members of the block `ono`, by GetMembers of OcaBlock (AES70-2). Returns
+    /// 0 to 181 numbers, in the order of the answer. The command changes no object. The call waits for the answer for
+    /// at most the panel's `wait` milliseconds.
     ///
-    /// Waits for the answer until the panel's `wait` milliseconds are over. Nothing is changed at the device. Faults
-    /// ([`Trouble`]): `Refused` with the status if the answer's status is not OK. `Unreadable` if the answer is not one
-    /// to the command. `NotSubmitted` with the reason if the link refuses the command, as it does if it is lost or late
-    /// already: the command is then not sent. `Lost` if the link is lost, or found late, during the wait. `Unanswered`
-    /// if no answer comes in that time; the command then stays in flight.
+    /// Faults ([`Trouble`]):
+    /// - `NotSubmitted` with the reason if the link refuses the command ([`begin`](Panel::begin)): nothing is sent.
+    /// - `Lost` if the link becomes lost or late before an answer comes. `Unanswered` if no answer comes in time: the
+    ///   command then stays in flight.
+    /// - `Refused` with the status if the status of the answer is not OK: BufferOverflow if the block has more members
+    ///   than a response has room for.
+    /// - `Unreadable` if the answer's parameters are no list of members.
     #[tactic(auto, using(crate::proofs::RequestLemmas::ask_members))]
     pub fn members(&mut self, ono: Ono) -> Result<MemberNumbers, Trouble>
         ensures { Reads ono.0 Block GetMembers members_answered self.old self.new
@@ -249,14 +289,17 @@ impl<E: End> Panel<E> {
         members_in(&outcome)
     }
 
-    /// Asks for the name of a switch's position, by GetPositionName of OcaSwitch (AES70-2): at most 64 bytes.
-    /// `position` is counted from 0. `Refused` with the status ParameterOutOfRange if the switch has no such position.
+    /// Asks the device for the name of a position of the switch `ono`, by GetPositionName of OcaSwitch (AES70-2).
+    /// Returns a text of 0 to 64 bytes of UTF-8. `position` is counted from 0. The command changes no object. The call
+    /// waits for the answer for at most the panel's `wait` milliseconds.
     ///
-    /// Waits for the answer until the panel's `wait` milliseconds are over. Nothing is changed at the device. Faults
-    /// ([`Trouble`]): `Refused` with the status if the answer's status is not OK. `Unreadable` if the answer is not one
-    /// to the command. `NotSubmitted` with the reason if the link refuses the command, as it does if it is lost or late
-    /// already: the command is then not sent. `Lost` if the link is lost, or found late, during the wait. `Unanswered`
-    /// if no answer comes in that time; the command then stays in flight.
+    /// Faults ([`Trouble`]):
+    /// - `NotSubmitted` with the reason if the link refuses the command ([`begin`](Panel::begin)): nothing is sent.
+    /// - `Lost` if the link becomes lost or late before an answer comes. `Unanswered` if no answer comes in time: the
+    ///   command then stays in flight.
+    /// - `Refused` with the status if the status of the answer is not OK: ParameterOutOfRange if the switch has no such
+    ///   position.
+    /// - `Unreadable` if the answer's parameters are not exactly one text of at most 64 bytes of UTF-8.
     #[tactic(auto, using(crate::proofs::RequestLemmas::ask_name))]
     pub fn position_name(&mut self, ono: Ono, position: u16) -> Result<Text, Trouble>
         ensures { Reads ono.0 Switch (GetPositionName position) text_answered self.old self.new result }
@@ -265,14 +308,16 @@ impl<E: End> Panel<E> {
         text_in(&outcome)
     }
 
-    /// Asks for the names of a switch's positions, by GetPositionNames of OcaSwitch (AES70-2): in their order, at most
-    /// 16, of at most 64 bytes each.
+    /// Asks the device for the names of the positions of the switch `ono`, by GetPositionNames of OcaSwitch (AES70-2).
+    /// Returns at most 16 names of 0 to 64 bytes of UTF-8 each, in the order of the positions. The command changes no
+    /// object. The call waits for the answer for at most the panel's `wait` milliseconds.
     ///
-    /// Waits for the answer until the panel's `wait` milliseconds are over. Nothing is changed at the device. Faults
-    /// ([`Trouble`]): `Refused` with the status if the answer's status is not OK. `Unreadable` if the answer is not one
-    /// to the command. `NotSubmitted` with the reason if the link refuses the command, as it does if it is lost or late
-    /// already: the command is then not sent. `Lost` if the link is lost, or found late, during the wait. `Unanswered`
-    /// if no answer comes in that time; the command then stays in flight.
+    /// Faults ([`Trouble`]):
+    /// - `NotSubmitted` with the reason if the link refuses the command ([`begin`](Panel::begin)): nothing is sent.
+    /// - `Lost` if the link becomes lost or late before an answer comes. `Unanswered` if no answer comes in time: the
+    ///   command then stays in flight.
+    /// - `Refused` with the status if the status of the answer is not OK.
+    /// - `Unreadable` if the answer has more than 16 names, a name of more than 64 bytes, or is no list of texts.
     #[tactic(auto, using(crate::proofs::RequestLemmas::ask_names))]
     pub fn position_names(&mut self, ono: Ono) -> Result<Names, Trouble>
         ensures { Reads ono.0 Switch GetPositionNames names_answered self.old self.new

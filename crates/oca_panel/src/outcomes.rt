@@ -33,9 +33,12 @@ fn parameters_in(outcome: &Outcome) -> Result<&[u8], Trouble>
     }
 }
 
-/// Ok if the command was answered with the status OK, whatever its parameters are. Faults: `Refused` with the status if
-/// it is another one. `NotSubmitted` with the reason if the link refused the command. `Lost` or `Unanswered` if that is
-/// the outcome.
+/// Returns Ok if `outcome` says that a command was answered with the status OK (AES70-2), whatever its parameters are.
+/// Nothing is changed.
+///
+/// Faults: `Refused` with the status, 1 to 255, if the status of the answer is not OK. `NotSubmitted` with the reason
+/// if the link refused the command. `Lost` or `Unanswered` if that is the outcome: then the device may have carried out
+/// the command, or may still do that.
 pub fn done_in(outcome: &Outcome) -> Result<(), Trouble>
     ensures { result ≡ done_answered outcome.now }
 {

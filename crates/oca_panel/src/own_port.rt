@@ -13,28 +13,31 @@ const PORTS: [u16; 2] = [65001, 65002];
 /// How many handles a turn has.
 const HANDLES: u128 = 2_147_483_648;
 
-/// A port whose turn it is, the other one, and a first handle that is safe there. A handle is safe if it is above all
-/// that were used from the same address and port since the last pause of more than two minutes in which nothing was
-/// sent from there: under another one a command may get no answer, or the answer to an earlier command.
+/// A UDP port to bind, the other port of the two, and a first handle that is safe on the first port. Both ports are
+/// chosen by this library, not by AES70.
+///
+/// A handle is safe if it is above all that were used from the same address and port since the last pause of more than
+/// two minutes in which nothing was sent from there. Under a handle that is not safe a command may get no answer, or
+/// the answer to an earlier command.
 #[derive(Clone, Copy, Debug, PartialEq, Eq)]
 pub struct OwnPort {
-    /// The port whose turn it is.
+    /// The port to bind at this time of day: 65001 or 65002.
     pub port: u16,
-    /// The other one.
+    /// The other of the two ports.
     pub other: u16,
-    /// The first handle: below 2,147,483,648, so that as many are left for one link.
+    /// The first handle: below 2,147,483,648, so one link has at least as many handles left.
     pub first_handle: Handle,
 }
 
 impl OwnPort {
     ghost use Rattle.oca_panel.specs.OwnPorts.{IsPortByClock, first_handle_at, other_port, port_at};
 
-    /// The ports and the first handle for the present time of day, by the system's clock. If the clock can't be read,
-    /// they are those for the beginning of 1970.
+    /// Returns the ports and the first handle for the present time of day, by the system's clock. If the clock can't be
+    /// read, they are those for the beginning of 1970. Nothing is refused. The rule is this library's, not AES70's.
     ///
     /// The handle rises by 100,000 a second, faster than commands are answered, so a session that is used again goes on
     /// with higher handles. It starts again from 0 when it reaches 2,147,483,648, about every six hours. The port is
-    /// then the other one. Its session is forgotten by then, since it was silent for about six hours.
+    /// then the other one. The session of that port is forgotten by then, since it was silent for about six hours.
     pub fn now<C: Clock>(clock: &C) -> OwnPort
         ensures clock { IsPortByClock result }
         ensures below { result.first_handle.0 < 2147483648 }
@@ -45,8 +48,9 @@ impl OwnPort {
         }
     }
 
-    /// The ports and the first handle for the time of day that is `seconds` and `microseconds` after the beginning of
-    /// 1970. `microseconds` may be any number; a million of them are a second.
+    /// Returns the ports and the first handle for the time of day that is `seconds` and `microseconds` after the
+    /// beginning of 1970. Both numbers may be any: a million microseconds are a second. Nothing is refused. The rule is
+    /// this library's, not AES70's.
     ///
     /// `port` is 65001 or 65002, and `other` is the other of the two. `first_handle` is below 2,147,483,648. It rises
     /// by 100,000 a second, and starts again from 0 about every six hours, when `port` changes.
@@ -89,9 +93,9 @@ fn handles_in(seconds: u64, microseconds: u32) -> u128
     u128::from(seconds) * 100_000 + u128::from(microseconds / 10)
 }
 
-/// Law: take two runs that start on the same port, the second at a later moment of the system's clock. Then the second
-/// run's first handle is higher, or the second run starts more than 21,474 seconds after the first. The function does
-/// nothing at run time.
+/// Law: of two runs on the same port of [`OwnPort`], the later one has the higher first handle, or begins more than
+/// 21,474 seconds after the other. Later means at a later moment of the system's clock. The function does nothing at
+/// run time.
 pub fn law_of_turns()
     ensures { HandlesRiseOrRest }
 {}

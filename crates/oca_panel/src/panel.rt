@@ -13,8 +13,14 @@ use std::marker::Model;
 mod calling;
 mod renewal;
 
-/// A panel for one device: a link, the end that it is driven over, for how many milliseconds a command waits for its
-/// answer, and whether one that was waited for got none.
+/// A panel controls one device: it has a link to the device and the end of a network over which the link sends.
+///
+/// The words of its calls:
+/// - A command is *in flight* from its submit until its answer is taken. Its *handle* is its 32-bit number (AES70-3).
+/// - `wait`: how many milliseconds a call waits for an answer. At a socket the last turn may end up to 50 ms later.
+/// - A *turn* receives once and sends what is due ([`turn`](oca_control::turn)).
+/// - The link is *lost* once a command got no answer to 20 transmissions. The link is *late* while a command that was
+///   submitted more than 15,000 ms ago has no answer. A lost or late link takes no new command.
 ///
 /// ```
 /// let end = UdpEnd::bind_towards(rt.alloc(), rt, device, 0)?;
@@ -78,15 +84,18 @@ impl<E: End> Panel<E> {
     ghost use Rattle.oca_panel.specs.Panels.{AsksIn, BeginsIn, FinishesIn, IsOpened, MaySettle, TurnsOnce};
     ghost use Rattle.oca_panel.specs.Renewals.{IsFoundLost};
 
-    /// A panel for the device at this address, over an end, with a new link that is made at the end's present moment.
-    /// Nothing is sent.
+    /// Makes a panel for the device at the address `device`, over `end`, with a new link. Nothing is sent, no memory is
+    /// taken, and nothing is refused. The link begins at the end's present moment.
     ///
-    /// `first` is the handle of the first command ([`OwnPort`](crate::OwnPort) chooses one). If the device has heard
-    /// the end's port before, `first` must be above the handles that were used there. Handles from before a pause of
-    /// more than two minutes, in which nothing was sent from the port, do not count. The next handle lies below the
-    /// lowest one in flight plus `span`, so at most `span` commands are in flight. A command waits for its answer for
-    /// `wait` milliseconds ([`wait_while`](oca_control::wait_while)), whatever else comes to the end meanwhile. If the
-    /// device is silent, the link is lost after 5 to 10.25 seconds.
+    /// `first` is the handle of the first command, 0 to 4294967295. If the device has heard the end's port before,
+    /// `first` must be above all handles that were used there, or the device may leave commands unanswered. Handles
+    /// from before a pause of more than two minutes, in which nothing was sent from the port, do not count.
+    /// [`OwnPort`](crate::OwnPort) chooses a handle. At most `span` commands are in flight: each new handle is below
+    /// the lowest handle in flight plus `span`.
+    ///
+    /// A command waits for its answer for `wait` milliseconds, 0 to 4294967295
+    /// ([`wait_while`](oca_control::wait_while)), whatever else comes to the end meanwhile. If the device is silent,
+    /// the link is lost after 5 to 10.25 seconds.
     pub fn open(device: Peer, end: E, first: Handle, span: Span, wait: u32) -> Panel<E>
         ensures { IsOpened device first.0 (span_size span) wait (E.state end) result }
     {
@@ -94,8 +103,10 @@ impl<E: End> Panel<E> {
         Panel::new(link, end, wait)
     }
 
-    /// A panel over a link that exists already. [`unanswered`](Panel::unanswered) is `false` at first. A command waits
-    /// for its answer for `wait` milliseconds. Nothing is sent.
+    /// Makes a panel over the link `link`, which exists already, and over `end`. A command waits for its answer for
+    /// `wait` milliseconds, 0 to 4294967295. The commands and answers of the link stay.
+    /// [`unanswered`](Panel::unanswered) is `false` at first. Nothing is sent, no memory is taken, and nothing is
+    /// refused.
     pub fn new(link: Link, end: E, wait: u32) -> Panel<E>
         ensures { result ≡ record { link = link; end_state = E.state end; wait = wait; unanswered = false } }
     {
@@ -107,21 +118,24 @@ impl<E: End> Panel<E> {
         }
     }
 
-    /// A reference to the panel's end.
+    /// Returns a reference to the panel's end, which [`open`](Panel::open) or [`new`](Panel::new) was given. Nothing is
+    /// received, sent or changed.
     pub fn end(&self) -> &E
         ensures { E.state result.now ≡ self.now.end_state }
     {
         &self.end
     }
 
-    /// A reference to the panel's link.
+    /// Returns a reference to the panel's link: the one that [`open`](Panel::open) or [`renew`](Panel::renew) made, or
+    /// that [`new`](Panel::new) was given. Nothing is changed.
     pub fn link(&self) -> &Link
         ensures { result.now ≡ self.now.link }
     {
         &self.link
     }
 
-    /// Returns the end, and drops the panel with its link: no command of it is sent any more.
+    /// Returns the panel's end, and drops the panel with its link. Commands in flight are not sent again, and their
+    /// answers are lost. The device may still carry out a command that was sent. Nothing is sent by this call.
     pub fn into_end(self) -> E
         ensures { E.state result ≡ self.end_state }
     {
@@ -134,8 +148,13 @@ impl<E: End> Panel<E> {
         end
     }
 
-    /// Takes one turn: receives once, at a socket for at most 50 ms, and sends what is due, keep-alives too. `true` if
-    /// the loop may go on. `false` if the end is closed, or the link is lost or late.
+    /// Takes one turn of the panel's link ([`turn`](oca_control::turn)): receives once, and sends what is due,
+    /// keep-alives included. At a socket the receive lasts until something is due, and at most 50 ms.
+    ///
+    /// Returns `true` if the loop may go on. `false` if the end is closed: then the link is unchanged. `false` too if
+    /// the link is lost or late: then a datagram that came is still handled, and from then on nothing is sent. After a
+    /// receive that failed the result is `true`, and the call does not look at the link.
+    /// [`turn_with_report`](Panel::turn_with_report) returns the numbers of failed receives and sends.
     pub fn turn(&mut self) -> bool
         ensures { TurnsOnce self.old self.new result }
     {
@@ -144,9 +163,11 @@ impl<E: End> Panel<E> {
     }
 
     /// The earliest moment at which a turn has something to send, a keep-alive included: a loop may wait until then.
-    /// This moment is in milliseconds of the end's clock, and not before the latest moment that the link was given.
-    /// `None` if that moment lies beyond 64 bits. For a lost link it is the latest moment that the link was given,
-    /// though nothing is sent any more. So end the loop once [`is_lost`](Panel::is_lost) is true.
+    /// The moment is in milliseconds of the end's clock. It is never before the latest moment that the link was given.
+    ///
+    /// `None` if that moment does not fit 64 bits. For a lost link the result is the latest moment that the link was
+    /// given, though nothing is sent any more. So end the loop once [`is_lost`](Panel::is_lost) is `true`. Nothing is
+    /// changed.
     pub fn next_due(&self) -> Option<u64>
         ensures { MatchOption result (NeverIsDue self.now.link) (λ t. IsNextDue self.now.link t) }
     {
@@ -154,15 +175,20 @@ impl<E: End> Panel<E> {
     }
 
     /// The moment, in milliseconds of the end's clock, at which the last well-formed datagram came from the device.
-    /// Before the first one it is the moment at which the link was made.
+    /// Before the first such datagram it is the moment at which the link was made. A datagram from another address, and
+    /// one that is not a well-formed datagram of AES70-3, do not move it.
     pub fn last_heard(&self) -> u64
         ensures { result ≡ self.now.link.heard }
     {
         self.link.last_heard()
     }
 
-    /// Whether the link is lost, or is late at the end's present moment (a command is unanswered for more than 15,000
-    /// ms). Then open a new panel, or call [`renew`](Panel::renew).
+    /// Whether the panel's link is lost, or is late at the end's present moment. A link is *lost* once a command got no
+    /// answer to 20 transmissions. A link is *late* while a command that was submitted more than 15,000 ms ago has no
+    /// answer. `false` for a new link.
+    ///
+    /// While the result is `true`, the panel takes no command. Then open a new panel, or call [`renew`](Panel::renew).
+    /// A lost link stays lost. A late link is late until the answer comes. The call changes and sends nothing.
     pub fn is_lost(&self) -> bool
         ensures { IsFoundLost self.now result }
     {
@@ -170,15 +196,17 @@ impl<E: End> Panel<E> {
         self.link.is_lost() || is_late(&self.link, now)
     }
 
-    /// The lowest handle whose answer came and was not taken yet; [`try_finish`](Panel::try_finish) takes it. `None` if
-    /// no answer waits to be taken. So a program finds the answer to a command for which it stopped waiting.
+    /// The lowest handle whose answer came and was not taken yet. `None` if no answer waits, as in a new panel. The
+    /// call takes nothing: [`try_finish`](Panel::try_finish) takes the answer. So a program finds the answer to a
+    /// command for which it stopped waiting.
     pub fn answered(&self) -> Option<Handle>
         ensures { option_map (λ h. h.0) result ≡ first_answered self.now.link.untaken }
     {
         self.link.answered()
     }
 
-    /// The handle that the next command gets; `None` after the last one, 4294967295.
+    /// The handle that the next command gets. At first it is the first handle that the link was given, and each command
+    /// moves it up by one. `None` once a command has the handle 4294967295: then no command is taken any more.
     pub fn next_handle(&self) -> Option<Handle>
         ensures { option_map (λ h. h.0) result ≡ self.now.link.next }
     {
@@ -186,20 +214,26 @@ impl<E: End> Panel<E> {
     }
 
     /// Whether a wait for a command of this panel ended with `Lost` or `Unanswered`, at any time since the panel was
-    /// made. The result stays `true` also if the answer comes later.
+    /// made. `false` at first. Once `true` the result stays `true`, also if the answer comes later, and after
+    /// [`renew`](Panel::renew). A command that the link refused does not set it.
     pub fn unanswered(&self) -> bool
         ensures { result ≡ self.now.unanswered }
     {
         self.unanswered
     }
 
-    /// Submits one command, sends it at once, and waits for its answer, until the panel's `wait` milliseconds are over.
+    /// Submits one command, sends it at once, and waits for its answer for at most the panel's `wait` milliseconds.
+    /// `request` has the object, the method, ParamCount and the encoded parameters, which are not checked (AES70-3).
     ///
-    /// `Answered` with the answer, whatever its status. `Refused` with the reason if the link refuses the command
-    /// ([`begin`](Panel::begin)): then nothing is changed or sent. That includes a link that is lost or late already.
-    /// `Lost` if the link is lost, or found late, during the wait. `Unanswered` if no answer comes in that time. The
-    /// command then stays in flight, under the handle that [`next_handle`](Panel::next_handle) returned before. The
-    /// command takes room in the span until its answer is taken.
+    /// - `Answered` with the answer, whatever its status. The command is then removed from the link.
+    /// - `Refused` with the reason if the link refuses the command, in the cases of [`begin`](Panel::begin). Nothing is
+    ///   changed or sent. `Refused(Lost)` is a link that was lost or late before.
+    /// - `Lost` if the link becomes lost in this call, or is found late, and no answer came.
+    /// - `Unanswered` if no answer comes in time, or the end is closed. The command stays in flight, under the handle
+    ///   that [`next_handle`](Panel::next_handle) returned before. It keeps its place in the span until its answer is
+    ///   taken.
+    ///
+    /// After `Lost` and `Unanswered` the device may have carried out the command, or may still do that.
     pub fn ask(&mut self, request: Request<'_>) -> Outcome
         ensures { AsksIn (request_of request.entry) self.old self.new result }
     {
@@ -209,25 +243,32 @@ impl<E: End> Panel<E> {
         }
     }
 
-    /// Submits a command and sends it at once, and returns its handle, for [`finish`](Panel::finish) or
-    /// [`InFlight::push`](crate::InFlight::push). If the link becomes lost in this call, the command is not sent.
+    /// Submits a command, sends it at once, and returns its handle, for [`finish`](Panel::finish) or
+    /// [`InFlight::push`](crate::InFlight::push). `request` has the object, the method, ParamCount and the encoded
+    /// parameters, which are not checked (AES70-3). What else is due is sent too, older commands first. If the link
+    /// becomes lost in this call, the handle is returned and the command is not sent. A send that fails is not
+    /// reported: the link sends the command again after 250 ms.
     ///
-    /// Refusals, the first that applies, which change and send nothing: `Lost` if the link is lost or late.
-    /// `HandlesSpent` after the handle 4294967295. `SpanFull` if the next handle is not below the lowest one whose
-    /// answer was not taken yet, plus the span. `TooLong` if the parameters have more than 1,445 bytes.
+    /// Refusals, the first that applies, which change and send nothing:
+    /// - `Lost` if the link is lost or late.
+    /// - `HandlesSpent` if a command has the handle 4294967295 already.
+    /// - `SpanFull` if the next handle is not below the lowest handle whose answer was not taken yet, plus the span.
+    /// - `TooLong` if the parameters have more than 1,445 bytes.
     pub fn begin(&mut self, request: Request<'_>) -> Result<Handle, ControlFault>
         ensures { BeginsIn (request_of request.entry) result self.old self.new }
     {
         begin(&mut self.link, &mut self.end, request)
     }
 
-    /// Waits for the answer under this handle, until the panel's `wait` milliseconds are over, and takes it.
+    /// Waits for the answer under this handle, for at most the panel's `wait` milliseconds, and takes it.
     ///
-    /// `Answered` with the answer, whatever its status: its command is then removed. `Lost` as soon as the link is
-    /// lost, or found late, and no answer is there. `Unanswered` if no answer comes in that time, and for a handle that
-    /// no command has. After `Unanswered` the command stays in flight, is still sent, and can be waited for again.
-    /// After `Lost` and `Unanswered` the command may have been carried out, or may still be, and
-    /// [`unanswered`](Panel::unanswered) is `true` from then on.
+    /// - `Answered` with the answer, whatever its status. The command is then removed from the link.
+    /// - `Lost` as soon as the link is lost or found late, and no answer is there.
+    /// - `Unanswered` if no answer comes in time, if the end is closed, and for a handle that no command has. The
+    ///   command stays in flight, is sent again, and can be waited for again.
+    ///
+    /// After `Lost` and `Unanswered` the device may have carried out the command, or may still do that, and
+    /// [`unanswered`](Panel::unanswered) is `true` from then on. `Refused` does not come.
     pub fn finish(&mut self, handle: Handle) -> Outcome
         ensures { FinishesIn handle.0 self.old self.new result }
     {
@@ -236,10 +277,13 @@ impl<E: End> Panel<E> {
         outcome
     }
 
-    /// The outcome of the command under this handle, if it is known without a turn. The call does not wait. `Answered`
-    /// with the answer, which is then taken. `Lost` if the link is lost and no answer is there;
-    /// [`unanswered`](Panel::unanswered) is then `true`. `None` if no answer is there and the link is not lost: then
-    /// nothing is changed.
+    /// Returns the outcome of the command under this handle if the outcome is known already, and does not wait. Nothing
+    /// is received or sent.
+    ///
+    /// `Answered` with the answer, whatever its status: the answer is taken, and its command is removed from the link.
+    /// `Lost` if the link is lost and no answer is there: [`unanswered`](Panel::unanswered) is then `true`. `None` if
+    /// no answer is there and the link is not lost, also for a handle that no command has: then nothing is changed. The
+    /// call does not look whether the link is late.
     pub fn try_finish(&mut self, handle: Handle) -> Option<Outcome>
         ensures { MaySettle result handle.0 self.old self.new }
     {

@@ -4,23 +4,26 @@ use oca_model::status_name;
 use std::error::Error;
 use std::fmt::{self, Display, Formatter};
 
-/// Why something asked of an object is not done. As a text it has the name of the device's status.
+/// Why something asked of an object is not done. As a text, a refusal is the name of the device's status (AES70-2).
 #[derive(Clone, Copy, Debug, PartialEq, Eq, Drop)]
 pub enum Trouble {
-    /// The device refused the command: the number of the status (AES70-2, OcaStatus).
+    /// The device answered with another status than OK: the number of the status, 1 to 255 (AES70-2, OcaStatus).
     Refused(u8),
-    /// The answer is not one to the command.
+    /// The status is OK, but the parameters of the answer are not those that the command's method has.
     Unreadable,
-    /// The object's class has no value that is known here.
+    /// The object's class has no value that is known here: a block, a class outside this profile, or a class that has
+    /// no method for the request.
     NoValue,
-    /// A word is for no value of the object: for programs that read values from words.
+    /// A word is for no value of the object. No call of this crate returns it: it is for programs that read values from
+    /// words.
     NoSuchWord,
-    /// The link did not take the command, so that it was never sent.
+    /// The link refused the command, for this reason: the command was not sent, and has no handle.
     NotSubmitted(ControlFault),
-    /// The link is lost: the command may have been carried out, or not.
+    /// The link was lost or late before an answer came. The device may have carried out the command, or not.
     Lost,
-    /// No answer came within the time that the panel waits for a command. The command stays in flight: it is still sent,
-    /// may still be carried out, and takes a place of the span until its answer is taken.
+    /// No answer came within the milliseconds that the panel waits for a command. The command stays in flight: it is
+    /// sent again, may still be carried out, and keeps its place in the span. Its answer is taken by
+    /// [`Panel::try_finish`](crate::Panel::try_finish) or by a later wait.
     Unanswered,
 }
 

@@ -16,54 +16,55 @@ use std::marker::Model;
 
 mod apart;
 
-/// The root block (AES70-2).
+/// The number of the root block, 100 (AES70-2). Every device has this object.
 pub const ROOT: Ono = Ono(100);
 
-/// The most places that are visited: a device of the profile has at most 4,096 objects.
+/// The most places that a [`Walk`] visits: 4,096, the most objects that a device of this profile has.
 pub const MOST_PLACES: usize = 4096;
 
-/// An object that a block lists, and that block: 0 for the root.
+/// A place of a walk: an object that a block lists, and that block.
 #[derive(Clone, Copy, Debug, Default, PartialEq, Eq)]
 pub struct Place {
-    /// The object.
+    /// The number of the object.
     pub ono: Ono,
-    /// The block that lists it.
+    /// The number of the block that lists it; 0 for the root.
     pub container: Ono,
 }
 
-/// What was read of an object: its class and its role.
+/// What a device answered about an object: its class and its role.
 #[derive(Debug, Drop)]
 pub struct Description {
-    /// The fields of its class's identifier.
+    /// The fields of its class identifier: at most 16 (AES70-2, OcaClassID).
     pub fields: ClassFields,
-    /// Its role.
+    /// Its role: 0 to 64 bytes of UTF-8 (AES70-2, GetRole of OcaRoot).
     pub role: Text,
 }
 
-/// What was found at a place.
+/// What a walk found at a place.
 #[derive(Debug, Drop)]
 pub enum Found {
-    /// An object that is no block.
+    /// An object that is no block of this profile.
     Object(Description),
-    /// A block, and why its members are not listed where they are not.
+    /// A block. `Ok` if its members are visited next, otherwise the reason why they were not read.
     Block(Description, Result<(), Trouble>),
-    /// An object that does not say what it is, and why.
+    /// An object whose class or role was not read, and why.
     Undescribed(Trouble),
-    /// An object that was visited before: it is not asked again.
+    /// An object that was visited before: nothing was asked.
     Again,
 }
 
-/// A place, and what was found there.
+/// A place that a walk visited, and what was found there.
 #[derive(Debug, Drop)]
 pub struct Visit {
-    /// The place.
+    /// The object, and the block that lists it.
     pub place: Place,
-    /// What was found.
+    /// What the device answered about the object.
     pub found: Found,
 }
 
-/// A walk through the objects of a device, from the root block on, each block's members behind it in their order. It
-/// asks each object once, for its class, its role and the members of a block, and sets nothing.
+/// A walk through the objects of a device, from the root block on: after each block its members, in their order. It
+/// asks for the class and the role of each object and the members of each block, once, and sets nothing. It visits at
+/// most 4,096 places.
 ///
 /// ```
 /// let mut walk = Walk::new(rt.alloc())?;
@@ -103,8 +104,8 @@ impl Walk {
     ghost use Rattle.std.specs.Prelude.{◌≡◌, length, nat_lt, IfOk};
     ghost use Rattle.oca_panel.specs.Walks.{StepsTo, StepsToPlace, begun_walk};
 
-    /// A walk that begins at the root block. Nothing is asked of the device. Refusal: `NoMemory`, if memory was
-    /// refused.
+    /// Makes a walk that begins at the root block (number 100). Nothing is asked of the device. The call takes memory
+    /// for one place. Refusal: `NoMemory` if that memory is refused.
     pub fn new(alloc: Global) -> Result<Walk, NoMemory>
         ensures { IfOk result (λ walk. walk ≡ begun_walk) }
     {
@@ -122,30 +123,37 @@ impl Walk {
         })
     }
 
-    /// Visits the next place: asks the object there for its class, then for its role, and a block then for its members,
-    /// which are visited next. The call waits for each of these answers for at most the panel's `wait` milliseconds. If
-    /// a question gets no usable answer, the [`Visit`] has the reason in place of the answer. An object that was
-    /// visited before is not asked ([`Found::Again`]).
+    /// Visits the next place of the walk: asks its object for its class, then for its role, and a block then for its
+    /// members. The members are visited next. Returns what was found. The call waits for each answer for at most the
+    /// panel's `wait` milliseconds. The commands change no object. If a question gets no usable answer, the [`Visit`]
+    /// has the reason instead. An object that was visited before is not asked ([`Found::Again`]).
     ///
-    /// `None` if no place is left, or 4,096 places were visited: then nothing is asked. Refusal: `NoMemory`, if memory
-    /// was refused; after it the walk may leave objects out.
+    /// `None` if no place is left, or 4,096 places were visited: then nothing is asked or changed. The call takes
+    /// memory for the places. Refusal: `NoMemory` if memory is refused. Questions may have been asked then, and the
+    /// walk may leave objects out from then on.
     pub fn next<E: End>(&mut self, panel: &mut Panel<E>) -> Result<Option<Visit>, NoMemory>
         ensures { IfOk result (λ found. StepsTo self.old panel.old panel.new found self.new) }
     {
         step(&mut self.waiting, &mut self.visited, panel)
     }
 
-    /// Visits the next place as [`next`](Walk::next) does, but asks its object again even if it was visited before. A
-    /// block that contains itself is then visited 4,096 times. `None` if no place is left, or 4,096 places were
-    /// visited: then nothing is asked. Refusal: `NoMemory`, if memory was refused; after it the walk may leave objects
-    /// out.
+    /// Visits the next place of the walk as [`next`](Walk::next) does, but asks its object even if it was visited
+    /// before. The object is asked for its class, then for its role, and a block then for its members, which are
+    /// visited next. A block that contains itself is visited until 4,096 places were visited. The call waits for each
+    /// answer for at most the panel's `wait` milliseconds. If a question gets no usable answer, the [`Visit`] has the
+    /// reason instead.
+    ///
+    /// `None` if no place is left, or 4,096 places were visited: then nothing is asked or changed. The call takes
+    /// memory for the places. Refusal: `NoMemory` if memory is refused. Questions may have been asked then, and the
+    /// walk may leave objects out from then on.
     pub fn next_place<E: End>(&mut self, panel: &mut Panel<E>) -> Result<Option<Visit>, NoMemory>
         ensures { IfOk result (λ found. StepsToPlace self.old panel.old panel.new found self.new) }
     {
         step_to_place(&mut self.waiting, &mut self.visited, panel)
     }
 
-    /// Whether places are left to visit. It is `true` after a walk that ended at 4,096 places and had more.
+    /// Whether places are left to visit. `true` for a new walk, whose root is not visited yet. `false` once all were
+    /// visited. It stays `true` after a walk that ended at 4,096 places and had more.
     pub fn is_unfinished(&self) -> bool
         ensures { result ≡ nat_lt 0 (length self.now.waiting) }
     {

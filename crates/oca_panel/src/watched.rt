@@ -7,7 +7,8 @@ use oca_types::{Packet, Peer};
 use std::fmt;
 use std::marker::Model;
 
-/// An end, and the moment of the last datagram that it delivered from a peer, in milliseconds.
+/// An end of a network over another end. It stores the moment of the last datagram that came from one peer, in
+/// milliseconds of the end's clock. Sending and receiving are those of the end inside.
 pub struct Watched<E: End> {
     end: E,
     peer: Peer,
@@ -46,7 +47,9 @@ impl<E: End> fmt::Debug for Watched<E> {
 impl<E: End> Watched<E> {
     ghost use Rattle.std.specs.Prelude.{◌≡◌, None};
 
-    /// An end over another end, which notes when it hears `peer`. The new end has not heard the peer so far.
+    /// Makes an end over the end `end`, which stores when it last received a datagram from `peer`.
+    /// [`heard`](Watched::heard) is `None` at first. Nothing is sent or received, no memory is taken, and nothing is
+    /// refused.
     pub fn new(end: E, peer: Peer) -> Watched<E>
         ensures { result ≡ record { end_state = E.state end; peer = peer; heard = None } }
     {
@@ -57,23 +60,24 @@ impl<E: End> Watched<E> {
         }
     }
 
-    /// A reference to the end inside.
+    /// Returns a reference to the end inside, which [`new`](Watched::new) was given. Nothing is changed.
     pub fn end(&self) -> &E
         ensures { E.state result.now ≡ self.now.end_state }
     {
         &self.end
     }
 
-    /// The moment, in milliseconds of the end's clock, at which the last datagram came from the peer. `None` if none
-    /// came since the end was made, or since the last [`forget`](Watched::forget).
+    /// The moment, in milliseconds of the end's clock, at which the last datagram came from the peer, well-formed or
+    /// not. `None` if none came since the end was made, or since the last [`forget`](Watched::forget). An oversize
+    /// datagram does not change it.
     pub fn heard(&self) -> Option<u64>
         ensures { result ≡ self.now.heard }
     {
         self.heard
     }
 
-    /// Resets the note: [`heard`](Watched::heard) is then `None` until the peer is heard again. The end inside stays as
-    /// it is.
+    /// Forgets when the peer was heard: [`heard`](Watched::heard) is then `None` until the next datagram from the peer.
+    /// The end inside stays as it is. Nothing is sent or received.
     pub fn forget(&mut self)
         ensures { self.new ≡ record self.old { heard = None } }
     {

@@ -10,15 +10,15 @@ ghost use Rattle.oca_promise.specs.Flights.{EverySetInFlightKeeps, EveryReadingI
 use oca_pair::law_of_what_is_said;
 use oca_pdu::law_reading;
 
-/// Laws: what a panel's calls return is true of the device, in every network in which the calls are made. In such a
-/// network, what the panel's end delivered is what the network's device sent to this link. The premises of
-/// [`law_of_what_is_said`](oca_pair::law_of_what_is_said) hold in it: the link and the network are in time. For all but
-/// the first three, the device's objects were a tree at first, with texts and numbers of their types. The function does
-/// nothing at run time.
+/// Laws: what a panel's calls return is true of the device, in every network in which the calls are made. A network is
+/// a schedule of `oca_pair` ([`Step`](oca_pair::Step)) in which the panel's end delivered what the network's device
+/// sent to this link. The premises of [`law_of_what_is_said`](oca_pair::law_of_what_is_said) hold in it: the link and
+/// the network are in time. For all but the first three, the device's objects were a tree at first, with texts and
+/// numbers of their types. The function does nothing at run time.
 ///
 /// Once: each answer is that of the only execution of the command of the call, and this execution lies between the call
-/// and its return. In time: no call sends while its link is late, if no stranger's datagram was delivered. Refused: a
-/// call that was refused with a status changed no object.
+/// and its return. In time: no call sends while its link is late, if no datagram of another sender was delivered.
+/// Refused: a call that was refused with a status changed no object.
 ///
 /// Set: if `set` returns Ok, the object was set to the value, if it is of the value's class. Get: what `get` returns is
 /// what the object held at a moment during the call. Reading: the same of `reading_of`, with the limits, if the object
@@ -49,13 +49,13 @@ pub fn law_of_calls()
 
 /// Laws: what a panel returns of commands in flight is true of the device, in every network in which they are made. One
 /// call begins a command and returns its handle, other calls follow, and a later call takes the answer under that
-/// handle. The calls between begin commands, wait for them, look them up, or take turns. The premises are those of
-/// [`law_of_calls`]. The function does nothing at run time.
+/// handle. The calls between begin commands, wait for them, look them up, or take turns. What a network is, and the
+/// premises, are as in [`law_of_calls`]. The function does nothing at run time.
 ///
 /// Once: each answer is that of the only execution of the command that was begun under this handle. This execution lies
-/// between the begin and the taking of the answer. If no stranger's datagram was delivered, no call between takes this
-/// answer. In time: if no stranger's datagram was delivered, none of these calls sends while the link is late. Refused:
-/// a command that was refused with a status changed no object.
+/// between the begin and the taking of the answer. If no datagram of another sender was delivered, no call between
+/// takes this answer. In time: if no datagram of another sender was delivered, none of these calls sends while the link
+/// is late. Refused: a command that was refused with a status changed no object.
 ///
 /// Set: if the command to set is answered OK, the object was set to the value, if it is of the value's class. Reading:
 /// what was read is how the object read at a moment between, if it is of the class that was given. Answer: what is read

@@ -7,10 +7,14 @@ use oca_types::{Packet, Peer};
 impl<E: End> Panel<E> {
     ghost use Rattle.oca_panel.specs.Calls.{CallsBeside};
 
-    /// Sends a device a keep-alive with a heartbeat of five seconds, not through the link, and receives once, at a
-    /// socket for at most 50 ms. Returns what was heard. The link does not get what was heard, even if it is an answer.
-    /// So a device that returns keep-alives but answers no command is found to be there. If the send fails, that is not
-    /// reported.
+    /// Sends a device a keep-alive past the panel's link, receives once, and returns what was received. The keep-alive
+    /// has a heartbeat of five seconds (AES70-3). The receive lasts at most 50 ms at a socket. `device` is the address
+    /// that gets the keep-alive. A send that fails is not reported.
+    ///
+    /// The result is `Datagram` with its sender, `Quiet` if none came, `Oversize`, `Failed` or `Closed`
+    /// ([`Heard`](oca_net::Heard)). The sender may be any. The link does not get the datagram, even if it has an
+    /// answer: that answer is lost unless the device sends it again. So a device that returns keep-alives but answers
+    /// no command is found to be there. The link and [`unanswered`](Panel::unanswered) stay as they are.
     pub fn call(&mut self, device: Peer) -> Heard
         ensures { CallsBeside device result self.old self.new }
     {

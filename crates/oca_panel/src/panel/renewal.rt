@@ -9,26 +9,35 @@ impl<E: End> Panel<E> {
     ghost use Rattle.oca_types.specs.Sizes.{span_size};
     ghost use Rattle.oca_panel.specs.Renewals.{IsFoundLost, IsRenewed, TurnsWith};
 
-    /// Replaces the link by a new one to the device at this address, over the same end, made at the end's present
-    /// moment as [`Panel::open`] makes one. `first` is the handle of its first command, and `span` is its span. Use it
-    /// if the link is lost or late. Commands of the old link are not sent again, and their answers are not taken.
-    /// `first` must be above all handles of the old link.
+    /// Replaces the panel's link by a new link to the device at the address `device`, over the same end. The new link
+    /// begins at the end's present moment, as in [`Panel::open`]. Call it if the link is lost or late. Nothing is sent,
+    /// no memory is taken, and nothing is refused.
+    ///
+    /// `first` is the handle of the first command of the new link. It must be above all handles of the old link: if
+    /// not, a command may get no answer, or the answer to a command of the old link. `span` is the new span. Commands
+    /// of the old link are not sent again, and their answers are lost. The panel's `wait` and
+    /// [`unanswered`](Panel::unanswered) stay.
     pub fn renew(&mut self, device: Peer, first: Handle, span: Span)
         ensures { IsRenewed device first.0 (span_size span) self.old self.new }
     {
         self.link = Link::new(device, first, self.end.now(), span);
     }
 
-    /// Takes one turn as [`Panel::turn`] does: receives once, at a socket for at most 50 ms, and sends what is due.
-    /// Returns how often each thing was done. `turns` is 0 if the end is closed. `lost` is true if the link is lost or
-    /// late.
+    /// Takes one turn as [`Panel::turn`] does, and returns how often each thing was done. The turn receives once, at a
+    /// socket for at most 50 ms, and sends what is due.
+    ///
+    /// `turns` is 1 in the report. It is 0 if the end is closed: then the link is unchanged. `failed_receives` is 1 if
+    /// the receive failed: then nothing is sent, and `lost` is `false`. After any other turn `lost` says whether the
+    /// link is lost or late. `failed_sends` counts the datagrams that the end did not take.
     pub fn turn_with_report(&mut self) -> DriveReport
         ensures { TurnsWith result self.old self.new }
     {
         turn(&mut self.link, &mut self.end)
     }
 
-    /// Whether the link is lost, or is late at the end's present moment, as [`Panel::is_lost`] says.
+    /// Whether the panel's link is lost, or is late at the end's present moment: the same as [`Panel::is_lost`]. A link
+    /// is *lost* once a command got no answer to 20 transmissions. A link is *late* while a command that was submitted
+    /// more than 15,000 ms ago has no answer. `false` for a new link. Nothing is changed or sent.
     pub fn finds_lost(&self) -> bool
         ensures { IsFoundLost self.now result }
     {

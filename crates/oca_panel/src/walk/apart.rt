@@ -7,9 +7,12 @@ impl Walk {
     ghost use Rattle.oca_panel.specs.Walks.{places_of};
     ghost use Rattle.oca_panel.specs.WalksApart.{TakesPlace};
 
-    /// Takes the next place of the walk, and returns it and whether its object was visited before. The object counts as
-    /// visited from then on. Nothing is asked of the device. `None` if no place is left, or 4,096 places were visited:
-    /// then nothing is changed. Refusal: `NoMemory`, if memory was refused; after it the walk may leave objects out.
+    /// Takes the next place of the walk. Returns the place, and `true` if its object was visited before. The object
+    /// counts as visited from then on. Nothing is asked of the device: the caller asks.
+    ///
+    /// `None` if no place is left, or 4,096 places were visited: then nothing is changed. The call takes memory for the
+    /// place. Refusal: `NoMemory` if that memory is refused. The place is then lost, and the walk may leave objects
+    /// out.
     pub fn take_place(&mut self) -> Result<Option<(Place, bool)>, NoMemory>
         ensures { IfOk result (λ taken. TakesPlace self.old taken self.new) }
     {
@@ -27,8 +30,10 @@ impl Walk {
     }
 
     /// Adds the members of the block `container` to the places of the walk, before all others and in their order.
-    /// Nothing is asked of the device. Refusal: `NoMemory`, if memory was refused; after it the walk may leave objects
-    /// out.
+    /// `members` are the object numbers that the block listed, any number of them. Nothing is asked of the device.
+    ///
+    /// The call takes memory for each place. Refusal: `NoMemory` if memory is refused. Some of the members may be added
+    /// then, and the walk may leave objects out.
     pub fn put_members(&mut self, container: Ono, members: &[u32]) -> Result<(), NoMemory>
         ensures { IfOk result
             (λ u. self.new ≡ record self.old { waiting = self.old.waiting ++ places_of container members.now }) }
