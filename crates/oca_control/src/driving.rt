@@ -13,14 +13,16 @@ use crate::report::DriveReport;
 use oca_net::{End, Heard};
 use oca_types::{Packet, Peer};
 
-/// Drives a link over an end for at most `turns` turns, and returns how often each thing was done.
+/// Drives a link over an end for at most `turns` turns. Returns the numbers of turns, of commands and keep-alives sent,
+/// of commands answered, and of failed receives and sends, and whether the link is lost.
 ///
 /// A turn receives once: at a socket for at most 50 ms. A datagram goes to the link. After a datagram, after an
-/// oversize datagram, and if none came, everything that is due is sent to the device. A send that fails is counted.
-/// After a failed receive nothing is sent.
+/// oversize datagram, and if none came, everything that is due is sent to the device. A send that fails is counted,
+/// and the loop goes on. After a failed receive nothing is sent in that turn.
 ///
-/// The loop ends after `turns` turns, or after a turn in which [`due`](Link::due) returns `Lost`: then `lost` is
-/// `true`. It also ends if the end is closed, which does not count as a turn. With 0 turns nothing is done.
+/// The loop ends after `turns` turns, or after a turn in which [`due`](Link::due) returns `Lost`, since a command got
+/// no answer to 20 transmissions: then `lost` is `true`. It also ends if the end is closed, which does not count as a
+/// turn. With 0 turns nothing is done.
 ///
 /// The call does not check whether the link is late: after a pause of the program it may send a command more than
 /// 15,000 ms after its submit. Use [`turn`](crate::turn) unless the program checks that itself

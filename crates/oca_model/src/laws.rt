@@ -4,8 +4,9 @@ ghost use Rattle.oca_model.specs.Readings.{ReadingsAreReadBack};
 ghost use Rattle.oca_model.specs.Requests.{RequestsAreUnderstood};
 ghost use Rattle.oca_model.specs.Answers.{AnswersAreRead};
 
-/// Law: the encoding of a value (AES70-3), read by [`Value::read`](crate::Value::read) with the value's class, is the
-/// same value. The law holds for each value whose number fits its type. The function states this law as its contract,
+/// Law: the encoding of a value by [`Value::put`](crate::Value::put) (AES70-3), read by
+/// [`Value::read`](crate::Value::read) with the value's class, is the same value. The law holds for each value: in
+/// proofs, for each whose number fits its type. The function states this law as its contract,
 /// and does nothing at run time.
 pub fn law_of_values()
     ensures { ValuesAreReadBack }

@@ -228,8 +228,9 @@ impl<'a, C: Clock> UdpEnd<'a, C> {
     }
 
     /// Binds an end for a controller of the device at the address `device` as [`bind_towards`](UdpEnd::bind_towards)
-    /// does, and returns the system's reason if it fails. The end is bound at the port `port`; at 0 the system chooses
-    /// one. No datagram is sent. The call takes the memory for its receive buffer, 1,473 bytes.
+    /// does, and returns the system's reason if it fails. The end is bound at the one local address from which the
+    /// system reaches the device, and at the port `port`; at 0 the system chooses one. Datagrams of other hosts are
+    /// received too. No datagram is sent. The call takes the memory for its receive buffer, 1,473 bytes.
     ///
     /// Refusals, the first that applies, after which no socket is open: `Io` with the reason if the system has no route
     /// to the device. `NoMemory` if that memory was refused. `Io` with the reason if the system refused the socket.

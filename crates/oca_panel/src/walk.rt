@@ -126,7 +126,9 @@ impl Walk {
     /// Visits the next place of the walk: asks its object for its class, then for its role, and a block then for its
     /// members. The members are visited next. Returns what was found. The call waits for each answer for at most the
     /// panel's `wait` milliseconds. The commands change no object. If a question gets no usable answer, the [`Visit`]
-    /// has the reason instead. An object that was visited before is not asked ([`Found::Again`]).
+    /// has the reason instead: the object's other questions are not asked then, and members that were not read are not
+    /// visited from this place. The next call goes on with the next place. An object that was visited before is not
+    /// asked ([`Found::Again`]).
     ///
     /// `None` if no place is left, or 4,096 places were visited: then nothing is asked or changed. The call takes
     /// memory for the places. Refusal: `NoMemory` if memory is refused. Questions may have been asked then, and the
@@ -141,7 +143,8 @@ impl Walk {
     /// before. The object is asked for its class, then for its role, and a block then for its members, which are
     /// visited next. A block that contains itself is visited until 4,096 places were visited. The call waits for each
     /// answer for at most the panel's `wait` milliseconds. If a question gets no usable answer, the [`Visit`] has the
-    /// reason instead.
+    /// reason instead: the object's other questions are not asked then, and members that were not read are not visited
+    /// from this place. The next call goes on with the next place.
     ///
     /// `None` if no place is left, or 4,096 places were visited: then nothing is asked or changed. The call takes
     /// memory for the places. Refusal: `NoMemory` if memory is refused. Questions may have been asked then, and the

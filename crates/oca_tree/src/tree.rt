@@ -212,7 +212,7 @@ impl Tree {
     }
 
     /// Releases the lock of the object with the number `ono`, as a user does at the device's local front panel
-    /// (*profile*). Any peer can have the lock. Refusals, the first that applies; no object is then changed: `NoObject`
+    /// (*profile*), whichever peer has the lock. Refusals, the first that applies; no object is then changed: `NoObject`
     /// if no object has the number. `NotLocked` if the object is not locked.
     pub fn unlock(&mut self, ono: Ono) -> Result<(), FrontFault>
         ensures tree { self.new ≡ after_change self.old ono.0 ToUnlocked }
