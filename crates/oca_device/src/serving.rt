@@ -16,7 +16,9 @@ use crate::verdict::Verdict;
 use oca_net::{End, Heard};
 use oca_types::{Packet, Peer};
 
-/// Serves an end for at most `turns` turns, and returns how often each thing was done.
+/// Serves an end for at most `turns` turns. Returns how many turns were taken, how many commands were executed,
+/// duplicates, old or under a reused handle, how many datagrams were malformed, oversize or without room for a session,
+/// how many receives were quiet, and how many receives and sends failed ([`Report`]).
 ///
 /// A turn receives once, at a socket for at most 50 ms. A datagram goes to [`Device::datagram`], and its answers are
 /// sent to its sender, in order. A send that fails is counted, and the next packet is sent. If no datagram came, or one
@@ -38,15 +40,17 @@ pub fn serve<E: End>(device: &mut Device, end: &mut E, outbox: &mut Outbox, turn
 }
 
 /// Serves an end for at most `turns` turns as [`serve`] does, and lets `electronics` follow the objects. Returns how
-/// often each thing was done. A turn receives once, at a socket for at most 50 ms. A datagram goes to the device, and
-/// its answers are sent. `outbox` is memory for the answers, and is empty at the end.
+/// many turns were taken, how many commands and datagrams were handled in each way, and how many receives and sends
+/// failed ([`Report`]). A turn receives once, at a socket for at most 50 ms. A datagram goes to the device, and its
+/// answers are sent. `outbox` is memory for the answers, and is empty at the end.
 ///
 /// After the answers to a datagram were sent, the electronics get the objects and the numbers of those that the
-/// datagram wrote to, which may be none ([`Electronics::follow`]). They are not called if no datagram came.
+/// datagram wrote to, which may be none ([`Electronics::follow`]). They get them also if a send failed. They are not
+/// called if no datagram came.
 ///
 /// All sends come first, so failed sends delay the electronics, each for as long as the end takes. At a `UdpEnd` that
 /// is up to a millisecond a packet, and there are at most 122 packets. The loop ends early if the end is closed, which
-/// does not count as a turn. Failed receives and sends are counted.
+/// does not count as a turn.
 pub fn serve_with<E: End, L: Electronics>(
     device: &mut Device,
     end: &mut E,

@@ -150,11 +150,11 @@ impl<'a, C: Clock> UdpEnd<'a, C> {
     /// Refusals, the first that applies, after which no socket is open: `NoMemory` if that memory was refused. `Io` if
     /// the system refused the socket, for example because the port is in use.
     ///
-    /// Bind a device at the address at which it is asked, and a controller by [`bind_towards`](UdpEnd::bind_towards).
-    /// Address 0 means all addresses of the machine: the system then chooses for each datagram from which address it
-    /// leaves. A device's answers may then leave from another address than was asked, and its controllers drop them. A
-    /// controller's transmissions of one command may leave from two addresses: the device then takes them for two
-    /// peers, and executes the command for each.
+    /// Bind a device at the address to which its controllers send, and a controller by
+    /// [`bind_towards`](UdpEnd::bind_towards). Address 0 means all addresses of the machine: the system then chooses
+    /// for each datagram from which address it leaves. A device's answers may then leave from another address than the
+    /// commands came to, and its controllers drop them. A controller's transmissions of one command may leave from two
+    /// addresses: the device then takes them for two peers, and executes the command for each.
     pub fn bind(alloc: Global, rt: &'a C, ip: u32, port: u16) -> Result<UdpEnd<'a, C>, BindFault>
     where
         C: Net,
@@ -168,11 +168,12 @@ impl<'a, C: Clock> UdpEnd<'a, C> {
     }
 
     /// Binds an end at the address `ip` and the port `port` as [`bind`](UdpEnd::bind) does, and returns the system's
-    /// reason if it fails. `ip` is an IPv4 address as a number, the first byte highest; at port 0 the system chooses a
-    /// port. The call takes the memory for its receive buffer, 1,473 bytes.
+    /// reason if it fails. `ip` is an IPv4 address as a number, the first byte highest; 0 means all addresses of the
+    /// machine. At port 0 the system chooses a port. The end's clock is at 0. The call takes the memory for its receive
+    /// buffer, 1,473 bytes, and sends nothing.
     ///
     /// Refusals, the first that applies, after which no socket is open: `NoMemory` if that memory was refused. `Io`
-    /// with the system's reason if the system refused the socket.
+    /// with the system's reason if the system refused the socket, for example because the port is in use.
     pub fn bind_with_reason(
         alloc: Global,
         rt: &'a C,
@@ -201,11 +202,11 @@ impl<'a, C: Clock> UdpEnd<'a, C> {
         })
     }
 
-    /// Binds an end for a controller of the device at the address `device`, at the one address from which the system
-    /// reaches that device. The end is bound at the port `port`; at 0 the system chooses one. The address comes from
-    /// the system's routes: no datagram is sent. So all transmissions of a command leave from this address or not at
-    /// all, and the device takes them as those of one peer. The call takes the memory for its receive buffer, 1,473
-    /// bytes.
+    /// Binds an end for a controller of the device at the address `device`. The end is bound at the one local address
+    /// from which the system reaches the device, and at the port `port`; at 0 the system chooses one. The local address
+    /// comes from the system's routes: no datagram is sent. So all transmissions of a command leave from this address
+    /// or not at all, and the device takes them as those of one peer. Datagrams of other hosts are received too. The
+    /// call takes the memory for its receive buffer, 1,473 bytes.
     ///
     /// Refusals, the first that applies, after which no socket is open: `Io` if the system has no route to the device.
     /// `NoMemory` if that memory was refused. `Io` if the system refused the socket, for example because the port is in

@@ -69,8 +69,8 @@ pub fn law_of_copies()
 /// - A command that writes to an object whose hardware refuses changes ([`Tree::set_failing`](Tree::set_failing)) does
 ///   not get the status OK, and changed nothing.
 /// - After a value of the object's class was set, reading returns this value, with the limits that the object had.
-/// - An answer that fits into a response is an answer of the object's class and of the kind of its method. This law is
-///   for objects whose texts and numbers fit their types.
+/// - An answer that fits into a response is an answer of the object's class and of the kind of its method. Its premise
+///   is that texts and numbers are of their types, since a contract has them of any size; in Rust that is always true.
 pub fn law_of_typed_requests()
     ensures did { CommandsAreTyped }
     ensures refused { RefusedKeepsTree }
