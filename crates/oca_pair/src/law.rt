@@ -130,7 +130,8 @@ pub fn law_once_in_time()
 ///
 /// Refused: if the status is not OK, this execution changed nothing, and the status is the first that applies.
 ///
-/// OK: this needs two more premises. The device's objects were a tree at first, with texts and numbers of their types.
+/// OK: this needs two more premises. The device's objects were a tree at first, with texts and numbers of their types,
+/// which is always true in Rust.
 /// The answer is read by the object's class, or is to a method of OcaRoot or OcaWorker (AES70-2). If the status is OK,
 /// what is read is what the object with the command's number answered. The device then holds what the request made of
 /// this object, and the others as they were.

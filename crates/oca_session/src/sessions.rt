@@ -301,8 +301,8 @@ impl Sessions {
     /// - `Kept` with the reply, if the window has a command with this handle that asks the same: the same target,
     ///   DefLevel, MethodIndex, ParamCount and parameter bytes. The command is a duplicate.
     /// - `Reused` if the window has a command with this handle that asks something else.
-    /// - `Old` if no command in the window has this handle, and the handle is not above a handle that the window pushed
-    ///   out.
+    /// - `Old` if no command in the window has this handle, and the handle is at most the highest handle of the
+    ///   commands that the window pushed out ([`keep`](Sessions::keep)).
     /// - `Fresh` otherwise.
     pub fn judge(&self, peer: Peer, command: &Command<'_>) -> Judged<'_>
         requires { IsSome (session_of peer self.now.sessions) }
@@ -315,10 +315,11 @@ impl Sessions {
     }
 
     /// Stores a fresh command of a known peer, with its reply, in the reply window of its session (*profile*). A full
-    /// window pushes its oldest command out. Handles up to the handle of that command, which are not in the window,
-    /// then count as `Old`. The command and the reply are copied. Premises, which the caller must prove: the peer is
-    /// known ([`is_known`](Sessions::is_known)), [`judge`](Sessions::judge) says `Fresh` for the command, and the
-    /// command has at most 1,445 bytes of parameters. The call refuses nothing and takes no memory.
+    /// window pushes its oldest command out. From then on [`judge`](Sessions::judge) says `Old` for each handle up to
+    /// that command's, if the handle is not in the window. The command and the reply are copied. Premises, which the
+    /// caller must prove: the peer is known ([`is_known`](Sessions::is_known)), [`judge`](Sessions::judge) says `Fresh`
+    /// for the command, and the command has at most 1,445 bytes of parameters. The call refuses nothing and takes no
+    /// memory.
     pub fn keep(&mut self, peer: Peer, command: &Command<'_>, reply: &Reply)
         requires known { IsSome (session_of peer self.old.sessions) }
         requires fresh { IfSome (session_of peer self.old.sessions)
