@@ -48,10 +48,10 @@ pub fn law_of_calls()
     law_reading();
 }
 
-/// Laws: what a panel returns of commands in flight is true of the device, in every network in which its calls are made.
-/// One call begins a command and returns its handle, other calls follow, and a later call takes the answer under that
-/// handle. The calls between begin commands, wait for them, look them up, or take turns. What a network is, and the
-/// premises, are as in [`law_of_calls`]. The function does nothing at run time.
+/// Laws: what a panel returns of commands in flight is true of the device, in every network in which its calls are
+/// made. One call begins a command and returns its handle, other calls follow, and a later call takes the answer under
+/// that handle. The calls between begin commands, wait for them, look them up, or take turns. What a network is, and
+/// the premises, are as in [`law_of_calls`]. The function does nothing at run time.
 ///
 /// Once: each answer is that of the only execution of the command that was begun under this handle. This execution lies
 /// between the begin and the taking of the answer. If no datagram of another sender was delivered, no call between
@@ -59,9 +59,10 @@ pub fn law_of_calls()
 /// is late. Refused: a command that was refused with a status changed no object.
 ///
 /// Set: if the command to set is answered OK, the object was set to the value, if it is of the value's class. Reading:
-/// what was read is how the object read at a moment between, if it is of the class that was given. Answer: what is read
-/// of the answer to any method is what the object answered, and the object was left as the request makes it. That holds
-/// if the object is of the class that was given, or every class answers the method alike.
+/// what was read is how the object read at a moment between the begin and the taking, if the object is of the class
+/// that was given. Answer: what is read of the answer to any method is what the object answered, and the object was
+/// left as the request makes it. That holds if the object is of the class that was given, or every class answers the
+/// method alike.
 pub fn law_of_flights()
     ensures once { EveryAnsweredFlightKeeps IsOfOneExecutionSince }
     ensures in_time { EveryFlightIsInTime }
