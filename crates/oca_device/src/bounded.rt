@@ -15,8 +15,9 @@ use std::alloc::Global;
 use std::fmt;
 use std::marker::Model;
 
-/// The first packets that answer a datagram, in order, for the peer that sent it: at most a number that its maker
-/// chooses. Packets above that number are left out. For the peer they are as if the network had lost them.
+/// The first packets that answer a datagram, in order, for the peer that sent it: at most as many as
+/// [`with_room`](BoundedOutbox::with_room) was given. Packets above that number are left out. For the peer they are as
+/// if the network had lost them.
 #[derive(Drop)]
 pub struct BoundedOutbox {
     count: usize,

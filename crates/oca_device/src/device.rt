@@ -63,9 +63,13 @@ const MOST_WRITTEN: usize = 86;
 /// ```
 ///
 /// A *peer* is an address and a port. The device opens a *session* at the first well-formed datagram of a peer, if
-/// there is room. A session has the moment at which the peer was last heard, its heartbeat, and the replies to its last
-/// commands: as many as the *reply window* is large (*profile*). A *duplicate* is a command whose reply is among those,
-/// and an *old* command is one before them.
+/// there is room. A session has the moment at which the peer was last heard, its *heartbeat*, which is the interval at
+/// which the peer says that it sends (AES70-3), and its *reply window* (*profile*). The reply window *retains* the last
+/// commands of the peer with their replies, as many as its size says. A *duplicate* is a command that asks the same as
+/// a retained command under the same handle. An *old* command is not retained, and its handle is not above that of a
+/// command that was retained before. The *local front panel* is the device's own: its changes are the calls
+/// [`set`](Device::set), [`set_label`](Device::set_label), [`set_enabled`](Device::set_enabled),
+/// [`unlock`](Device::unlock) and [`set_failing`](Device::set_failing).
 ///
 /// What a device is follows from its first tree and its events alone: datagrams, clock readings and changes at its
 /// local front panel. Moments are in milliseconds of the caller's clock. A moment that is earlier than the latest one
@@ -303,8 +307,8 @@ impl Device {
         self.tree.set_failing(ono, failing)
     }
 
-    /// Whether the hardware of an object refuses changes, as [`Device::set_failing`] last set it. `false` before the
-    /// first such call. `None` if no object has the number `ono`. Nothing is changed.
+    /// Whether the hardware of the object `ono` refuses changes, as [`Device::set_failing`] last set it. `Some(false)`
+    /// before the first such call. `None` if no object has the number `ono`. Nothing is changed.
     pub fn is_failing(&self, ono: Ono) -> Option<bool>
         ensures failing { result ≡ failing_at self.now.tree ono.0 }
         ensures represented { (w : DeviceSizes) (T : List Object) (E : List Event) → Represents w self.now T E →

@@ -97,8 +97,8 @@ impl<E: End> Panel<E> {
     ///
     /// A call that waits for an answer waits for at most `wait` milliseconds, 0 to 4294967295
     /// ([`wait_while`](oca_control::wait_while)), whatever else comes to the end meanwhile. If the device does not
-    /// answer a command, the link becomes lost 5 to 10.25 seconds after the submit, in a call that waits or takes
-    /// turns.
+    /// answer a command, the link is lost 5 to 10.25 seconds after the submit, as long as a call waits or turns are
+    /// taken.
     pub fn open(device: Peer, end: E, first: Handle, span: Span, wait: u32) -> Panel<E>
         ensures { IsOpened device first.0 (span_size span) wait (E.state end) result }
     {

@@ -120,8 +120,8 @@ impl Sessions {
     }
 
     /// Returns the number of sessions: from 0, as at first, to the number of peers for which the table was made, at
-    /// most 64 (*profile*). A session that is due to be forgotten counts until the next [`advance`](Sessions::advance).
-    /// The call refuses nothing.
+    /// most 64 (*profile*). A session that is due to be forgotten counts until the next [`advance`](Sessions::advance)
+    /// or [`advance_into`](Sessions::advance_into). The call refuses nothing.
     pub fn len(&self) -> usize
         ensures len { result ≡ length self.now.sessions }
         ensures sound { IsTable self.now }
@@ -137,7 +137,8 @@ impl Sessions {
     }
 
     /// Returns the peer of the session at an index, counted from 0 in order of opening (*profile*). The result is
-    /// `None` if `index` is the number of sessions or above.
+    /// `None` if `index` is the number of sessions or above. When a session is forgotten, the sessions after it move
+    /// down by one.
     pub fn peer_at(&self, index: usize) -> Option<Peer>
         ensures { result ≡ slice_get (peers_of self.now.sessions) index }
     {

@@ -77,7 +77,9 @@ pub enum Setting {
     },
 }
 
-/// The objects of a device (AES70-2), with their settings and their locks. Contracts see the list of the objects in
+/// The objects of a device (AES70-2), with their settings and their locks. They are in order of adding, and the first
+/// is the root. The *container* of an object is the block that contains it. A lock belongs to one peer, and limits what
+/// the other peers can do with the object ([`LockKind`](crate::LockKind)). Contracts see the list of the objects in
 /// order of adding.
 #[derive(Drop)]
 pub struct Tree {
