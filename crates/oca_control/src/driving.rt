@@ -18,9 +18,9 @@ use oca_types::{Packet, Peer};
 /// ([`DriveReport`](crate::DriveReport)).
 ///
 /// A turn receives once: at a socket for at most 50 ms. A datagram goes to the link. After a datagram, after an
-/// oversize datagram, and if none came, everything that is due is sent to the device. A send that fails is counted as
-/// sent and as failed, and the loop goes on: its command is due again after 250 ms. After a failed receive nothing is
-/// sent in that turn.
+/// oversize datagram (more than 1,472 bytes), and if none came, everything that is due is sent to the device. A send
+/// that fails is counted as sent and as failed, and the loop goes on: its command is due again after 250 ms. After a
+/// failed receive nothing is sent in that turn, and the loop goes on.
 ///
 /// The loop ends after `turns` turns, or after a turn in which [`due`](Link::due) returns `Lost`, since a command got
 /// no answer to 20 transmissions: then `lost` is `true`. It also ends if the end is closed, which does not count as a
@@ -54,9 +54,9 @@ pub fn drive<E: End>(link: &mut Link, end: &mut E, turns: u32) -> DriveReport
 
 /// Sends the device everything that is due at the moment `now`, in milliseconds of the link's clock. A moment earlier
 /// than the latest one so far is taken as that latest one. Nothing is received. Returns the numbers of commands
-/// (`sent`) and keep-alives that were given to the end to send, of failed sends, and whether the link is lost; `turns`
-/// is 0 in the report. A send that fails is counted as sent and as failed, and the next is made: its command is due
-/// again after 250 ms.
+/// (`sent`) and keep-alives (`keep_alives`) that were given to the end to send, how many of these sends failed
+/// (`failed_sends`), and whether the link is lost. `turns` is 0 in the report. After a send that fails the next is
+/// made; its command is due again after 250 ms.
 ///
 /// Afterwards nothing is left to send at that moment, or the link is lost and `lost` is `true` (`law_of_sending`). A
 /// link that was lost before sends nothing. The call does not check whether the link is late:

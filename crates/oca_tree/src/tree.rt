@@ -214,8 +214,8 @@ impl Tree {
     }
 
     /// Releases the lock of the object with the number `ono`, as a user does at the device's local front panel
-    /// (*profile*), whichever peer has the lock. Refusals, the first that applies; no object is then changed: `NoObject`
-    /// if no object has the number. `NotLocked` if the object is not locked.
+    /// (*profile*), whichever peer has the lock. Refusals, the first that applies; no object is then changed:
+    /// `NoObject` if no object has the number. `NotLocked` if the object is not locked.
     pub fn unlock(&mut self, ono: Ono) -> Result<(), FrontFault>
         ensures tree { self.new ≡ after_change self.old ono.0 ToUnlocked }
         ensures refused { OnErr result (self.new ≡ self.old) }
@@ -371,8 +371,8 @@ impl Tree {
 
     /// Compares this tree with `other`, object by object in their order (*profile*). Returns `true` only if both have
     /// the same objects: with the same numbers, classes, containers, roles, labels, flags, values, limits and names of
-    /// positions, and the same that can be locked. Two things are not compared: which peer has a lock, and whether the
-    /// hardware of an object refuses changes. `false` means that the call found a difference; that is not proved.
+    /// positions, and the same objects can be locked. Two things are not compared: which peer has a lock, and whether
+    /// the hardware of an object refuses changes. `false` means that the call found a difference; that is not proved.
     /// Neither tree is changed, and no memory is taken.
     pub fn is_but_for_locks(&self, other: &Tree) -> bool
         ensures { IsTrue result → (all_unlocked self.now ≡ all_unlocked other.now) }
