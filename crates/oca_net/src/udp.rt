@@ -143,9 +143,10 @@ impl<'a, C: Clock> fmt::Debug for UdpEnd<'a, C> {
 }
 
 impl<'a, C: Clock> UdpEnd<'a, C> {
-    /// Binds an end at the address `ip` and the port `port`. `ip` is an IPv4 address as a number, the first byte
-    /// highest. At port 0 the system chooses a port ([`local`](UdpEnd::local) returns it). The end's clock is at 0. The
-    /// call takes the memory for its receive buffer, 1,473 bytes, and sends nothing.
+    /// Binds an end at the address `ip` and the port `port`. `rt` is the program's access to the system's network and
+    /// clock. `ip` is an IPv4 address as a number, the first byte highest. At port 0 the system chooses a port
+    /// ([`local`](UdpEnd::local) returns it). The end's clock is at 0. The call takes the memory for its receive
+    /// buffer, 1,473 bytes, and sends nothing.
     ///
     /// Refusals, the first that applies, after which no socket is open: `NoMemory` if that memory was refused. `Io` if
     /// the system refused the socket, for example because the port is in use.
@@ -168,9 +169,9 @@ impl<'a, C: Clock> UdpEnd<'a, C> {
     }
 
     /// Binds an end at the address `ip` and the port `port` as [`bind`](UdpEnd::bind) does, and returns the system's
-    /// reason if it fails. `ip` is an IPv4 address as a number, the first byte highest; 0 means all addresses of the
-    /// machine. At port 0 the system chooses a port. The end's clock is at 0. The call takes the memory for its receive
-    /// buffer, 1,473 bytes, and sends nothing.
+    /// reason if it fails. `rt` is the program's access to the system's network and clock. `ip` is an IPv4 address as a
+    /// number, the first byte highest; 0 means all addresses of the machine. At port 0 the system chooses a port. The
+    /// end's clock is at 0. The call takes the memory for its receive buffer, 1,473 bytes, and sends nothing.
     ///
     /// Refusals, the first that applies, after which no socket is open: `NoMemory` if that memory was refused. `Io`
     /// with the system's reason if the system refused the socket, for example because the port is in use.
@@ -205,8 +206,9 @@ impl<'a, C: Clock> UdpEnd<'a, C> {
     /// Binds an end for a controller of the device at the address `device`. The end is bound at the one local address
     /// from which the system reaches the device, and at the port `port`; at 0 the system chooses one. The local address
     /// comes from the system's routes: no datagram is sent. So all transmissions of a command leave from this address
-    /// or not at all, and the device takes them as those of one peer. Datagrams of other hosts are received too. The
-    /// call takes the memory for its receive buffer, 1,473 bytes.
+    /// or not at all, and the device takes them as those of one peer. Datagrams of other hosts are received too. `rt`
+    /// is the program's access to the system's network and clock. The call takes the memory for its receive buffer,
+    /// 1,473 bytes.
     ///
     /// Refusals, the first that applies, after which no socket is open: `Io` if the system has no route to the device.
     /// `NoMemory` if that memory was refused. `Io` if the system refused the socket, for example because the port is in
@@ -231,7 +233,8 @@ impl<'a, C: Clock> UdpEnd<'a, C> {
     /// Binds an end for a controller of the device at the address `device` as [`bind_towards`](UdpEnd::bind_towards)
     /// does, and returns the system's reason if it fails. The end is bound at the one local address from which the
     /// system reaches the device, and at the port `port`; at 0 the system chooses one. Datagrams of other hosts are
-    /// received too. No datagram is sent. The call takes the memory for its receive buffer, 1,473 bytes.
+    /// received too. No datagram is sent. `rt` is the program's access to the system's network and clock. The call
+    /// takes the memory for its receive buffer, 1,473 bytes.
     ///
     /// Refusals, the first that applies, after which no socket is open: `Io` with the reason if the system has no route
     /// to the device. `NoMemory` if that memory was refused. `Io` with the reason if the system refused the socket.
