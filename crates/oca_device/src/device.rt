@@ -71,9 +71,9 @@ const MOST_WRITTEN: usize = 86;
 /// [`set`](Device::set), [`set_label`](Device::set_label), [`set_enabled`](Device::set_enabled),
 /// [`unlock`](Device::unlock) and [`set_failing`](Device::set_failing).
 ///
-/// What a device is follows from its first tree and its events alone: datagrams, clock readings and changes at its
-/// local front panel. Moments are in milliseconds of the caller's clock. A moment that is earlier than the latest one
-/// so far is taken as the latest one: that is the *device's clock*.
+/// The objects and the sessions of a device follow from its first tree and its events alone: datagrams, clock readings
+/// and changes at its local front panel. Moments are in milliseconds of the caller's clock. A moment that is earlier
+/// than the latest one so far is taken as the latest one: that is the *device's clock*.
 #[derive(Drop)]
 pub struct Device {
     tree: Tree,
