@@ -176,10 +176,10 @@ impl Device {
     /// memory is taken.
     ///
     /// First the clock moves on to `now`. `Malformed` with the first fault, `NoRoom` or `Served` with counts, as in
-    /// `datagram`. After the first two no object and no session is changed further, and nothing is answered. All
-    /// commands are executed, whether their answers have room or not. A peer that repeats a command whose answer was
-    /// left out gets the retained reply, as after a loss. The answers never have more packets than the datagram has
-    /// commands and keep-alives, and never more than 122.
+    /// `datagram`. After the first two no object and no session is changed further, and nothing is answered. Each new
+    /// command is executed, whether its answer has room or not. A peer that repeats a command whose answer was left out
+    /// gets the retained reply, as after a loss. The answers never have more packets than the datagram has commands and
+    /// keep-alives, and never more than 122.
     pub fn datagram_within(
         &mut self,
         from: Peer,
