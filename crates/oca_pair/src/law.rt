@@ -133,12 +133,12 @@ pub fn law_once_in_time()
 ///
 /// OK: this needs two more premises. The device's objects were a tree at first, with texts and numbers of their types,
 /// which is always true in Rust. The answer is read by the object's class, or is to a method of OcaRoot or OcaWorker
-/// (AES70-2). If the status is OK, what is read is what the object with the command's number answered. The device then
-/// holds what the request made of this object, and the others as they were.
+/// (AES70-2). If the status is OK, what is read is what the object with the command's number answered. This object is
+/// then as the request makes it, and the other objects are as they were.
 ///
-/// Reads: what is read of an OK answer to a get method is what the object read, with its limits, at a moment between
-/// the submit and the answer. Sets: if a set method is answered OK, the execution set the object to the value, once.
-/// The object then reads as the value, with the limits that it had. A command without an answer was executed at most
+/// Reads: what is read of an OK answer to a get method is the object's value, with its limits, at a moment between the
+/// submit and the answer. Sets: if a set method is answered OK, the execution set the object to the value, once. The
+/// object's value is then this value, with the limits that it had. A command without an answer was executed at most
 /// once, by [`law_once_in_time`].
 ///
 /// Class: the class of the object with a number never changes in a schedule. So the answer to GetClassIdentification

@@ -59,10 +59,10 @@ pub fn law_of_calls()
 /// is late. Refused: a command that was refused with a status changed no object.
 ///
 /// Set: if the command to set is answered OK, the object was set to the value, if it is of the value's class. Reading:
-/// what was read is how the object read at a moment between the begin and the taking, if the object is of the class
-/// that was given. Answer: what is read of the answer to any method is what the object answered, and the object was
-/// left as the request makes it. That holds if the object is of the class that was given, or every class answers the
-/// method alike.
+/// what was read is the object's value with its limits at a moment between the begin and the taking, if the object is
+/// of the class that was given. Answer: what is read of the answer to any method is what the object answered, and the
+/// object was left as the request makes it. That holds if the object is of the class that was given, or every class
+/// answers the method alike.
 pub fn law_of_flights()
     ensures once { EveryAnsweredFlightKeeps IsOfOneExecutionSince }
     ensures in_time { EveryFlightIsInTime }

@@ -163,8 +163,8 @@ impl Sessions {
     /// is the peers whose silence is more than three of their heartbeats, in order of opening. Sessions with a silence
     /// of more than 120,000 ms are then forgotten; their peers are in the result too. The result has at most the first
     /// 16 peers: these are all if the table has room for at most 16 sessions. [`advance_into`](Sessions::advance_into)
-    /// returns all. A peer is returned again at each later call while it is silent. The call refuses nothing and takes
-    /// no memory.
+    /// returns all. Each later call returns the peer again, until the peer is heard or forgotten. The call refuses
+    /// nothing and takes no memory.
     pub fn advance(&mut self, now: u64) -> ArrayVec<Peer, 16>
         ensures lapsed { result.items ≡ take 16 (lapsed (present self.old now) self.old.sessions) }
         ensures all { self.old.sizes.peers ≤ 16 → result.items ≡ lapsed (present self.old now) self.old.sessions }
@@ -186,8 +186,8 @@ impl Sessions {
     /// `now` is in milliseconds of the caller's clock; an earlier moment than the present one counts as the present
     /// one. `peers` becomes the peers whose silence is more than three of their heartbeats, in order of opening; its
     /// old items are lost. Sessions with a silence of more than 120,000 ms are then forgotten; their peers are in
-    /// `peers` too. A peer is written again at each later call while it is silent. The call refuses nothing and takes
-    /// no memory.
+    /// `peers` too. Each later call writes the peer again, until the peer is heard or forgotten. The call refuses
+    /// nothing and takes no memory.
     pub fn advance_into(&mut self, now: u64, peers: &mut ArrayVec<Peer, MOST_PEERS>)
         ensures lapsed { peers.new.items ≡ lapsed (present self.old now) self.old.sessions }
         ensures staying { self.new ≡ with_moment_and_sessions self.old (present self.old now)
