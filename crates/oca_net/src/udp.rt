@@ -81,10 +81,10 @@ impl BindError {
 /// drops them, and no call reports it. If the system returns an error, the receive is `Failed` after the 50 ms, and
 /// counts as a failure.
 ///
-/// A send does not wait, and a send that a signal interrupts is begun again. It is `false`, and counts as a failure, if
-/// the system's buffer has no room, which datagrams to hosts that do not answer fill, or the network can't be reached.
-/// `bind` asks for a buffer of 4,000,000 bytes; `send_buffer` returns what the system granted. Only the calls that bind
-/// take memory.
+/// A send does not wait, and a send that a signal interrupts is begun again. A send returns `false`, and counts as a
+/// failure, if the network can't be reached, or the system's send buffer has no room: datagrams to hosts that do not
+/// answer fill this buffer. `bind` asks for a send buffer of 4,000,000 bytes; `send_buffer` returns what the system
+/// granted. Only the calls that bind take memory.
 ///
 /// ```
 /// let mut end = UdpEnd::bind(rt.alloc(), rt, LOOPBACK, port).map_err(|_| "socket failed")?;
