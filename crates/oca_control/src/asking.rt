@@ -24,7 +24,8 @@ use oca_types::{Handle, Request};
 /// - `Refused` with `HandlesSpent`, `SpanFull` or `TooLong`, in the cases of [`Link::submit`]. Nothing is changed or
 ///   sent.
 /// - `Unanswered` if no answer comes in `turns` turns; with 0 turns the command is sent and not waited for. The command
-///   stays in the link, is sent again, and can be waited for again.
+///   stays in the link, is sent again, and can be waited for again, under the handle that [`Link::next_handle`]
+///   returned before the call.
 ///
 /// After `Unanswered`, and after a `Lost` in the wait, the device may have carried out the command.
 pub fn ask<E: End>(link: &mut Link, end: &mut E, request: Request<'_>, turns: u32) -> Outcome
