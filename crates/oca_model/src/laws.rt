@@ -33,8 +33,8 @@ pub fn law_of_requests()
 /// Law: a controller reads by [`Answer::read`](crate::Answer::read) the same answer that a device encoded by
 /// [`Answer::put`](crate::Answer::put) (AES70-2). The law holds for each answer of the kind that the method has
 /// ([`shape_of`](crate::shape_of)). A reading must be of the object's class. The contract adds the premise that
-/// numbers, texts and lists are within their types and limits, since a contract has them of any size. The function
-/// states this law as its contract, and does nothing at run time.
+/// numbers, texts and lists are within their types and limits, since a contract has them of any size; in Rust that is
+/// always true. The function states this law as its contract, and does nothing at run time.
 pub fn law_of_answers()
     ensures { AnswersAreRead }
 {}
