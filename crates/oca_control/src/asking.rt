@@ -24,7 +24,8 @@ use oca_types::{Handle, Request};
 /// - `Refused` with `HandlesSpent`, `SpanFull` or `TooLong`, in the cases of [`Link::submit`]. Nothing is changed or
 ///   sent.
 /// - `Unanswered` if no answer comes in `turns` turns; with 0 turns the command is sent and not waited for. The command
-///   stays in the link, is sent again, and can be waited for again.
+///   stays in the link, is sent again, and can be waited for again, under the handle that [`Link::next_handle`]
+///   returned before the call.
 ///
 /// After `Unanswered`, and after a `Lost` in the wait, the device may have carried out the command.
 pub fn ask<E: End>(link: &mut Link, end: &mut E, request: Request<'_>, turns: u32) -> Outcome
@@ -71,14 +72,14 @@ pub fn begin<E: End>(
 }
 
 /// Waits for the answer under this handle, for at most `turns` turns ([`turn`]), and takes the answer. Each turn
-/// receives once, at a socket for at most 50 ms, also if the end is closed. With 0 turns the call only looks.
+/// receives once, at a socket for at most 50 ms. A closed end does not end the wait. With 0 turns the call only looks.
 ///
 /// Before each turn and after the last, the first that applies:
 /// - `Answered` if the answer is there: the command is then removed from the link.
 /// - `Lost` if the link is lost, or the last turn found it late.
 ///
-/// `Unanswered` if neither applies after `turns` turns, as for a handle that no command has. The command then stays in
-/// flight: the link still sends it, and a later wait may take its answer. `Refused` does not come.
+/// `Unanswered` if neither applies after `turns` turns, as for a handle that no command has. A command without an
+/// answer stays in flight: the link still sends it, and a later wait may take its answer. `Refused` does not come.
 pub fn wait_for<E: End>(link: &mut Link, end: &mut E, handle: Handle, turns: u32) -> Outcome
     ensures waits { Waits handle.0 turns link.old result link.new (E.state end.old) (E.state end.new) }
     ensures receives { (E.state end.new).receives < last_u64 →

@@ -13,12 +13,14 @@ use crate::report::DriveReport;
 use oca_net::{End, Heard};
 use oca_types::{Packet, Peer};
 
-/// Drives a link over an end for at most `turns` turns. Returns the numbers of turns, of commands and keep-alives sent,
-/// of commands answered, and of failed receives and sends, and whether the link is lost.
+/// Drives a link over an end for at most `turns` turns. Returns the numbers of turns, of commands and keep-alives that
+/// were given to the end to send, of commands answered, and of failed receives and sends, and whether the link is lost
+/// ([`DriveReport`](crate::DriveReport)).
 ///
 /// A turn receives once: at a socket for at most 50 ms. A datagram goes to the link. After a datagram, after an
-/// oversize datagram, and if none came, everything that is due is sent to the device. A send that fails is counted,
-/// and the loop goes on. After a failed receive nothing is sent in that turn.
+/// oversize datagram (more than 1,472 bytes), and if none came, everything that is due is sent to the device. A send
+/// that fails is counted as sent and as failed, and the loop goes on: its command is due again after 250 ms. After a
+/// failed receive nothing is sent in that turn, and the loop goes on.
 ///
 /// The loop ends after `turns` turns, or after a turn in which [`due`](Link::due) returns `Lost`, since a command got
 /// no answer to 20 transmissions: then `lost` is `true`. It also ends if the end is closed, which does not count as a
@@ -50,13 +52,15 @@ pub fn drive<E: End>(link: &mut Link, end: &mut E, turns: u32) -> DriveReport
     report
 }
 
-/// Sends the device everything that is due at the moment `now`, in milliseconds of the link's clock, and returns how
-/// often each thing was done. `turns` is 0 in the report. A moment earlier than the latest one so far is taken as that
-/// latest one. Nothing is received. A send that fails is counted: its command is due again after 250 ms.
+/// Sends the device everything that is due at the moment `now`, in milliseconds of the link's clock. A moment earlier
+/// than the latest one so far is taken as that latest one. Nothing is received. Returns the numbers of commands
+/// (`sent`) and keep-alives (`keep_alives`) that were given to the end to send, how many of these sends failed
+/// (`failed_sends`), and whether the link is lost. `turns` is 0 in the report. After a send that fails the next is
+/// made; its command is due again after 250 ms.
 ///
 /// Afterwards nothing is left to send at that moment, or the link is lost and `lost` is `true` (`law_of_sending`). A
-/// lost link sends nothing. The call does not check whether the link is late: [`send_in_time`](crate::send_in_time)
-/// does.
+/// link that was lost before sends nothing. The call does not check whether the link is late:
+/// [`send_in_time`](crate::send_in_time) does.
 pub fn send_due<E: End>(link: &mut Link, end: &mut E, now: u64) -> DriveReport
     ensures gives { SendsDue now (link.old.span + 1) link.old link.new (E.state end.old) (E.state end.new) result }
     ensures lost { result.lost ≡ link.new.lost }

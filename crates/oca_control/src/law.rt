@@ -51,9 +51,9 @@ pub fn law_of_answering()
     ensures { EveryAnswerIsKept }
 {}
 
-/// Law: a link that is asked often enough sends each command again until it has its answer or is lost. A command is due
-/// while it is unanswered, and was never sent, or was last sent 250 ms ago or earlier. If k commands are due at a
-/// moment, each of them is sent within k calls of `due` at that moment, or the link is lost.
+/// Law: a link whose [`due`](crate::Link::due) is called often enough sends each command again until it has its answer
+/// or is lost. A command is due while it is unanswered, and was never sent, or was last sent 250 ms ago or earlier. If
+/// k commands are due at a moment, each of them is sent within k calls of `due` at that moment, or the link is lost.
 ///
 /// Take a link whose `due` is called at least every `ms` milliseconds from the submit of a command on, each time until
 /// it does not return `Send`. It sends the command within `ms` of its submit, and again less than `250 + ms` after each

@@ -268,9 +268,10 @@ impl Link {
     }
 
     /// Whether a command with this handle was submitted and has no answer yet. `false` for a command whose answer came
-    /// and was not taken, though that command keeps its place in the span. `false` too for a command whose answer was
-    /// taken, and for a handle that no command has. In a lost link the commands without an answer stay `true`. So a
-    /// wait can end at once if the result is `false` and [`take`](Link::take) returns `None`. Nothing is changed.
+    /// and was not taken: that command is still *in flight* in the sense of [`Link`], and keeps its place in the span.
+    /// `false` too for a command whose answer was taken, and for a handle that no command has. In a lost link the
+    /// commands without an answer stay `true`. So a wait can end at once if the result is `false` and
+    /// [`take`](Link::take) returns `None`. Nothing is changed.
     pub fn is_in_flight(&self, handle: Handle) -> bool
         ensures { result ≡ list_any (waits handle.0) self.now.untaken }
     {

@@ -32,7 +32,8 @@ pub const LONGEST_LIFE_MS: u64 = 15_000;
 /// A command is sent at most so often.
 const MOST_SENDINGS: u8 = 20;
 
-/// A place for one command and its answer. It is written in place: nothing of its size is moved.
+/// A slot of a link's table: it has one command and its answer, or is empty. A slot is never copied: its calls write
+/// into it.
 #[derive(Drop)]
 pub struct Slot {
     held: bool,
@@ -109,8 +110,9 @@ impl Slot {
             && (self.times == 0 || now.saturating_sub(self.last) >= REPEAT_MS)
     }
 
-    /// Whether the slot holds a command that is late at the moment `now`, in milliseconds of the link's clock: it is
-    /// unanswered, and was submitted more than 15,000 ms before.
+    /// Whether the slot has a command that is late at the moment `now` (*profile*), in milliseconds of the link's
+    /// clock: the command is unanswered, and was submitted more than 15,000 ms before. `false` for an empty slot.
+    /// Nothing is changed.
     pub fn is_late(&self, now: u64) -> bool
         ensures { result ≡ held_is_late now self.now }
     {
@@ -173,9 +175,9 @@ impl Slot {
         let _ = self.params.try_extend_from_slice(request.params);
     }
 
-    /// Puts the command into the packet under the handle `handle`, and counts a transmission at the moment `now`, in
-    /// milliseconds of the link's clock. The slot must hold a command that was sent fewer than 20 times, and the packet
-    /// must be empty (premises).
+    /// Writes a PDU with the slot's command under the handle `handle` into the packet (AES70-3), and counts a
+    /// transmission at the moment `now`, in milliseconds of the link's clock. The call sends nothing. Premises, which
+    /// the caller must prove: the slot has a command that was sent fewer than 20 times, and the packet is empty.
     pub fn send_due(&mut self, handle: Handle, now: u64, packet: &mut Packet)
         requires few { IsSomeAnd self.old (λ k. k.times < most_sendings) }
         requires empty { packet.old.items ≡ [] }

@@ -21,9 +21,9 @@ use crate::slot::Slot;
 use oca_types::{Handle, Packet, Request, sooner};
 use std::marker::Model;
 
-/// The commands in flight of a link. They have handles from `low` on and below `next`, at most 32 of them, and the
-/// command of a handle lies in the slot of this handle modulo 32: it is found by its place. `next` is 4294967296 where
-/// no handle is left.
+/// The commands in flight of a link, at most 32. Their handles are from `low` on and below `next`, which is the handle
+/// of the next command. The command under a handle is in the slot whose index is the handle modulo 32. `next` is
+/// 4294967296 if no handle is left.
 #[derive(Drop)]
 pub struct Table {
     low: u64,
@@ -110,8 +110,9 @@ impl Table {
         Some(Due::Send(handle))
     }
 
-    /// Whether a command is late at the moment `now`, in milliseconds of the link's clock: it is unanswered, and was
-    /// submitted more than 15,000 ms before.
+    /// Whether a command of the table is late at the moment `now` (*profile*), in milliseconds of the link's clock: the
+    /// command is unanswered, and was submitted more than 15,000 ms before. `false` for a table without commands.
+    /// Nothing is changed.
     pub fn is_late(&self, now: u64) -> bool
         ensures { result ≡ list_any (is_late now) self.now.untaken }
     {

@@ -30,12 +30,13 @@ pub fn is_late(link: &Link, now: u64) -> bool
 }
 
 /// Sends everything that is due at the moment `now` as [`send_due`] does, if the link is not late at that moment
-/// ([`is_late`]). Returns how often each thing was done; `turns` is 0 in it. `now` is in milliseconds of the link's
-/// clock.
+/// ([`is_late`]). `now` is in milliseconds of the link's clock. Returns the numbers of commands (`sent`) and
+/// keep-alives (`keep_alives`) that were given to the end to send, and how many of these sends failed (`failed_sends`).
+/// `turns` is 0 in the report.
 ///
 /// If the link is late, nothing is changed or sent, and `lost` is `true` in the report. `lost` is also `true` if the
-/// link is lost or becomes lost. If `lost` is `false`, nothing is left to send at that moment. A send that fails is
-/// counted.
+/// link is lost or becomes lost. If `lost` is `false`, nothing is left to send at that moment. After a send that fails
+/// the next is made; its command is due again after 250 ms.
 pub fn send_in_time<E: End>(link: &mut Link, end: &mut E, now: u64) -> DriveReport
     ensures gives { SendsInTime now link.old link.new (E.state end.old) (E.state end.new) result }
     ensures left { result.lost ≡ false → NothingIsLeft link.new }
@@ -46,13 +47,14 @@ pub fn send_in_time<E: End>(link: &mut Link, end: &mut E, now: u64) -> DriveRepo
     send_due(link, end, now)
 }
 
-/// Takes one turn of a link over an end: receives once, and sends what is due in time. Returns how often each thing was
-/// done.
+/// Takes one turn of a link over an end: receives once, and sends what is due in time. Returns the numbers of turns
+/// (1), of commands and keep-alives that were given to the end to send, of commands answered, and of failed receives
+/// and sends, and whether the link is lost or late ([`DriveReport`](crate::DriveReport)).
 ///
-/// An end that keeps time receives until something is due ([`Link::next_due`]), and for at most 50 ms. A datagram goes
-/// to the link, even if the link is late. After a datagram, after an oversize datagram, and if none came,
-/// [`send_in_time`] follows: `lost` is `true` if it finds the link lost or late. Otherwise nothing is left to send at
-/// the link's moment.
+/// An end that keeps time ([`End`]) receives until something is due ([`Link::next_due`]), and for at most 50 ms. A
+/// datagram goes to the link, even if the link is late. After a datagram, after an oversize datagram (more than 1,472
+/// bytes), and if none came, [`send_in_time`] follows: `lost` is `true` if it finds the link lost or late. Otherwise
+/// nothing is left to send at the link's moment. A send that fails is counted as sent and as failed.
 ///
 /// After a failed receive nothing is sent, `failed_receives` is 1, and `lost` is `false`. If the end is closed, the
 /// link is unchanged and `turns` is 0.

@@ -15,8 +15,9 @@ use std::alloc::Global;
 use std::fmt;
 use std::marker::Model;
 
-/// The first packets that answer a datagram, in order, for the peer that sent it: at most a number that its maker
-/// chooses. Packets above that number are left out. For the peer they are as if the network had lost them.
+/// The first packets that answer a datagram, in order, for the peer that sent it: at most as many as
+/// [`with_room`](BoundedOutbox::with_room) was given. Packets above that number are left out. For the peer they are as
+/// if the network had lost them.
 #[derive(Drop)]
 pub struct BoundedOutbox {
     count: usize,
@@ -46,7 +47,7 @@ impl BoundedOutbox {
 
     /// Makes an empty outbox with room for `room` packets, of at most 1,472 bytes each. With a room of 0 every answer
     /// is left out. No datagram has more than 122 packets of answers. The call takes all the memory that the outbox
-    /// will need, some 1,480 bytes a packet. Refusal: `NoMemory` if that memory is refused; then none is kept.
+    /// will need, some 1,480 bytes a packet. Refusal: `NoMemory` if that memory is refused; then no memory is kept.
     pub fn with_room(alloc: Global, room: usize) -> Result<BoundedOutbox, NoMemory>
         ensures { IfOk result (λ outbox. outbox ≡ first_packets room []) }
     {

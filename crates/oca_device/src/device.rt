@@ -63,13 +63,17 @@ const MOST_WRITTEN: usize = 86;
 /// ```
 ///
 /// A *peer* is an address and a port. The device opens a *session* at the first well-formed datagram of a peer, if
-/// there is room. A session has the moment at which the peer was last heard, its heartbeat, and the replies to its last
-/// commands: as many as the *reply window* is large (*profile*). A *duplicate* is a command whose reply is among those,
-/// and an *old* command is one before them.
+/// there is room. A session has the moment at which the peer was last heard, its *heartbeat*, which is the interval at
+/// which the peer says that it sends (AES70-3), and its *reply window* (*profile*). The reply window *retains* the last
+/// commands of the peer with their replies, as many as its size says. A *duplicate* is a command that asks the same as
+/// a retained command under the same handle. An *old* command is not retained, and its handle is not above that of a
+/// command that was retained before. The *local front panel* is the device's own: its changes are the calls
+/// [`set`](Device::set), [`set_label`](Device::set_label), [`set_enabled`](Device::set_enabled),
+/// [`unlock`](Device::unlock) and [`set_failing`](Device::set_failing).
 ///
-/// What a device is follows from its first tree and its events alone: datagrams, clock readings and changes at its
-/// local front panel. Moments are in milliseconds of the caller's clock. A moment that is earlier than the latest one
-/// so far is taken as the latest one: that is the *device's clock*.
+/// The objects and the sessions of a device follow from its first tree and its events alone: datagrams, clock readings
+/// and changes at its local front panel. Moments are in milliseconds of the caller's clock. A moment that is earlier
+/// than the latest one so far is taken as the latest one: that is the *device's clock*.
 #[derive(Drop)]
 pub struct Device {
     tree: Tree,
@@ -149,12 +153,12 @@ impl Device {
     /// - `Malformed` with the first fault if the bytes are no well-formed datagram (AES70-3).
     /// - `NoRoom` if the sender has no session, and there is no room for another session (*profile*).
     /// - `Served` with the numbers of commands that were served in each way. The messages are served in order. A new
-    ///   command is executed, and a duplicate gets its retained reply. A command that is old, or that asks something
-    ///   else under the handle of a retained command, is ignored. A keep-alive sets the heartbeat and is returned
-    ///   (AES70-3).
+    ///   command is executed, and a duplicate gets its retained reply; a command that asks for no response gets none
+    ///   (AES70-3). A command that is old, or that asks something else under the handle of a retained command, is
+    ///   ignored. A keep-alive sets the heartbeat and is returned (AES70-3). A response is ignored.
     ///
-    /// After `Malformed` and `NoRoom` no object and no session is changed, nothing is answered, and [`Device::written`]
-    /// is empty. Neighbouring responses share a PDU of at most 1,472 bytes (*profile*).
+    /// After `Malformed` and `NoRoom` no object and no session is changed further, nothing is answered, and
+    /// [`Device::written`] is empty. Neighbouring responses share a PDU of at most 1,472 bytes (*profile*).
     pub fn datagram(&mut self, from: Peer, bytes: &[u8], now: u64, outbox: &mut Outbox) -> Verdict
         ensures represents { (w : DeviceSizes) (T : List Object) (E : List Event) → Represents w self.old T E →
             Represents w self.new T (DatagramEvent from bytes.now now ∷ E) }
@@ -171,10 +175,11 @@ impl Device {
     /// the answers, as many as it has room for. [`is_cut`](BoundedOutbox::is_cut) says whether others were left out. No
     /// memory is taken.
     ///
-    /// `Malformed` with the first fault, `NoRoom` or `Served` with counts, as in `datagram`. After the first two no
-    /// object and no session is changed, and nothing is answered. All commands are executed, whether their answers have
-    /// room or not. A peer that repeats a command whose answer was left out gets the retained reply, as after a loss.
-    /// The answers never have more packets than the datagram has commands and keep-alives, and never more than 122.
+    /// First the clock moves on to `now`. `Malformed` with the first fault, `NoRoom` or `Served` with counts, as in
+    /// `datagram`. After the first two no object and no session is changed further, and nothing is answered. Each new
+    /// command is executed, whether its answer has room or not. A peer that repeats a command whose answer was left out
+    /// gets the retained reply, as after a loss. The answers never have more packets than the datagram has commands and
+    /// keep-alives, and never more than 122.
     pub fn datagram_within(
         &mut self,
         from: Peer,
@@ -204,7 +209,7 @@ impl Device {
     /// one so far is taken as that latest one. [`Device::written`] stays as it is, nothing is answered, and no memory
     /// is taken.
     ///
-    /// The lock of a peer is released if the device heard nothing from the peer for more than three of its heartbeats
+    /// All locks of a peer are released if the device heard nothing from the peer for more than three of its heartbeats
     /// (AES70-3 has the heartbeat). A session is forgotten if its peer was silent for more than 120,000 ms (*profile*).
     pub fn tick(&mut self, now: u64)
         ensures { (w : DeviceSizes) (T : List Object) (E : List Event) → Represents w self.old T E →
@@ -267,7 +272,8 @@ impl Device {
     }
 
     /// Releases the lock of the object `ono` at the local front panel, whichever peer has it, as Unlock of OcaRoot does
-    /// for the peer that has it (AES70-2). That peer gets no message, and keeps its session. The clock stays.
+    /// for the peer that has it (AES70-2). That peer gets no message, and keeps its session and its other locks. The
+    /// clock stays as it is.
     ///
     /// Refusals, the first that applies, which change nothing: `NoObject` if no object has the number `ono`.
     /// `NotLocked` if the object is not locked.
@@ -282,10 +288,10 @@ impl Device {
         self.tree.unlock(ono)
     }
 
-    /// Sets, at the local front panel, whether the hardware of an object refuses changes (`failing`). At first it does
-    /// not. While it does, a command that writes to the object changes nothing and is answered ProcessingFailed
-    /// (AES70-2, OcaStatus), or with the status of another fault that the command has. When this status is sent is the
-    /// profile's choice.
+    /// Sets, at the local front panel, whether the hardware of the object `ono` refuses changes (`failing`). At first
+    /// no hardware refuses changes. While the hardware refuses, a command that writes to the object changes nothing and
+    /// is answered ProcessingFailed (AES70-2, OcaStatus), or with the status of another fault that the command has.
+    /// When this status is sent is the profile's choice.
     ///
     /// A duplicate gets its retained reply. Commands that read or lock work as before, and so do the calls of the local
     /// front panel. The setting is not saved to a store. The clock and the sessions stay as they are. Refusal:
@@ -301,8 +307,8 @@ impl Device {
         self.tree.set_failing(ono, failing)
     }
 
-    /// Whether the hardware of an object refuses changes, as [`Device::set_failing`] last set it. `false` before the
-    /// first such call. `None` if no object has the number `ono`. Nothing is changed.
+    /// Whether the hardware of the object `ono` refuses changes, as [`Device::set_failing`] last set it. `Some(false)`
+    /// before the first such call. `None` if no object has the number `ono`. Nothing is changed.
     pub fn is_failing(&self, ono: Ono) -> Option<bool>
         ensures failing { result ≡ failing_at self.now.tree ono.0 }
         ensures represented { (w : DeviceSizes) (T : List Object) (E : List Event) → Represents w self.now T E →

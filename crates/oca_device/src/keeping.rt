@@ -38,8 +38,8 @@ struct Answer {
     packet: Packet,
 }
 
-/// What [`serve_keeping`] needs between its turns: room for 366 packets of answers that wait until the objects are
-/// stored, and whether something written is not stored.
+/// What [`serve_keeping`] needs between its calls: memory for 366 packets of answers that wait until the objects are
+/// stored, and whether the last store failed ([`is_behind`](Keeping::is_behind)).
 #[derive(Drop)]
 pub struct Keeping {
     is_behind: bool,
@@ -60,9 +60,10 @@ impl Model for Keeping {
 impl Keeping {
     ghost use Rattle.std.specs.Prelude.{false};
 
-    /// Makes the state of a device that starts: no answer waits, and the objects are taken as stored. The caller must
-    /// make sure that the store has the device's objects. The call takes the memory for 366 packets, some 1,480 bytes
-    /// each. Refusal: `NoMemory` if that memory is refused; then none is kept.
+    /// Makes the state of a device that starts: no answer waits, and [`is_behind`](Keeping::is_behind) is `false`. The
+    /// caller must make sure that the store has the device's objects: the call does not check that. The call takes the
+    /// memory for 366 packets, some 1,480 bytes each. Refusal: `NoMemory` if that memory is refused; then no memory is
+    /// kept.
     pub fn new(alloc: Global) -> Result<Keeping, NoMemory>
         ensures { IfOk result (λ keeping. (keeping.is_behind ≡ false) × (keeping.held ≡ [])) }
     {
@@ -83,8 +84,10 @@ impl Keeping {
         self.places.clear();
     }
 
-    /// Whether a datagram wrote something that is not stored. `false` at first. `true` after a store that failed, until
-    /// a store succeeds. What is set at the local front panel does not matter. Nothing is changed.
+    /// Whether the last store failed, so that something that a datagram wrote is not stored. `true` from a store that
+    /// failed until a store succeeds, and `false` otherwise, also before the first store. A store is a call of
+    /// [`Store::store`](crate::Store::store) by [`serve_keeping`], which stores after datagrams that wrote to an
+    /// object. Changes at the local front panel do not matter here. Nothing is changed.
     pub fn is_behind(&self) -> bool
         ensures { result ≡ self.now.is_behind }
     {
@@ -166,20 +169,21 @@ impl fmt::Debug for Keeping {
     }
 }
 
-/// Serves an end for at most `turns` turns as [`serve_with`](crate::serve_with) does, and keeps the objects in `store`.
-/// `electronics` follow the objects of each datagram. Returns how often each thing was done; a number stays at 2^64 - 1
-/// if it would pass that. The loop ends early if the end is closed. `outbox` is memory for the answers to one datagram,
-/// and is empty at the end. No answer waits in `keeping` at the end.
+/// Serves an end for at most `turns` turns as [`serve_with`](crate::serve_with) does, and stores the objects in
+/// `store`. `electronics` follow the objects after each datagram, before they are stored. Returns how many turns were
+/// taken, how many commands and datagrams were handled in each way, and how many receives and sends failed
+/// ([`Report`]). A number stays at 2^64 - 1 if it would pass that. The loop ends early if the end is closed. `outbox`
+/// is memory for the answers to one datagram, and is empty at the end. No answer waits in `keeping` at the end.
 ///
-/// The answers to a datagram that wrote to an object wait until the store says that it has the objects. Meanwhile
-/// further datagrams that have come already are served, in at most 64 turns. Then the objects are stored once, and the
-/// answers are sent. All other answers are sent at once, even if they report what is not stored yet.
+/// The answers to a datagram that wrote to an object wait. Meanwhile further datagrams that have come already are
+/// served, in at most 64 turns together, and while at most 244 packets wait. Then the objects are stored once. If the
+/// store returns `true`, the answers are sent. All other answers are sent at once, even if they report what is not
+/// stored yet.
 ///
-/// If the store fails, the answers that wait are dropped, as if the network had lost them. The objects stay as they are
-/// and the replies stay retained, so a peer that repeats its command gets its reply. While something written is not
-/// stored, the answers to a datagram with a duplicate wait too, and the objects are stored again. The electronics
-/// follow each datagram before it is stored. What was set at the local front panel is stored with the next datagram
-/// that writes.
+/// If the store returns `false`, the answers that wait are dropped, as if the network had lost them, and the loop goes
+/// on. The objects stay as they are and the replies stay retained, so a peer that repeats its command gets its reply.
+/// While [`is_behind`](Keeping::is_behind) is `true`, the answers to a datagram with a duplicate wait too, and the
+/// objects are stored again. What was set at the local front panel is stored with the next datagram that writes.
 pub fn serve_keeping<E: End, S: Store, L: Electronics>(
     device: &mut Device,
     end: &mut E,

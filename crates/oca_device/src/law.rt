@@ -4,9 +4,9 @@ ghost use Rattle.oca_device.specs.LawByEvents.{EveryDeviceStandsByEvents, Someth
 
 use oca_pdu::{law_one_list_of_messages, law_reading};
 
-/// Law: the datagrams, clock readings and local changes that a device has taken determine what it is and what it
-/// answers. With the clauses of [`Device`](crate::Device) this is a promise of every run of a device. The function does
-/// nothing at run time.
+/// Law: the datagrams, clock readings and local changes that a device was given determine its objects and sessions, and
+/// what it answers. The contracts of the calls of [`Device`](crate::Device) say that each device is in the state that
+/// its events determine, so the law holds for every run of a device. The function does nothing at run time.
 ///
 /// A well-formed datagram is admitted if its peer was last heard at most 120,000 ms ago, or if there is room for
 /// another session. The objects are those after executing each accepted command once, in order of arrival, with the

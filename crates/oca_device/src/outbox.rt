@@ -35,7 +35,8 @@ impl Outbox {
     ghost use Rattle.oca_device.specs.Outboxes.{bytes_of_packets};
 
     /// Makes an empty outbox with room for 122 packets, the most that answer one datagram. The call takes all the
-    /// memory that the outbox will need, some 180 kB. Refusal: `NoMemory` if that memory is refused; then none is kept.
+    /// memory that the outbox will need, some 180 kB. Refusal: `NoMemory` if that memory is refused; then no memory is
+    /// kept.
     pub fn new(alloc: Global) -> Result<Outbox, NoMemory>
         ensures { IfOk result (λ outbox. outbox ≡ []) }
     {

@@ -16,11 +16,14 @@ use crate::verdict::Verdict;
 use oca_net::{End, Heard};
 use oca_types::{Packet, Peer};
 
-/// Serves an end for at most `turns` turns, and returns how often each thing was done.
+/// Serves an end for at most `turns` turns. Returns the number of turns, the numbers of commands that were executed,
+/// were duplicates, were old, or reused a handle, the numbers of datagrams that were malformed, found no room for a
+/// session, or were oversize, and the numbers of quiet receives, failed receives and failed sends ([`Report`]).
 ///
 /// A turn receives once, at a socket for at most 50 ms. A datagram goes to [`Device::datagram`], and its answers are
-/// sent to its sender, in order. A send that fails is counted, and the next packet is sent. If no datagram came, or one
-/// of more than 1,472 bytes, the device's clock moves on. A receive that fails is counted and does nothing else.
+/// sent to its sender, in order. A send that fails is counted, and the next packet is sent. If no datagram came
+/// (quiet), or one of more than 1,472 bytes (oversize), the device's clock moves on. A receive that fails is counted
+/// and does nothing else.
 ///
 /// The loop ends after `turns` turns; with 0 turns nothing is received. It ends earlier if the end is closed, which
 /// does not count as a turn. `outbox` is memory for the answers: it is emptied at the start and after each turn. No
@@ -37,16 +40,18 @@ pub fn serve<E: End>(device: &mut Device, end: &mut E, outbox: &mut Outbox, turn
     serve_with(device, end, outbox, &mut none, turns)
 }
 
-/// Serves an end for at most `turns` turns as [`serve`] does, and lets `electronics` follow the objects. Returns how
-/// often each thing was done. A turn receives once, at a socket for at most 50 ms. A datagram goes to the device, and
-/// its answers are sent. `outbox` is memory for the answers, and is empty at the end.
+/// Serves an end for at most `turns` turns as [`serve`] does, and lets `electronics` follow the objects. Returns the
+/// numbers that `serve` returns: of turns, of commands and datagrams that were handled in each way, and of failed
+/// receives and sends ([`Report`]). A turn receives once, at a socket for at most 50 ms. A datagram goes to the device,
+/// and its answers are sent. `outbox` is memory for the answers, and is empty at the end.
 ///
 /// After the answers to a datagram were sent, the electronics get the objects and the numbers of those that the
-/// datagram wrote to, which may be none ([`Electronics::follow`]). They are not called if no datagram came.
+/// datagram wrote to, which may be none ([`Electronics::follow`]). They get them also if a send failed. They are not
+/// called if no datagram came.
 ///
 /// All sends come first, so failed sends delay the electronics, each for as long as the end takes. At a `UdpEnd` that
 /// is up to a millisecond a packet, and there are at most 122 packets. The loop ends early if the end is closed, which
-/// does not count as a turn. Failed receives and sends are counted.
+/// does not count as a turn.
 pub fn serve_with<E: End, L: Electronics>(
     device: &mut Device,
     end: &mut E,

@@ -25,7 +25,8 @@ pub type Members = ArrayVec<Member, 181>;
 /// The members of a block, their members, and so on: from 0 to 120 objects. A response has no room for more.
 pub type Descendants = ArrayVec<Descendant, 120>;
 
-/// The answer to a request that a device carried out: the parameters of the response, by kind (AES70-2).
+/// The answer to a request that a device carried out (AES70-2): the parameters of the response, with one variant for
+/// each kind of answer.
 #[derive(Debug, Drop)]
 pub enum Answer {
     /// No parameters: the answer of each method that sets, locks or unlocks.

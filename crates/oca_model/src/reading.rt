@@ -21,8 +21,9 @@ pub struct Ranged<N> {
     pub greatest: N,
 }
 
-/// The setting of an object as a device answers it, with its limits: one variant for each class (AES70-2). OcaBlock has
-/// no setting.
+/// The value of an object as a device answers it, with its limits (AES70-2): one variant for each class whose objects
+/// have a value. OcaBlock has none. The value is also called the *setting*. The *limits* are the least and the greatest
+/// setting that the object can have: a switch and an integer have limits. A mute, a polarity and a Boolean have none.
 #[derive(Clone, Copy, Debug, PartialEq, Eq)]
 pub enum Reading {
     /// The state of an OcaMute.

@@ -21,7 +21,8 @@ pub type Names = ArrayVec<Text, 16>;
 /// For each position of a switch, in order, whether the position is enabled: from 0 to 16 flags.
 pub type Flags = ArrayVec<bool, 16>;
 
-/// What a command asks of an object (AES70-2): a method of its class, by what the method does, with its parameters.
+/// What a command asks of an object (AES70-2): a method with its parameters. `Get` and `Set` are the get and the set
+/// method of the object's class. Each other variant has the name of its method.
 #[derive(Debug, Drop)]
 pub enum Request {
     /// Asks for the class identifier and the class version.

@@ -7,7 +7,8 @@ use std::os::fd::{AsRawFd, IntoRawFd};
 const LAST: i32 = 2;
 
 /// Opens the null device, for reading, at each of the descriptors 0 to 2 that is closed. So no socket and no file that
-/// is opened later gets one of these numbers. Call it before anything else is opened. It takes no memory.
+/// is opened later gets one of these numbers. Call it before anything else is opened. `rt` is the program's access to
+/// the system's files. The call takes no memory.
 ///
 /// A standard input that was closed is then at its end, and a write to a standard output that was closed fails as
 /// before. Returns Ok if the three are then open. Err with the system's reason if the null device can't be opened;

@@ -13,8 +13,9 @@ const WAIT_MS: u64 = 200;
 /// known.
 ///
 /// The call binds a socket of its own at the address `ip` and a port of the system's choice, and closes it at the end.
-/// `ip` is an IPv4 address as a number, the first byte highest; 0 means all addresses of the machine. It sends the peer
-/// one empty datagram, which a device of this profile ignores as malformed, and waits for at most 200 ms.
+/// `rt` is the program's access to the system's network. `ip` is an IPv4 address as a number, the first byte highest; 0
+/// means all addresses of the machine. The call sends the peer one empty datagram, which a device of this profile
+/// ignores as malformed, and waits for at most 200 ms.
 pub fn is_refused<R: Net>(rt: &R, ip: u32, peer: Peer) -> bool {
     match ask(rt, Peer { ip, port: 0 }, peer) {
         Ok(_) => false,
@@ -27,8 +28,9 @@ pub fn is_refused<R: Net>(rt: &R, ip: u32, peer: Peer) -> bool {
 /// at this address then fails.
 ///
 /// `false` if a socket can be bound, also at an address whose interface is down: the system may then send by another
-/// interface. `false` too if the system refuses the socket for another reason: then nothing is known. The call binds a
-/// socket at a port of the system's choice, closes it, and sends nothing.
+/// interface. `false` too if the system refuses the socket for another reason: then nothing is known. `rt` is the
+/// program's access to the system's network. The call binds a socket at a port of the system's choice, closes it, and
+/// sends nothing.
 pub fn is_gone<R: Net>(rt: &R, ip: u32) -> bool {
     let bound = UdpSocket::bind(rt, SocketAddrV4::from(Peer { ip, port: 0 }));
     lacks_address(reason_of(&bound))

@@ -81,10 +81,10 @@ impl BindError {
 /// drops them, and no call reports it. If the system returns an error, the receive is `Failed` after the 50 ms, and
 /// counts as a failure.
 ///
-/// A send does not wait, and a send that a signal interrupts is begun again. It is `false`, and counts as a failure, if
-/// the system's buffer has no room, which datagrams to hosts that do not answer fill, or the network can't be reached.
-/// `bind` asks for a buffer of 4,000,000 bytes; `send_buffer` returns what the system granted. Only the calls that bind
-/// take memory.
+/// A send does not wait, and a send that a signal interrupts is begun again. A send returns `false`, and counts as a
+/// failure, if the network can't be reached, or the system's send buffer has no room: datagrams to hosts that do not
+/// answer fill this buffer. `bind` asks for a send buffer of 4,000,000 bytes; `send_buffer` returns what the system
+/// granted. Only the calls that bind take memory.
 ///
 /// ```
 /// let mut end = UdpEnd::bind(rt.alloc(), rt, LOOPBACK, port).map_err(|_| "socket failed")?;
@@ -143,18 +143,19 @@ impl<'a, C: Clock> fmt::Debug for UdpEnd<'a, C> {
 }
 
 impl<'a, C: Clock> UdpEnd<'a, C> {
-    /// Binds an end at the address `ip` and the port `port`. `ip` is an IPv4 address as a number, the first byte
-    /// highest. At port 0 the system chooses a port ([`local`](UdpEnd::local) returns it). The end's clock is at 0. The
-    /// call takes the memory for its receive buffer, 1,473 bytes, and sends nothing.
+    /// Binds an end at the address `ip` and the port `port`. `rt` is the program's access to the system's network and
+    /// clock. `ip` is an IPv4 address as a number, the first byte highest. At port 0 the system chooses a port
+    /// ([`local`](UdpEnd::local) returns it). The end's clock is at 0. The call takes the memory for its receive
+    /// buffer, 1,473 bytes, and sends nothing.
     ///
     /// Refusals, the first that applies, after which no socket is open: `NoMemory` if that memory was refused. `Io` if
     /// the system refused the socket, for example because the port is in use.
     ///
-    /// Bind a device at the address at which it is asked, and a controller by [`bind_towards`](UdpEnd::bind_towards).
-    /// Address 0 means all addresses of the machine: the system then chooses for each datagram from which address it
-    /// leaves. A device's answers may then leave from another address than was asked, and its controllers drop them. A
-    /// controller's transmissions of one command may leave from two addresses: the device then takes them for two
-    /// peers, and executes the command for each.
+    /// Bind a device at the address to which its controllers send, and a controller by
+    /// [`bind_towards`](UdpEnd::bind_towards). Address 0 means all addresses of the machine: the system then chooses
+    /// for each datagram from which address it leaves. A device's answers may then leave from another address than the
+    /// commands came to, and its controllers drop them. A controller's transmissions of one command may leave from two
+    /// addresses: the device then takes them for two peers, and executes the command for each.
     pub fn bind(alloc: Global, rt: &'a C, ip: u32, port: u16) -> Result<UdpEnd<'a, C>, BindFault>
     where
         C: Net,
@@ -168,11 +169,12 @@ impl<'a, C: Clock> UdpEnd<'a, C> {
     }
 
     /// Binds an end at the address `ip` and the port `port` as [`bind`](UdpEnd::bind) does, and returns the system's
-    /// reason if it fails. `ip` is an IPv4 address as a number, the first byte highest; at port 0 the system chooses a
-    /// port. The call takes the memory for its receive buffer, 1,473 bytes.
+    /// reason if it fails. `rt` is the program's access to the system's network and clock. `ip` is an IPv4 address as a
+    /// number, the first byte highest; 0 means all addresses of the machine. At port 0 the system chooses a port. The
+    /// end's clock is at 0. The call takes the memory for its receive buffer, 1,473 bytes, and sends nothing.
     ///
     /// Refusals, the first that applies, after which no socket is open: `NoMemory` if that memory was refused. `Io`
-    /// with the system's reason if the system refused the socket.
+    /// with the system's reason if the system refused the socket, for example because the port is in use.
     pub fn bind_with_reason(
         alloc: Global,
         rt: &'a C,
@@ -201,11 +203,12 @@ impl<'a, C: Clock> UdpEnd<'a, C> {
         })
     }
 
-    /// Binds an end for a controller of the device at the address `device`, at the one address from which the system
-    /// reaches that device. The end is bound at the port `port`; at 0 the system chooses one. The address comes from
-    /// the system's routes: no datagram is sent. So all transmissions of a command leave from this address or not at
-    /// all, and the device takes them as those of one peer. The call takes the memory for its receive buffer, 1,473
-    /// bytes.
+    /// Binds an end for a controller of the device at the address `device`. The end is bound at the one local address
+    /// from which the system reaches the device, and at the port `port`; at 0 the system chooses one. The local address
+    /// comes from the system's routes: no datagram is sent. So all transmissions of a command leave from this address
+    /// or not at all, and the device takes them as those of one peer. Datagrams of other hosts are received too. `rt`
+    /// is the program's access to the system's network and clock. The call takes the memory for its receive buffer,
+    /// 1,473 bytes.
     ///
     /// Refusals, the first that applies, after which no socket is open: `Io` if the system has no route to the device.
     /// `NoMemory` if that memory was refused. `Io` if the system refused the socket, for example because the port is in
@@ -230,7 +233,8 @@ impl<'a, C: Clock> UdpEnd<'a, C> {
     /// Binds an end for a controller of the device at the address `device` as [`bind_towards`](UdpEnd::bind_towards)
     /// does, and returns the system's reason if it fails. The end is bound at the one local address from which the
     /// system reaches the device, and at the port `port`; at 0 the system chooses one. Datagrams of other hosts are
-    /// received too. No datagram is sent. The call takes the memory for its receive buffer, 1,473 bytes.
+    /// received too. No datagram is sent. `rt` is the program's access to the system's network and clock. The call
+    /// takes the memory for its receive buffer, 1,473 bytes.
     ///
     /// Refusals, the first that applies, after which no socket is open: `Io` with the reason if the system has no route
     /// to the device. `NoMemory` if that memory was refused. `Io` with the reason if the system refused the socket.

@@ -23,9 +23,10 @@ use oca_tree::law_of_typed_requests;
 /// of the very command that the link submitted under that handle. The handles of the commands that a link submitted
 /// rise by one.
 ///
-/// What is executed is what the device's law by events says of what happened. If the peer kept its session, it is the
-/// only execution for the peer under that handle. A peer keeps its session if each of its datagrams that the device
-/// admitted came at most 120,000 ms after the one before it. The function does nothing at run time.
+/// What is executed is what [`law_by_events`](oca_device::law_by_events) says of the events of the device. If the peer
+/// kept its session, it is the only execution for the peer under that handle. A peer keeps its session if each of its
+/// datagrams that the device admitted came at most 120,000 ms after the one before it. The function does nothing at run
+/// time.
 pub fn law_answers()
     ensures answers { EveryScheduleAnswersItsCommands }
     ensures happened { TheseHappened }
@@ -125,19 +126,19 @@ pub fn law_once_in_time()
 /// time.
 ///
 /// Between: the answer is that of the only execution of the command. This happened when one of its transmissions was
-/// delivered to the device, in a step after the submit. The execution found the objects that the device then held by
-/// its law, and the device holds what it left.
+/// delivered to the device, in a step after the submit. The execution began with the objects that the device had then
+/// by [`law_by_events`](oca_device::law_by_events), and afterwards the device had the objects that the execution left.
 ///
 /// Refused: if the status is not OK, this execution changed nothing, and the status is the first that applies.
 ///
-/// OK: this needs two more premises. The device's objects were a tree at first, with texts and numbers of their types.
-/// The answer is read by the object's class, or is to a method of OcaRoot or OcaWorker (AES70-2). If the status is OK,
-/// what is read is what the object with the command's number answered. The device then holds what the request made of
-/// this object, and the others as they were.
+/// OK: this needs two more premises. The device's objects were a tree at first, with texts and numbers of their types,
+/// which is always true in Rust. The answer is read by the object's class, or is to a method of OcaRoot or OcaWorker
+/// (AES70-2). If the status is OK, what is read is what the object with the command's number answered. This object is
+/// then as the request makes it, and the other objects are as they were.
 ///
-/// Reads: what is read of an OK answer to a get method is what the object read, with its limits, at a moment between
-/// the submit and the answer. Sets: if a set method is answered OK, the execution set the object to the value, once.
-/// The object then reads as the value, with the limits that it had. A command without an answer was executed at most
+/// Reads: what is read of an OK answer to a get method is the object's value, with its limits, at a moment between the
+/// submit and the answer. Sets: if a set method is answered OK, the execution set the object to the value, once. The
+/// object's value is then this value, with the limits that it had. A command without an answer was executed at most
 /// once, by [`law_once_in_time`].
 ///
 /// Class: the class of the object with a number never changes in a schedule. So the answer to GetClassIdentification

@@ -32,11 +32,13 @@ pub struct Transcript {
     pub log: Vec<Outcome>,
 }
 
-/// Runs the steps of a schedule (`steps`) over a device and some links, for tests, and returns what each step did. It
-/// is [`run_pair_with_sizes`] with reply windows of `window` commands (1 to 64) and sessions of at most 16 peers.
+/// Runs the steps of a schedule (`steps`) over a device and some links, for tests, and returns what each step did, in
+/// the order of the steps. The call is [`run_pair_with_sizes`] with reply windows of `window` commands (1 to 64) and
+/// sessions of at most 16 peers.
 ///
-/// The device is at 127.0.0.1:65000 and has the objects of `tree`. There is a link with the span `span` for each of
-/// `starts`, made at moment 0. The call takes memory for the run. Nothing is sent over a network.
+/// The device is at 127.0.0.1:65000 and has the objects of `tree`. There is a link with the span `span` (1 to 32) for
+/// each of `starts`, made at moment 0: a start has the link's address and the handle of its first command. The call
+/// takes memory for the run. Nothing is sent over a network.
 ///
 /// Refusals, after which nothing of the run is returned. `SamePeer`, checked first, if two starts have the same peer,
 /// or one has the device's. `BadStep` with the number, from 0, of the first step that names a link or a datagram that
@@ -58,9 +60,10 @@ pub fn run_pair(
     run_pair_with_sizes(alloc, tree, Sizes { window, peers }, span, starts, steps)
 }
 
-/// Runs the steps of a schedule (`steps`) over a device and some links, for tests, and returns what each step did. The
-/// device is at 127.0.0.1:65000, has the objects of `tree`, and has the sizes `sizes`: 1 to 64 commands and 1 to 64
-/// peers. There is a link with the span `span` (1 to 32) for each of `starts`, made at moment 0.
+/// Runs the steps of a schedule (`steps`) over a device and some links, for tests, and returns what each step did, in
+/// the order of the steps. The device is at 127.0.0.1:65000, has the objects of `tree`, and has the sizes `sizes`:
+/// reply windows of 1 to 64 commands and sessions of 1 to 64 peers. There is a link with the span `span` (1 to 32) for
+/// each of `starts`, made at moment 0: a start has the link's address and the handle of its first command.
 ///
 /// The steps run in order. [`Step`] says which steps have a moment, in milliseconds. Datagrams go from list to list:
 /// nothing is sent over a network. The call takes memory for the run.

@@ -42,11 +42,12 @@ pub enum Probed {
 /// answer comes. At a socket the call takes at most a second. The command changes no object.
 ///
 /// `device` is the device's address, and must be the peer that the end watches. `handle` is the handle of the command,
-/// 0 to 4294967295. The handle is then used: a link over the same end must begin above it.
+/// 0 to 4294967295. A device may leave the command unanswered if it heard this or a higher handle from the end's
+/// address and port before. The handle is then used: a link over the same end must begin above it.
 ///
 /// Returns `Answering` if the command is answered, whatever the status. Otherwise `NotAnswering` if the end has heard
 /// its peer, even before this call: then use another port. Otherwise `NotHeard`. A send or receive that fails is not
-/// reported.
+/// reported, and the call goes on.
 pub fn probe<E: End>(end: &mut Watched<E>, device: Peer, handle: Handle) -> Probed
     ensures { Probes device handle.0 end.old.end_state end.new result }
 {

@@ -49,7 +49,8 @@ impl<E: End> Panel<E> {
 
     /// Submits the command that sets the object `ono` to the value `value`, by the set method of the value's class
     /// (AES70-2), and sends it at once. Returns its handle, for [`finish_set`](Panel::finish_set). If the link becomes
-    /// lost in this call, the handle is returned and the command is not sent.
+    /// lost in this call, the handle is returned and the command is not sent: `finish_set` then returns `Lost`. A send
+    /// that fails is not reported: the link sends the command again after 250 ms.
     ///
     /// Refusals, the first that applies, which change and send nothing: `Lost` if the link is lost or late.
     /// `HandlesSpent` if a command has the handle 4294967295 already. `SpanFull` if the next handle is not below the

@@ -34,7 +34,8 @@ impl<T: Copy + Default> Default for Begun<T> {
 }
 
 /// A queue of commands in flight on a panel, at most 32, in the order in which they were begun. Each command has an
-/// item of the caller's, which comes back with its outcome. The panel's span limits how many can be in flight at once.
+/// item of the caller's, which comes back with its outcome. The span of the panel's link limits how many can be in
+/// flight at once ([`Panel`]).
 ///
 /// ```
 /// let mut in_flight = InFlight::new();
@@ -183,9 +184,11 @@ impl<T: Copy + Default> InFlight<T> {
 
     /// Takes the first command out of the queue if its outcome is known already, and does not wait. Returns the
     /// command's item and its outcome: `Answered` with the answer, whatever its status, or `Lost` if the link is lost
-    /// and no answer is there. After `Lost` the device may have carried out the command.
+    /// and no answer is there. After `Lost` the device may have carried out the command. The call does not look whether
+    /// the link is late.
     ///
-    /// `None` if the outcome is not known, or the queue is empty: then nothing is changed. Nothing is received or sent.
+    /// `None` if the outcome is not known, or the queue is empty: then nothing is changed. Commands behind the first
+    /// are not looked at, even if their answers came. Nothing is received or sent.
     pub fn try_finish_first<E: End>(&mut self, panel: &mut Panel<E>) -> Option<(T, Outcome)>
         ensures { SettlesFirst result self.old self.new panel.old panel.new }
     {

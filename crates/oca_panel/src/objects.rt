@@ -164,14 +164,15 @@ impl<E: End> Panel<E> {
     }
 
     /// Locks the object `ono`, by LockTotal of OcaRoot (AES70-2): other controllers can then neither read nor set the
-    /// object. Waits for the answer for at most the panel's `wait` milliseconds. A device of this profile releases the
-    /// lock once it hears nothing from this panel for more than 15,000 ms.
+    /// object. Waits for the answer for at most the panel's `wait` milliseconds. A device of this profile answers OK
+    /// also if this panel has the lock already. The device releases the lock once it hears nothing from this panel for
+    /// more than 15,000 ms.
     ///
     /// Faults ([`Trouble`]):
     /// - `NotSubmitted` with the reason if the link refuses the command ([`begin`](Panel::begin)): nothing is sent.
     /// - `Lost` if the link becomes lost or late before an answer comes. `Unanswered` if no answer comes in time: the
     ///   command then stays in flight. After both the device may have carried out the command, or may still do that.
-    /// - `Refused` with the status if the status of the answer is not OK: Locked if another controller holds the lock,
+    /// - `Refused` with the status if the status of the answer is not OK: Locked if another controller has the lock,
     ///   InvalidRequest if the object cannot be locked. A device of this profile then changed nothing.
     #[tactic(auto, using(crate::proofs::RequestLemmas::ask_lock))]
     pub fn lock(&mut self, ono: Ono) -> Result<(), Trouble>

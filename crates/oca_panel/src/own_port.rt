@@ -13,8 +13,8 @@ const PORTS: [u16; 2] = [65001, 65002];
 /// How many handles a turn has.
 const HANDLES: u128 = 2_147_483_648;
 
-/// A UDP port to bind, the other port of the two, and a first handle that is safe on the first port. Both ports are
-/// chosen by this library, not by AES70.
+/// A UDP port to bind, another port, and a first handle that is safe on the port to bind. One of the two ports is 65001
+/// and the other 65002. This library chooses the ports and the handle, not AES70.
 ///
 /// A handle is safe if it is above all that were used from the same address and port since the last pause of more than
 /// two minutes in which nothing was sent from there. Under a handle that is not safe a command may get no answer, or
@@ -93,8 +93,9 @@ fn handles_in(seconds: u64, microseconds: u32) -> u128
     u128::from(seconds) * 100_000 + u128::from(microseconds / 10)
 }
 
-/// Law: of two runs on the same port of [`OwnPort`], the later one has the higher first handle, or begins more than
-/// 21,474 seconds after the other. Later means at a later moment of the system's clock. The function does nothing at
+/// Law: take two moments for which [`OwnPort::at`] returns the same port, the later at least 10 microseconds after the
+/// other. The first handle of the later one is higher, or the later one is more than 21,474 seconds after the other. A
+/// device forgets a session after 120 seconds. The rule is this library's, not AES70's. The function does nothing at
 /// run time.
 pub fn law_of_turns()
     ensures { HandlesRiseOrRest }

@@ -16,6 +16,8 @@ mod renewal;
 /// A panel controls one device: it has a link to the device and the end of a network over which the link sends.
 ///
 /// The words of its calls:
+/// - The *link* gives each command its handle, sends it again each 250 ms until its answer comes, and stores the answer
+///   ([`Link`]). The *span* says how far apart the handles in flight can be, 1 to 32 ([`Span`]).
 /// - A command is *in flight* from its submit until its answer is taken. Its *handle* is its 32-bit number (AES70-3).
 /// - `wait`: how many milliseconds a call waits for an answer. At a socket the last turn may end up to 50 ms later.
 /// - A *turn* receives once and sends what is due ([`turn`](oca_control::turn)).
@@ -93,9 +95,10 @@ impl<E: End> Panel<E> {
     /// [`OwnPort`](crate::OwnPort) chooses a handle. At most `span` commands are in flight: each new handle is below
     /// the lowest handle in flight plus `span`.
     ///
-    /// A command waits for its answer for `wait` milliseconds, 0 to 4294967295
-    /// ([`wait_while`](oca_control::wait_while)), whatever else comes to the end meanwhile. If the device is silent,
-    /// the link is lost after 5 to 10.25 seconds.
+    /// A call that waits for an answer waits for at most `wait` milliseconds, 0 to 4294967295
+    /// ([`wait_while`](oca_control::wait_while)), whatever else comes to the end meanwhile. If the device does not
+    /// answer a command, the link is lost 5 to 10.25 seconds after the submit, as long as a call waits or turns are
+    /// taken.
     pub fn open(device: Peer, end: E, first: Handle, span: Span, wait: u32) -> Panel<E>
         ensures { IsOpened device first.0 (span_size span) wait (E.state end) result }
     {
@@ -103,10 +106,10 @@ impl<E: End> Panel<E> {
         Panel::new(link, end, wait)
     }
 
-    /// Makes a panel over the link `link`, which exists already, and over `end`. A command waits for its answer for
-    /// `wait` milliseconds, 0 to 4294967295. The commands and answers of the link stay.
-    /// [`unanswered`](Panel::unanswered) is `false` at first. Nothing is sent, no memory is taken, and nothing is
-    /// refused.
+    /// Makes a panel over the link `link`, which exists already, and over `end`. A call that waits for an answer waits
+    /// for at most `wait` milliseconds, 0 to 4294967295. The commands and answers of the link stay, and so do its clock
+    /// and its span. [`unanswered`](Panel::unanswered) is `false` at first. Nothing is sent, no memory is taken, and
+    /// nothing is refused.
     pub fn new(link: Link, end: E, wait: u32) -> Panel<E>
         ensures { result ≡ record { link = link; end_state = E.state end; wait = wait; unanswered = false } }
     {
@@ -149,12 +152,14 @@ impl<E: End> Panel<E> {
     }
 
     /// Takes one turn of the panel's link ([`turn`](oca_control::turn)): receives once, and sends what is due,
-    /// keep-alives included. At a socket the receive lasts until something is due, and at most 50 ms.
+    /// keep-alives included. At a socket the receive lasts until something is due, and at most 50 ms. A send that fails
+    /// is not reported.
     ///
     /// Returns `true` if the loop may go on. `false` if the end is closed: then the link is unchanged. `false` too if
-    /// the link is lost or late: then a datagram that came is still handled, and from then on nothing is sent. After a
-    /// receive that failed the result is `true`, and the call does not look at the link.
-    /// [`turn_with_report`](Panel::turn_with_report) returns the numbers of failed receives and sends.
+    /// the link is lost or late: a datagram that came is still handled, and after the link was found lost or late the
+    /// turn sends nothing. After a receive that failed the result is `true`, nothing is sent, and the call does not
+    /// look whether the link is lost or late. [`turn_with_report`](Panel::turn_with_report) returns the numbers of
+    /// failed receives and sends.
     pub fn turn(&mut self) -> bool
         ensures { TurnsOnce self.old self.new result }
     {

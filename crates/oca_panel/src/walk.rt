@@ -62,9 +62,10 @@ pub struct Visit {
     pub found: Found,
 }
 
-/// A walk through the objects of a device, from the root block on: after each block its members, in their order. It
-/// asks for the class and the role of each object and the members of each block, once, and sets nothing. It visits at
-/// most 4,096 places.
+/// A walk through the objects of a device, from the root block on: after each block its members, in their order. A
+/// *place* is an object and the block that lists it as a member ([`Place`]): an object that two blocks list has two
+/// places. The walk asks for the class and the role of each object and the members of each block, once, and sets
+/// nothing. It visits at most 4,096 places.
 ///
 /// ```
 /// let mut walk = Walk::new(rt.alloc())?;
@@ -104,8 +105,8 @@ impl Walk {
     ghost use Rattle.std.specs.Prelude.{◌≡◌, length, nat_lt, IfOk};
     ghost use Rattle.oca_panel.specs.Walks.{StepsTo, StepsToPlace, begun_walk};
 
-    /// Makes a walk that begins at the root block (number 100). Nothing is asked of the device. The call takes memory
-    /// for one place. Refusal: `NoMemory` if that memory is refused.
+    /// Makes a walk whose first place is the root block (number 100). Nothing is asked of the device. The call takes
+    /// memory for one place. Refusal: `NoMemory` if that memory is refused.
     pub fn new(alloc: Global) -> Result<Walk, NoMemory>
         ensures { IfOk result (λ walk. walk ≡ begun_walk) }
     {

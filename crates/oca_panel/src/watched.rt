@@ -7,8 +7,8 @@ use oca_types::{Packet, Peer};
 use std::fmt;
 use std::marker::Model;
 
-/// An end of a network over another end. It stores the moment of the last datagram that came from one peer, in
-/// milliseconds of the end's clock. Sending and receiving are those of the end inside.
+/// An end of a network over another end, the *end inside*. It stores the moment of the last datagram that came from one
+/// peer, the *watched* peer, in milliseconds of the end's clock. Sending and receiving are those of the end inside.
 pub struct Watched<E: End> {
     end: E,
     peer: Peer,
@@ -47,9 +47,8 @@ impl<E: End> fmt::Debug for Watched<E> {
 impl<E: End> Watched<E> {
     ghost use Rattle.std.specs.Prelude.{◌≡◌, None};
 
-    /// Makes an end over the end `end`, which stores when it last received a datagram from `peer`.
-    /// [`heard`](Watched::heard) is `None` at first. Nothing is sent or received, no memory is taken, and nothing is
-    /// refused.
+    /// Makes an end over the end `end`, which becomes the end inside, and watches `peer`. [`heard`](Watched::heard) is
+    /// `None` at first. Nothing is sent or received, no memory is taken, and nothing is refused.
     pub fn new(end: E, peer: Peer) -> Watched<E>
         ensures { result ≡ record { end_state = E.state end; peer = peer; heard = None } }
     {

@@ -156,9 +156,11 @@ fn check_all(bytes: &[u8]) -> Result<(), PduFault>
 /// memory is taken. A refusal is a [`PduFault`]: the first check that fails, and the offset in bytes where it fails.
 /// The checks come in this order (*profile*):
 /// - The number of bytes: `Empty` for 0, `TooLong` above 1,472.
-/// - For each PDU the fields of its header in the order sync, ProtocolVersion, PduSize, PduType and MessageCount. The
-///   fault is `Truncated` if the bytes end within a field of the header or before the end of the PDU.
-/// - For each message of the PDU its size: `MessageSize`. `Count` if the messages are not as many as MessageCount says.
+/// - For each PDU the fields of its header, in this order: sync (`Sync`), ProtocolVersion (`Version`), PduSize
+///   (`PduSize`), PduType (`PduType`) and MessageCount (`Count`). The fault is `Truncated` if the bytes end within a
+///   field of the header or before the end of the PDU.
+/// - For each message of the PDU its size (`MessageSize`). `Count` if the messages are not as many as MessageCount
+///   says.
 pub fn check(bytes: &[u8]) -> Result<Datagram<'_>, PduFault>
     ensures found { IfOk result
         (λ d. (ps : List Pdu) × IsDatagram ps bytes.now × (datagram_messages d ≡ flat_map messages_of ps)) }

@@ -55,8 +55,8 @@ pub trait Sink {
         ensures failed { Remembers result (failed self.old) (failed self.new) };
 }
 
-/// A [`Source`] over any reader of the standard library (*profile*). It stores whether a read has failed. That this
-/// flag is set only if the reader failed is shown by tests, not proved.
+/// A [`Source`] over any reader of the standard library (*profile*). It has a flag for whether a read has failed. That
+/// the flag is set only if the reader failed is shown by tests, not proved.
 pub struct FromReader<R> {
     reader: R,
     failed: bool,
@@ -82,8 +82,9 @@ impl<R: Read> FromReader<R> {
         }
     }
 
-    /// Returns a source over this reader, of which no read has failed yet (*profile*). A read of it may wait, so the
-    /// source asks the operating system whether the reader's descriptor is ready. The call reads nothing and takes no
+    /// Returns a source over this reader, of which no read has failed yet (*profile*). A read of it may wait, so
+    /// [`await_input`](Source::await_input) asks the operating system whether the reader's descriptor is ready. If the
+    /// system cannot answer, the source assumes that a read would not wait. The call itself reads nothing and takes no
     /// memory.
     pub fn awaited(reader: R) -> FromReader<R>
     where
@@ -168,8 +169,9 @@ fn readable(descriptor: RawFd, is_terminal: bool) -> Option<RawFd>
     Some(descriptor)
 }
 
-/// A [`Sink`] over any writer of the standard library (*profile*). It stores whether a write has failed; a write that
-/// takes no byte of some has failed. That the flag is set only then is shown by tests, not proved.
+/// A [`Sink`] over any writer of the standard library (*profile*). It has a flag for whether a write has failed. A
+/// write of at least one byte that takes no byte has failed too. That the flag is set only after such a write is shown
+/// by tests, not proved.
 pub struct ToWriter<W> {
     writer: W,
     failed: bool,

@@ -23,8 +23,8 @@ pub enum LineFault {
 }
 
 impl LineFault {
-    /// Returns the word that is printed for the fault (*profile*): `too long`, `form`, `moment`, `number`, `peer` or
-    /// `hex`. The call refuses nothing.
+    /// Returns the word that is printed for the fault (*profile*), by the variant: `too long`, `form`, `moment`,
+    /// `number`, `peer` or `hex`. The call refuses nothing.
     pub fn word(self) -> &'static str
         ensures { result.now ≡ fault_word self }
     {

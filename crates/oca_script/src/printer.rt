@@ -12,7 +12,9 @@ use std::marker::Model;
 /// The most bytes that are held.
 const CAPACITY: usize = 8192;
 
-/// A sink, with room for 8,192 bytes that are printed and wait to be written to the sink (*profile*).
+/// A printer over a sink: it stores up to 8,192 bytes that are printed and wait to be written to the sink (*profile*).
+/// If a printer is dropped, the bytes that wait are lost; call [`flush`](Printer::flush) before. After a write that
+/// failed use the printer no longer: a later call may write bytes a second time.
 pub struct Printer<W: Sink> {
     sink: W,
     held: Buffer<CAPACITY>,
@@ -85,8 +87,8 @@ impl<W: Sink> Printer<W> {
     }
 
     /// Adds the bytes to those that wait in the printer, and writes nothing to the sink (*profile*). There must be room
-    /// for these bytes (a premise, which the caller must prove; [`make_room`](Printer::make_room)): at most 8,192 bytes
-    /// wait. The call refuses nothing.
+    /// for these bytes: with those that wait already they are at most 8,192 bytes. That is a premise, which the caller
+    /// must prove; [`make_room`](Printer::make_room) makes room. The call refuses nothing.
     #[inline]
     pub fn put(&mut self, bytes: &[u8])
         requires { length self.old.held + length bytes.now ≤ 8192 }

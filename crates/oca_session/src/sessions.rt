@@ -120,8 +120,8 @@ impl Sessions {
     }
 
     /// Returns the number of sessions: from 0, as at first, to the number of peers for which the table was made, at
-    /// most 64 (*profile*). A session that is due to be forgotten counts until the next [`advance`](Sessions::advance).
-    /// The call refuses nothing.
+    /// most 64 (*profile*). A session that is due to be forgotten counts until the next [`advance`](Sessions::advance)
+    /// or [`advance_into`](Sessions::advance_into). The call refuses nothing.
     pub fn len(&self) -> usize
         ensures len { result ≡ length self.now.sessions }
         ensures sound { IsTable self.now }
@@ -137,7 +137,8 @@ impl Sessions {
     }
 
     /// Returns the peer of the session at an index, counted from 0 in order of opening (*profile*). The result is
-    /// `None` if `index` is the number of sessions or above.
+    /// `None` if `index` is the number of sessions or above. When a session is forgotten, the sessions after it move
+    /// down by one.
     pub fn peer_at(&self, index: usize) -> Option<Peer>
         ensures { result ≡ slice_get (peers_of self.now.sessions) index }
     {
@@ -162,8 +163,8 @@ impl Sessions {
     /// is the peers whose silence is more than three of their heartbeats, in order of opening. Sessions with a silence
     /// of more than 120,000 ms are then forgotten; their peers are in the result too. The result has at most the first
     /// 16 peers: these are all if the table has room for at most 16 sessions. [`advance_into`](Sessions::advance_into)
-    /// returns all. A peer is returned again at each later call while it is silent. The call refuses nothing and takes
-    /// no memory.
+    /// returns all. Each later call returns the peer again, until the peer is heard or forgotten. The call refuses
+    /// nothing and takes no memory.
     pub fn advance(&mut self, now: u64) -> ArrayVec<Peer, 16>
         ensures lapsed { result.items ≡ take 16 (lapsed (present self.old now) self.old.sessions) }
         ensures all { self.old.sizes.peers ≤ 16 → result.items ≡ lapsed (present self.old now) self.old.sessions }
@@ -185,8 +186,8 @@ impl Sessions {
     /// `now` is in milliseconds of the caller's clock; an earlier moment than the present one counts as the present
     /// one. `peers` becomes the peers whose silence is more than three of their heartbeats, in order of opening; its
     /// old items are lost. Sessions with a silence of more than 120,000 ms are then forgotten; their peers are in
-    /// `peers` too. A peer is written again at each later call while it is silent. The call refuses nothing and takes
-    /// no memory.
+    /// `peers` too. Each later call writes the peer again, until the peer is heard or forgotten. The call refuses
+    /// nothing and takes no memory.
     pub fn advance_into(&mut self, now: u64, peers: &mut ArrayVec<Peer, MOST_PEERS>)
         ensures lapsed { peers.new.items ≡ lapsed (present self.old now) self.old.sessions }
         ensures staying { self.new ≡ with_moment_and_sessions self.old (present self.old now)
@@ -301,8 +302,8 @@ impl Sessions {
     /// - `Kept` with the reply, if the window has a command with this handle that asks the same: the same target,
     ///   DefLevel, MethodIndex, ParamCount and parameter bytes. The command is a duplicate.
     /// - `Reused` if the window has a command with this handle that asks something else.
-    /// - `Old` if no command in the window has this handle, and the handle is not above a handle that the window pushed
-    ///   out.
+    /// - `Old` if no command in the window has this handle, and the handle is at most the highest handle of the
+    ///   commands that the window pushed out ([`keep`](Sessions::keep)).
     /// - `Fresh` otherwise.
     pub fn judge(&self, peer: Peer, command: &Command<'_>) -> Judged<'_>
         requires { IsSome (session_of peer self.now.sessions) }
@@ -315,10 +316,11 @@ impl Sessions {
     }
 
     /// Stores a fresh command of a known peer, with its reply, in the reply window of its session (*profile*). A full
-    /// window pushes its oldest command out. Handles up to the handle of that command, which are not in the window,
-    /// then count as `Old`. The command and the reply are copied. Premises, which the caller must prove: the peer is
-    /// known ([`is_known`](Sessions::is_known)), [`judge`](Sessions::judge) says `Fresh` for the command, and the
-    /// command has at most 1,445 bytes of parameters. The call refuses nothing and takes no memory.
+    /// window pushes its oldest command out. From then on [`judge`](Sessions::judge) says `Old` for each handle up to
+    /// that command's, if the handle is not in the window. The command and the reply are copied. Premises, which the
+    /// caller must prove: the peer is known ([`is_known`](Sessions::is_known)), [`judge`](Sessions::judge) says `Fresh`
+    /// for the command, and the command has at most 1,445 bytes of parameters. The call refuses nothing and takes no
+    /// memory.
     pub fn keep(&mut self, peer: Peer, command: &Command<'_>, reply: &Reply)
         requires known { IsSome (session_of peer self.old.sessions) }
         requires fresh { IfSome (session_of peer self.old.sessions)

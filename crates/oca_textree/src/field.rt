@@ -14,8 +14,9 @@ use oca_types::Class;
 use std::str::from_utf8;
 
 /// Reads the next field of a line; returns the field and the rest of the line after it (*profile*). `rest` is the rest
-/// of the line before; `None` means that no field is left. A field that begins with a quote ends at the next quote, and
-/// is returned without its quotes. Any other field ends at the next space. An empty rest is one empty field. The only
+/// of the line before; `None` means that no field is left. A field that begins with a quote (`"`) ends at the next
+/// quote, and is returned without its quotes. Any other field ends at the next space or at the line's end. The returned
+/// rest begins after the space, and is `None` if the field ends the line. An empty `rest` is one empty field. The only
 /// refusal is `Form`, if `rest` is `None`, or a quote is not closed, or is not followed by a space or the line's end.
 #[tactic(auto, unfolding(crate::specs::Lines::field_at))]
 pub fn field<'a>(rest: Option<&'a [u8]>) -> Result<(&'a [u8], Option<&'a [u8]>), ObjectFault>

@@ -12,7 +12,7 @@ use oca_tree::Tree;
 ///   refuses changes.
 /// - Take the objects that a text listed. Reading gives exactly these objects.
 /// - Take any other objects, whose first is a lockable block with the role `root`. If each has a role, and texts and
-///   numbers fit their types, reading gives the objects as in the first law.
+///   numbers are of their types, which is always true in Rust, reading gives the objects as in the first law.
 pub fn law_of_texts(tree: &Tree)
     ensures made { MadeIsReadBack tree.now }
     ensures listed { ListedIsReadBack tree.now }

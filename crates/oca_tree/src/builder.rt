@@ -514,9 +514,10 @@ impl TreeBuilder {
         Ok(TreeBuilder { objects })
     }
 
-    /// Adds an object with the number `ono` and the properties `spec` to the block `container`, after all objects of
-    /// the tree (AES70-2; limits are the profile's). The new object is enabled and not locked, and has an empty label.
-    /// The call takes no memory. Refusals, the first that applies; the builder is then unchanged:
+    /// Adds an object with the number `ono` to the block `container`, after all objects of the tree (AES70-2; limits
+    /// are the profile's). `spec` has the object's role, whether it can be locked, and its class with its setting and
+    /// limits. The new object is enabled and not locked, and has an empty label. The call takes no memory. Refusals,
+    /// the first that applies; the builder is then unchanged:
     /// - `Full` if there is no room for another object.
     /// - `Reserved` if `ono` is below 4096, and `Taken` if another object has this number.
     /// - `NoSuchBlock` if the container is no block of the tree.
@@ -532,10 +533,11 @@ impl TreeBuilder {
         Ok(())
     }
 
-    /// Adds an object as [`add`](TreeBuilder::add) does, with its stored label and flags in `start` (*profile*): the
-    /// number is `ono`, the container is the block `container`, and the object comes after all objects of the tree.
-    /// `start` says whether the object is enabled, and which positions of a switch are enabled. The object is not
-    /// locked. The call takes no memory. Refusals, the first that applies; the builder is then unchanged:
+    /// Adds an object as [`add`](TreeBuilder::add) does, with its stored label and flags in `start` (*profile*). `ono`
+    /// is the number, `container` the block, and `spec` has the role, the class and the setting. The object comes after
+    /// all objects of the tree. `start` says whether the object is enabled, and which positions of a switch are
+    /// enabled. The object is not locked. The call takes no memory. Refusals, the first that applies; the builder is
+    /// then unchanged:
     /// - `Add` with the fault with which [`add`](TreeBuilder::add) refuses this object.
     /// - `BadLabel` if the label has more than 64 bytes.
     /// - `BadFlags` if `start` has flags of positions, and their number is not the number of the object's positions. An

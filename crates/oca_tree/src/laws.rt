@@ -23,8 +23,8 @@ pub fn law_of_descendants(tree: &Tree)
 /// (*profile*). The contract of the function states these laws, and the function does nothing at run time.
 /// - A value changes an object in the same way, whichever peer sets the value.
 /// - Take a peer's command that sets an object to a value of its class, and that neither a lock nor the object's
-///   hardware refuses. It changes the tree as the front panel does with this value. The front panel is refused exactly
-///   if the status of the command is not OK.
+///   hardware refuses. The command changes the tree as `Tree::set` does with this value. `Tree::set` refuses the value
+///   exactly if the status of the command is not OK.
 /// - The value in each command that sets an object is a value of the object's class.
 pub fn law_of_settings()
     ensures any_peer { AnyPeerSetsTheSame }
@@ -63,14 +63,14 @@ pub fn law_of_copies()
 
 /// Laws of the commands that a tree executes (AES70-2), for each tree, peer and command. The contract of the function
 /// states these laws, and the function does nothing at run time.
-/// - A command with the status OK asked one request of one object. The request changed the object, and the parameters
-///   are the object's answer.
+/// - A command with the status OK made one request of one object. The object changed as the request says, and the
+///   parameters are the object's answer.
 /// - A command with any other status changed nothing.
 /// - A command that writes to an object whose hardware refuses changes ([`Tree::set_failing`](Tree::set_failing)) does
 ///   not get the status OK, and changed nothing.
 /// - After a value of the object's class was set, reading returns this value, with the limits that the object had.
-/// - An answer that fits into a response is an answer of the object's class and of the kind of its method. This law is
-///   for objects whose texts and numbers fit their types.
+/// - An answer that fits into a response is an answer of the object's class and of the kind of its method. Its premise
+///   is that texts and numbers are of their types, since a contract has them of any size; in Rust that is always true.
 pub fn law_of_typed_requests()
     ensures did { CommandsAreTyped }
     ensures refused { RefusedKeepsTree }

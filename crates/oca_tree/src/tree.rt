@@ -77,7 +77,9 @@ pub enum Setting {
     },
 }
 
-/// The objects of a device (AES70-2), with their settings and their locks. Contracts see the list of the objects in
+/// The objects of a device (AES70-2), with their settings and their locks. They are in order of adding, and the first
+/// is the root. The *container* of an object is the block that contains it. A lock belongs to one peer, and limits what
+/// the other peers can do with the object ([`LockKind`](crate::LockKind)). Contracts see the list of the objects in
 /// order of adding.
 #[derive(Drop)]
 pub struct Tree {
@@ -132,8 +134,8 @@ impl Tree {
     /// - `Locked` if another peer's lock forbids the access ([`LockKind`](crate::LockKind)).
     /// - `ParameterError` if ParamCount or the bytes are not the method's parameters, or a list has not one item for
     ///   each position.
-    /// - `ParameterOutOfRange` if a state is not listed, a setting is outside its limits, or a position is missing or,
-    ///   to be set, disabled.
+    /// - `ParameterOutOfRange` if the number of a state is not 1 or 2, a setting is outside its limits, the switch does
+    ///   not have the position, or the command sets it to a position that is disabled.
     /// - `InvalidRequest` if the command locks an object that cannot be locked, or unlocks one that is not locked.
     /// - `BufferOverflow` if the answer would have more than 1,452 bytes.
     /// - `ProcessingFailed` if the command writes and the object's hardware refuses
@@ -212,8 +214,8 @@ impl Tree {
     }
 
     /// Releases the lock of the object with the number `ono`, as a user does at the device's local front panel
-    /// (*profile*), whichever peer has the lock. Refusals, the first that applies; no object is then changed: `NoObject`
-    /// if no object has the number. `NotLocked` if the object is not locked.
+    /// (*profile*), whichever peer has the lock. Refusals, the first that applies; no object is then changed:
+    /// `NoObject` if no object has the number. `NotLocked` if the object is not locked.
     pub fn unlock(&mut self, ono: Ono) -> Result<(), FrontFault>
         ensures tree { self.new ≡ after_change self.old ono.0 ToUnlocked }
         ensures refused { OnErr result (self.new ≡ self.old) }
@@ -367,9 +369,11 @@ impl Tree {
         lockable_in(&self.objects, ono)
     }
 
-    /// Returns `true` only if both trees have the same objects in the same order, with the same values, labels, flags
-    /// and roles (*profile*). Locks may differ, and so may whether the hardware of an object refuses changes. Of
-    /// `false` nothing is proved. Neither tree is changed, and no memory is taken.
+    /// Compares this tree with `other`, object by object in their order (*profile*). Returns `true` only if both have
+    /// the same objects: with the same numbers, classes, containers, roles, labels, flags, values, limits and names of
+    /// positions, and the same objects can be locked. Two things are not compared: which peer has a lock, and whether
+    /// the hardware of an object refuses changes. `false` means that the call found a difference; that is not proved.
+    /// Neither tree is changed, and no memory is taken.
     pub fn is_but_for_locks(&self, other: &Tree) -> bool
         ensures { IsTrue result → (all_unlocked self.now ≡ all_unlocked other.now) }
     {

@@ -23,12 +23,14 @@ impl<E: End> Panel<E> {
         self.link = Link::new(device, first, self.end.now(), span);
     }
 
-    /// Takes one turn as [`Panel::turn`] does, and returns how often each thing was done. The turn receives once, at a
-    /// socket for at most 50 ms, and sends what is due.
+    /// Takes one turn as [`Panel::turn`] does, and returns what was done. The turn receives once, at a socket for at
+    /// most 50 ms, and sends what is due.
     ///
-    /// `turns` is 1 in the report. It is 0 if the end is closed: then the link is unchanged. `failed_receives` is 1 if
-    /// the receive failed: then nothing is sent, and `lost` is `false`. After any other turn `lost` says whether the
-    /// link is lost or late. `failed_sends` counts the datagrams that the end did not take.
+    /// `turns` is 1 in the report. It is 0 if the end is closed: then the link is unchanged. `sent` and `keep_alives`
+    /// count the commands and keep-alives that were given to the end to send, and `answered` the commands that got
+    /// their first answer. `failed_sends` counts those that the end did not take; they are in `sent` or `keep_alives`
+    /// too. `failed_receives` is 1 if the receive failed: then nothing is sent, and `lost` is `false`. After any other
+    /// turn `lost` says whether the link is lost or late.
     pub fn turn_with_report(&mut self) -> DriveReport
         ensures { TurnsWith result self.old self.new }
     {

@@ -7,8 +7,10 @@ impl Walk {
     ghost use Rattle.oca_panel.specs.Walks.{places_of};
     ghost use Rattle.oca_panel.specs.WalksApart.{TakesPlace};
 
-    /// Takes the next place of the walk. Returns the place, and `true` if its object was visited before. The object
-    /// counts as visited from then on. Nothing is asked of the device: the caller asks.
+    /// Takes the next place of the walk, for a program that asks the objects itself. Returns the place, and `true` if
+    /// its object was visited before. The object counts as visited from then on. Nothing is asked of the device. The
+    /// program asks the object, and gives the members of a block to [`put_members`](Walk::put_members) before it takes
+    /// the next place.
     ///
     /// `None` if no place is left, or 4,096 places were visited: then nothing is changed. The call takes memory for the
     /// place. Refusal: `NoMemory` if that memory is refused. The place is then lost, and the walk may leave objects
@@ -30,7 +32,9 @@ impl Walk {
     }
 
     /// Adds the members of the block `container` to the places of the walk, before all others and in their order.
-    /// `members` are the object numbers that the block listed, any number of them. Nothing is asked of the device.
+    /// `members` are the object numbers that the block listed, any number of them. Nothing is asked of the device, and
+    /// the call does not check that the walk visited the block. [`take_place`](Walk::take_place) returns these places
+    /// next.
     ///
     /// The call takes memory for each place. Refusal: `NoMemory` if memory is refused. Some of the members may be added
     /// then, and the walk may leave objects out.
