@@ -108,8 +108,8 @@ pub fn wait_for<E: End>(link: &mut Link, end: &mut E, handle: Handle, turns: u32
 /// - `Unanswered` if the last turn found the end closed, or the present moment is `until` or later.
 ///
 /// A turn begins only before `until`, and takes at most 50 ms at a socket. `Unanswered` also for a handle that no
-/// command has, and after 4,294,967,295 turns, in case the clock stands still. The command then stays in flight, and
-/// can be waited for again.
+/// command has, and after 4,294,967,295 turns, in case the clock stands still. A command without an answer stays in
+/// flight, and can be waited for again.
 pub fn wait_until<E: End>(link: &mut Link, end: &mut E, handle: Handle, until: u64) -> Outcome
     ensures waits { WaitsUntil handle.0 until link.old result link.new (E.state end.old) (E.state end.new) }
     ensures receives { ReceivesInAWait (E.state end.old).receives (E.state end.new).receives }
@@ -137,7 +137,8 @@ pub fn wait_until<E: End>(link: &mut Link, end: &mut E, handle: Handle, until: u
 ///
 /// `Answered` with the answer: the command is then removed from the link. `Lost` if the link is lost or found late, and
 /// no answer is there. `Unanswered` if no answer comes in time, if the end is closed, and for a handle that no command
-/// has: the command then stays in flight, and can be waited for again. The order is that of [`wait_until`].
+/// has. A command without an answer stays in flight, and can be waited for again. The order is that of
+/// [`wait_until`].
 pub fn wait_while<E: End>(
     link: &mut Link,
     end: &mut E,
