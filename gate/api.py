@@ -24,7 +24,6 @@ MEMBER = r"    (pub )?(?:const )?(fn|const) (\w+)"
 
 
 def first_sentence(lines):
-    """The first sentence of a comment."""
     text = " ".join(line.strip() for line in itertools.takewhile(str.strip, lines))
     text = re.sub(r"\[(`[^`]*`)\](?:\([^)]*\))?", r"\1", text)
     return re.match(r".*?\.(?= [A-Z`(]|$)|.*", text)[0]
@@ -90,7 +89,6 @@ def listed(crate):
 
 
 def table(head, rows):
-    """A table of two columns."""
     cells = "".join("| `{}` | {} |\n".format(*(it.replace("|", "\\|") for it in row)) for row in rows)
     return f"## {head}\n\n| Item | |\n|---|---|\n{cells}"
 
@@ -102,14 +100,12 @@ def about(crate):
 
 
 def of_header():
-    """The calls of the header."""
     read = reference.paragraphs(reference.HEADER.read_text())
     return [(" ".join(declared.rstrip(";").split()).removeprefix("static inline "), first_sentence([said]))
             for said, calls, _ in read for declared in calls.values()]
 
 
 def made():
-    """The list."""
     parts = [table(f"`{crate}`\n\n{textwrap.fill(about(crate), 120)}", listed(crate)) for crate in LIBRARIES]
     return "\n".join([MARK, *parts, table("`oca.h`", of_header())])
 

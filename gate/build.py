@@ -39,15 +39,14 @@ def apart(crates):
 
 
 def made_from(rt, crate):
-    """What tells what was built of the crate from anything else: sums of its sources and of those below it, and of each library that it was
-    built over, and of itself, as they stand; of a library the sum of its file `format`, which has sums of the others."""
+    """What a build is told from another by: sums of the sources and libraries of the crate, of those below, and of
+    itself."""
     made = f"{crate.rlib}/format" if crate.makes_rlib() else f"{crate.folder}/out/{crate.name}"
     files = [f"{it.rlib}/format" for it in crate.below()]
     return "\n".join([crate.stamp(), *map(rt.sum_of, [*files, made])])
 
 
 def note_of(crate):
-    """The file that says what was built of the crate last."""
     return Path(crate.folder, "out", "statements" if crate.makes_rlib() else "", "made_from")
 
 
@@ -76,8 +75,7 @@ def build_library(rt, crate, jobs):
 
 
 def build_program(rt, crate, jobs):
-    """Proves, builds and runs a program in a process of its own, which ends with this one; what is said where that fails is shown.
-    Answers whether it is built."""
+    """Proves, builds and runs a program in a process that ends with this one; answers whether it is built."""
     words = [*rt.guarded(), sys.executable, TOP / "gate/build.py", "--one", crate.name, str(jobs)]
     ran = subprocess.run(words, cwd=TOP, stdin=subprocess.DEVNULL, stdout=subprocess.DEVNULL, stderr=subprocess.PIPE, text=True)
     if ran.returncode:
@@ -86,8 +84,8 @@ def build_program(rt, crate, jobs):
 
 
 def build_once(rt, crate, build, jobs):
-    """Builds the crate so, unless what it would make is there, and notes what it was made from. Answers whether it is there, and the seconds
-    that it took. It is not where a source was changed meanwhile, or, of a crate below, a source or the library since that was built."""
+    """Builds the crate unless what is there is up to date: whether it is there, and the seconds. Not if a source
+    changed."""
     begun, is_there = time.monotonic(), is_made(rt, crate)
     if not is_there:
         stamp, is_changed = crate.stamp(), not all_below_are_made(rt, crate)
@@ -103,7 +101,6 @@ def build_once(rt, crate, build, jobs):
 
 
 def work(crate):
-    """The seconds that it takes to prove and build a crate."""
     return SECONDS.get(crate.name) or crate.count(rb"\n") / 10
 
 
@@ -117,9 +114,8 @@ def chains(crates):
 
 
 def shares(ready, idle, number, long):
-    """The crates that can be begun, in this order, and with how many of the processes, of which so many are idle: each with those that no
-    other waits for; one of those that others wait for long, begun or not, with half of all at least, and the only one with three of
-    four; but with four at most, and no more in all than are idle."""
+    """Which crates begin now, in this order, each with how many processes: at most 4 each, and `idle` in all. Each gets
+    those that no other waits for. A long chain gets half of all at least, and the only long one three of four."""
     given, left, least = [], idle, number // 2 if len(long) > 1 else number * 3 // 4
     for at, crate in enumerate(ready[:idle]):
         jobs = max(1, left // (len(ready) - at), least if crate in long else 0)
@@ -131,8 +127,8 @@ def shares(ready, idle, number, long):
 
 
 def side_by_side(crates, number, make):
-    """Has all crates made, each once those below it are, by so many processes at once, those first that others wait for longest. Answers
-    whether all are made; one above a crate that is not made is left out. The crates are given lowest first."""
+    """Makes all crates, each once those below it are made, those first that others wait for longest. Answers whether
+    all are made. A crate above one that is not made is left out. The crates are given lowest first."""
     behind, left, running, made = chains(crates), list(crates), {}, {}
     left.sort(key=lambda it: -behind[it.name])
     with ThreadPoolExecutor(number) as pool:
@@ -152,8 +148,8 @@ def side_by_side(crates, number, make):
 
 
 def build_all(rt, libraries, programs=(), folder=None):
-    """Builds libraries and programs, each after the libraries below it, as many at once as there are processors and memory for, copies the
-    programs into a folder, and answers whether all are built."""
+    """Builds libraries and programs side by side, copies the programs into a folder, and answers whether all are
+    built."""
     ended, crates = [], sorted([*libraries, *programs], key=lambda it: len(it.below()))
 
     def make(crate, jobs):

@@ -26,8 +26,7 @@ def command():
 
 
 def toolchain(builds=True):
-    """What is used of the toolchain, and whether its `rt ci` takes names. Where this process builds, what `rt run` and the library for C
-    keep is taken from other copies, and given to them."""
+    """What is used of the toolchain. A process that builds shares what `rt run` keeps with other copies."""
     sys.dont_write_bytecode = True
     spec = importlib.util.spec_from_loader("rt", importlib.machinery.SourceFileLoader("rt", command()))
     rt = importlib.util.module_from_spec(spec)
@@ -56,8 +55,8 @@ def said_lanes():
 
 
 def lanes(rt):
-    """How many checks, or processes of checks, are to run at once: as many as there are processors, and as memory holds; or as many as
-    RT_JOBS says. The toolchain left to itself reckons with three to five times the memory that they take, and waits."""
+    """How many processes of checks run at once: by processors and memory, or what RT_JOBS says. The toolchain itself
+    reckons with three to five times the memory that they take, and waits."""
     return said_lanes() or max(1, min(rt.processors(), int(rt.free()) // NEEDS))
 
 
@@ -72,10 +71,9 @@ def has_room_in_memory(rt):
 
 @contextlib.contextmanager
 def in_memory(rt):
-    """Has the checks that this process starts write into memory what they remove again, up to half a GB of small files each: to remove
-    them from a disk takes up to 15 seconds a check, in which no processor works. All that it starts finds the folder as TMPDIR. It is
-    removed at the end, also where this process is killed; a process that it has started, and that outlives it, may make it anew, and it is
-    left then. Where TMPDIR is set already, or memory has no such room, nothing is changed."""
+    """Has checks write their temporary files in memory, in the folder TMPDIR, which is removed at the end, also if this
+    process is killed. On a disk their removal takes up to 15 seconds a check. A process that outlives this one may make
+    the folder anew. Nothing is changed if TMPDIR is set already, or memory has no room."""
     if "TMPDIR" in os.environ or not has_room_in_memory(rt):
         yield
         return

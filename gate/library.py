@@ -19,8 +19,7 @@ LEAST = {"x86_64-unknown-linux-gnu": "x86-64", "aarch64-unknown-linux-gnu": "gen
 
 
 def is_left_by_the_gate(crate, files_of):
-    """Whether the crate's library is one that `rt ci` left of these sources: it is there, without the stamp of a check
-    that keeps its work, and newer than each file of the crate and of those below it."""
+    """Whether `rt ci` left the library of these sources: it is there, has no stamp, and is newer than all sources."""
     if not os.path.isdir(crate.rlib) or os.path.exists(f"{os.path.dirname(crate.rlib)}/stamp"):
         return False
     made = os.path.getmtime(crate.rlib)

@@ -77,7 +77,6 @@ def answers_text(header, name):
 
 
 def comment_in(text):
-    """The text of the comments, as one paragraph."""
     parts = re.findall(r"/\*(.*?)\*/", text, re.S)
     return " ".join(" ".join(re.sub(r"^ \* ?", "", line).strip() for line in part.splitlines()) for part in parts).strip()
 

@@ -46,8 +46,8 @@ MOST_WRONG = 12  # so many of these lines are shown at the end
 
 
 class Step:
-    """A line of the steps: a command, the fewest checks that it passes, the most minutes that it takes, and whether it
-    runs beside all that follows, and beside `rt ci` too."""
+    """A line of the steps: its command, fewest checks and most minutes; whether it runs beside later ones and `rt
+    ci`."""
 
     def __init__(self, line):
         read = re.fullmatch(r"\s*(&{0,2})\s*(\d+)\s+([\d.]+)\s+(\S.*)", line)
@@ -58,8 +58,7 @@ class Step:
 
 
 def give_way():
-    """Lets this process, and what it starts, run where nothing else would. Linux compares a session as a whole with others,
-    by a number of its own, where it groups them (`autogroup`), and processes only within one."""
+    """Lets this process and its children run when nothing else would: by `nice`, and among sessions by `autogroup`."""
     os.nice(19)
     with contextlib.suppress(OSError), open("/proc/self/autogroup", "w", encoding="ascii") as file:
         file.write("19")
@@ -88,8 +87,8 @@ def last_line(text):
 
 
 def counted(last, status, least):
-    """How many checks passed and failed, by the last line and the exit status; and why they are too few, if they are.
-    A command that counts nothing is one check, by its status."""
+    """How many checks passed and failed, and why they are too few. A command that counts nothing is one check, by its
+    status."""
     counts = re.fullmatch(r"(\d+) passed, (\d+) failed", last)
     passed, failed = map(int, counts.groups()) if counts else (int(status == 0), 0)
     why = ""
@@ -148,15 +147,13 @@ def kept(step):
 
 
 def paragraphs(file):
-    """The steps, a list for each paragraph."""
     text = "\n".join(line for line in file.read_text().splitlines() if not line.startswith("#"))
     parts = [part for part in re.split(r"\n\s*\n", text.strip("\n")) if part.strip()]
     return [[Step(line) for line in part.splitlines()] for part in parts]
 
 
 def left_out(steps, tools):
-    """The tools that are programs and stand in no step, and the runs of a tool that its head names by a line 'In the gate: WORDS' and that
-    stand in none. What a step only uses says so by having no `main` to call."""
+    """The programs that stand in no step, and the runs that a head names by 'In the gate: WORDS' and no step has."""
     named = " ".join(step.command for step in steps)
     programs = [tool for tool in sorted(tools.glob("*.py")) if '__name__ == "__main__"' in tool.read_text()]
     by_hand = [tool for tool in programs if "\nNo step of the gate." in tool.read_text()]
@@ -216,9 +213,9 @@ class Early:
 
 
 def first_of_ci(rt):
-    """The crate that `rt ci` is asked for before all: that most wait for, proved in several processes; `rt ci` takes it as it is kept then, or
-    says itself what is wrong with it. None where RT_JOBS says how many checks run at once, where only one can, or where `rt ci` takes no
-    names: in some kits, and in any where CI is true."""
+    """The crate that `rt ci` is asked for first: most others wait for it, and several processes prove it. None if
+    RT_JOBS says the lanes, if only one check can run, or if `rt ci` takes no names: in some kits, and in any if CI is
+    true."""
     takes_names = rt.ci_takes_names and os.environ.get("CI") != "true"
     return waited_for() if takes_names and kit.lanes(rt) > 1 and not kit.said_lanes() else None
 
@@ -236,8 +233,8 @@ def of_ci(steps, others, room):
 
 
 def run_steps(parts, others, early):
-    """Runs the steps of each paragraph, and answers their counts. Those that run beside all that follows, in another pool,
-    are awaited last; some have begun early."""
+    """Runs the steps of each paragraph, and answers their counts. Those that run beside all that follows are awaited
+    last."""
     counts, beside = [], []
     with ThreadPoolExecutor(BESIDE) as pool:
         for steps in parts:
@@ -251,8 +248,8 @@ def run_steps(parts, others, early):
 
 
 def sets_aside_here():
-    """Whether `rt ci` sets aside in git's folder what the crates keep: not where that is elsewhere, or may not be written. There it does so
-    where temporary files are, and what these crates have is lost where that is another disk."""
+    """Whether `rt ci` sets aside in git's folder what crates keep: not if that is elsewhere, perhaps on another
+    disk."""
     git = TOP / ".git"
     return git.is_dir() and not git.is_symlink() and os.access(git, os.W_OK)
 

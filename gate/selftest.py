@@ -49,13 +49,12 @@ def gate_over(folder, steps):
 
 
 def is_as_wanted(folder, steps, passes, last):
-    """Whether the gate over these steps ends so."""
     return is_same((int(not passes), last), gate_over(folder, steps)[:2])
 
 
 def tells_what_failed(folder):
-    """Behind the table stands what failed: the lines that say so, of a step that has none its last ones, and nothing of a step that passed, nor
-    of one that failed what it only could not try, and the edits that `edits.py` rightly did not refuse, whatever it says of them."""
+    """Behind the table stand the lines that say what failed, or a failed step's last lines; nothing of what passed, of
+    what was only not tried, and of the edits that `edits.py` rightly did not refuse."""
     steps = ("1 1 echo 'x: FAILED: it is so'; echo y; echo '1 passed, 1 failed'\n1 1 echo z; false\n"
              "1 1 echo 'w: FAILED before'; echo '1 passed, 0 failed'\n"
              "1 1 cat well; echo 'NOT TRIED: v is not installed'; echo 'u/a.edit: NOT TRIED: its check hung'; echo '1 passed, 2 failed'")
@@ -144,7 +143,6 @@ def waits_for_proofs(folder):
 
 
 def is_counted(_, command, least, wanted):
-    """Whether so many checks are counted of a command that is watched."""
     return is_same(wanted, said(run.watched, command, least)[0])
 
 
@@ -165,10 +163,9 @@ def knows_what_is_waited_for(folder):
 
 
 def counts_all(folder):
-    """The whole gate passes only where `rt ci`, its steps and their list do: each of them is made to fail alone. It calls
-    `rt ci` without other words, on as many lanes as there are, for as many checks as that is to pass, and every step of
-    the file, as it stands there; before, where nothing says how many lanes there are, `rt ci` takes names and CI is not
-    true, `rt ci` of the crate that all others wait for, whose failure is left to the other call."""
+    """The gate passes only if `rt ci`, its steps and their list do: each is made to fail alone. It calls `rt ci` on all
+    lanes, for the checks that it must pass, and every step. Before that, in some cases, it calls `rt ci` of the crate
+    that others wait for."""
     words = lambda steps: [(it.least, it.minutes, it.command) for it in steps]
     steps, found, wanted, places = [words(part) for part in run.paragraphs(HERE / "steps")], [], [], set()
     for of_ci, of_steps, missing, lanes, says, takes_names, is_first in DATA.of_all:
@@ -188,8 +185,7 @@ def counts_all(folder):
 
 
 def knows_the_lanes(_):
-    """`rt ci`, builds and edits are to run as many checks at once as there are processors and as memory holds, at least one, or as many
-    as RT_JOBS says."""
+    """The lanes: as many as there are processors, and as memory holds, at least one; or as many as RT_JOBS says."""
     found = []
     for processors, memory, says, _ in DATA.lanes:
         with without("RT_JOBS"):
@@ -240,7 +236,6 @@ def ends_all_that_hangs(folder):
 
 
 def text_of(file):
-    """The text of a file of /proc, which may be gone."""
     with contextlib.suppress(OSError):
         return file.read_text(errors="replace")
     return ""
@@ -264,8 +259,8 @@ def ends_when_told(folder, number, before=None):
 
 
 def builds_as_asked(folder):
-    """`library.py` compiles the library for the kind and the processor that are asked for, else for every one of that
-    kind, where the crates below are built; and it tells how that ended."""
+    """`library.py` compiles for the kind and the processor that are asked for, if the crates below are built, and tells
+    it."""
     x86, arm, found = "x86_64-unknown-linux-gnu", "aarch64-unknown-linux-gnu", []
 
     def compiled(words, to):
@@ -307,8 +302,7 @@ def names_functions(_):
 
 
 def judges_edits(_):
-    """An edit is refused where a goal of its own function fails, and one of no function where any does: not where only
-    a name is gone, where a function only calls another, or where the prover was not reached; and why not is told."""
+    """An edit is refused only if a goal of its own function fails; one of no function if any does. Why not is told."""
     functions = {"f": [edits.Function(["m"], None, "f", 0, 1)], "g": [edits.Function(["m"], None, "g", 2, 3)], " ": []}
     tried = {name: SimpleNamespace(functions=its) for name, its in functions.items()}
     found, told = [], []
@@ -328,8 +322,8 @@ def edited(folder, texts, changes):
 
 
 def copies_edits(folder):
-    """A further edit of a function is tried in a copy of it, with a copy of its proof and a copy as it stands, which must be proved; a further one of
-    a method of a trait, or of two functions, in another check. Edits that are left are tried without copies."""
+    """A further edit of a function is tried in a copy of it, beside a copy as it stands, which must be proved; one of a
+    trait's method, or of two functions, in another check. Edits that are left are tried without copies."""
     changes = {"a": ("", "n + 1", "n + 2"), "b": ("", "n + 1", "n + 3"), "c": ("", "T(1)", "T(2)"), "d": ("", "T(1)", "T(3)")}
     crate, of = edited(folder, {"src/m.rt": DATA.source, "proofs/m/f/Answers.antt": DATA.of_f}, changes)
     groups = edits.grouped(of.values(), crate, True)
@@ -357,8 +351,8 @@ def judged_copies(crate, of, told):
 
 
 def empties_functions(folder):
-    """Functions that no edit touches are checked without their bodies and proofs, but for those of traits, constants,
-    cycles and C; where anything else than what was changed fails then, they are checked once more with them."""
+    """Untouched functions are checked without bodies, but those of traits, constants, cycles and C; then once with
+    them."""
     crate, of = edited(folder, {"src/m.rt": DATA.bodies}, {"one": ("", "other(n)", "1 + other(n)")})
     edit = of["one"]
     texts, empty = edits.emptied(crate, {}, edit.functions)
@@ -377,8 +371,8 @@ def empties_functions(folder):
 
 
 def narrows_contracts(folder):
-    """Where edits name the clauses that refuse them, their functions ensure those alone, but for a function that other
-    code in the check calls, and one whose proof is by hand. An edit that another clause refuses has failed."""
+    """Edits that name clauses narrow their functions to those; not if others call these, or if their proof is by
+    hand."""
     changes = {"f": "n + 1", "g": "n + f(n)", "h": "    g(n)", "by_hand": "n + 2"}
     crate, of = edited(folder, {"src/m.rt": DATA.promises, "proofs/m/by_hand/Answers.antt": ""},
                        {name: ("clause: low\n", text, f"{text} + 1") for name, text in changes.items()})
@@ -414,8 +408,8 @@ def is_lost(_, now, wanted):
 
 
 def lost(before, now):
-    """The commands of the steps as they were that no step is any more, or only one that names fewer checks, and those that stand twice; not
-    those of which a line `# was: LEAST MINUTES COMMAND: WHY` says why."""
+    """The earlier commands that no step has as it was, or with fewer checks, and doubles; but those with a line `#
+    was:`."""
     steps, old = ([run.Step(line) for line in text.splitlines() if line.strip() and not line.startswith("#")] for text in (now, before))
     named = {step.command: step.least for step in steps}
     why = [re.match(rf"# was: (.*): \S", line) for line in now.splitlines()]
@@ -482,8 +476,7 @@ def judges_lossy_runs(_):
 
 
 def is_carried_badly(network, waits, order):
-    """Whether a network that carried so many datagrams has counted what it did, and done it as often as it is to: a fifth
-    of them lost, a fifth of the others doubled, each copy for itself held for more than 20 ms at 3 of 20, up to 700."""
+    """Whether a network has done and counted what it is to: losses, doubles, and copies that wait for 20 to 700 ms."""
     copies, twice = sum(waits, []), [its for its in waits if len(its) == 2]
     lost, overtaken, latest = sum(not its for its in waits), 0, {True: -1, False: -1}
     for way, number in order:
@@ -503,8 +496,8 @@ def is_carried_badly(network, waits, order):
 
 
 def carries_badly(_):
-    """The network of lossy.py loses, doubles, delays and reorders datagrams both ways, by its own clock: here one that
-    goes on by a millisecond with each datagram, and by a second behind the last."""
+    """The network of lossy.py loses, doubles, delays and reorders both ways, by a clock that goes on with each
+    datagram."""
     count, clock = 5000, SimpleNamespace(now=0)
     waits, order, real = [[] for _ in range(count)], [], lossy.time
     try:
@@ -545,8 +538,8 @@ def sees_differences(_, tool):
 
 
 def tells_a_verdict(_):
-    """The last line and the status of checks: they have passed where some did, and none failed. A run that goes on is ended, and a part that
-    breaks off has failed."""
+    """Checks pass if some passed and none failed. A run that goes on is ended, and a part that breaks off has
+    failed."""
     found = []
     for passed, failed in ((3, 0), (3, 1), (0, 2), (0, 0)):
         its = checks.Checks()

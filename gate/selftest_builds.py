@@ -40,14 +40,12 @@ def said(call, *given):
 
 
 def is_same(wanted, got):
-    """Whether both are the same; where not, they are told."""
     if got != wanted:
         print(f"{got} in place of {wanted}")
     return got == wanted
 
 
 def laid(folder, texts):
-    """Files in a folder, each with its text."""
     for name, text in texts.items():
         Path(folder, name).parent.mkdir(parents=True, exist_ok=True)
         Path(folder, name).write_text(text)
@@ -81,7 +79,6 @@ def in_turn(tasks):
 
 
 def sum_of(file):
-    """A sum of a file, or what stands for one that is not there."""
     return Path(file).read_text() if Path(file).is_file() else "none"
 
 
@@ -114,8 +111,7 @@ def without(*names):
 
 
 def fake_library(folder, name, below, asked, status=lambda: 0):
-    """A crate of which a library is built, in a folder of its own: what is asked of the prover is noted, and each time another library is
-    made, where the status is 0."""
+    """A crate whose library is built in a folder of its own: what the prover is asked is noted in `asked`."""
     rlib, crate = Path(folder, name, "out/statements", f"{name}.rlib"), None
 
     def call(*words):
@@ -132,15 +128,13 @@ def fake_library(folder, name, below, asked, status=lambda: 0):
 
 
 def built(crates, **more):
-    """Whether all are built, and what is printed meanwhile."""
     build.apart(crates)
     with without("RT_JOBS"):
         return said(build.build_all, fake_tools(**more), {*crates})
 
 
 def proves_each_library(folder):
-    """`build.py` has each library checked once, after those below it and not where one of them fails, from nothing and for its statements;
-    one is built where its check ends well, and all are where each is."""
+    """`build.py` checks each library once, behind those below it, not if one of them fails, and for its statements."""
     found = []
     for at, (failing, *_) in enumerate(DATA.failing):
         asked, top = [], folder / f"libraries-{at}"
@@ -163,9 +157,8 @@ def proves_each_library(folder):
 
 
 def takes_what_stands(folder):
-    """`build.py` takes a library that it has built of the same sources over the same libraries; it builds what is gone or another, and what
-    stands above it. A crate is not built where its source was changed while it was built, or one of a crate below since that was built, or
-    where a library below is not the one that was; nor what stands above it."""
+    """`build.py` takes a library that it built of the same sources and libraries, and builds what is gone or another,
+    and what stands above. A crate is not built if a source or a library below it changes meanwhile."""
     asked, found = [], []
     made = lambda name, *below: fake_library(folder / "standing", name, below, asked)
     a, d = made("a"), made("d")
@@ -203,8 +196,7 @@ def takes_what_stands(folder):
 
 
 def begun_with(crates, number, goes_on=None, until=None):
-    """With how many processes each of the crates but `d` and `g`, which stand above others, is made, where so many are to be used, and one
-    crate is not made until another is begun."""
+    """With how many of these processes each crate but `d` and `g` is made; `goes_on` waits until `until` is begun."""
     given, is_begun = {}, threading.Event()
 
     def make(crate, jobs):
@@ -230,8 +222,8 @@ def crate_of(name, hundreds, *below):
 
 
 def shares_processors(_):
-    """`build.py` begins as many crates as processors are idle, those first that others wait for longest, with processes for the processors
-    that no other waits for, and more for the crates that begin long chains; never more in all."""
+    """`build.py` begins as many crates as there are idle processors, and gives more processes to those of long
+    chains."""
     shared = lambda ready, idle, number, long: " ".join(f"{name}{jobs}" for name, jobs in build.shares([*ready], idle, number, [*long]))
     return is_same([wanted for *_, wanted in DATA.shares], [shared(*row) for *row, _ in DATA.shares])
 
@@ -280,9 +272,8 @@ def gives_long_chains_more(_):
 
 
 def builds_each_program(folder):
-    """`build.py` has each program built by a process of its own, which ends with it, once the libraries below it are, with the
-    processes that it may use, and not where one of those is not proved; it takes what that process has made, where it ended well, and
-    what stands as it would be built: not where its sources, a library below it or itself are others."""
+    """`build.py` has each program built by a process of its own, once the libraries below it are, and takes what that
+    has made if it ended well, or what stands as it would be built."""
     top, log, found = folder / "programs", folder / "log-of-programs", []
     for place in (top / "crates/a/out", top / "crates/b/out", folder / "bin-of-both"):
         place.mkdir(parents=True)
@@ -313,8 +304,8 @@ def builds_each_program(folder):
 
 
 def proves_a_program(folder):
-    """What `build.py` runs for a program proves, builds and runs it as `rt run` does, in the program's own folder, with words
-    that only print, and ends as that does."""
+    """`build.py --one` proves, builds and runs a program as `rt run` does, in its own folder, with words that only
+    print."""
     asked, found, crates, with_words = [], [], [], {"ocadev": ["--help"], "trials": ["calls"], "amplifier": [], "panel": []}
     are_apart = lambda: all(it.rlib == f"{it.folder}/out/statements/{it.name}.rlib" for it in crates)
     for name in with_words:
@@ -330,8 +321,7 @@ def proves_a_program(folder):
 
 
 def builds_what_is_named(folder):
-    """`build.py` builds all libraries below the programs that are named, and these, with the folders of all of them locked;
-    no name, or one that crates.txt has not, is a fault."""
+    """`build.py` builds the programs that are named and all libraries below, all locked; an unknown name is a fault."""
     x, y, z, other = (FakeCrate(name=name, folder=name, below=list) for name in ("x", "y", "z", "other"))
     a, b = FakeCrate(name="a", folder="a", below=lambda: [x, y]), FakeCrate(name="b", folder="b", below=lambda: [y, z])
     crates, found, asked = [x, y, z, other, a, b], [], []
@@ -368,8 +358,8 @@ def writes():
 
 
 def writes_in_memory(folder):
-    """`build.py` has what it starts write into a folder in memory, which is removed at the end, also where it is killed, where memory has
-    room for that beside the checks, programs can be run from there, and nobody has said another place."""
+    """`build.py` has checks write into memory if that has room, allows programs, and nobody said TMPDIR; all is
+    removed."""
     found = []
     for at, (processors, free, is_mounted_so, space, mode, said, is_there) in enumerate(DATA.of_memory):
         with memory_at(folder / f"memory-{at}", 0 if is_mounted_so else os.ST_NOEXEC, space):
@@ -424,7 +414,6 @@ def keeps_others_out(folder):
 
 
 def stand_in(file, text):
-    """Puts a program of the shell there."""
     laid(file.parent, {file.name: f"#!/bin/sh\n{text}\n"})
     file.chmod(0o755)
 
@@ -454,8 +443,8 @@ def make_fails_with(goal, folder):
 
 
 def builds_programs_anew(folder):
-    """`make install` has the programs built where there are none, or where a source or a definition of any crate is
-    newer than they are; not where only what was made of them, or a test, is."""
+    """`make install` builds programs that are missing, or older than a source or definition; a test makes none
+    older."""
     found, programs = [], ("ocadev", "ocactl", "ocapanel")
     for at, (name, second, _) in enumerate(DATA.sources):
         made = Made(folder / f"programs-{at}")
@@ -515,13 +504,12 @@ def left_crates(folder, changes):
 
 
 def files_of(folder):
-    """The sources of a crate."""
     return [str(it) for part in ("src", "specs") for it in Path(folder).glob(f"{part}/*")]
 
 
 def takes_what_the_gate_left(folder):
-    """`library.py` takes the libraries that `rt ci` has left only where each is there, has no stamp of other checks, and is newer than all sources of
-    its crate and of those below; else it builds them. `edits.py` takes them so, too."""
+    """`library.py` and `edits.py` take the libraries that `rt ci` left only if they are whole, and newer than all
+    sources."""
     found = []
     for at, (is_taken, *changes) in enumerate(DATA.left):
         low, high = left_crates(folder / f"left-{at}", changes)
@@ -538,8 +526,8 @@ def takes_what_the_gate_left(folder):
 
 
 def leaves_no_old_library(folder):
-    """`library.py` leaves no archive that it has not made, or made while a source was changed: where compiling fails, or ends well and
-    makes none, it fails."""
+    """`library.py` leaves no archive of an earlier run, of a failed compilation, or of a source that changed
+    meanwhile."""
     found = []
     for status, makes in ((0, True), (0, False), (5, False), (5, True)):
         to = folder / "old.a"

@@ -63,8 +63,8 @@ def told_by_edits(folder, crates, words, most=60):
 
 
 def tries_edits_in_groups(folder):
-    """`edits.py` tells of each edit of each crate what the prover says of that one, with whatever others it is tried,
-    and fails where one is not refused, names what is gone, or stands no more."""
+    """`edits.py` tells of each edit what the prover says of that one, and fails for one that is not refused or is
+    stale."""
     every, right = {"a": DATA.tried, "b": DATA.good_ones, "c": ["d_h_is_right"]}, True
     crates = [crate_of_edits(folder, name, edits) for name, edits in every.items()]
     for words, most in (([], 60), ([], 3), (["b"], 60), (["a"], 60), (["c"], 60)):
@@ -80,8 +80,8 @@ def tries_edits_in_groups(folder):
 
 
 def keeps_for_more_groups(folder):
-    """`edits.py` has the checks of a crate keep what they prove where its edits are several groups; where they are one, nothing, but what
-    EDITS_KEPT says. What they write and remove again lies in memory."""
+    """`edits.py` keeps what checks prove for several groups of a crate; for one group only with EDITS_KEPT. In
+    memory."""
     crates = [crate_of_edits(folder, "a", ["a_f", "c_g"]), crate_of_edits(folder, "b", ["a_f", "i_number"])]
     laid(Path(crates[0].folder), {"out/incremental/work": ""})
     found = []
@@ -104,8 +104,8 @@ def sees_what_is_not_proved(folder):
 
 
 def compares_scripts(folder):
-    """`fuzz.py` passes where each of both programs, on each script, with its words, prints just what the reference does,
-    with its faults and its status; any difference of one of them is told, and has failed. Each script is drawn anew."""
+    """`fuzz.py` passes only if each program prints what the reference does, with its fault and status, on new
+    scripts."""
     place, found, drawn = folder / "fuzzed", [], []
     laid(place, {"out": "answer\n", "err": "fault\n"})
     script_of = lambda letter: lambda r: drawn.append(r.random()) or (["words", letter], b"a line\nand more\n", lambda _: (b"answer\n", "fault", 2))
@@ -192,8 +192,7 @@ def lists_what_is_public(folder):
 
 
 def judged_neighbours(told, alone):
-    """How `neighbours.py` ends, and beside whom it runs, where a peer says this beside the last of the silent hosts,
-    and this alone; beside all others all is well."""
+    """How `neighbours.py` ends if a peer says this beside the last of the silent hosts, and that alone."""
     beside = set()
 
     def ran(room, folder, silent, seconds):
@@ -206,8 +205,7 @@ def judged_neighbours(told, alone):
 
 
 def judges_neighbours(_):
-    """`neighbours.py` counts a run as failed where what is asked is not answered, or late, each time that it is tried,
-    and tries each of its runs, and one where no host is silent."""
+    """`neighbours.py` fails a run whose questions are not answered, or late, each time, and tries each of its runs."""
     count = len(neighbours.RUNS)
     sent = neighbours.forged("10.91.0.100", 9000, b"abc")
     head, udp = sent[:20], sent[20:]
@@ -230,8 +228,7 @@ def own_names(tree):
 
 
 def named_in(tree, modules):
-    """How often each name stands in a piece of code where it is none of a function's own: `name`, `module.name` of a
-    module by what it is called there, and `.name` of any attribute."""
+    """How often each name stands in code and is not a function's own: `name`, `module.name`, and any `.name`."""
     left, found = [(tree, frozenset())], Counter()
     while left:
         node, own = left.pop()
@@ -260,7 +257,6 @@ def imported(tree):
 
 
 def texts_in(tree):
-    """The texts of a piece of code, as names."""
     constants = (it.value for it in ast.walk(tree) if isinstance(it, ast.Constant))
     return {it.replace("-", "_") for it in constants if isinstance(it, str)}
 
@@ -272,9 +268,9 @@ def looks_up(tree):
 
 
 def uncalled(folders):
-    """The functions and methods of the modules of these folders that nothing names but they themselves: neither their own module nor one that imports
-    it; of a method nor the module whose class its own one is made from. What a decorator takes is named by that, and what has a name of Python's by
-    Python."""
+    """The functions and methods of these folders that nothing names but they themselves: no other code of their module,
+    of one that imports it, or of the module of their class's base. Decorated ones, and names that Python calls, are
+    left out."""
     trees = {file: ast.parse(file.read_text()) for folder in folders for file in sorted(folder.glob("*.py"))}
     modules = {file: imported(tree) for file, tree in trees.items()}
     names = {file: named_in(tree, modules[file]) for file, tree in trees.items()}
@@ -330,8 +326,7 @@ OF_FAILURES = {"REFUSE": (4, b"no memory\n"), "FAIL_READ": (3, b"read failed\n")
 
 
 def run_with(slip):
-    """A run that asks for memory four times, reads three times and writes a byte five times. It answers each failure as
-    it is to, and prints the same in pieces of each size, but for one: that it passes over."""
+    """A run with 4 requests for memory, 3 reads and 5 writes of a byte, which passes over the failure `slip` alone."""
     def of(words, script, **settings):
         counts = [number for number, _ in OF_FAILURES.values()]
         failing = {name: number for name, number in settings.items() if name != "PIECE"} or settings
@@ -345,8 +340,7 @@ def run_with(slip):
 
 
 def fails_each_in_turn(_):
-    """`unreliable.py` makes each request for memory, each read and each write of a run fail, from the first to the last,
-    and finds the one that the run passes over, whichever it is."""
+    """`unreliable.py` fails each request, read and write of a run in turn, and finds the one that a run passes over."""
     wrong = []
     slips = [("REFUSE", n) for n in range(1, 6)] + [("FAIL_READ", n) for n in range(1, 4)] + [
         ("FAIL_WRITE", n) for n in range(1, 6)] + [("PIECE", n) for n in (1, 7, 100)] + [("REFUSE_FROM", 5)]

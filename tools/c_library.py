@@ -53,8 +53,7 @@ SANITIZED = ["-O1", "-g", "-fsanitize=address,undefined", "-fno-sanitize-recover
 
 
 def library(target):
-    """The library for a kind of processor, proved and built: over the crates below it as the gate has just proved them, or built anew where
-    it has not. One process proves it, since other steps run beside this one."""
+    """The library for a kind of processor, proved and built by one process, since other steps run beside this one."""
     run = subprocess.run([sys.executable, "gate/library.py", target], cwd=TOP, stdout=subprocess.PIPE, stderr=subprocess.STDOUT, text=True,
                          env={**os.environ, "LIBRARY_JOBS": "1"})
     if run.returncode:
@@ -72,7 +71,6 @@ def flags(prefix, lib="lib"):
 
 
 def compile_all(made, prefix):
-    """The three programs in both languages, from the installed files."""
     cflags, shared = flags(prefix)
     c_rows.test("c_library", made)
     for language, compiler in LANGUAGES.items():
@@ -123,8 +121,8 @@ def against_the_programs(checks, made, folder):
 
 
 def panels(checks, made, prefix, folder):
-    """The panel of c/panel.c over a network of its own, strictly compiled, as it is and under the sanitizers, and at `ocadev`: it finds the
-    objects that `ocactl` finds."""
+    """The panel of c/panel.c over a network of its own, strict and sanitized; at `ocadev` it finds what `ocactl`
+    finds."""
     test = c_rows.test("c_library_panel", made)
     for language, compiler in LANGUAGES.items():
         for name, more in ((f"network-{language}", []), (f"network-{language}-sanitized", SANITIZED)):
@@ -142,7 +140,6 @@ def panels(checks, made, prefix, folder):
 
 
 def each_call_sanitized(checks, made, prefix):
-    """Each call, and the C of the library under the sanitizers."""
     program = made / "calls-sanitized"
     parts = [TOP / f"c/{name}.c" for name in PARTS]
     subprocess.run(["cc", "-std=c11", *STRICT[1:], *SANITIZED, f"-I{prefix}/include", "-o", program, made / "c_library.c", *parts, prefix / "lib/liboca.a"], check=True)
@@ -193,8 +190,7 @@ def full_datagram(checks, made):
 
 
 def oversize(checks, made):
-    """A datagram of 1,473 bytes, whose first 1,472 are 86 commands, is executed by neither device of the examples: the
-    next answer is that to the next command."""
+    """Neither device executes a datagram of 1,473 bytes that begins with 86 commands: it answers the next command."""
     kept = made / "kept of a large datagram"
     for name, words in (("device", [made / "device-c11", 0, 3]), ("mixer", [made / "mixer-plain", kept, 0, 3])):
         run, port = serving(words)
@@ -230,9 +226,8 @@ def printed(run):
 
 
 def examples_alone(checks, made):
-    """The device of the example has its objects, prints each change as it is made, and is at this machine alone; at a
-    taken port it says so, as the mixer does. The panel says what a lock of another peer refuses, and that nobody
-    answers."""
+    """The device of the example has its objects, prints each change, and is at this machine alone; at a taken port it
+    says so, as the mixer does. The panel says what another peer's lock refuses, and that nobody answers."""
     run, port = serving([made / "device-c11", 0, 600])
     asker = Asker(port)
     objects_of_the_device(checks, asker)
@@ -316,8 +311,8 @@ def desk(front):
 
 
 def a_mixer(checks, made, name, before=()):
-    """The mixer of examples/c: what panels and its front set, with one datagram of five lost, is there after a kill and a restart; a file
-    that cannot be written stays as it was, and one that is broken is refused."""
+    """What is set at the mixer, over losses, is there behind a kill; a file that fails stays, and a broken one is
+    refused."""
     kept, program = made / f"kept of {name}", made / f"mixer-{name}"
     start = lambda seconds, **more: subprocess.Popen([*before, program, kept, "0", str(seconds)], stdin=subprocess.PIPE, stdout=subprocess.PIPE, stderr=subprocess.PIPE,
                                                      text=True, env=dict(os.environ, **more))
@@ -380,8 +375,7 @@ def a_mixer(checks, made, name, before=()):
 
 
 def calls_of_a_mixer(made, kept, turns, **settings):
-    """What a mixer that keeps this file calls for it, and what it says: each line of its front is given, and then so many
-    calls in all are waited for."""
+    """What a mixer calls for its file, and what it says: each line of its front is given, and so many calls awaited."""
     calls = made / f"calls for {kept.name}"
     run = subprocess.Popen([made / "mixer-plain", kept, "0", "600"], stdin=subprocess.PIPE, stdout=subprocess.PIPE, stderr=subprocess.PIPE, text=True,
                            env=dict(os.environ, LD_PRELOAD=layer("unreliable"), CALLS=str(calls), **settings))
@@ -403,8 +397,7 @@ FAILS = [({}, "", 0), ({"FULL": "5"}, "write: No space left on device\n", 0),
 
 
 def kept_safely(checks, made):
-    """What the mixer keeps is on the disk before it takes the place of the file before it, and so is the folder then. Where
-    it cannot be written whole or synced it takes no place: the mixer says so, and tries again."""
+    """The file is on the disk before it takes its place, and then its folder. What fails is told, and tried again."""
     for at, (fails, says, before) in enumerate(FAILS):
         kept = made / f"kept safely {at}"
         wanted = [f"fsync {kept}.new", f"rename {kept.name}.new {kept.name}", f"fsync {made}"]
@@ -426,8 +419,8 @@ def asked_once(asker, ono, level, index, params=b"", count=0):
 
 
 def answers_wait(checks, made):
-    """What cannot be stored is not answered, and neither is a copy of it; a command that reads is, at once. Once it can be, a copy
-    is answered, and is there behind a kill."""
+    """A command that cannot be stored is not answered, one that reads is. Later a copy is answered, and kept over a
+    kill."""
     kept = made / "kept with answers that wait"
     run, port = serving([made / "mixer-plain", kept, 0, 600])
     asker, set_it, read_it = Asker(port), (4114, 5, 2, struct.pack(">h", -7), 1), (4114, 5, 1)
@@ -455,8 +448,7 @@ def answers_wait(checks, made):
 
 
 def killed(checks, made):
-    """The mixer is killed 30 times at random moments while a panel sets one number after another: what was answered is there, or
-    what was asked behind it."""
+    """Over 30 kills at random moments: what was answered is there, or what was asked behind it."""
     kept, chance, held, answers = made / "kept over kills", random.Random(30), 0, 0
     for turn in range(30):
         run, port = serving([made / "mixer-plain", kept, 0, 600])
@@ -566,8 +558,7 @@ def files_below(room):
 
 
 def installed_as_made(checks, made, archive, place):
-    """What is installed is what was made: the header, the archive without a heap, a page for each call; and what names
-    a folder names that of the prefix, without DESTDIR."""
+    """What is installed is what was made: header, archives, pages; and what names a folder names the prefix's."""
     words = [sys.executable, "gate/reference.py", made / "pages"]
     subprocess.run(words, cwd=TOP, stdout=subprocess.DEVNULL, check=True)
     pages = {it.name: it.read_text() for it in (made / "pages").iterdir()}
@@ -617,8 +608,8 @@ def stays_below(checks, made, archive):
 
 
 def prefixes(checks, made, archive):
-    """A prefix with a space, one with a sign that awk reads in its own way, and a relative one: the panel is compiled
-    with what pkg-config says of each, and runs."""
+    """Below a prefix with a space, with a sign of awk's, and a relative one the panel compiles by pkg-config, and
+    runs."""
     relative = os.path.relpath(made / "rel", TOP)
     for prefix, place in ((made / "with a space", made / "with a space"), (made / "a&b", made / "a&b"), (relative, made / "rel")):
         make("install-library", prefix, archive)
@@ -635,7 +626,6 @@ def prefixes(checks, made, archive):
 
 
 def own_version():
-    """The version that is installed: its three numbers."""
     own = re.search(r"^Version: (\d+)\.(\d+)\.(\d+)$", (TOP / "include/oca.pc.in").read_text(), re.MULTILINE)
     return tuple(map(int, own.groups()))
 
@@ -650,12 +640,10 @@ def configured(made, folder, *words):
 
 
 def targets_in(run):
-    """The file and the headers' folder of each target that CMake found."""
     return re.findall(r"^-- (oca::.*)$", run.stdout, re.MULTILINE)
 
 
 def targets_below(prefix, lib):
-    """The same as they are to be."""
     kinds = {"oca": "liboca.so." + ".".join(map(str, own_version())), "static": "liboca.a", "core": "liboca_c.a"}
     return [f"oca::{kind} {prefix}/{lib}/{file} {prefix}/include" for kind, file in kinds.items()]
 
@@ -689,8 +677,7 @@ ARM, OF_ARM = "aarch64-unknown-linux-gnu", "lib/aarch64-linux-gnu"
 
 
 def installs_for_arm(checks, made, prefix, archive, **settings):
-    """What is installed for AArch64 has a folder of its own, which its oca.pc and its file for CMake name: the panel is
-    compiled by what they say."""
+    """What is installed for AArch64 has a folder of its own, by which oca.pc and CMake compile the panel."""
     make("install-library", prefix, archive, TARGET=ARM, **settings)
     wanted = [it.replace("lib/", f"{OF_ARM}/", 1) if it[:4] == "lib/" else it for it in INSTALLED]
     checks.same("what is installed for AArch64", files_below(prefix), wanted)
@@ -764,8 +751,8 @@ BARE = [(asks(1, 4097, 4, 2, b"\2", 1), answers(1, 0)), (asks(1, 4097, 4, 2, b"\
 
 
 def without_a_system(checks, made, prefix):
-    """The device of examples/c without an operating system, over 24,576 bytes: it answers a peer over its serial line, and none that has no
-    room, nothing malformed and nothing too large."""
+    """The bare device, over 24,576 bytes, answers one peer over its serial line, and nothing without room or
+    malformed."""
     if not shutil.which("qemu-system-aarch64"):
         return print("NOT TRIED: a board without an operating system, without qemu-system-aarch64")
     program = made / "bare"
@@ -808,7 +795,6 @@ def on_arm(checks, made):
 
 
 def on_the_first_kind(checks, made):
-    """On an x86-64 without what later ones brought."""
     if not shutil.which("qemu-x86_64"):
         return print("NOT TRIED: an x86-64 of the first kind, without qemu-x86_64")
     checks.same("each call on an x86-64 of the first kind", said_by(["qemu-x86_64", "-cpu", "Opteron_G1", made / "calls-c++17"])[1], 0)

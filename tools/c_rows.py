@@ -68,7 +68,6 @@ def in_c(wanted):
 
 
 def check(row, pointers):
-    """The check that a row is, in C."""
     what, *items = row
     what = what[2:] if what[:2] == "= " else f'"{what}"'
     if len(items) == 2:
@@ -94,7 +93,6 @@ def lines(rows, pointers):
 
 
 def function(name, rows, takes="void", has=(), when=""):
-    """The function in C that a part is."""
     text = f"static void {name}({takes}) {{\n" + "\n".join([*(f"{it};" for it in has), *lines(rows, re.findall(r"\*(\w+)", takes))]) + "\n}\n"
     return f"#ifdef {when}\n{text}#else\nstatic void {name}(void) {{}}\n#endif\n" if when else text
 

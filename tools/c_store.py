@@ -28,14 +28,12 @@ PLAIN = {"__errno_location", "memcmp", "memcpy", "memset", "strlen", "strrchr", 
 
 
 def needed(made):
-    """The calls of the system that the store makes."""
     subprocess.run(["cc", "-std=c11", "-O2", *STRICT, "-c", "-o", made / "store.o", TOP / "c/store.c"], check=True)
     text = subprocess.run(["nm", "-u", made / "store.o"], capture_output=True, text=True, check=True).stdout
     return sorted(set(re.findall(r" U (\w+)$", text, re.M)) - PLAIN)
 
 
 def stores(checks, made):
-    """Each test of c_store.c, in a folder of its own."""
     wraps, test = [f"-Wl,--wrap={name}" for name in WRAPPED], c_rows.test("c_store", made)
     for language, compiler in LANGUAGES.items():
         for kind, more in (("", ["-O2"]), (" sanitized", SANITIZED)):

@@ -60,7 +60,6 @@ class Serving:
         return self if self.port else sys.exit(f"{self.process.args[0]} said {self.said!r}")
 
     def end(self, *_):
-        """Ends the run."""
         self.process.kill()
         self.process.wait()
 
@@ -120,8 +119,8 @@ class Checks:
         return ended(self.start(*words, given=given, **how))
 
     def part(self, part):
-        """Runs a part. Where times alone were wrong it is tried twice more, since a machine that stands still for a second or two is no
-        fault of the programs; whatever else is wrong, events and counts, has failed at once."""
+        """Runs a part. If times alone were wrong it is tried twice more: a machine that stands still for a second or
+        two is no fault of the programs. Whatever else is wrong has failed at once."""
         for left in (2, 1, 0):
             passed, failed, self.late = self.passed, self.failed, 0
             part(self)

@@ -36,7 +36,6 @@ def changed(edits):
 
 
 def broken(walk, *given):
-    """The break to which a walk comes, or None."""
     try:
         walk(*given)
     except Break as fault:

@@ -37,7 +37,6 @@ def damaged(message):
 
 
 def readings(first):
-    """The datagram of all readings, under this handle and those that follow it."""
     return oca.pdu(1, [oca.Command(first + k, *of, 0, b"").body() for k, of in enumerate(READINGS)])
 
 
@@ -46,7 +45,6 @@ def event(peer, data):
 
 
 def probes(number):
-    """The events of the probe of this number."""
     yield event(READER, readings(1 + number * len(READINGS)))
     for k in AGAIN:
         yield event(SENDER, MESSAGES[k])
@@ -85,7 +83,6 @@ class Trial:
         return good
 
     def message(self, message):
-        """All that becomes of one message."""
         begin = [event(SENDER, MESSAGES[k]) for k in BEFORE]
         events, untouched, tried, refused = list(begin), list(begin), [], 0
         for data in damaged(message):

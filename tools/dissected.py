@@ -29,7 +29,6 @@ MESSAGES = {1: (("tono", "mlevel", "midx", "pcount"), ">IHHB"), 3: (("status", "
 
 
 def commands_of_methods():
-    """The datagrams of the table, a command each."""
     part = (TOP / "docs" / "PROTOCOL.md").read_text().split("### Each method, byte by byte")[1].split("\n### ")[0]
     for words in re.findall(r"^\| \d+\.\d+ [^|]*\| `([0-9A-F ]+)` \|", part, re.MULTILINE):
         message = bytes.fromhex(words)
@@ -37,7 +36,6 @@ def commands_of_methods():
 
 
 def scripts():
-    """A script for each example, and one for the table."""
     yield from (path.read_text() for path in sorted((TOP / "examples").glob("*.script")))
     yield "".join(f"{moment} 127.0.0.1:9001 {frame.hex()}\n" for moment, frame in enumerate(commands_of_methods()))
 
@@ -67,7 +65,6 @@ def read(frame):
 
 
 def read_messages(frame, at, count, names, layout, found):
-    """Notes the fields of so many messages that begin here."""
     for _ in range(count):
         size, handle = struct.unpack_from(">II", frame, at)
         found["handle"].append(handle)

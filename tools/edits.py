@@ -76,7 +76,6 @@ class Function:
         self.is_of_trait = is_of_trait
 
     def named(self, name):
-        """The same function under another name."""
         other = copy.copy(self)
         other.name = name
         return other
@@ -95,9 +94,9 @@ class Function:
 
 
 def names_of(head, is_trait):
-    """The name of the type that an `impl` is of, or of a trait, and that of the trait that it implements, if any, with the names of what
-    that trait is of, as the prover puts them together. Where the `impl` is not of the type at its own parameters alone, but at other
-    types, their names stand behind it: `impl<E> Session<Watched<E>>` is of `Session+Watched+E`, and as `impl<E> Drop for ..` of `SessionWatched`."""
+    """The names of an `impl`'s or a trait's type, and of the trait that it implements, as the prover puts them
+    together. Types other than the type's own parameters stand behind: `impl<E> Session<Watched<E>>` is
+    `Session+Watched+E`."""
     parameters = set()
     if head.startswith("<"):  # what the impl is generic over
         open_ones = [head[:at + 1].count("<") - head[:at + 1].count(">") for at in range(len(head))]
@@ -138,8 +137,7 @@ def at_its_type(function, folder, text):
 
 
 def end_of(lines, first, indent):
-    """The line at which the function ends whose head begins here, in the layout of `rt fmt`: a brace as far in as that,
-    or an empty body; or the end of its head, where this has a body too, or none."""
+    """The last line of a function in the layout of `rt fmt`: a brace as far in as its head, or the end of its head."""
     for at in range(first, len(lines)):
         is_head = at == first or lines[at].startswith(f"{indent})")
         if lines[at] in (f"{indent}}}", f"{indent}}};", f"{indent}{{}}") or is_head and lines[at].endswith(("}", ";")):
@@ -148,7 +146,6 @@ def end_of(lines, first, indent):
 
 
 def functions_of(path, text):
-    """The functions of a source file."""
     module = module_of(path)
     lines, found, block = text.split("\n"), [], None
     for at, line in enumerate(lines):
@@ -210,7 +207,6 @@ class Edit:
         return None if is_there else f"its function ensures no clause {self.clause}"
 
     def find(self, crate):
-        """Finds the functions in which its old texts stand."""
         file, lost = "", False
         for line in self.text.split("\n"):
             if line.startswith("file: "):
@@ -264,19 +260,17 @@ class Copy:
 
 
 def as_it_stands(function):
-    """What a copy of the function without an edit is called."""
     return function.named(f"{function.name}_as_it_stands")
 
 
 def proofs_of(crate, function):
-    """The files of the function's own proof."""
     folder = Path(crate.folder, "proofs", *function.path().split("::"))
     return sorted(folder.glob("*.antt"))
 
 
 def body_of(lines, function):
-    """The line at which the body of the function opens, if it is one that can be emptied: that of a method of a trait, of
-    what the compiler itself runs, and of a cycle of calls is not, nor one that stands in one line with other text."""
+    """The line that opens a body which can be emptied: of no trait's method, constant, C function, cycle or one-
+    liner."""
     head = lines[function.first]
     attributes = "\n".join(lines[attributes_at(lines, function.first):function.first])
     if function.is_of_trait or re.search(r"\bconst fn|extern \"C\"", head) or "cycle(" in attributes:
@@ -292,8 +286,8 @@ def body_of(lines, function):
 
 
 def emptied(crate, texts, touched):
-    """Empties the bodies of the functions that are not among those that edits touch, since what calls these needs their
-    contracts alone. Returns the texts of the files that have them, with those given, and the functions."""
+    """The texts with the bodies of untouched functions empty, since callers need contracts alone; and these
+    functions."""
     found, paths = [], {it.path() for it in touched}
     texts = dict(texts)
     for file in sorted(Path(crate.folder, "src").rglob("*.rt")):
@@ -322,8 +316,8 @@ def code_of(text):
 
 
 def narrowed(crate, texts, wanted):
-    """Leaves of what a function ensures the clauses that are wanted of it, by its path, where no other code names it.
-    Returns the texts of the files, with those given, and the paths of the functions."""
+    """The texts with only the wanted clauses of functions that no other code names; and the paths of these
+    functions."""
     sources = {str(it.relative_to(crate.folder)): it.read_text() for it in sorted(Path(crate.folder, "src").rglob("*.rt"))}
     sources |= {path: text for path, text in texts.items() if path.startswith("src/")}
     named = Counter(itertools.chain(*(re.findall(r"\w+", code_of(text)) for text in sources.values())))
@@ -368,7 +362,6 @@ class Group:
         return False
 
     def copies(self, crate):
-        """The copies in which edits are tried, and those of functions as they stand."""
         found, seen = [], set()
         for number, edit in enumerate(self.copied, 1):
             function, path = edit.functions[0], re.search(r"(?m)^file: (.*)$", edit.text)[1].strip()
@@ -379,8 +372,8 @@ class Group:
         return found
 
     def wanted(self, crate, copies):
-        """The clauses that refuse the edits of a function, by its path, where each of them names one: its copy as it stands
-        has those of all its copies. None of a function whose proof is by hand, since that may name the goals of others."""
+        """The clauses that refuse the edits of each function, by its path, if each names one, and no proof is by
+        hand."""
         of = [(it.functions[0], it.functions[0].path(), it.clause) for it in self.placed if len(it.keys()) == 1]
         for it in copies:
             whose = [it.edit] if it.edit else [its for its in self.copied if as_it_stands(its.functions[0]).path() == it.function.path()]
@@ -458,14 +451,13 @@ class Answer:
         return any(map(is_its, self.wrong)) or any(map(is_its, self.open)) and not any(map(is_its, self.gone))
 
     def strange(self, own, empty):
-        """A function that fails by itself though none of those that were changed: then the crate itself is not proved. Where
-        some are empty, also a lemma that is not there without their proofs."""
+        """A function, or with empty ones a lemma, that fails though it was not changed: then the crate itself is not
+        proved."""
         others = [it for it, calls in self.unproved if not calls] + self.wrong + (self.gone if empty else [])
         own = [*own, *empty]
         return next(("::".join(it) or "a lemma" for it in others if (it or empty) and not any(f.is_named(it) for f in own)), None)
 
     def reason(self, edit):
-        """Why the edit does not count as refused."""
         if self.why or self.is_proved:
             return self.why or "NOT REFUSED: what it touches is still proved"
         if any(it.is_named(parts) for parts in self.gone for it in edit.functions) or self.gone and not self.wrong:
@@ -475,8 +467,7 @@ class Answer:
 
 
 class Trial:
-    """The edits of a crate, each group tried over what the checks of the groups before it kept, where there are several: only the
-    functions that the edits touch are checked, and what these call. The gate has proved the crate itself."""
+    """The edits of a crate, in groups. Only the functions that they touch are checked, and what these call."""
 
     def __init__(self, crate, room, part=0, parts=1):
         self.crate, self.room, self.kept, self.checks, self.why = crate, room, None, 0, None
@@ -488,8 +479,8 @@ class Trial:
             self.kept = shutil.copytree(earlier, f"{room}/kept")
 
     def checked(self, texts, paths, without=()):
-        """Checks a copy of the crate with these texts: the functions of these paths, or all where there is none; without
-        the proofs of some functions."""
+        """Checks a copy of the crate with these texts: these functions, or all if there is none; some without their
+        proofs."""
         self.checks += 1
         only = [word for path in sorted(paths) for word in ("--only", path)]
         with tempfile.TemporaryDirectory(prefix="edits-") as room:
@@ -508,8 +499,8 @@ class Trial:
         return Answer(ran, texts)
 
     def try_group(self, group, empties=False):
-        """Checks the crate with the edits of a group, and returns those that are not refused, with why. Where it empties
-        what no edit touches, and anything else fails too, it checks once more without that."""
+        """Checks a group, and returns the edits that are not refused. If it empties bodies, and others fail, once more
+        whole."""
         copies = group.copies(self.crate)
         copied = {it.edit.name: [it.function] for it in copies if it.edit}
         tried = {edit.name: copied.get(edit.name, edit.functions) for edit in group.edits()}
@@ -537,8 +528,8 @@ class Trial:
         return [it for it in group.edits() if not it.is_refused]
 
     def run(self):
-        """Tries all edits: in groups, with copies and without other bodies; then those that are left in new groups, with
-        all that the crate has; at last each alone."""
+        """Tries all edits: in groups with copies and empty bodies; then the rest in new groups, whole; at last each
+        alone."""
         left, alone, is_first = [it for it in self.edits if not it.why], False, True
         while left and not self.why:
             groups = [Group(it) for it in left] if alone else grouped(left, self.crate, is_first)
@@ -572,7 +563,6 @@ def listed(folder):
 
 
 def tried(crate, part, parts):
-    """Tries the edits of a crate, or a part of them, and tells of them."""
     begun = time.monotonic()
     with tempfile.TemporaryDirectory(prefix="edits-") as room:
         trial = Trial(crate, room, part, parts)
@@ -610,8 +600,8 @@ def is_idle(number):
 
 
 def beside_proofs(tasks, crates, most):
-    """Runs the tasks, so many at most, each once the libraries below its crate are proved, of these the longest first,
-    and returns what each gave. Until the proofs have ended only half as many run, each begun on an idle processor."""
+    """Runs the tasks, the longest first, each once the libraries below are proved; until all are, half, on idle
+    processors."""
     left, running, given = sorted(tasks, key=lambda it: -tasks[it][1]), {}, {}
     with ThreadPoolExecutor(most) as pool:
         while left or running:

@@ -25,8 +25,6 @@ LOCK_TOTAL, LOCK_READONLY = 3, 6
 
 
 class Amplifier:
-    """A run of the amplifier, whose input stays open."""
-
     def __init__(self, folder, **settings):
         self.run = subprocess.Popen([f"{folder}/amplifier", "0", "100000"], stdin=subprocess.PIPE, stdout=subprocess.PIPE,
                                     stderr=subprocess.PIPE, text=True, bufsize=1, **settings)
@@ -45,13 +43,11 @@ class Peer(peers.Peer):
         super().__init__(port, 30, 1)
 
     def levels(self):
-        """Both channels as the amplifier prints them."""
         states, settings = ([self.ask(ono, level, 1)[1] for ono in onos] for onos, level in ((MUTES, 4), (GAINS, 5)))
         return shown([("muted" if state == b"\1" else "open", int.from_bytes(setting[:2], "big", signed=True)) for state, setting in zip(states, settings)])
 
 
 def shown(levels):
-    """The line of both channels."""
     (first, low), (second, high) = levels
     return f"1: {first} {low} dB/10, 2: {second} {high} dB/10\n"
 
@@ -92,8 +88,7 @@ def channel(number, mute, gain):
 
 
 def listing(checks, folder):
-    """The panel lists objects by their classes, roles and values, in the order of their blocks; where one is locked by
-    another peer, a block has too many members, or nobody answers, it says so."""
+    """The panel lists objects by classes, roles and values; it says what is locked, too long, or not answered."""
     amplifier = Amplifier(folder)
     peer = Peer(amplifier.port)
     root = [f'100 OcaBlock "root": {FOLLOW}']
@@ -179,8 +174,7 @@ def bound_at(port):
 
 
 def at_this_machine(checks, folder):
-    """The amplifier listens where it says, and nowhere else, and the panel's socket is there too; the panel says what
-    is no port, and sends nothing."""
+    """Amplifier and panel are at this machine alone; the panel says what is no port, and sends nothing."""
     amplifier = Amplifier(folder)
     checks.same("where the amplifier listens", bound_at(amplifier.port), ["127.0.0.1"])
     amplifier.stop()
@@ -217,8 +211,7 @@ def ended(folder, words, lines="", output=subprocess.PIPE):
 
 
 def ends(checks, folder):
-    """One line is turned before each of the turns that the words say, 2 without words; a line that is not turned is not
-    shown. Where the amplifier can't bind its port, or can't print, it says so and ends with 1."""
+    """One line is turned before each turn, 2 without words. A port or an output that fails is told, with status 1."""
     first, second, third = (shown(levels) for levels in ((("open", 0), ("muted", 0)), (("open", 0), ("open", 0)), (("muted", 0), ("open", 0))))
     lines = "open 1\nopen 2\nmute 1\nmute 2\n"
     for words, said in (((), first + second), ((0, 0), ""), ((0, 1), first), ((0, 2), first + second), ((0, 3), first + second + third)):

@@ -133,7 +133,6 @@ BAD = table("fuzz")["lines"]  # bad ones, and some good ones
 
 
 def hexed(r, data):
-    """as a script writes bytes: of either case"""
     return oca.hex_text(data).upper() if r.randrange(4) == 0 else oca.hex_text(data)
 
 

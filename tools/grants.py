@@ -15,5 +15,4 @@ def read_note(run):
 
 
 def without_note(text):
-    """Lines of standard error without that note."""
     return "".join(line for line in text.splitlines(keepends=True) if not line.startswith(NOTE))

@@ -33,7 +33,6 @@ OTHER = (127, 0, 0, 1, 9)  # a peer that never speaks
 
 
 def stagebox():
-    """One object of each class, with names that need care."""
     return oca.bench() + [oca.Object(*fields, **how) for *fields, how in table("hands")["stagebox"]]
 
 
@@ -164,8 +163,7 @@ class Checks(checks.Checks):
         return self.ran("ocactl", command, "--device", f"127.0.0.1:{getattr(device, 'port', device)}", *port, *words, given=given)
 
     def prints(self, what, device, words, printed, status, said=""):
-        """The words print just that, and this on standard error: nothing unless given. So many milliseconds ago is not before the run;
-        where a command was lost, which takes 5 seconds without a datagram, it is some seconds ago."""
+        """A run prints just that, and says that. `N ms ago` lies within the run; if a command was lost, seconds ago."""
         begun = time.monotonic()
         out, err, code = self.run(device, *words)
         took = (time.monotonic() - begun) * 1000
@@ -183,7 +181,6 @@ TREES = {"bench 5": lambda: oca.bench(5), "stagebox": stagebox, "long": long_ben
 
 
 def of_object(obj):
-    """How an object is set, and who has it locked."""
     return f"{obj.ono} {obj.setting()}" + (f" {obj.lock[0]} {obj.lock[1][4]}" if obj.lock else "")
 
 
@@ -201,7 +198,6 @@ def heard_as(device, asks):
 
 
 def of_rows(checks):
-    """`tree`, `get`, `set`, `lock` and `unlock`: the rows of tools/rows/hands.toml."""
     for row in DATA.device:
         tree, other = TREES[row["tree"]](), str(free_port())
         by_ono = {str(o.ono): o for o in tree}
@@ -294,7 +290,6 @@ def ended(checks, command, answers, words, lines):
 def strange_answers(checks):
     """A device that answers what no device of the profile does: a block that is in itself."""
     def endless(target, method):
-        """A root block that is its own member."""
         block = oca.u16(3) + b"\0\1\0\1\0\3\0\2"
         return 0, {CLASS: block, ROLE: oca.text_bytes("r"), MEMBERS: oca.u16(1) + (100).to_bytes(4, "big") + block}[method]
 
@@ -325,8 +320,7 @@ def silence(checks):
 
 
 def unnamed(checks):
-    """`get` of a switch whose device does not give the name of its position: that is no silence. Nothing is noted, and nothing more is
-    asked, also where another object behind it is read."""
+    """`get` of a switch without the name of its position is no silence: nothing is noted, and nothing more asked."""
     read = [(4099, CLASS, b""), (4099, (4, 1), b""), (4099, NAME, b"\0\0")]
     for more, printed, asks in ((), "", []), ((4097,), "4097 muted\n", [(4097, CLASS, b""), (4097, (4, 1), b"")]):
         with Deaf(stagebox(), [NAME]) as device:
@@ -396,7 +390,6 @@ class Terminal:
         os.write(self.file, text)
 
     def says(self, text, seconds=10):
-        """Whether it prints this in time."""
         until = time.monotonic() + seconds
         while text not in self.said and time.monotonic() < until:
             if select.select([self.file], [], [], 0.1)[0]:
@@ -407,7 +400,6 @@ class Terminal:
         return text in self.said
 
     def ends(self, seconds=10):
-        """The status of the run, where it ends in time."""
         until = time.monotonic() + seconds
         while time.monotonic() < until:
             pid, status = os.waitpid(self.pid, os.WNOHANG)
@@ -421,8 +413,8 @@ class Terminal:
 
 
 def at_a_terminal(checks):
-    """At a terminal: lines that are typed are read, also where a script runs the program; commands under way are sent again meanwhile;
-    Ctrl-D ends `run`, and `lock --hold`, whose locks are then taken off."""
+    """At a terminal typed lines are read, commands are sent again meanwhile, and Ctrl-D ends `run` and `lock
+    --hold`."""
     for script in (False, True):
         with Missing(stagebox()) as device:
             words = [f"{checks.folder}/ocactl", "run", "--device", f"127.0.0.1:{device.port}", "--port", str(free_port())]
@@ -483,8 +475,7 @@ def in_the_background(checks, device, *words, given="", place=""):
 
 
 def behind_a_terminal(checks):
-    """In the background of a terminal `lock --hold` reads nothing that is typed there, and is not stopped by it: it keeps its lock, where its output is
-    the terminal and where it is a file. It is the input alone that is not read: that of another program is."""
+    """In the background `lock --hold` reads no terminal, is not stopped, and keeps its lock; other inputs are read."""
     for name, is_file in (("lock --hold in the background", False), ("lock --hold in the background, its output in a file", True)):
         with Served(stagebox()) as device, tempfile.TemporaryDirectory() as room:
             place = f"{room}/said" if is_file else ""
@@ -528,8 +519,7 @@ def old_sessions(checks):
 
 
 def no_other_port(checks):
-    """A session that is ahead of the clock, while the other port is in use: the command goes on from its own port, and
-    what is told is that the device is heard there and answers nothing."""
+    """If the session is ahead of the clock and the other port in use, the own port is used, and the silence is told."""
     own, other = own_ports.by_turns()
     with OldSession(stagebox(), [own]) as device, silent(other):
         got = checks.run(device, "get", "--turns", 2, 4097, own=False)

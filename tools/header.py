@@ -54,8 +54,8 @@ def in_c(call, name, kind):
 
 
 def exported():
-    """The calls that the library exports, each with the parameters and the result that the header must have: those of
-    Rattle, and those of c/, whose definitions are what the header declares."""
+    """The calls that the library exports, of Rattle and of c/, with the parameters and results that the header must
+    have."""
     found = {}
     for file in sorted(CALLS.glob("*.rt")):
         for name, given, result in re.findall(r'pub extern "C" fn (\w+)\(([^)]*)\)\s*(?:-> (\w+))?', file.read_text()):
@@ -68,7 +68,6 @@ def exported():
 
 
 def prototypes(header):
-    """The prototypes of the header."""
     found = {}
     for result, name, given in re.findall(r"^((?:enum|struct) oca_\w+|uint(?:32|64)_t|void) (oca_\w+)\(([^)]*)\)(?: OCA_\w+)?;", header, re.M):
         words = [re.fullmatch(r"(.*?[ *])(\w+)", it.strip()).groups() for it in given.split(",") if it.strip() not in ("", "void")]
@@ -77,13 +76,11 @@ def prototypes(header):
 
 
 def numbered(header, name):
-    """The constants of an enum of the header, by their numbers."""
     body = re.search(rf"enum {name} \{{([^}}]*)\}}", re.sub(r"/\*.*?\*/", "", header, flags=re.S))[1]
     return {word: int(number, 0) for word, number in re.findall(r"(\w+) = (\w+)", body)}
 
 
 def fields(header, name):
-    """The fields of a struct of the header, in order, each with its type."""
     body = re.search(rf"struct {name} \{{([^}}]*)\}}", header)[1]
     found = []
     for line in filter(None, (it.strip() for it in body.split(";"))):
@@ -93,7 +90,6 @@ def fields(header, name):
 
 
 def results(header):
-    """What calls answer with, of each kind."""
     return {word for name in ("oca_result", "oca_store_result", "oca_socket_result") for word in numbered(header, name)}
 
 
@@ -111,13 +107,11 @@ def source(name):
 
 
 def variants(name, kind, prefix):
-    """The numbers of the variants of an enum in a source of the repository."""
     body = re.search(rf"pub enum {kind} \{{(.*?)\n\}}", source(name), re.S)[1]
     return {f"{prefix}{upper(of)}": int(number) for of, number in re.findall(r"^    (\w+) = (\d+),", body, re.M)}
 
 
 def methods():
-    """Each method's level and index, as one number."""
     found = {}
     rows = re.search(r"fn place_of\(.*?\n\}", source("oca_types/src/class.rt"), re.S)[0]
     for names, level, index in re.findall(r"((?:Method::\w+[ |\n]*)+) => \((\d+), (\d+)\)", rows):
@@ -126,7 +120,6 @@ def methods():
 
 
 def struct(file, name):
-    """The fields of a struct that crosses."""
     body = re.search(rf"pub struct {name} \{{(.*?)\n\}}", text(file), re.S)[1]
     found = []
     for field, of in re.findall(r"pub (\w+): (.+),", body):
@@ -147,7 +140,6 @@ def texts():
 
 
 def arms(source, kind, prefix):
-    """The numbers of the arms of a match over a type."""
     return {f"{prefix}{upper(name)}": int(number) for name, number in re.findall(rf"{kind}::(\w+)(?:\(\w+\))? => \(?(\d+)", source)}
 
 
@@ -195,7 +187,6 @@ def expected():
 
 
 def stated(header, name):
-    """What the header has under that name."""
     if name == "most":
         return {word: int(number) for word, number in re.findall(r"(OCA_MOST_\w+) = (\d+)", header)}
     if name == "version":
@@ -250,7 +241,6 @@ def stands(some, text):
 
 
 def page_faults(name, page, header, comment, version):
-    """What is wrong with the page of a call."""
     declared = re.search(rf"^(?:static inline )?[\w *]+?[ *]{name}\([^)]*\)", header, re.M)[0]
     types = set(re.findall(r"((?:struct|enum) oca_\w+)", declared)) - set(reference.NAMED_ANYWAY)
     about = re.fullmatch(rf"{name} \\- (.+)", part(page, "NAME"))
@@ -284,7 +274,6 @@ def pages_wrong(header, texts):
 
 
 def is_page_found(header, texts, name, there, other):
-    """Whether a page that is wrong so is found."""
     changed = {**texts, name: re.sub(there, other, texts.get(name, ""), count=1)}
     return changed != texts and len(pages_wrong(header, changed)[1]) > len(pages_wrong(header, texts)[1])
 
@@ -298,7 +287,6 @@ def list_wrong(page, made):
 
 
 def made_pages():
-    """The manual pages, by the names of the calls."""
     with tempfile.TemporaryDirectory() as place:
         reference.write(Path(place))
         return {file.stem: file.read_text() for file in Path(place).glob("*.3")}

@@ -25,8 +25,6 @@ PANELS, WINDOW = 10, 31
 
 
 class Panel(Network):
-    """A panel, and the network between it and the device."""
-
     def __init__(self, folder, number, count, seed, ahead):
         super().__init__((DEVICE, PORT), f"{seed} {number} {ahead}", PEER)
         self.answers, self.made = [], told_apart(self.random, count)

@@ -44,7 +44,6 @@ def number(value):
 
 class Peer(peers.Peer):
     def trims(self, value, **how):
-        """Sets the trim; the answer."""
         return self.ask(TRIM, 5, 2, number(value), **how)
 
     def trims_again(self, value, **how):
@@ -64,8 +63,8 @@ def limit_files(most):
 
 class Checks(checks.Checks):
     def serve(self, keep, *words, most=None, refusing=False):
-        """A device at a port that the system chooses, what it says before it listens, and a peer of it; beside the file there
-        are what the layer is to refuse and what it told, where it is there."""
+        """A device at a port of the system's, what it says before it listens, and its peer; with the layer `refusing`
+        or without."""
         layer = {"LD_PRELOAD": checks.layer("refusing"), "REFUSING": f"{keep}.refusing", "TOLD": f"{keep}.told"} if refusing else {}
         run = self.start("ocadev", "serve", "--port", "0", "--keep", keep, *words, text=False, env={**os.environ, **layer}, stdin=subprocess.DEVNULL,
                          preexec_fn=None if most is None else lambda: limit_files(most))
@@ -83,12 +82,10 @@ class Checks(checks.Checks):
             self.same(f"{what}: what it says", told, says)
 
     def set_once(self, keep, value=5, **how):
-        """A device that sets the trim, and is killed."""
         with self.served(keep, **how) as peer:
             peer.trims(value)
 
     def has(self, what, keep, value, *words):
-        """A device that is started anew has the trim so."""
         with self.served(keep, *words) as peer:
             self.same(what, peer and peer.trim(), value)
 
@@ -107,7 +104,6 @@ def stop(run, how=signal.SIGKILL):
 
 
 def again(keep):
-    """What is told once the state is kept again."""
     return f"note: the state is kept again: {keep}\n"
 
 
@@ -166,8 +162,7 @@ def written_once(checks, folder):
 
 
 def kills(checks, folder, times=None):
-    """At whatever moment it is killed, the file is one of those that were written whole, and what was answered is in it; at
-    most the command that was not answered is in it too."""
+    """Whenever it is killed, the file is whole and has what was answered, and at most the next command besides."""
     keep, last = f"{folder}/killed", 0
     for turn in range(times or KILLS):
         run, said, peer = checks.serve(keep, "--channels", "200")
@@ -200,7 +195,6 @@ def stops(checks, folder, times):
 
 
 def told_so(checks, what, run, form):
-    """All that it has told is of this form."""
     told = stop(run)
     checks.same(what, (told, re.fullmatch(form, told) is not None), (told, True))
 
@@ -209,8 +203,8 @@ NOT_KEPT = r"note: the state is not kept: [^\n]*\n"
 
 
 def full(checks, folder):
-    """Where the file can't be written, that is told once, the old file stays, and a command that sets something is not
-    answered; what only reads is. As soon as there is room again, a copy of the command is answered, and what it set is kept."""
+    """If the file can't be written, that is told once, the old file stays, and only readings are answered. Later it is
+    kept."""
     keep = f"{folder}/full"
     checks.set_once(keep)
     old = Path(keep).read_bytes()
@@ -231,8 +225,8 @@ def full(checks, folder):
 
 
 def goes_away(checks, folder):
-    """Where its folder goes away, the file can't be written, which is told once; as soon as the folder is there, the next
-    command that sets something is answered and kept, and a folder that goes away then is told again."""
+    """If its folder goes away, that is told once; once it is there, the next command is answered and kept; and once
+    more."""
     home = f"{folder}/away"
     keep = f"{home}/state"
     os.mkdir(home)
@@ -256,7 +250,6 @@ def put(path, words):
 
 
 def lines_told(keep):
-    """What the layer told."""
     with contextlib.suppress(FileNotFoundError):
         return Path(f"{keep}.told").read_text().splitlines()
     return []
@@ -268,19 +261,17 @@ def are_refused(keep, step, count):
 
 
 def trim_in(shown):
-    """The value that the objects of a file have."""
     found = re.search(rb"\nobject 4100 .* int16 -600 600 (-?\d+) ", shown)
     return found and int(found[1])
 
 
 def of_system(code):
-    """How the system's error of this number is told."""
     return f"{os.strerror(code)} (os error {code})"
 
 
 def refused_steps(checks, folder):
-    """While the system refuses a step of a store, no command that wrote is answered, which is told once, and readings are; as
-    soon as it does it again, that is told, a copy of the command is answered, and what it set is there behind a kill."""
+    """While a step of a store is refused, readings alone are answered, which is told once; later a copy is, and is
+    kept."""
     for at, (step, name, is_replaced) in enumerate(DATA.steps):
         code = getattr(errno, name)
         keep, what = f"{folder}/steps{at}", f"{step} is refused ({os.strerror(code)})"
@@ -350,8 +341,7 @@ class Setter:
 
 
 def waits_of(lines, before, port):
-    """By the layer's lines: how many stores there were, and for how many of them each reading from this port waited, of which each was sent behind so
-    many."""
+    """By the layer's lines: for how many stores each reading from this port waited, and how many stores there were."""
     waits, stores = {}, 0
     for words in map(str.split, lines):
         stores += words == ["stored"]
@@ -361,8 +351,7 @@ def waits_of(lines, before, port):
 
 
 def slow_store(checks, folder):
-    """Each fsync takes 300 ms, one panel sets without pause, and another only reads: no reading waits for more than one store,
-    as the layer counts them; each command is answered, and what was set is there behind a kill."""
+    """With an fsync of 300 ms, beside a panel that sets without pause, no reading waits for more than one store."""
     keep, what = f"{folder}/slow", "beside a slow store"
     run, _, peer = checks.serve(keep, refusing=True)
     setter, reader, before, sent = Setter(peer), Peer(peer.socket.getpeername()[1]), {}, 0
@@ -413,8 +402,7 @@ def other_owner():
 
 
 def linked(checks, folder):
-    """A symbolic link that is put in the place of the file while it is kept is not followed: the file takes its place, with the mode and the owner
-    that the file had which was there at the start, or was stored last. So has a file behind one that was taken away."""
+    """A link put in the file's place is not followed: the file takes its place, with the mode and owner that it had."""
     keep, target, fresh = f"{folder}/linked", f"{folder}/led", f"{folder}/unlinked"
     Path(target).write_bytes(b"of another\n")
     os.chmod(target, 0o666)
@@ -553,9 +541,9 @@ CALL = re.compile(r"(?:\[pid +\d+\] |\d+ +)?(\w+)\((.*)\) += (-?\d+)")
 
 
 class Disk:
-    """The files and the folder of a device: as the system has them, and as they are on the disk. What was written to a file
-    is on the disk, whole, behind its fsync, and else as far as any of its writes; names are there behind the folder's fsync, and
-    else as far as any of their changes, in order."""
+    """The files and the folder of a device, as the system has them and as they are on the disk: a file's bytes behind
+    its fsync, else as far as any of its writes; names behind the folder's fsync, else as far as any of their changes,
+    in order."""
 
     def __init__(self, keep):
         self.keep, self.names, self.handles, self.files, self.sure, self.changes = keep, {}, {}, [], {}, []
@@ -613,8 +601,8 @@ class Disk:
 
 
 def power_cuts(checks, folder):
-    """The power is cut behind each system call: whatever was answered with OK until then is in the file, which is whole, on any
-    of the disks that there may be then."""
+    """The power is cut behind each system call: what was answered with OK is in the file, whole, on any possible
+    disk."""
     if shutil.which("strace") is None:
         print("no strace here: the power was not cut")
         return

@@ -61,7 +61,6 @@ class History:
 
 
 def front_line(ono, kind, value):
-    """The line of a change at the front."""
     if kind == "label":
         return f"label {ono} {oca.hex_text(value.encode())}"
     return {"enabled": f"enabled {ono} {value}", "unlock": f"unlock {ono}", "failing": f"failing {ono} {value}"}.get(kind, f"set {ono} {kind} {value}")
@@ -238,13 +237,11 @@ def fronts(r):
 
 
 def reading(h, number, handle):
-    """What a panel asks that reads every object."""
     h.says(number, *(ask(handle + k, *wanted) for k, wanted in enumerate(
         [(4097, 4, 1), (4098, 4, 1), (4099, 4, 1), (4100, 5, 1), (4101, 5, 1), (4102, 5, 1), (4097, 2, 8), (4099, 4, 5), (4099, 4, 9)])))
 
 
 def wander(r):
-    """Any datagrams of some peers."""
     h = History(r.choice([1, 2, 3, 8, 31, 32, 32, 32, 63, 64]), r.choice(SIZES), r.choice(CHANNELS))
     numbers = range(r.choice([1, 2, 3, h.peers + 2]))
     panels, handle = {n: Panel(r, h.channels) for n in numbers}, 1
@@ -292,7 +289,6 @@ def verdict_of(text):
 
 
 def tale_of(history, device):
-    """What the second implementation says."""
     tale = []
     for event in history.events:
         packets, written = [], None
@@ -314,7 +310,6 @@ def lock_of(text):
 
 
 def objects_of(line):
-    """An `objects` line: a word for each object."""
     read = []
     for word in line.split(" ")[1:]:
         ono, rest = word.split("=")
@@ -327,7 +322,6 @@ TOLD = [None]  # its last is what is told where nothing was written; None as lon
 
 
 def tale_in(lines):
-    """The tale of one history's lines."""
     tale = []
     for line in lines:
         word = line.split(" ")[0]
@@ -345,12 +339,10 @@ def tale_in(lines):
 
 
 def tales(folder, histories):
-    """What the built program says of each history."""
     return [tale_in(lines[1:]) for lines in runs_of(f"{folder}/trials", "events", "history", [history.text() for history in histories])]
 
 
 def shown(history, tale, fault):
-    """A history to where it breaks, with what was said."""
     lines = history.text()
     out = lines[:1]
     for line, told in list(zip(lines[1:], tale))[:fault.at + 1]:
@@ -400,7 +392,6 @@ def altered(r, history, tale):
 
 
 def parted(packet):
-    """A packet of several responses as two."""
     if packet[7] != 3 or packet[9] < 2:
         return [packet]
     bodies = [oca.response_body(*m[1:]) for m in oca.check(packet)]
@@ -431,7 +422,6 @@ RULES, WRONG_HISTORIES = wrong_rules("wrong_devices"), 400
 
 
 def count_of(tale):
-    """What was said how often."""
     total = collections.Counter(events=len(tale), packets=sum(len(told.packets) for told in tale))
     for told in tale:
         total["said " + told.verdict[0]] += 1

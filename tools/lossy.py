@@ -37,7 +37,6 @@ class Behind:
         self.answered, self.copies = set(), 0
 
     def note(self, inward, data):
-        """A datagram is carried to the device, or to the controller."""
         for kind, *message in oca.check(data):
             if inward and kind == "command":
                 self.copies += message[1].handle in self.answered
@@ -56,7 +55,6 @@ class Network:
         self.lost = self.doubled = self.overtaken = self.carried = 0
 
     def wait(self):
-        """For how many seconds a datagram is held."""
         return self.random.uniform(0, 0.7) if self.random.random() < SLOW else self.random.uniform(0, 0.02)
 
     def accept(self, inward, data):
@@ -105,8 +103,7 @@ def step(*networks):
 
 
 class Directed(Network):
-    """Carries all commands but one at once; of that one the first copy overtakes 15, its answers wait, and the next
-    copy comes when 30 others are answered."""
+    """Carries all but command 16 at once. Its first copy overtakes 15, and the next comes behind 30 other answers."""
 
     LATE, OTHERS = 16, 30
 

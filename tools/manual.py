@@ -91,7 +91,6 @@ def default_of(text):
 
 
 def defaults_in_help(text):
-    """The default of each option that has one."""
     found = [re.match(r"\s+(?:-\w, )?--([a-z-]+)(.*)", line) for line in section(text, "Options")]
     return {m[1]: default_of(m[2]) for m in found if m and default_of(m[2])}
 
@@ -117,7 +116,6 @@ def faults_of(text, program):
 
 
 def warnings_of(*pages):
-    """What groff warns of, where it is installed."""
     if not shutil.which("groff"):
         return []
     warned = subprocess.run(["groff", "-man", "-Tutf8", "-ww", *map(str, pages)], capture_output=True, text=True).stderr
@@ -125,7 +123,6 @@ def warnings_of(*pages):
 
 
 def said_in_help(text):
-    """What the help says of each option and each command."""
     found = [re.match(r"\s+(?:-\w, )?(?:--)?([a-z-]+)(?:[ =]<[^>]+>)*\s*(.*)", line)
              for name in ("Options", "Commands") for line in section(text, name)]
     return {m[1]: m[2] for m in found if m}
@@ -171,15 +168,14 @@ def ends_told(text, program):
 
 
 def title_of(program, folder):
-    """The title of a program's page: its name, the day on which its version was set, by the newest one in CHANGELOG.md, and that version, as the
-    program says it."""
+    """The title of a program's page: its name, the day of its version by CHANGELOG.md, and the version that it says."""
     version = subprocess.run([f"{folder}/{program}", "--version"], capture_output=True, text=True, timeout=30, check=True).stdout.split()[1]
     return reference.title(program.upper(), 1, f"Rouxcanyon {version}", "User Commands")
 
 
 def calls_faults(pages):
-    """What is wrong with the pages of the calls from C, by the names of their files: one that is titled otherwise than by its name, a day, and the
-    version that `oca.pc` has and CHANGELOG.md gives that day."""
+    """The pages of the calls from C whose title has not their name, the day of CHANGELOG.md and the version of
+    oca.pc."""
     version = re.search(r"^Version: (.+)$", (PAGES.parent / "include/oca.pc.in").read_text(), re.MULTILINE)[1]
     day = re.search(rf"^## \[{re.escape(version)}\] - ([\d-]+)$", (PAGES.parent / "CHANGELOG.md").read_text(), re.MULTILINE)[1]
     return [f"{name} is not titled by {day} and {version}" for name, text in pages.items()
@@ -198,7 +194,6 @@ def of_calls(checks):
 
 
 def is_found(name, there, other, folder):
-    """Whether a page that is wrong so differs from the program."""
     text = (PAGES / f"{name}.1").read_text()
     wrong = text.replace(there, other, 1)
     return there in text and len(faults_of(wrong, f"{folder}/{name}")[0] + ends_told(wrong, name)) > 0

@@ -92,15 +92,13 @@ def run(room, folder, silent, seconds):
 
 
 def is_well(said, alone, fewest):
-    """Whether all was answered that was asked, the slowest within 100 ms longer than where no host is silent, and so many
-    datagrams at least came in the names of those that are."""
+    """Whether all was answered, at most 100 ms slower than alone, while so many datagrams of silent hosts came."""
     asked, answered, slowest, sent = said
     return asked == answered > 0 and slowest <= alone[2] + 100 and sent >= fewest
 
 
 def tried(room, folder, silent, seconds, alone=None):
-    """What the peer says beside these hosts, at the first time that all is well, else at the last; and whether it is.
-    Where no host is silent, `alone` is what the peer says itself. At least half of what is to come in their names must."""
+    """What the peer says beside these hosts, when first all is well, else at last; and whether it is."""
     fewest = silent[1] * seconds // 2 if silent else 0
     for _ in range(TRIES):
         said = run(room, folder, silent, seconds)

@@ -65,8 +65,8 @@ def answers_earlier(data, handle):
 
 
 def answer(peer, handle, to):
-    """What a device answers to GetState under a handle, and from where. The command is sent again each 300 ms, as links send theirs;
-    what answers a copy of an earlier one is no answer to it, and a machine that is busy may bring it late."""
+    """The answer to GetState under a handle, and its sender. Sent again each 300 ms; answers to earlier copies are
+    skipped."""
     for _ in range(40):
         peer.sendto(get_command(handle), to)
         until = time.monotonic() + 0.3
@@ -96,7 +96,6 @@ class Checks(checks.Checks):
         return super().start(*words, env=env, preexec_fn=prepare, **{"stdin": subprocess.DEVNULL, **how})
 
     def serve(self, turns, *words, **settings):
-        """A device, and its port."""
         run = self.start("ocadev", "serve", "--port", 0, "--turns", turns, *words, **settings)
         listening = re.match(r"listening [\d.]+:(\d+)\n", run.stderr.readline())
         grants.read_note(run)
@@ -129,7 +128,6 @@ class Waits:
 
 
 def report(run):
-    """The counts of a report by name."""
     words = run.communicate(timeout=60)[0].split()
     return {name: int(value) for name, value in zip(words[::2], words[1::2])}
 
@@ -253,8 +251,7 @@ def with_a_buffer(checks, granted, *words):
 
 
 def send_buffers(checks):
-    """Each program asks for a send buffer of 4,000,000 bytes, once. `ocadev serve` says how many are granted where
-    these are fewer than 500,000, and says nothing where the system does not tell."""
+    """Each program asks once for a send buffer of 4,000,000 bytes; `ocadev serve` notes a grant below 500,000."""
     for granted, is_said in ((1, True), (499999, True), (500000, False), (8000000, False), (0, False), (-1, False)):
         got = with_a_buffer(checks, granted, "ocadev", "serve", "--port", 0, "--turns", 1)
         note = f" the system grants a send buffer of {granted} bytes"
@@ -279,8 +276,7 @@ def arrivals(device):
 
 
 def asks_the_host(checks):
-    """A run of `ocactl get` at 127.0.0.2 that no device answers: what the host is asked last, from which address, and whether from a port of its own;
-    for how many milliseconds that is awaited; and how long a wait of 50 ms is meanwhile."""
+    """What the host is asked last by `ocactl get` from 127.0.0.2, how many ms that is awaited, and a wait of 50 ms."""
     with bound() as device:
         device.setsockopt(socket.SOL_SOCKET, SO_TIMESTAMPNS, 1)
         own, to = free_port(), at(device)
@@ -293,8 +289,8 @@ def asks_the_host(checks):
 
 
 def is_a_program_there(checks):
-    """Where a device is not heard, its host is asked whether a program has its port: by an empty datagram, from the address that the words give and a
-    port of its own, for 200 ms: as long as four waits that this script makes meanwhile."""
+    """An unheard device's host is asked by an empty datagram, from the given address, for 200 ms: four waits of this
+    script."""
     asked, took = set(), []
     for _ in range(TRIES):
         what, ms, wait = asks_the_host(checks)
@@ -309,8 +305,8 @@ def is_a_program_there(checks):
 
 
 def a_lost_address(checks):
-    """Where the machine has lost the address from which a command left, that is noted, and nothing is asked to find out more: neither
-    the device, by keep-alives, nor its host. Where it still has it, both are."""
+    """If the machine has lost the command's address, that is noted and nothing more is asked; else device and host
+    are."""
     words = ("--port", free_port(), "--first-handle", 1, "--turns", 2, 4097)
     alive, is_program_there, wanted = oca.pdu(4, [b"\0\5"]), b"", oca.command(1, 4097, 1, 1)
     for settings, asks, note in (({"GONE": 1}, set(), "the address 127.0.0.1 is gone"),
@@ -327,9 +323,8 @@ def line_of(run):
 
 
 def sends_lines(checks, device, count):
-    """A run of `ocactl run` whose input stays open, and which is given so many lines, each 60 ms behind the answer to
-    the one before: a program that looks for input each 50 ms has not looked for 10 ms then. How long each line took to
-    be sent, in milliseconds, up to the first that was not sent and answered."""
+    """How many ms each line took that `ocactl run` is given 60 ms behind an answer, where its turns would be 10 ms
+    old."""
     words = ("--device", at(device), "--first-handle", 1, "--port", free_port())
     run = checks.start("ocactl", "run", *words, stdin=subprocess.PIPE)
     took, given = [], []
@@ -364,8 +359,7 @@ def lines_at_once(checks):
 
 
 def copies_behind_a_pause(checks):
-    """A run of `ocactl run` whose second line comes a second behind the answer to the first, and is answered one wait of
-    50 ms behind its command: how often that command came."""
+    """How often the second command comes, a second behind the first answer, that is answered behind a wait of 50 ms."""
     with bound() as device:
         device.setsockopt(socket.SOL_SOCKET, SO_TIMESTAMPNS, 1)
         to = ("--device", at(device))
@@ -387,8 +381,7 @@ def copies_behind_a_pause(checks):
 
 
 def a_line_behind_a_pause(checks):
-    """A command that is submitted behind a pause is sent at its own moment, and not at that of what was heard last: it is
-    sent again 250 ms later, and not at once."""
+    """A command behind a pause is sent at its own moment: it is sent again 250 ms later, and not at once."""
     for _ in range(3):
         times = copies_behind_a_pause(checks)
         if times == 1:
@@ -452,8 +445,8 @@ def broken_pipes(checks):
 
 
 def null_at_closed(checks):
-    """Each program has the null device at each of the descriptors 0 to 2 that was closed, before it opens a socket:
-    none gets the number. It stands at no other one but at 0, which each run here has from it."""
+    """Each program has the null device at each closed one of descriptors 0 to 2, before it opens a socket; else only at
+    0."""
     with bound() as silent:
         to = silent.getsockname()[1]
         send = ("--target", 1, "--level", 1, "--index", 1, "--count", 0)
@@ -467,8 +460,7 @@ def null_at_closed(checks):
 
 
 def asleep(checks):
-    """A machine that sleeps: its sleep counts. A lock whose holder was silent meanwhile is released, and a command is not sent again
-    more than 15 seconds after its submit; with no sleep, or one that is too short, neither is so."""
+    """A machine's sleep counts: locks lapse in it, and 15 seconds behind its submit no command is sent again."""
     lock = oca.command(1, 4097, 1, 3)
     for seconds, status in ((20, 0), (10, 3), (0, 3)):
         run, port = checks.serve(100000, SLEPT=seconds)
@@ -499,8 +491,8 @@ def asleep(checks):
 
 
 def kept_safely(checks):
-    """A state that is kept is on the disk before it takes the place of the one before, and then its folder is; so it is
-    too where the file is named alone, in the folder of the run. Nothing is written while nothing is set."""
+    """A kept state is on the disk before it takes its place, and then its folder, also one named alone; once for each
+    set."""
     for is_alone in (False, True):
         with tempfile.TemporaryDirectory() as room, bound() as peer:
             place = os.path.realpath(room)
@@ -546,7 +538,6 @@ def reports_behind_a_sleep(checks):
 
 
 def calls_in(room):
-    """What the layer told of calls."""
     path = Path(room, "calls")
     return path.read_text().splitlines() if path.exists() else []
 

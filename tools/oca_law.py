@@ -161,7 +161,6 @@ def messages_fail(kind, count, p, body):
 
 
 def pdu_fails(p, rest):
-    """PduFails."""
     version, size, frame = rest[1:3], rest[3:7], frame_of(rest)
     is_version = len(version) == 2 and version == b"\0\1"
     rules = [(rest[0] != SYNC_VALUE, SYNC, p), (rest[0] == SYNC_VALUE and len(version) < 2, TRUNCATED, p + 1),

@@ -2,8 +2,10 @@
 `ocactl replay` and `trials world`. It is written from the rules of the profile and not from the programs' code, to compare them with it. It favours
 plain lists over speed. Python 3, standard library only."""
 
+import contextlib
 import copy
 import re
+import struct
 
 U32, U64 = 2**32 - 1, 2**64 - 1
 LARGEST = 1472
@@ -17,14 +19,18 @@ class Fault(Exception):
         self.kind, self.at = kind, at
 
 
+def fails(holds, kind, at):
+    if holds:
+        raise Fault(kind, at)
+
+
 def number(data):
     return int.from_bytes(data, "big")
 
 
 def check(data):
     """The messages of a datagram, or the first Fault in the order of the checks."""
-    if not data:
-        raise Fault(1, 0)
+    fails(not data, 1, 0)
     if len(data) > LARGEST:
         raise Fault(2, 1472)
     messages, p = [], 0
@@ -36,42 +42,27 @@ def check(data):
 
 
 def frame_at(data, p):
-    """The type, the count and the end of the PDU that begins at p."""
-    def field(at, size):
-        if at + size > len(data):
-            raise Fault(9, at)
-        return number(data[at:at + size])
-
-    if data[p] != 0x3B:
-        raise Fault(3, p)
-    if field(p + 1, 2) != 1:
-        raise Fault(4, p + 1)
-    size = field(p + 3, 4)
-    if size < 11:
-        raise Fault(5, p + 3)
-    if p + 1 + size > len(data):
-        raise Fault(9, p + 3)
+    fails(data[p] != 0x3B, 3, p)
+    fails(len(data) < p + 3, 9, p + 1)
+    fails(number(data[p + 1:p + 3]) != 1, 4, p + 1)
+    fails(len(data) < p + 7, 9, p + 3)
+    size = number(data[p + 3:p + 7])
+    fails(size < 11, 5, p + 3)
+    fails(p + 1 + size > len(data), 9, p + 3)
     kind, count = data[p + 7], number(data[p + 8:p + 10])
-    if kind not in (0, 1, 3, 4):
-        raise Fault(6, p + 7)
-    if count == 0 or (kind == 4 and count != 1):
-        raise Fault(7, p + 8)
-    if kind == 4 and size not in (11, 13):
-        raise Fault(8, p + 10)
+    fails(kind not in (0, 1, 3, 4), 6, p + 7)
+    fails(count == 0 or (kind == 4 and count != 1), 7, p + 8)
+    fails(kind == 4 and size not in (11, 13), 8, p + 10)
     return kind, count, p + 1 + size
 
 
 def messages_in(data, p, end, kind, count):
-    """The messages of the PDU from p to the end."""
     messages, at = [], p + 10
     for _ in range(count):
-        if at == end:
-            raise Fault(7, p + 8)
-        if end - at < 4:
-            raise Fault(8, at)
+        fails(at == end, 7, p + 8)
+        fails(end - at < 4, 8, at)
         length = number(data[at:at + 4])
-        if length < (10 if kind == 3 else 17) or at + length > end:
-            raise Fault(8, at)
+        fails(length < (10 if kind == 3 else 17) or at + length > end, 8, at)
         body = data[at:at + length]
         if kind == 3:
             messages.append(("response", number(body[4:8]), body[8], body[9], body[10:]))
@@ -79,8 +70,7 @@ def messages_in(data, p, end, kind, count):
             fields = [number(body[a:b]) for a, b in ((4, 8), (8, 12), (12, 14), (14, 16))]
             messages.append(("command", kind == 1, Command(*fields, body[16], body[17:])))
         at += length
-    if at < end:
-        raise Fault(7, p + 8)
+    fails(at < end, 7, p + 8)
     return messages
 
 
@@ -102,17 +92,14 @@ class Command:
         return (self.target, self.level, self.index, self.count, self.params)
 
     def body(self):
-        return ((17 + len(self.params)).to_bytes(4, "big") + self.handle.to_bytes(4, "big")
-                + self.target.to_bytes(4, "big") + self.level.to_bytes(2, "big") + self.index.to_bytes(2, "big") + bytes([self.count]) + self.params)
+        return struct.pack(">IIIHHB", 17 + len(self.params), self.handle, *self.asks()[:4]) + self.params
 
 
 def command(*fields):
-    """A datagram of one command that asks for a response."""
     return pdu(1, [Command(*fields).body()])
 
 
 def response(handle, status=0, count=0, params=b""):
-    """A datagram of one response."""
     return pdu(3, [response_body(handle, status, count, params)])
 
 
@@ -172,9 +159,23 @@ def tree_of_text(text):
         if line and not line.startswith(b"#"):
             try:
                 tree.append(listed(tree, line))
-            except ValueError as fault:
+            except LineFault as fault:
                 raise ObjectFault(k, str(fault)) from None
     return tree
+
+
+class LineFault(Exception):
+    """The word for a line's fault."""
+
+
+def refused(holds, fault):
+    if holds:
+        raise LineFault(fault)
+
+
+def need(value, fault):
+    refused(value is None, fault)
+    return value
 
 
 def parts(line):
@@ -182,8 +183,7 @@ def parts(line):
     while line is not None:
         if line.startswith(b'"'):
             part, quote, line = line[1:].partition(b'"')
-            if not quote or line[:1] not in (b"", b" "):
-                raise ValueError("form")
+            refused(not quote or line[:1] not in (b"", b" "), "form")
             line = line[1:] if line else None
         else:
             part, space, line = line.partition(b" ")
@@ -192,26 +192,15 @@ def parts(line):
 
 
 def next_of(fields):
-    """The next field, which must be there."""
-    return some(next(fields, None), "form")
-
-
-def some(value, fault):
-    if value is None:
-        raise ValueError(fault)
-    return value
+    return need(next(fields, None), "form")
 
 
 HIDDEN = {*range(0x20), *range(0x7f, 0xa0), 0x61c, 0x200e, 0x200f, *range(0x2028, 0x202f), *range(0x2066, 0x206a)}
 
 
 def utf8(data):
-    try:
-        text = data.decode("utf-8")
-    except UnicodeDecodeError:
-        raise ValueError("text") from None
-    if any(ord(c) in HIDDEN for c in text):
-        raise ValueError("text")
+    text = data.decode("utf-8", "surrogateescape")
+    refused(any(ord(c) in HIDDEN or 0xdc80 <= ord(c) <= 0xdcff for c in text), "text")
     return text
 
 
@@ -221,35 +210,30 @@ def whole_number(data, low, high):
 
 
 def listed(tree, line):
-    """The object of a line; a ValueError has the word for its first fault from the left, or why it is not added."""
-    if any(b < 32 for b in line):
-        raise ValueError("form")
+    """The object of a line; a LineFault has the word for its first fault from the left, or why it is not added."""
+    refused(any(b < 32 for b in line), "form")
     fields = parts(line)
-    ono, container = (some(digits(next_of(fields).decode("latin-1"), 10, U32), "number") for _ in range(2))
+    ono, container = (need(digits(next_of(fields).decode("latin-1"), 10, U32), "number") for _ in range(2))
     kind = next_of(fields).decode("latin-1")
     state = names = low = high = None
-    if kind not in CLASSES:
-        raise ValueError("class")
+    refused(kind not in CLASSES, "class")
     if kind in WORDS:
-        state = some(WORDS[kind].get(next_of(fields).decode("latin-1")), "value")
+        state = need(WORDS[kind].get(next_of(fields).decode("latin-1")), "value")
     elif kind == "switch":
         names = []
         for name in next_of(fields).split(b","):
             names.append(utf8(name))
-            if len(names) > 16:
-                raise ValueError("range")
+            refused(len(names) > 16, "range")
         wanted = next_of(fields)
-        state = some(next((n for n, name in enumerate(names) if name.encode() == wanted), None), "value")
+        state = need(next((n for n, name in enumerate(names) if name.encode() == wanted), None), "value")
     elif kind != "block":
         size, signed = WIDTHS[kind]
         span = (-2**(8 * size - 1), 2**(8 * size - 1) - 1) if signed else (0, 2**(8 * size) - 1)
-        low, high, state = (some(whole_number(next_of(fields), *span), "number") for _ in range(3))
-    lockable = some({b"lockable": True, b"no-lock": False}.get(next_of(fields)), "lockable")
+        low, high, state = (need(whole_number(next_of(fields), *span), "number") for _ in range(3))
+    lockable = need({b"lockable": True, b"no-lock": False}.get(next_of(fields)), "lockable")
     last = next_of(fields)
-    if next(fields, None) is not None:
-        raise ValueError("form")
-    role = utf8(last)
-    new = Object(ono, kind, container, role, lockable, state, names, low, high)
+    refused(next(fields, None) is not None, "form")
+    new = Object(ono, kind, container, utf8(last), lockable, state, names, low, high)
     refuse(tree, new)
     return new
 
@@ -264,12 +248,10 @@ def refuse(tree, new):
     for fault, holds in (("full", len(tree) >= 4096), ("reserved", new.ono < 4096), ("taken", any(o.ono == new.ono for o in tree)),
             ("container", block is None), ("depth", deep >= 8), ("text", not new.role or any(len(t.encode()) > 64 for t in texts)),
             ("range", new.low is not None and not new.low <= new.state <= new.high)):
-        if holds:
-            raise ValueError(fault)
+        refused(holds, fault)
 
 
 def show(tree):
-    """What `ocadev show` prints."""
     return "".join(f"{o.ono} {'.'.join(map(str, CLASSES[o.kind]))} {o.container} {o.role}\n" for o in tree)
 
 
@@ -299,13 +281,11 @@ class Reader:
     def text(self):
         count = self.unsigned(2)
         for size in range(0, min(64, len(self.data)) + 1):
-            try:
+            with contextlib.suppress(UnicodeDecodeError):
                 text = self.data[:size].decode("utf-8")
-            except UnicodeDecodeError:
-                continue
-            if len(text) == count:
-                self.take(size)
-                return text
+                if len(text) == count:
+                    self.take(size)
+                    return text
         raise Bad
 
     def listed(self, obj, read):
@@ -483,25 +463,23 @@ def change(obj, peer, key, args):
 # ---- changes at the front
 
 NO_OBJECT, NO_SETTING, OTHER_KIND, TOO_FAR = 1, 2, 3, 4
-
-
 # What the front changes besides a setting, and the faults of that.
 CHANGES = ("label", "enabled", "unlock", "failing")
 BAD_LABEL, NOT_LOCKED = 2, 3
 
 
 def change_local(obj, kind, value):
-    """Gives an object a label, enables or disables it, takes its lock off, whoever holds it, or says whether its hardware refuses peers."""
+    """Changes an object's label or flags, or takes its lock off, whoever holds it. The number of the fault, or None."""
+    if kind == "label" and len(value.encode()) > 64:
+        return BAD_LABEL
+    if kind == "unlock" and obj.lock is None:
+        return NOT_LOCKED
     if kind == "label":
-        if len(value.encode()) > 64:
-            return BAD_LABEL
         obj.label = value
     elif kind == "enabled":
         obj.enabled = bool(value)
     elif kind == "failing":
         obj.failing = bool(value)
-    elif obj.lock is None:
-        return NOT_LOCKED
     else:
         obj.lock = None
     return None
@@ -616,7 +594,6 @@ class Device:
         return judged, [("response", response_body(command.handle, *reply))] if answered else []
 
     def set(self, ono, kind, value):
-        """A change at the front: nothing, or the number of the fault."""
         return set_local(self.tree, ono, kind, value)
 
 
@@ -701,8 +678,8 @@ DEVICE = (127, 0, 0, 1, 65000)
 
 
 class Network:
-    """A device at 127.0.0.1:65000, a link for each start (a peer and a first handle), and two lists of datagrams that only grow: those sent to the
-    device and those sent to links, each a pair of the link's peer and the bytes. A step is a tuple, as `step_line` writes it."""
+    """A device, a link for each start (a peer and a first handle), and the datagrams sent to the device and to links,
+    each with the link's peer. A step is a tuple, as `step_line` writes it."""
 
     def __init__(self, window, span, starts, peers=16):
         self.device = Device(window=window, peers=peers)
@@ -748,7 +725,6 @@ class Network:
         return f"sent {len(self.to_device) - 1}"
 
     def transcript(self, outcomes):
-        """What a run prints whose steps led to these texts."""
         sent = [("to-device", d) for d in self.to_device] + [("to-link", d) for d in self.to_links]
         return ["schedule"] + outcomes + [f"{way} {peer_text(peer)} {hex_text(data)}" for way, (peer, data) in sent] \
             + [f"sessions {len(self.device.sessions)}"]
@@ -767,10 +743,6 @@ def step_line(step):
 
 
 # ---- scripts
-
-
-class LineFault(Exception):
-    pass
 
 
 def digits(field, most, largest):
@@ -800,21 +772,13 @@ def hex_text(data):
     return data.hex() if data else "-"
 
 
-def need(value, fault):
-    if value is None:
-        raise LineFault(fault)
-    return value
-
-
 def device_line(device, fields):
-    if len(fields) >= 2 and fields[1] == "quiet":
-        if len(fields) != 2:
-            raise LineFault("form")
-        device.advance(need(digits(fields[0], 20, U64), "moment"))
-        return ["quiet"]
-    if len(fields) != 3:
-        raise LineFault("form")
+    is_quiet = fields[1:2] == ["quiet"]
+    refused(len(fields) != (2 if is_quiet else 3), "form")
     now = need(digits(fields[0], 20, U64), "moment")
+    if is_quiet:
+        device.advance(now)
+        return ["quiet"]
     peer = need(peer_of(fields[1]), "peer")
     data = need(hex_of(fields[2]), "hex")
     text, out = device.datagram(peer, data, now)
@@ -823,13 +787,11 @@ def device_line(device, fields):
 
 def link_line(link, fields):
     if fields[0] == "take":
-        if len(fields) != 2:
-            raise LineFault("form")
+        refused(len(fields) != 2, "form")
         answer = link.take(need(digits(fields[1], 10, U32), "number"))
         return ["none" if answer is None else f"answer {answer[0]} {answer[1]} {hex_text(answer[2])}"]
     keyword = fields[1] if len(fields) > 1 else ""
-    if len(fields) != {"submit": 7, "due": 2, "from": 4}.get(keyword, -1):
-        raise LineFault("form")
+    refused(len(fields) != {"submit": 7, "due": 2, "from": 4}.get(keyword, -1), "form")
     now = need(digits(fields[0], 20, U64), "moment")
     if keyword == "due":
         kind, data = link.due(now)
@@ -837,9 +799,8 @@ def link_line(link, fields):
     if keyword == "from":
         peer = need(peer_of(fields[2]), "peer")
         return [link.datagram(peer, need(hex_of(fields[3]), "hex"), now)]
-    numbers = [digits(fields[2], 10, U32), digits(fields[3], 5, 65535), digits(fields[4], 5, 65535), digits(fields[5], 3, 255)]
-    if None in numbers:
-        raise LineFault("number")
+    sizes = ((10, U32), (5, 65535), (5, 65535), (3, 255))
+    numbers = [need(digits(field, *size), "number") for field, size in zip(fields[2:], sizes)]
     return [link.submit(*numbers, need(hex_of(fields[6]), "hex"), now)]
 
 
@@ -850,24 +811,16 @@ def replay(script, serve):
     lines = script[:limit].split(b"\n")
     partial = lines.pop()
     out = []
-    for k, line in enumerate(lines + ([] if over else [partial]), 1):
-        fault = None
-        if len(line) > 4096:
-            fault = "too long"
-        elif line and not line.startswith(b"#"):
-            if any(b > 127 for b in line):
-                fault = "form"
-            else:
-                try:
-                    out += serve(line.decode("ascii").split(" "))
-                except LineFault as f:
-                    fault = str(f)
-        if fault:
+    for k, line in enumerate([*lines, partial], 1):
+        try:
+            refused(len(line) > 4096, "too long")
+            if over and k > len(lines):
+                return text_of(out), "too much input", 1
+            if line and not line.startswith(b"#"):
+                refused(not line.isascii(), "form")
+                out += serve(line.decode("ascii").split(" "))
+        except LineFault as fault:
             return text_of(out), f"line {k}: {fault}", 2
-    if over:
-        if len(partial) > 4096:
-            return text_of(out), f"line {len(lines) + 1}: too long", 2
-        return text_of(out), "too much input", 1
     return text_of(out), None, 0
 
 

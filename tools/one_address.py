@@ -56,15 +56,14 @@ class Machines(namespaces.Machines):
 
 
 def sets_mute(data):
-    """Whether a datagram has a command that sets the mute."""
     with contextlib.suppress(oca.Fault):
         return any(m[0] == "command" and m[2].asks()[:3] == (MUTE, 4, 2) for m in oca.check(data))
     return False
 
 
 class Relay(peers.Relay):
-    """Stands at the device's address before `ocadev serve`: each peer is one of the device, too. It loses the answer to the first command
-    that sets the mute; from then on nothing passes until it is told that the link is gone."""
+    """Before `ocadev serve`, at the device's address: loses the first mute's answer, and then all until the link is
+    gone."""
 
     def __init__(self, device):
         self.passes, self.setting, self.other = True, set(), peers.Peer(device, 10, 1)
@@ -89,8 +88,7 @@ class Relay(peers.Relay):
 
 
 def relay(folder):
-    """A device behind the relay, until the input says that the link is gone, and then that the program has ended: prints how the mute is set, and from
-    how many peers a command came that sets it."""
+    """A device behind the relay, until the input says that the program ended: the mute, and how many peers set it."""
     with Serving(f"{folder}/ocadev", "serve", "--port", 0) as device, Relay(device.port) as way:
         print("listening", flush=True)
         sys.stdin.readline()
@@ -123,12 +121,10 @@ def cut_between(machines, relay, keeps_address):
 
 
 def told_by(relay):
-    """What the relay says of the mute once the program has ended."""
     return relay.communicate("ended\n", timeout=60)[0].split()
 
 
 def relayed(machines, folder):
-    """A relay with its device."""
     relay = machines.start(machines.device, sys.executable, os.path.abspath(__file__), "relay", folder, stdin=subprocess.PIPE)
     if relay.stdout.readline() != "listening\n":
         sys.exit(f"one_address: no relay: {relay.communicate()[1]}")

@@ -19,7 +19,6 @@ import kit
 
 
 def main(name, paths):
-    """Checks the functions with these paths of a crate, and gives the exit status of the check."""
     rt = kit.toolchain()
     crate = kit.crates(rt)[name]
     words = crate.words(["--jobs", "1"] + [word for path in paths for word in ("--only", path)], as_source=True)

@@ -44,12 +44,10 @@ def bound(ip="127.0.0.1", port=0):
 
 
 def at(end):
-    """Where a socket is, as the programs' options have it."""
     return "{}:{}".format(*end.getsockname())
 
 
 def heard(end):
-    """The datagrams that lie at a socket."""
     end.setblocking(False)
     found = []
     with contextlib.suppress(BlockingIOError):

@@ -40,7 +40,6 @@ TOKEN = re.compile(r"""("(?:[^"\\\n]|\\.)*"|'(?:[^'\\\n]|\\.)*')|((?:(?<=[(=:,!&
 
 
 def style(folder):
-    """The style without its comments and the spaces that it does not need."""
     text = re.sub(r"/\*.*?\*/", "", (folder / "page.css").read_text(), flags=re.DOTALL)
     text = re.sub(r"\s+", " ", text)
     text = re.sub(r"\s*([{};,>])\s*", r"\1", text)
@@ -136,17 +135,14 @@ def joined(text):
 
 
 def sources(folder):
-    """The script as it is written, without comments and spaces."""
     return without_spaces("\n".join((folder / f"{name}.js").read_text() for name in SCRIPTS))
 
 
 def script(folder):
-    """The script of the page as it is sent."""
     return '"use strict";' + joined(as_arrows(shorten(sources(folder), folder)))
 
 
 def page(folder=None):
-    """The page, its style and its script."""
     folder = folder or SOURCES
     css, js = style(folder), script(folder)
     text = (folder / "page.html").read_text()
@@ -159,7 +155,6 @@ def digest(text):
 
 
 def made():
-    """What page.rt is to be."""
     text, css, js = page()
     return HEAD.replace("{style}", digest(css)).replace("{script}", digest(js)).replace("{page}", text)
 

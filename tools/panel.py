@@ -135,11 +135,9 @@ class Panel(Serving):
         return json.loads(self.exchange(self.asks("GET", path))[2])
 
     def status(self, path="/", **fields):
-        """The status of the answer to a question for a page."""
         return self.exchange(self.asks("GET", path, **fields))[0]
 
     def post(self, path, body, **fields):
-        """The status and the JSON of the answer to an order."""
         status, _, text = self.exchange(self.orders_by(path, body, **fields))
         return status, json.loads(text) if text else None
 
@@ -217,13 +215,11 @@ def locked(folder, device_port, ono):
 
 
 def ran(folder, *words):
-    """The status of a run of the panel that ends at once, what it prints, and what it says of faults."""
     r = subprocess.run([f"{folder}/ocapanel", *map(str, words)], capture_output=True, text=True, timeout=30)
     return r.returncode, r.stdout, r.stderr
 
 
 def words(folder):
-    """The words of the command line, and files that they name."""
     device = ("--device", "127.0.0.1:65000")
     status, out, err = ran(folder, "--help")
     check(status == 0 and "--listen" in out and not err, "--help")
@@ -324,8 +320,7 @@ def hostile(panel):
 
 
 def protected(panel):
-    """Each answer, also one that refuses, asks the browser not to keep it, not to guess its type and to give it to no
-    other page; and what is JSON says so."""
+    """Each answer, also a refusal, forbids keeping, guessing types and framing; JSON says that it is JSON."""
     for row in panel.rows("protected"):
         data = request(row)
         status, fields, text = panel.exchange(data)
@@ -336,8 +331,8 @@ def protected(panel):
 
 
 def in_one_piece(panel):
-    """Many requests that come in one piece are answered one behind the other, while no page asks for values. A panel that waited for
-    something else behind each few of them would take some 35 seconds, and one that goes on a tenth of one."""
+    """Many requests in one piece are answered in a row: in a tenth of a second, not in some 35 with waits between
+    them."""
     asked, count, size, seen = panel.asks("GET", "/"), 2500, 1, 0
     with contextlib.suppress(OSError), panel.connected() as s:
         s.sendall(asked)
@@ -385,8 +380,7 @@ def is_kept(panel, s):
 
 
 def little_by_little(panel):
-    """A connection that sends its request a byte at a time has 5 seconds, and so has one that takes its answers so:
-    that something moves on it does not keep it."""
+    """A request that comes a byte at a time has 5 seconds, and so have answers that are taken so."""
     begun, kept, closed, rest = time.monotonic(), set(), {}, panel.asks("GET", "/") * 2500
     with panel.connected() as sends, panel.connected(small=True) as takes:
         for s in (sends, takes):
@@ -411,8 +405,8 @@ def little_by_little(panel):
 
 
 def crowd(panel):
-    """128 connections with half a request on each cost a browser nothing: those that ask behind them are answered at once,
-    and of 32 visitors each keeps its connection."""
+    """Beside 128 connections with half a request others are answered at once, and 32 visitors keep their
+    connections."""
     time.sleep(0.2)
     visitors = [panel.connected() for _ in range(32)]
 
@@ -479,7 +473,6 @@ def cut_off(folder):
 
 
 def notes_of(panel):
-    """What a panel has told when it is ended."""
     panel.process.terminate()
     return panel.process.communicate(timeout=20)[1].splitlines()
 
@@ -541,7 +534,6 @@ def many_tree():
 
 
 def many(folder):
-    """4,096 objects."""
     text, last = many_tree()
     with Device(folder, 0, text) as device, Panel(folder, device.port) as panel:
         took = panel.comes(is_walked, "4,096 objects are walked", 60)
@@ -608,13 +600,12 @@ def classes(folder):
 
 
 def command(port, *words):
-    """The status of a command of another controller."""
     return (Peer(port).ask(*words) or (None,))[0]
 
 
 class Noting(Other):
-    """The second implementation's device, which notes of each handle when its first command came, what that asks and how many copies of it came;
-    `says` is what it answers."""
+    """The second implementation's device, which notes when each handle came, what it asks, and its copies; `says`
+    answers."""
 
     def __init__(self, tree=None, ono=TRIM, method=(5, 1)):
         super().__init__(tree)
@@ -636,8 +627,7 @@ class Noting(Other):
 
 
 def without_a_page(folder):
-    """Once no page asks for values any more, the panel asks the device for nothing more: there are two seconds in which
-    no command comes."""
+    """Once no page asks any more the panel asks nothing: there are two seconds in which no command comes."""
     with walked(folder, Served(oca.bench())) as (device, _):
         def commands():
             device.heard.clear()
@@ -724,8 +714,7 @@ def visible_first(folder):
 
 
 def often(folder):
-    """What a page shows is read some ten times a second: once within a minute there are two seconds in which it is read
-    eight times, which a panel that reads each second never does."""
+    """What a page shows is read some ten times a second: within a minute eight times in two seconds."""
     with Noting(oca.bench()) as device, Panel(folder, device.port) as panel:
         def came():
             return [device.came[handle] for handle, what in list(device.asked.items()) if what == device.what]
@@ -734,8 +723,8 @@ def often(folder):
 
 
 class Withheld(Noting):
-    """The same, which keeps back what it answers where the value of one object is asked for, while it is told to. It notes when the newest command
-    about it came that it answered."""
+    """The same, which keeps back its answers about one object while `holds`, and notes when the last answered question
+    came."""
 
     holds, answered = False, 0.0
 
@@ -769,8 +758,8 @@ def aged(folder):
 
 
 class Stale(Noting):
-    """The same, which holds its answer back where it is asked for the value of one object, until that is set: then it comes behind the answer to that,
-    and no other one about the value does."""
+    """The same, which keeps its answer about one object until that is set: then the old answer comes behind the new
+    one."""
 
     holds, held = False, ()
 
@@ -784,8 +773,7 @@ class Stale(Noting):
 
 
 def newer_than_an_answer(folder):
-    """An answer that is older than an order takes nothing back of what the order did: it is tried again where the
-    machine was so busy that the link was lost meanwhile."""
+    """An answer older than an order takes nothing back of it. Tried again if the link was lost on a busy machine."""
     with Stale(oca.bench()) as device, Panel(folder, device.port) as panel:
         for value in ("5", "6", "7"):
             panel.wait(lambda v: v["walked"] and panel.value(TRIM) is not None)
@@ -827,8 +815,8 @@ def failing(folder):
 
 
 def unwatched(folder):
-    """A device is found while no page asks for anything: its answers wake the panel. The fastest of nine runs counts, which takes a third
-    of a second where the machine is not busy; where its timers alone wake it, each takes some two seconds."""
+    """Without a page answers wake the panel: of nine runs the fastest finds a device in a third of a second, not in
+    two."""
     took, is_found = [], False
     while len(took) < 9 and min(took, default=9) >= 1:
         with Served(oca.bench(80)) as device, Panel(folder, device.port) as panel:
@@ -930,8 +918,8 @@ def ticket_in(answer):
 
 
 def late_orders(folder):
-    """An order that waited while the panel stood still is told as not sent, on a connection that was there and on one
-    that came meanwhile, and so is one whose last moment has passed; the next one is carried out."""
+    """An order that waited while the panel stood still, or is past its moment, is told as not sent; the next is
+    done."""
     ahead = Ahead()
     with walked(folder, **ahead.words) as (device, panel):
         same("an order beside no standstill", panel.fare("/set", MUTE, "muted"), None)
@@ -957,8 +945,8 @@ def late_orders(folder):
 
 
 def filled(panel):
-    """A connection that has asked for so much, and takes nothing, that the panel writes no more to it, and so reads no
-    more from it: more than the system keeps of what was written."""
+    """A connection that takes nothing, with more answers than the system keeps, so that the panel reads no more from
+    it."""
     size = len(panel.exchange(panel.asks("GET", "/"))[2])
     most = int(Path("/proc/sys/net/ipv4/tcp_wmem").read_text().split()[2])
     s = panel.connected(small=True)
@@ -979,8 +967,8 @@ def last_answer(s):
 
 
 def behind_untaken_answers(folder):
-    """An order that came while the panel stood still, on a connection whose answers nobody took so far, is told as not sent: the panel
-    reads it only once they are taken. It is tried again where the machine was so busy that the connection had its 5 seconds."""
+    """An order of while the panel stood still, behind answers that nobody took, is told as not sent. Tried again if
+    slow."""
     ahead = Ahead()
     with walked(folder, **ahead.words) as (device, panel):
         same("an order before answers that nobody takes", panel.fare("/set", MUTE, "muted"), None)
@@ -998,8 +986,7 @@ def behind_untaken_answers(folder):
 
 
 def over_a_stop(folder):
-    """An order in flight, without an answer, while the panel stands still for 20 seconds: it is told as lost, and is
-    not sent again. It is tried again where the machine was so busy that the link was lost before."""
+    """An order in flight over a stop of 20 s is lost, and not sent again. Tried again if the link was lost before."""
     for _ in range(9):
         ahead = Ahead()
         with walked(folder, Noting(stagebox(), 4097, (4, 2)), **ahead.words) as (device, panel):
@@ -1027,8 +1014,8 @@ def address_towards(device):
 
 
 def bound_for(folder):
-    """The socket for a device is at the one address from which the system reaches it, at 127.0.0.1 for one on this machine, and else at
-    the one that is given; where the system has no route to the device, there is none."""
+    """The socket for a device is at the one address that reaches it, or at the given one; without a route there is
+    none."""
     rows = [(device, (), address_towards(device)) for device in ("127.0.0.1:9", "127.255.0.2:9", "10.255.255.254:9", "126.0.0.1:9", "192.0.2.1:9")]
     same("the system reaches itself from 127.0.0.1", [wanted for _, _, wanted in rows[:2]], ["127.0.0.1"] * 2)
     for device, given, wanted in [*rows, ("127.0.0.1:9", ("--ip", "127.0.0.2"), "127.0.0.2"), ("127.0.0.1:9", ("--ip", "0.0.0.0"), "127.0.0.1")]:
@@ -1050,8 +1037,6 @@ ORDERED = dict.fromkeys([(4097, 4, 2), (4097, 1, 3)], (0, b""))
 
 
 class OneMute(Noting):
-    """The device with one mute."""
-
     def __init__(self):
         super().__init__()
         self.its = FOUND | ORDERED
@@ -1083,8 +1068,8 @@ def finds_a_mute(device, panel):
 
 
 def a_mute(folder):
-    """A device with one mute is found by one question for each thing, and the orders about the mute fare one after the other as
-    the device answers. It is tried again where the machine was so busy that a page asked too early."""
+    """One mute is found by one question a thing, and its orders fare in order. Tried again if a page asked too
+    early."""
     for _ in range(9):
         with OneMute() as device, Panel(folder, device.port) as panel:
             if finds_a_mute(device, panel) is None:
@@ -1106,8 +1091,7 @@ def a_mute(folder):
 
 
 def limits_of_orders(folder):
-    """The last 512 orders are told, by their tickets. Of a mute 256 orders wait behind one in flight, and one more is not taken; that
-    is tried again where the machine was so busy that the link was lost meanwhile."""
+    """The last 512 orders are told. Behind one in flight 256 wait, and no more. Tried again if the link was lost."""
     with walked(folder, Served(oca.bench())) as (_, panel):
         same("how 514 orders fared", {panel.fare("/set", 4097, "unmuted") for _ in range(514)}, {None})
         for query, first in (("", 3), ("&told=510", 510)):
@@ -1133,8 +1117,8 @@ def spans(folder):
 
 
 def counted(folder):
-    """What the panel says of its link is what came to the device: how many commands, and how many datagrams repeated
-    one; and how long ago the device was heard is less again whenever it is. It leaves the first copies of the first nine commands unanswered."""
+    """The panel counts commands and copies as they came, and how long ago it heard the device; nine first copies are
+    missed."""
     with Noting(oca.bench()) as device:
         misses = lambda data: any(device.copies[one.handle] == 1 and [*device.came].index(one.handle) < 9 for one, _ in commands_in(data))
         device.says = lambda peer, data, now: ("", []) if misses(data) else device.answers(peer, data, now)
@@ -1166,8 +1150,7 @@ def at_its_port(folder):
 
 
 def at_an_old_port(folder):
-    """A panel at a port whose session has higher handles at the device, as one that is started again behind the moment at
-    which handles begin anew: it says so, and is answered at another port."""
+    """At a port whose session has higher handles a panel says so, and is answered at another port."""
     port = free_port()
     with walked(folder, OldSession(stagebox(), [port]), "--port", str(port), notes=1) as (device, panel):
         begins = f"note: 127.0.0.1:{device.port} answers no command from port {port}: port "
@@ -1290,7 +1273,6 @@ def tokens(folder):
 
 
 def by_token(panel):
-    """What a panel with a token answers."""
     status, fields, body = panel.exchange(panel.asks("GET", f"/?token={panel.token}"))
     check(status == 200 and body.startswith(b"<!doctype html>"), f"the page with its token: {status}")
     same("the cookie", fields.get("set-cookie"), f"ocapanel-{panel.port}={panel.token}; HttpOnly; SameSite=Strict; Path=/")
@@ -1316,7 +1298,6 @@ def only_shown(folder):
 
 
 def units(folder):
-    """Units stand in the tree."""
     with tempfile.TemporaryDirectory() as room, Device(folder) as device:
         path = Path(room) / "units"
         path.write_text("# units\n\nclass int16 0.1 dB\n  ono 4100\t-10 mV\r\nclass uint8 7 %\n")

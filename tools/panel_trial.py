@@ -47,7 +47,6 @@ def prepared(sources=None, place=None):
 
 
 def in_node(sources=None, name=""):
-    """The cases in node: what came of each."""
     with tempfile.TemporaryDirectory() as place:
         done = subprocess.run(["node", str(CASES / "run.js"), *prepared(sources, place), name], capture_output=True, text=True, timeout=120)
     lines = [json.loads(line) for line in done.stdout.splitlines() if line.startswith("{")]
@@ -71,7 +70,6 @@ def is_refused(wrong):
 
 
 def wrong_pages():
-    """Each wrong page is refused by its case."""
     with ThreadPoolExecutor(4) as pool:
         for wrong, (stands, refused) in zip(DATA.wrong, pool.map(is_refused, DATA.wrong)):
             check(stands, f"wrong page: {wrong['does']}: its line does not stand once in {wrong['file']}")
@@ -115,7 +113,6 @@ class Browser:
         return self.number
 
     def result(self, number):
-        """What came to a question."""
         while number not in self.results:
             got = self.message()
             if got.get("method") in ("Runtime.consoleAPICalled", "Runtime.exceptionThrown", "Log.entryAdded"):
@@ -183,7 +180,6 @@ class Window:
         return waited(lambda: self.run(script) is True, seconds, 0.02)
 
     def holds(self, script, what, seconds=20.0):
-        """Checks that a script becomes true."""
         is_so = self.wait(script, seconds) is not None
         return check(is_so, f"{what}: {'' if is_so else self.run('program.state+document.title')}")
 
@@ -278,7 +274,6 @@ def idle(ono):
 
 
 def message_has(text):
-    """The strip of the mute says this."""
     return f"{row(MUTE, '.strip.message.textContent')}.includes({json.dumps(text)})"
 
 
@@ -397,7 +392,6 @@ def locks(folder, device, one, two):
 
 
 def give_label(folder, device, ono, text):
-    """Another controller gives an object a label."""
     params = (len(text).to_bytes(2, "big") + text.encode()).hex()
     ocactl(folder, device.port, "send", *f"--target {ono} --level 2 --index 9 --count 1 --params {params}".split())
 
@@ -519,8 +513,7 @@ SEEN = f"(()=>{{const r={row(TRIM)};return[r.value,isOpen()&&isSure(r),program.u
 
 
 def ages(folder, browser, seconds=20):
-    """At 20 % loss, with a stage box in view: what is shown as confirmed the device had within the last 2 s; and how long a change by another
-    controller takes to be seen."""
+    """At 20 % loss what is shown as confirmed was so within the last 2 s; and how soon another's change is seen."""
     with Device(folder) as device, Lossy(device.port, 5) as relay, program(folder, relay.port) as panel, \
             opened(browser, panel.address, "a stage box is shown at 20 % loss", 120, height=1600) as window:
         # what the device had, each with the moment at which it was there and the one from which on it was surely gone
@@ -604,7 +597,6 @@ def with_token(folder, browser):
 
 @contextlib.contextmanager
 def started_without_cookies(browser):
-    """A window with cookies of its own."""
     context = browser.call("Target.createBrowserContext")["browserContextId"]
     window = object.__new__(Window)
     window.browser = browser

@@ -20,7 +20,6 @@ class Peer:
         self.copies, self.handle, self.answered = copies, 0, []
 
     def copy(self, handle, target, level, index, *params):
-        """Sends a command, or a copy of one."""
         self.socket.send(oca.command(handle, target, level, index, len(params), b"".join(params)))
 
     def send(self, *command):
@@ -52,8 +51,9 @@ class Peer:
 
 
 class Relay:
-    """A way between controllers and the device at this port of this machine, in a thread of its own: `goes_forth` and `goes_back` say of each datagram
-    whether it goes on. Each controller has a port of its own behind it. It stands at a port that the system chooses, or at this socket."""
+    """A way between controllers, each with a port of its own behind it, and the device at this port of this machine, in
+    a thread. `goes_forth` and `goes_back` say whether a datagram goes on. It stands at a free port, or at this
+    socket."""
 
     def __init__(self, device, front=None):
         self.front, self.ways, self.device, self.ends = front or bound(), {}, ("127.0.0.1", device), False
@@ -74,7 +74,6 @@ class Relay:
                         self.front.sendto(data, controllers[end])
 
     def forth(self, data, way):
-        """Hands a controller's datagram on, where it goes on."""
         goes_on = self.goes_forth(data)
         if goes_on:
             way.sendto(data, self.device)

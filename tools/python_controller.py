@@ -114,7 +114,6 @@ class Device(Serving):
 
 
 def ran(*words, **settings):
-    """What a program prints, with its exit status."""
     done = subprocess.run(words, cwd=TOP, capture_output=True, text=True, timeout=120, **settings)
     return done.stdout.splitlines(), done.returncode
 
@@ -138,7 +137,6 @@ def runs(checks, folder, device):
 
 
 def parts(line):
-    """ONo, class, container and role of a line of the list."""
     return re.fullmatch(r'(\d+) (\S+) (\d+) "(.*)" "[^"]*"', line).groups()
 
 
@@ -244,7 +242,6 @@ def executed_once(checks, device, watches):
 
 
 def worked(checks, folder):
-    """The table of worked bytes, row by row."""
     rows = re.findall(ROW, (TOP / "docs/PROTOCOL.md").read_text())
     rows = [[it.replace(" ", "").lower() for it in row] for row in rows]
     checks.same("rows", len(rows) > 30, True)

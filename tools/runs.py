@@ -45,8 +45,6 @@ KEYS = set("words tree given exchange status prints fault note lines place longe
 
 
 class Runs(Checks):
-    """Runs programs of a folder, and counts what comes out as it must."""
-
     def ran(self, words, given=b"", **how):
         how = {"stdout": subprocess.PIPE, **({} if "stdin" in how else {"input": given}), **how}
         return subprocess.run([f"{self.folder}/{words[0]}", *words[1:]], stderr=subprocess.PIPE, timeout=120, check=False, **how)
@@ -171,14 +169,12 @@ def talks(runs, words, talk, end):
 
 
 def of_row(row):
-    """A row's input and what it must print."""
     lines = row.get("exchange", "").splitlines(True)
     given, prints = ("".join(line.removeprefix("    ") for line in lines if line.startswith("    ") == is_printed) for is_printed in (False, True))
     return octets(row.get("given", given)), octets(row.get("prints", prints))
 
 
 def printed(row, out, prints):
-    """Whether what is printed is as the row says."""
     if "place" in row:
         return out.split(b"\n")[row["place"]:][:1] == [prints]
     if "room" in row:
@@ -187,7 +183,6 @@ def printed(row, out, prints):
 
 
 def tried(runs, row, path):
-    """Tries a row's run; a tree is in the file at this path."""
     if row.keys() - KEYS:
         raise ValueError(f"a row has no {', '.join(row.keys() - KEYS)}: {row}")
     given, prints = of_row(row)
@@ -224,7 +219,6 @@ def tried(runs, row, path):
 
 
 def refuses_no_word(runs, program):
-    """A run without any word."""
     run = subprocess.run([sys.executable, "-c", WITHOUT_WORDS, f"{runs.folder}/{program}"], input=b"", capture_output=True, timeout=120, check=False)
     runs.check([program], (run.returncode, run.stdout) == (2, b"") and run.stderr.endswith(b"bad words\n"), run)
 

@@ -33,7 +33,6 @@ class Schedule:
                 self.timed(way, k)
 
     def take_all(self):
-        """What each link holds is taken."""
         for i, (_, link) in enumerate(self.network.links):
             for untaken in list(link.untaken):
                 self.add("take", i, untaken[0].handle)
@@ -106,7 +105,6 @@ def others_bytes(r):
 
 
 def wander(r, window, span):
-    """Any steps in any order."""
     schedule = Schedule(window, span, starts(r, r.choice([1, 1, 1, 2, 2, 3, 4, 4, 16])), r.choice(PEERS))
     network, pace = schedule.network, r.choice([CALM, CALM, WILD])
     length, links = r.choice([10, 16, 24, 40, 80, 150, 250]), len(network.links)
@@ -232,8 +230,8 @@ def lossy(r, window, span):
 
 
 def slow(r, window, span):
-    """Links that are asked what is due for 15,000 ms after a submit at most, over a network that holds datagrams for up to
-    100,000 ms. Between their commands the device forgets them; now and then something is a little too late."""
+    """Links that are asked for 15,000 ms, over a network that holds datagrams for 100,000 ms; some a little too
+    late."""
     schedule = Schedule(window, span, starts(r, r.choice([1, 1, 2])), r.choice(PEERS))
     network, left = schedule.network, {}
 
@@ -296,8 +294,8 @@ def take_others(schedule, pinned, order):
 
 
 def directed(window, span, r=None):
-    """The last command of a full span overtakes the others and stays untaken, while the others are answered and taken
-    and as many more follow; then a copy of it comes. With r in another order, with noise, and several times."""
+    """The last command of a span overtakes the others and stays untaken while as many follow; then a copy of it
+    comes."""
     schedule = Schedule(window, span, [(peer(0), r.choice([1, 1, 1000]) if r else 1)])
     network, mixed = schedule.network, (lambda xs: r.sample(xs, len(xs))) if r else list
     for _ in range(r.choice([1, 1, 2]) if r and span < 20 else 1):

@@ -51,7 +51,6 @@ class Served:
 
 
 def commands_in(data):
-    """The commands of a datagram, each with its method."""
     return [(message[2], (message[2].level, message[2].index)) for message in oca.check(data) if message[0] == "command"]
 
 

@@ -110,7 +110,6 @@ def commands_of(lines):
 
 
 def fault_of_session(lines, programs):
-    """What differs, or None."""
     commands, expected = commands_of(lines), [line for line in lines if not line.startswith("$ ")]
     with tempfile.TemporaryDirectory() as folder:
         for name in os.listdir(TOP):

@@ -33,7 +33,6 @@ PATIENCE = 60  # seconds that a busy machine may take for what takes none
 
 
 def wait_for(holds, patience=PATIENCE):
-    """Whether something comes to hold."""
     return waited(holds, patience, 0.002) is not None
 
 
@@ -50,14 +49,13 @@ def answered_in(datagram):
 
 
 def sets(command):
-    """Whether a command sets, locks or unlocks."""
     return (command.level, command.index) in ((4, 2), (1, 3), (1, 4))
 
 
 class Relay(peers.Relay):
-    """A way between one controller and the device. It counts the copies of the commands that set or lock; lost are the answers to them,
-    while `loses_answers` (they are `kept`), their copies behind the first, while `loses_copies`, all answers under handles above `last`, and all that the
-    controller sends, while it `is_cut`."""
+    """A way that counts the copies of commands that set or lock. It loses their answers while `loses_answers`, which it
+    keeps, their later copies while `loses_copies`, answers above `last`, and all that the controller sends while it
+    `is_cut`."""
 
     def __init__(self, device):
         self.loses_answers = self.loses_copies = True
@@ -88,14 +86,11 @@ class Relay(peers.Relay):
         return True
 
     def give(self):
-        """The answers that were lost come now."""
         for datagram in list(self.kept):
             self.front.sendto(datagram, *self.ways)
 
 
 class Peer(peers.Peer):
-    """Another controller of the device."""
-
     def __init__(self, device):
         super().__init__(device, 0.3, PATIENCE)
 
@@ -129,7 +124,6 @@ class Scene:
         return run
 
     def control(self, command, *words, stdout=subprocess.PIPE):
-        """A run of `ocactl` at a port of its own."""
         return self.start("ocactl", command, "--device", f"{HOST}:{self.relay.port}", "--port", str(free_port()), "--first-handle", "1",
                           *words, stdin=subprocess.PIPE, stdout=stdout, stderr=subprocess.DEVNULL)
 
@@ -154,8 +148,8 @@ class Checks(checks.Checks):
 
 
 def stopped(checks):
-    """Copies at second 0, which is executed, its answer lost; 95, which is lost; and 190, when the device has forgotten the controller.
-    The program is stopped between them, and another controller unmutes in second 60."""
+    """Copies come at seconds 0 (its answer is lost), 95 (lost) and 190 (the device forgot it); another unmutes at
+    60."""
     for name, words, given, told in DATA.stopped:
         with checks.scene() as scene:
             relay, run = scene.relay, scene.control(name, *words.split())
@@ -203,7 +197,6 @@ class Reader:
         return False
 
     def look(self):
-        """Reads once what there is."""
         self.text += os.read(self.out, 4096)
 
     def rest(self):
@@ -241,8 +234,8 @@ def read_rarely(checks):
 
 
 def waits_behind(checks):
-    """A line that was read and waited for 20 seconds, since nobody read the outcome of the one before it, is not sent; nor are those that
-    were read with it."""
+    """A line that waited for 20 seconds, since nobody read the outcome before it, is not sent; nor those read with
+    it."""
     with checks.scene() as scene:
         relay, reader = scene.relay, Reader()
         relay.loses_answers = False
@@ -266,8 +259,8 @@ LEFT = b"4098 not sent\n4101 not sent\n"
 
 
 def stopped_between(checks):
-    """Three objects. The program is stopped for 20 seconds while the command for the first is in flight, and its answer has come by then:
-    the others are left out. Some times more where the program was stopped at a moment at which it finds the first one late."""
+    """Stopped for 20 seconds in the first of three commands, its answer there: the rest is left out. Again if found
+    late."""
     for name, words, answered in DATA.several:
         for _ in range(20):
             with checks.scene() as scene:
@@ -302,7 +295,6 @@ def read_between(checks):
 
 
 def told_in(reader):
-    """How many outcomes were read."""
     while select.select([reader.out], [], [], 0)[0]:
         reader.look()
     return reader.text.count(b"\n")

@@ -50,5 +50,4 @@ def each(row, *keys):
 
 
 def octets(text):
-    """The bytes that a text stands for."""
     return text.encode("latin-1")

@@ -170,8 +170,7 @@ class Runs:
                             f"{words} in pieces of {piece} with {setting} {n}: {got!r} {said!r} {code}")
 
     def ends_in_memory(self, name):
-        """A failed receive before each entry of a script, and each send failing in turn: the report counts the failure, and all else
-        is as without it. The report without a failure."""
+        """Each receive before an entry fails, and each send in turn: the report counts it, and all else is the same."""
         made, receives, sends, by_receive, by_send = IN_MEMORY[name]
         failures = [(None, NO_SEND)] + [(k, NO_SEND) for k in range(receives)] + [(None, k) for k in range(sends)]
         lines = [line for failure in failures for line in made(*failure)]

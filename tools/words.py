@@ -56,9 +56,8 @@ def heard_until(device, holds):
 
 
 def drives_while_it_waits(checks):
-    """`run --ahead` with an input that comes in pieces and is kept open: commands that came one after another are under way together, each is
-    sent again until it is answered, its answer is printed, and keep-alives go out then, all before more comes. What stands behind the last
-    command is no command yet, or none."""
+    """`run --ahead` whose input comes in pieces and stays open: commands are under way together, sent again until
+    answered, and keep-alives go out meanwhile. What stands behind the last command is no command yet, or none."""
     wanted = [oca.command(handle, 1, 2, 3) for handle in (1, 2, 3)]
     for behind, rest in (("", ""), ("# done\n", ""), ("\n", ""), ("\n# a comment without an end", "\n"), ("1 2 3 0", " -\n")):
         name = f"run --ahead, {behind!r} behind a command"
@@ -97,8 +96,7 @@ def next_command(device, before=b""):
 
 
 def at_own_ports(checks):
-    """`run` and `lock` without a port are at 65001 or 65002, by turns of the clock, and ask first whether the device answers; where the
-    port is in use, `run` is at another, and `lock` is refused. The first handle is the clock's."""
+    """`run` and `lock` take 65001 or 65002 by turns and ask first; `run` avoids a port in use, `lock` is refused."""
     own = own_ports.by_turns()[0]
     for taken in (False, True):
         with bound() as device, bound(port=own) if taken else contextlib.nullcontext():
@@ -149,7 +147,6 @@ def commands_of(checks):
 
 
 def words_of(program, name, options):
-    """The words of a command with these options."""
     return [program, *[name] * bool(name), *(f"--{option}={value}" for option, value in options.items()), *DATA.behind.get(name, [])]
 
 
@@ -165,8 +162,8 @@ def form_of(program, name, option):
 
 
 def bad_values(checks):
-    """Each option of each command with values that are not valid: the note names it, the value and the form, and
-    nothing else is done. Where its help says from what to what it may be, that is the form's."""
+    """A value that is not valid is named with its option and form, and nothing is done. The help's span is the
+    form's."""
     for program, name, options in commands_of(checks):
         for option, told in options.items():
             form, values = form_of(program, name, option)
@@ -253,8 +250,8 @@ def spans_of_hands(checks):
 
 
 def typed(checks):
-    """`run` gives the answer of a line before the next line comes, while its standard input stays open; also where more
-    may be under way, the fastest of eight sooner than the command would be sent again, which is 250 ms behind it."""
+    """`run` answers a typed line before the next one; with `--ahead` too, sooner than in 250 ms, when it is sent
+    again."""
     for more in ([], ["--ahead", 4]):
         with bound() as device:
             run, took = controls(checks, device, "run", *more), []
@@ -295,7 +292,6 @@ def without_streams(checks):
 
 
 def serving(checks, *words):
-    """A run of `ocadev serve`, and where it listens."""
     run = checks.start("ocadev", "serve", "--port", 0, *words)
     port = int(run.stderr.readline().split(":")[1])
     grants.read_note(run)
@@ -351,8 +347,7 @@ def kept_or_not(part, checks):
 
 
 def tells_locks(checks):
-    """`serve --verbose`: what was locked, unlocked and refused, by the statuses that answered; nothing of commands that were not
-    executed, nor of those that ask for no response; a lock that lapsed. All that is so with `--keep`, too."""
+    """`serve --verbose`, with and without `--keep`: locks, unlocks and refusals of executed commands, and a lapse."""
     kept_or_not(tells_locks_of, checks)
 
 
@@ -379,8 +374,8 @@ def tells_locks_of(checks, *keep):
 
 
 def tells_stats(checks):
-    """`serve --stats 1`: the report so far is of all datagrams, with sessions and locks, and comes once a second at most. All that is so
-    with `--keep`, too."""
+    """`serve --stats 1`, with and without `--keep`: reports of all datagrams, sessions and locks, once a second at
+    most."""
     kept_or_not(tells_stats_of, checks)
 
 
@@ -450,7 +445,6 @@ def listed_line(r, onos):
 
 
 def channels_of(tree):
-    """What stands in each channel of the example: the class, the role and the setting of each object."""
     return [[(o.kind, o.role, o.state) for o in oca.members(tree, block.ono)] for block in tree if block.role.startswith("channel ")]
 
 

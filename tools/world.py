@@ -75,8 +75,7 @@ def reading(o):
 
 
 class Waiting:
-    """A command that waits for its answer: when it was submitted, when last no command was left to send, the longest
-    time without that, and when it was sent."""
+    """A command without an answer: when it was submitted, last unasked, the longest such time, and when it was sent."""
 
     def __init__(self, since):
         self.since = self.asked = since
@@ -84,8 +83,8 @@ class Waiting:
 
 
 class Laws:
-    """Walks along a schedule and what its steps led to, and holds each step against the laws. It knows the lists of datagrams, commands, answers and
-    executions, when datagrams came to the device, and nothing of what a device or a link is inside."""
+    """Walks along a schedule and what its steps led to, and holds each step against the laws: datagrams, commands,
+    answers and executions, and nothing of what a device or a link is inside."""
 
     def __init__(self, schedule, lines, fit):
         self.fit, self.window, self.most, self.count = fit, schedule.window, schedule.peers, collections.Counter()
@@ -149,8 +148,7 @@ class Laws:
         self.latest[key] = max(self.latest.get(key, -1), k)
 
     def came_from(self, p, now, data, said):
-        """A datagram of p came to the device; whether it finds room: it is well-formed, and p is known, or fewer than have room are. It is admitted
-        then; and p does not keep its session where that is more than 120,000 ms after the one before it."""
+        """Whether a datagram of p finds room: it is well-formed, and p is known, or fewer than have room are."""
         self.clock = max(self.clock, now)
         self.came.add(p)
         try:
@@ -321,7 +319,6 @@ class Laws:
             self.untaken_came(p, command, said, reply)
 
     def next_answer(self, p):
-        """The response that the device sent next."""
         if self.answers_sent == len(self.sent["to-link"]) or self.sent["to-link"][self.answers_sent][0] != p:
             raise Break("untaken", 0, "no datagram was sent to the link")
         messages = oca.check(self.sent["to-link"][self.answers_sent][1])
@@ -397,7 +394,6 @@ def hold(schedule, lines):
 
 
 def shown(schedule, lines, fault):
-    """A schedule with what its steps led to."""
     text = schedule.text()
     return [text[0]] + [f"{line:44}{said}" for line, said in zip(text[1:], lines[1:])] + [f"BREAK of '{fault.law}' at step {fault.at}: {fault.what}"]
 
