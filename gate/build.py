@@ -3,9 +3,8 @@
 
 Usage: build.py FOLDER PROGRAM..     each program is copied into FOLDER
 
-A library is proved from nothing and holds its statements alone, as under `rt ci`, so that the crates above it load less; a program is proved and
-built as `rt run` does it. What stands as it would be built now is taken as it is. These libraries lie in out/statements of their crates, apart from
-those of other commands. A line is printed for each crate as it ends."""
+A library is proved from nothing and holds its statements alone, in out/statements of its crate; a program is proved and built as
+`rt run` does it. What stands as it would be built now is taken. A line is printed for each crate as it ends."""
 import os
 import shutil
 import subprocess
@@ -39,8 +38,7 @@ def apart(crates):
 
 
 def made_from(rt, crate):
-    """What a build is told from another by: sums of the sources and libraries of the crate, of those below, and of
-    itself."""
+    """What a build is told by: sums of the sources and libraries of the crate and of those below."""
     made = f"{crate.rlib}/format" if crate.makes_rlib() else f"{crate.folder}/out/{crate.name}"
     files = [f"{it.rlib}/format" for it in crate.below()]
     return "\n".join([crate.stamp(), *map(rt.sum_of, [*files, made])])
@@ -84,8 +82,7 @@ def build_program(rt, crate, jobs):
 
 
 def build_once(rt, crate, build, jobs):
-    """Builds the crate unless what is there is up to date: whether it is there, and the seconds. Not if a source
-    changed."""
+    """Builds the crate if it must; whether it is there, not of sources that changed, and the seconds."""
     begun, is_there = time.monotonic(), is_made(rt, crate)
     if not is_there:
         stamp, is_changed = crate.stamp(), not all_below_are_made(rt, crate)
@@ -148,8 +145,7 @@ def side_by_side(crates, number, make):
 
 
 def build_all(rt, libraries, programs=(), folder=None):
-    """Builds libraries and programs side by side, copies the programs into a folder, and answers whether all are
-    built."""
+    """Builds all, copies the programs into a folder, and answers whether all are built."""
     ended, crates = [], sorted([*libraries, *programs], key=lambda it: len(it.below()))
 
     def make(crate, jobs):

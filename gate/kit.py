@@ -55,8 +55,7 @@ def said_lanes():
 
 
 def lanes(rt):
-    """How many processes of checks run at once: by processors and memory, or what RT_JOBS says. The toolchain itself
-    reckons with three to five times the memory that they take, and waits."""
+    """How many checks run at once: by processors and by memory for each, or what RT_JOBS says."""
     return said_lanes() or max(1, min(rt.processors(), int(rt.free()) // NEEDS))
 
 

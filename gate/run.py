@@ -4,16 +4,14 @@
 Usage: run.py                    all of it
        run.py steps [FILE]       the steps alone, of this file
 
-The steps of a paragraph run three at a time, since most of them wait, begun in their order. What a step prints is shown when it ends, with its
-minutes: as a whole where it failed, else its last lines; a paragraph begins when the one before it is over. A step whose line begins with '&' is
-begun with its paragraph beside those three, gives way to them, and is awaited at the end: so proofs go on while other steps wait. One whose line
-begins with '&&' is begun as soon as `rt ci` has proved a crate; it finds the names of the crates that are proved, a line each, in the file
-GATE_PROVED, and behind them '(ended)' once `rt ci` has ended.
+The steps of a paragraph run three at a time, in their order; a paragraph begins when the one before is over. What a step
+prints is shown when it ends: as a whole if it failed, else its last lines. A line that begins with '&' is a step beside those
+three, which gives way to them and is awaited at the end. One with '&&' begins as soon as `rt ci` has proved a crate; the file
+GATE_PROVED has the proved crates, a line each, and at the end '(ended)'.
 
-A step has failed where one of its checks failed, it ended with another status than 0, it passed fewer checks than its line names, or it did not end
-in the minutes that its line allows. The gate has failed too where a line of the steps can't be read, and where a tool of the gate stands in no step.
-The last lines are a table of the minutes, some of the lines that say what failed, and 'N passed, M failed' over all of it; the exit status is 1 where
-anything failed."""
+A step has failed if one of its checks failed, if its status is not 0, if it passed fewer checks than its line names, or if it
+took longer. The gate fails too for a line that can't be read, and for a tool in no step. The last lines are a table of the
+minutes, some lines that say what failed, and 'N passed, M failed'; the exit status is 1 if anything failed."""
 import contextlib
 import os
 import re
@@ -46,8 +44,7 @@ MOST_WRONG = 12  # so many of these lines are shown at the end
 
 
 class Step:
-    """A line of the steps: its command, fewest checks and most minutes; whether it runs beside later ones and `rt
-    ci`."""
+    """A line of the steps: command, fewest checks, most minutes, what it runs beside."""
 
     def __init__(self, line):
         read = re.fullmatch(r"\s*(&{0,2})\s*(\d+)\s+([\d.]+)\s+(\S.*)", line)
@@ -87,8 +84,7 @@ def last_line(text):
 
 
 def counted(last, status, least):
-    """How many checks passed and failed, and why they are too few. A command that counts nothing is one check, by its
-    status."""
+    """How many checks passed and failed, by the last line or the status; why they are too few."""
     counts = re.fullmatch(r"(\d+) passed, (\d+) failed", last)
     passed, failed = map(int, counts.groups()) if counts else (int(status == 0), 0)
     why = ""
@@ -233,8 +229,7 @@ def of_ci(steps, others, room):
 
 
 def run_steps(parts, others, early):
-    """Runs the steps of each paragraph, and answers their counts. Those that run beside all that follows are awaited
-    last."""
+    """Runs the steps of each paragraph, those beside all in another pool; answers their counts."""
     counts, beside = [], []
     with ThreadPoolExecutor(BESIDE) as pool:
         for steps in parts:
@@ -248,8 +243,7 @@ def run_steps(parts, others, early):
 
 
 def sets_aside_here():
-    """Whether `rt ci` sets aside in git's folder what crates keep: not if that is elsewhere, perhaps on another
-    disk."""
+    """Whether `rt ci` sets aside what crates keep in git's folder here, and not on another disk."""
     git = TOP / ".git"
     return git.is_dir() and not git.is_symlink() and os.access(git, os.W_OK)
 

@@ -1,9 +1,7 @@
 #!/usr/bin/env python3
-"""The gate's own test: steps that try nothing, too little, fail, crash, hang, or can't be read must make the gate fail, and so must an `rt ci` that
-does, and a gate that a signal ends; a tool that no step runs must be found, and a step that is taken away or names fewer checks than before; what a
-tool compares by must see a difference and tell it; a program that is not built must be no success; edits must be judged by what the prover says of
-them; and `make library` must see each source that is newer. The rows of what builds and installs are in selftest_builds.py, those of the tools in
-selftest_tools.py. The last line is 'N passed, M failed'."""
+"""The gate's own test: steps that try nothing or too little, fail, crash, hang or can't be read make the gate fail, and so do a
+failing `rt ci` and a signal; tools without a step, lost steps, and differences are found; edits are judged by what the prover
+says. selftest_builds.py has the rows of builds, selftest_tools.py those of tools. The last line is 'N passed, M failed'."""
 import contextlib
 import functools
 import importlib
@@ -53,8 +51,7 @@ def is_as_wanted(folder, steps, passes, last):
 
 
 def tells_what_failed(folder):
-    """Behind the table stand the lines that say what failed, or a failed step's last lines; nothing of what passed, of
-    what was only not tried, and of the edits that `edits.py` rightly did not refuse."""
+    """The gate tells what failed: lines that say so, else last lines; nothing of what is well."""
     steps = ("1 1 echo 'x: FAILED: it is so'; echo y; echo '1 passed, 1 failed'\n1 1 echo z; false\n"
              "1 1 echo 'w: FAILED before'; echo '1 passed, 0 failed'\n"
              "1 1 cat well; echo 'NOT TRIED: v is not installed'; echo 'u/a.edit: NOT TRIED: its check hung'; echo '1 passed, 2 failed'")
@@ -259,8 +256,7 @@ def ends_when_told(folder, number, before=None):
 
 
 def builds_as_asked(folder):
-    """`library.py` compiles for the kind and the processor that are asked for, if the crates below are built, and tells
-    it."""
+    """`library.py` compiles for what is asked, if the crates below are built, and tells its end."""
     x86, arm, found = "x86_64-unknown-linux-gnu", "aarch64-unknown-linux-gnu", []
 
     def compiled(words, to):
@@ -351,8 +347,7 @@ def judged_copies(crate, of, told):
 
 
 def empties_functions(folder):
-    """Untouched functions are checked without bodies, but those of traits, constants, cycles and C; then once with
-    them."""
+    """Untouched functions are checked without bodies, some kinds aside; then once with them."""
     crate, of = edited(folder, {"src/m.rt": DATA.bodies}, {"one": ("", "other(n)", "1 + other(n)")})
     edit = of["one"]
     texts, empty = edits.emptied(crate, {}, edit.functions)
@@ -371,8 +366,7 @@ def empties_functions(folder):
 
 
 def narrows_contracts(folder):
-    """Edits that name clauses narrow their functions to those; not if others call these, or if their proof is by
-    hand."""
+    """Edits with clauses narrow their functions to those, if no call and no hand proof needs more."""
     changes = {"f": "n + 1", "g": "n + f(n)", "h": "    g(n)", "by_hand": "n + 2"}
     crate, of = edited(folder, {"src/m.rt": DATA.promises, "proofs/m/by_hand/Answers.antt": ""},
                        {name: ("clause: low\n", text, f"{text} + 1") for name, text in changes.items()})
@@ -408,8 +402,7 @@ def is_lost(_, now, wanted):
 
 
 def lost(before, now):
-    """The earlier commands that no step has as it was, or with fewer checks, and doubles; but those with a line `#
-    was:`."""
+    """The earlier commands that no step has with as many checks, and doubles; but `# was:` lines."""
     steps, old = ([run.Step(line) for line in text.splitlines() if line.strip() and not line.startswith("#")] for text in (now, before))
     named = {step.command: step.least for step in steps}
     why = [re.match(rf"# was: (.*): \S", line) for line in now.splitlines()]
@@ -496,8 +489,7 @@ def is_carried_badly(network, waits, order):
 
 
 def carries_badly(_):
-    """The network of lossy.py loses, doubles, delays and reorders both ways, by a clock that goes on with each
-    datagram."""
+    """The network of lossy.py is bad both ways, by a clock that goes on with each datagram."""
     count, clock = 5000, SimpleNamespace(now=0)
     waits, order, real = [[] for _ in range(count)], [], lossy.time
     try:
@@ -538,8 +530,7 @@ def sees_differences(_, tool):
 
 
 def tells_a_verdict(_):
-    """Checks pass if some passed and none failed. A run that goes on is ended, and a part that breaks off has
-    failed."""
+    """Checks pass if some passed and none failed; what breaks off has failed, what goes on is ended."""
     found = []
     for passed, failed in ((3, 0), (3, 1), (0, 2), (0, 0)):
         its = checks.Checks()

@@ -157,8 +157,7 @@ def proves_each_library(folder):
 
 
 def takes_what_stands(folder):
-    """`build.py` takes a library that it built of the same sources and libraries, and builds what is gone or another,
-    and what stands above. A crate is not built if a source or a library below it changes meanwhile."""
+    """`build.py` takes what it built of the same sources and libraries, and nothing that changed."""
     asked, found = [], []
     made = lambda name, *below: fake_library(folder / "standing", name, below, asked)
     a, d = made("a"), made("d")
@@ -222,8 +221,7 @@ def crate_of(name, hundreds, *below):
 
 
 def shares_processors(_):
-    """`build.py` begins as many crates as there are idle processors, and gives more processes to those of long
-    chains."""
+    """`build.py` begins a crate for each idle processor, with more processes for long chains."""
     shared = lambda ready, idle, number, long: " ".join(f"{name}{jobs}" for name, jobs in build.shares([*ready], idle, number, [*long]))
     return is_same([wanted for *_, wanted in DATA.shares], [shared(*row) for *row, _ in DATA.shares])
 
@@ -272,8 +270,7 @@ def gives_long_chains_more(_):
 
 
 def builds_each_program(folder):
-    """`build.py` has each program built by a process of its own, once the libraries below it are, and takes what that
-    has made if it ended well, or what stands as it would be built."""
+    """`build.py` has each program built in a process of its own, or takes what stands."""
     top, log, found = folder / "programs", folder / "log-of-programs", []
     for place in (top / "crates/a/out", top / "crates/b/out", folder / "bin-of-both"):
         place.mkdir(parents=True)
@@ -304,8 +301,7 @@ def builds_each_program(folder):
 
 
 def proves_a_program(folder):
-    """`build.py --one` proves, builds and runs a program as `rt run` does, in its own folder, with words that only
-    print."""
+    """`build.py --one` proves, builds and runs a program in its own folder as `rt run` does."""
     asked, found, crates, with_words = [], [], [], {"ocadev": ["--help"], "trials": ["calls"], "amplifier": [], "panel": []}
     are_apart = lambda: all(it.rlib == f"{it.folder}/out/statements/{it.name}.rlib" for it in crates)
     for name in with_words:
@@ -358,8 +354,7 @@ def writes():
 
 
 def writes_in_memory(folder):
-    """`build.py` has checks write into memory if that has room, allows programs, and nobody said TMPDIR; all is
-    removed."""
+    """`build.py` has checks write in memory, if it has room, and all is removed at the end."""
     found = []
     for at, (processors, free, is_mounted_so, space, mode, said, is_there) in enumerate(DATA.of_memory):
         with memory_at(folder / f"memory-{at}", 0 if is_mounted_so else os.ST_NOEXEC, space):
@@ -443,8 +438,7 @@ def make_fails_with(goal, folder):
 
 
 def builds_programs_anew(folder):
-    """`make install` builds programs that are missing, or older than a source or definition; a test makes none
-    older."""
+    """`make install` builds programs that are missing, or older than a source or definition."""
     found, programs = [], ("ocadev", "ocactl", "ocapanel")
     for at, (name, second, _) in enumerate(DATA.sources):
         made = Made(folder / f"programs-{at}")
@@ -508,8 +502,7 @@ def files_of(folder):
 
 
 def takes_what_the_gate_left(folder):
-    """`library.py` and `edits.py` take the libraries that `rt ci` left only if they are whole, and newer than all
-    sources."""
+    """`library.py` and `edits.py` take what `rt ci` left only if it is whole and newest."""
     found = []
     for at, (is_taken, *changes) in enumerate(DATA.left):
         low, high = left_crates(folder / f"left-{at}", changes)
@@ -526,8 +519,7 @@ def takes_what_the_gate_left(folder):
 
 
 def leaves_no_old_library(folder):
-    """`library.py` leaves no archive of an earlier run, of a failed compilation, or of a source that changed
-    meanwhile."""
+    """`library.py` leaves no archive of an earlier or failed run, or of sources that changed."""
     found = []
     for status, makes in ((0, True), (0, False), (5, False), (5, True)):
         to = folder / "old.a"

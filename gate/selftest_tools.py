@@ -63,8 +63,7 @@ def told_by_edits(folder, crates, words, most=60):
 
 
 def tries_edits_in_groups(folder):
-    """`edits.py` tells of each edit what the prover says of that one, and fails for one that is not refused or is
-    stale."""
+    """`edits.py` tells of each edit what the prover says of that one, in groups of any size."""
     every, right = {"a": DATA.tried, "b": DATA.good_ones, "c": ["d_h_is_right"]}, True
     crates = [crate_of_edits(folder, name, edits) for name, edits in every.items()]
     for words, most in (([], 60), ([], 3), (["b"], 60), (["a"], 60), (["c"], 60)):
@@ -80,8 +79,7 @@ def tries_edits_in_groups(folder):
 
 
 def keeps_for_more_groups(folder):
-    """`edits.py` keeps what checks prove for several groups of a crate; for one group only with EDITS_KEPT. In
-    memory."""
+    """`edits.py` keeps what checks prove for several groups, or with EDITS_KEPT, in memory."""
     crates = [crate_of_edits(folder, "a", ["a_f", "c_g"]), crate_of_edits(folder, "b", ["a_f", "i_number"])]
     laid(Path(crates[0].folder), {"out/incremental/work": ""})
     found = []
@@ -104,8 +102,7 @@ def sees_what_is_not_proved(folder):
 
 
 def compares_scripts(folder):
-    """`fuzz.py` passes only if each program prints what the reference does, with its fault and status, on new
-    scripts."""
+    """`fuzz.py` passes only if each program is as the reference, on each script, in all it says."""
     place, found, drawn = folder / "fuzzed", [], []
     laid(place, {"out": "answer\n", "err": "fault\n"})
     script_of = lambda letter: lambda r: drawn.append(r.random()) or (["words", letter], b"a line\nand more\n", lambda _: (b"answer\n", "fault", 2))
@@ -115,7 +112,7 @@ def compares_scripts(folder):
             heard = f'[ "$*" = "words {letter}" ] && grep -q line || exit 9'
             stand_in(place / name, f"{heard}\ncd '{place}'\n{what}")
         drawn.clear()
-        with patch.multiple(fuzz, device_script=script_of("d"), link_script=script_of("l"), ROOMS=[*fuzz.ROOMS], CHANNELS=[*fuzz.CHANNELS]):
+        with patch.multiple(fuzz, device_script=script_of("d"), link_script=script_of("l")):
             status, last, told = ran_as(fuzz, str(place), "0.5")
         passed, failed = map(int, re.fullmatch(r"(\d+) passed, (\d+) failed", last).groups())
         is_tried = (passed > 1 or not good) and len({*drawn}) == len(drawn) > 0

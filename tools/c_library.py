@@ -1,25 +1,21 @@
 #!/usr/bin/env python3
-"""The library for C: its header, its programs, and what it does where memory is refused.
+"""The library for C: its header, its programs, and what it does when memory is refused.
 
 Usage: c_library.py BIN     BIN is the folder with `ocadev` and `ocactl`; the library is proved and built
 
-Device and panel of examples/c are compiled as C11 and as C++17 with -Wall -Wextra -Werror from what `make install` installs, by the
-flags of oca.pc (the former with the shared library, the latter with the static one) and by CMake, and run against each other and
-against `ocadev` and `ocactl`, also under valgrind, for AArch64 under emulation, and on an emulated x86-64 of the first kind; what
-is not installed here is named as NOT TRIED. The mixer is killed and started anew behind a network that loses one datagram of five, as
-it is and under the sanitizers. Each call is tried on a closed handle and at its limits (c_library.c), and the panel
-(c/panel.c) over a network that loses, doubles and delays, and at peers that answer wrongly (c_library_panel.c); and calls of
-anything are made in any order (c_library_random.c). Each request
-for memory is refused in turn. Header and library name the same functions, and the library needs what EMBEDDING names. What is
-installed lies below its folder, also with a space in its name or a relative one, and `make uninstall` leaves nothing of it; what
-is installed of another kind of processor lies in a folder of its own. The last line is 'N passed, M failed'."""
+Device and panel of examples/c are compiled strictly as C11 and as C++17 from what `make install` installs, by oca.pc and by CMake,
+and run against each other, `ocadev` and `ocactl`, also under valgrind, for AArch64 under emulation, and on the first x86-64; what
+is not installed here is named as NOT TRIED. The mixer is killed and started anew over losses, also sanitized. Each call is tried
+on a closed handle and at its limits (c_library.c), in any order (c_library_random.c), and the panel over a bad network and at
+wrong peers (c_library_panel.c). Each request for memory is refused in turn. Header and library name the same functions. What is
+installed lies below its folder, one for each kind of processor, and `make uninstall` leaves nothing. The last line is
+'N passed, M failed'."""
 import os
 import random
 import re
 import select
 import shlex
 import shutil
-import socket
 import struct
 import subprocess
 import sys
@@ -31,10 +27,12 @@ from pathlib import Path
 sys.path.insert(0, str(Path(__file__).resolve().parent.parent / "gate"))
 import reference
 import c_rows
-from checks import Checks, layer
+import oca_profile as oca
+from c_rows import LANGUAGES, SANITIZED
+from checks import Checks, layer, waited, write
 from embedded import bound_at
-from own_ports import free_port
-from peers import Lossy
+from own_ports import bound, free_port
+from peers import Lossy, Peer
 from tables import data
 
 HERE = Path(__file__).resolve().parent
@@ -42,14 +40,14 @@ TOP = HERE.parent
 AMPLIFIER = "1: open 0 dB/10, 2: muted 0 dB/10\n1: open -60 dB/10, 2: muted 0 dB/10\n"
 PANEL = "open channel 1: status 0\ngain to -6 dB: status 0\ngain: -60 dB/10\n"
 STRICT = ["-O2", "-Wall", "-Wextra", "-Werror"]
-LANGUAGES = {"c11": ["cc", "-std=c11"], "c++17": ["c++", "-x", "c++", "-std=c++17"]}
 RESULTS = {name: int(number) for name, number in re.findall(r"(OCA_\w+) = (\d+)", (TOP / "include/oca.h").read_text())}
 DATA = data("c_library")
 CARELESS = [("unused-result", it) for it in DATA.unused] + [("nonnull", f"(void)!{it}") for it in DATA.null]
 INSTALLED = [*DATA.installed]
 CALLS = 1_500_000  # of a run of random ones
 PARTS = ("panel", "kept", "store", "socket", "serve")  # of c/, but the heap
-SANITIZED = ["-O1", "-g", "-fsanitize=address,undefined", "-fno-sanitize-recover=all"]
+FULL = oca.pdu(1, [oca.Command(handle, 4097, 4, 1).body() for handle in range(1, 87)])  # a datagram of 1,472 bytes
+CAREFUL = ["valgrind", "-q", "--error-exitcode=99", "--leak-check=full"]
 
 
 def library(target):
@@ -82,13 +80,24 @@ def compile_all(made, prefix):
 
 
 def listening(run):
-    return re.search(r":(\d+)", run.stderr.readline())[1]
+    return int(re.search(r":(\d+)", run.stderr.readline())[1])
 
 
 def serving(words):
     """A device, and its port."""
     run = subprocess.Popen([str(word) for word in words], stdout=subprocess.PIPE, stderr=subprocess.PIPE, text=True)
     return run, listening(run)
+
+
+def rest(run):
+    """What a run prints to its end, and its status."""
+    return run.communicate(timeout=120)[0], run.returncode
+
+
+def stop(run):
+    """What a run that is killed has said of faults."""
+    run.kill()
+    return run.communicate(timeout=120)[1]
 
 
 def said_by(words, **settings):
@@ -101,7 +110,7 @@ def against_each_other(checks, made, before=(), seconds="3"):
         for panel in LANGUAGES:
             run, port = serving([*before, made / f"device-{device}", 0, seconds])
             checks.same(f"{before}: the panel ({panel})", said_by([*before, made / f"panel-{panel}", port]), (PANEL, 0))
-            checks.same(f"{before}: the device ({device})", (run.communicate(timeout=120)[0], run.returncode), (AMPLIFIER, 0))
+            checks.same(f"{before}: the device ({device})", rest(run), (AMPLIFIER, 0))
 
 
 def against_the_programs(checks, made, folder):
@@ -111,7 +120,7 @@ def against_the_programs(checks, made, folder):
         words = ["send", "--device", f"127.0.0.1:{port}", "--port", free_port(), "--first-handle", handle, "--target", target, "--level", level, "--index", 2, "--count", 1,
                  "--params", params]
         checks.same(f"`ocactl` sets {target}", said_by([f"{folder}/ocactl", *words]), ("answer 0 0 -\n", 0))
-    checks.same("the device that `ocactl` set", run.communicate(timeout=120)[0],
+    checks.same("the device that `ocactl` set", rest(run)[0],
                 "1: open 0 dB/10, 2: muted 0 dB/10\n1: open 0 dB/10, 2: open 0 dB/10\n1: open 0 dB/10, 2: muted 0 dB/10\n"
                 "1: open 0 dB/10, 2: muted 7 dB/10\n1: open -10 dB/10, 2: muted 7 dB/10\n")
     run, port = serving([f"{folder}/ocadev", "serve", "--port", 0, "--turns", 100000])
@@ -121,8 +130,7 @@ def against_the_programs(checks, made, folder):
 
 
 def panels(checks, made, prefix, folder):
-    """The panel of c/panel.c over a network of its own, strict and sanitized; at `ocadev` it finds what `ocactl`
-    finds."""
+    """The panel of c/panel.c over its own network, strict and sanitized, and at `ocadev`."""
     test = c_rows.test("c_library_panel", made)
     for language, compiler in LANGUAGES.items():
         for name, more in ((f"network-{language}", []), (f"network-{language}-sanitized", SANITIZED)):
@@ -162,31 +170,17 @@ def random_calls(checks, made, prefix):
             checks.same(f"what {name} answered and its page does not say", unsaid, set())
 
 
-def asks(handle, ono, level, index, params=b"", count=0):
-    """The datagram of a command."""
-    message = struct.pack(">IIIHHB", 17 + len(params), handle, ono, level, index, count) + params
-    return b"\x3b" + struct.pack(">HIBH", 1, 9 + len(message), 1, 1) + message
-
-
-def answers(handle, status, params=b"", count=0):
-    """The datagram of a response."""
-    message = struct.pack(">IIBB", 10 + len(params), handle, status, count) + params
-    return b"\x3b" + struct.pack(">HIBH", 1, 9 + len(message), 3, 1) + message
-
-
 def full_datagram(checks, made):
     """A datagram of 1,472 bytes, 86 commands, is answered by the device of the example as any other is."""
-    commands = b"".join(struct.pack(">IIIHHB", 17, handle, 4097, 4, 1, 0) for handle in range(1, 87))
-    datagram = b"\x3b" + struct.pack(">HIBH", 1, 9 + len(commands), 1, 86) + commands
     run, port = serving([made / "device-c11", 0, 2])
-    with socket.socket(socket.AF_INET, socket.SOCK_DGRAM) as end:
+    with bound() as end:
         end.settimeout(30)
-        end.sendto(datagram, ("127.0.0.1", int(port)))
+        end.sendto(FULL, ("127.0.0.1", port))
         counts = []
         while sum(counts) < 86:
-            counts.append(struct.unpack(">H", end.recv(2000)[8:10])[0])
-    checks.same("what a full datagram gets from the device of the example", (len(datagram), sum(counts)), (1472, 86))
-    run.communicate(timeout=120)
+            counts.append(oca.number(end.recv(2000)[8:10]))
+    checks.same("what a full datagram gets from the device of the example", (len(FULL), sum(counts)), (1472, 86))
+    rest(run)
 
 
 def oversize(checks, made):
@@ -194,15 +188,14 @@ def oversize(checks, made):
     kept = made / "kept of a large datagram"
     for name, words in (("device", [made / "device-c11", 0, 3]), ("mixer", [made / "mixer-plain", kept, 0, 3])):
         run, port = serving(words)
-        commands = b"".join(struct.pack(">IIIHHB", 17, handle, 4097, 4, 1, 0) for handle in range(1, 87))
-        large = b"\x3b" + struct.pack(">HIBH", 1, 9 + len(commands), 1, 86) + commands + b"\x3b"
-        with socket.socket(socket.AF_INET, socket.SOCK_DGRAM) as end:
+        with bound() as end:
             end.settimeout(30)
-            for data in (large, asks(99, 4097, 4, 1)):
-                end.sendto(data, ("127.0.0.1", int(port)))
+            for data in (FULL + b"\x3b", oca.command(99, 4097, 4, 1)):
+                end.sendto(data, ("127.0.0.1", port))
             got = end.recv(2000)
-        checks.same(f"the {name} behind a datagram that is too large", (len(large), got), (1473, answers(99, 0, b"\1", 1)))
-        run.communicate(timeout=120)
+        wanted = 1473, oca.response(99, 0, 1, b"\1")
+        checks.same(f"the {name} behind a datagram that is too large", (len(FULL + b"\x3b"), got), wanted)
+        rest(run)
 
 
 def started(words):
@@ -226,16 +219,15 @@ def printed(run):
 
 
 def examples_alone(checks, made):
-    """The device of the example has its objects, prints each change, and is at this machine alone; at a taken port it
-    says so, as the mixer does. The panel says what another peer's lock refuses, and that nobody answers."""
+    """The device of the example alone: its objects, prints, place, and a taken port; and the panel's words."""
     run, port = serving([made / "device-c11", 0, 600])
-    asker = Asker(port)
+    asker = Peer(port)
     objects_of_the_device(checks, asker)
     for ono, level, params, said in ((4113, 4, b"\2", "1: muted 0 dB/10, 2: open 0 dB/10\n"),
                                      (4114, 5, b"\xff\xfb", "1: muted 0 dB/10, 2: open -5 dB/10\n")):
-        checks.same(f"set {ono}", asker.ask(ono, level, 2, params, 1), (0, b""))
+        checks.same(f"set {ono}", asker.ask(ono, level, 2, params), (0, b""))
         checks.same(f"what the device prints while it goes on, {ono}", printed(run), said)
-    checks.same("where the device listens", bound_at(int(port)), ["127.0.0.1"])
+    checks.same("where the device listens", bound_at(port), ["127.0.0.1"])
     for name, words in (("device", [made / "device-c11", port, 1]),
                         ("mixer", [made / "mixer-plain", made / "kept of none", port, 1])):
         checks.same(f"the {name} at a port that is taken", started(words), ("", "socket:", 1))
@@ -243,17 +235,14 @@ def examples_alone(checks, made):
         checks.same(f"the lock {lock}", asker.ask(4098, 1, lock), (0, b""))
         checks.same(f"the panel at the lock {lock}", started([made / "panel-c11", port]),
                     (f"open channel 1: status 0\ngain to -6 dB: status 3\n{read}", "", 0))
-    run.kill()
-    run.communicate()
+    stop(run)
     checks.same("the panel without a word", started([made / "panel-c11"]), ("", "", 2))
-    with socket.socket(socket.AF_INET, socket.SOCK_DGRAM) as silent:
-        silent.bind(("127.0.0.1", 0))
+    with bound() as silent:
         said = started([made / "panel-c11", silent.getsockname()[1]])
         checks.same("the panel where nobody answers", said, ("gain: lost\n", "", 1))
     run, port = serving([made / "mixer-plain", made / "kept of none", 0, 600])
-    checks.same("where the mixer listens", bound_at(int(port)), ["127.0.0.1"])
-    run.kill()
-    run.communicate()
+    checks.same("where the mixer listens", bound_at(port), ["127.0.0.1"])
+    stop(run)
 
 
 def warnings(checks, made, prefix):
@@ -280,27 +269,6 @@ def for_every_processor(checks, archive):
     checks.same("instructions", len(used) > 50, True)
 
 
-class Asker:
-    """A panel's own commands, one at a time, each sent until it is answered."""
-
-    def __init__(self, port):
-        self.to, self.handle = ("127.0.0.1", int(port)), 0
-        self.end = socket.socket(socket.AF_INET, socket.SOCK_DGRAM)
-        self.end.settimeout(0.25)
-
-    def ask(self, ono, level, index, params=b"", count=0, tries=40):
-        self.handle += 1
-        for _ in range(tries):
-            self.end.sendto(asks(self.handle, ono, level, index, params, count), self.to)
-            try:
-                data = self.end.recv(2000)
-            except OSError:
-                continue
-            if data[7] == 3 and struct.unpack(">I", data[14:18])[0] == self.handle:
-                return data[18], data[20:]
-        return None
-
-
 # What the mixer's desk is asked for after its restart: an object, the method's level and index, and the answer's parameters.
 def desk(front):
     number = struct.Struct(">hhh")
@@ -310,58 +278,54 @@ def desk(front):
             (4195, 2, 1, b"\0"), (4211, 4, 3, b"\0\3DAT"), (4211, 4, 9, b"\0\3\1\0\1")]
 
 
+def mixer(made, name, kept, seconds, before=(), **settings):
+    """A run of the mixer with this file, whose front stays open."""
+    words = [*before, made / f"mixer-{name}", kept, "0", str(seconds)]
+    return subprocess.Popen(words, stdin=subprocess.PIPE, stdout=subprocess.PIPE, stderr=subprocess.PIPE, text=True,
+                            env=dict(os.environ, **settings))
+
+
 def a_mixer(checks, made, name, before=()):
-    """What is set at the mixer, over losses, is there behind a kill; a file that fails stays, and a broken one is
-    refused."""
-    kept, program = made / f"kept of {name}", made / f"mixer-{name}"
-    start = lambda seconds, **more: subprocess.Popen([*before, program, kept, "0", str(seconds)], stdin=subprocess.PIPE, stdout=subprocess.PIPE, stderr=subprocess.PIPE,
-                                                     text=True, env=dict(os.environ, **more))
-    told = lambda lines, run: (run.stdin.write("".join(f"{it}\n" for it in lines)), run.stdin.flush())
-
-    def until(test):
-        for _ in range(400):
-            if test():
-                return True
-            time.sleep(0.05)
-        return False
-
+    """What is set at the mixer is there behind a kill; a file that fails stays, a broken one is refused."""
+    kept = made / f"kept of {name}"
+    start = lambda seconds: mixer(made, name, kept, seconds, before)
+    until = lambda test: waited(test, 20, 0.05) is not None
     run = start(600)
-    network = Lossy(int(listening(run)))
+    network = Lossy(listening(run))
     for channel in (0, 31):
         block = 4096 + 16 * channel
         checks.same(f"{name}: the panel at channel {channel + 1}", said_by([made / "panel-c11", network.port, block + 1, block + 2]), (PANEL, 0))
-    asker = Asker(network.port)
-    for words in ((4194, 2, 9, b"\0\4Bass", 1), (100, 2, 9, b"\0\3FOH", 1), (4195, 2, 2, b"\0", 1), (4211, 4, 4, b"\0\1\0\3DAT", 2), (4211, 4, 8, b"\0\1\0", 2)):
+    asker = Peer(network.port)
+    for words in ((4194, 2, 9, b"\0\4Bass"), (100, 2, 9, b"\0\3FOH"), (4195, 2, 2, b"\0"), (4211, 4, 4, b"\0\1", b"\0\3DAT"),
+                  (4211, 4, 8, b"\0\1", b"\0")):
         checks.same(f"{name}: set {words[0]}", asker.ask(*words), (0, b""))
-    told(["gain 7 -30", "source 9 2", "open 3", "gain 4 101", "source 10 3", "gain 33 1", "y" * 63, "y" * 64, "y" * 65,
-          "open 5" + 300 * " ", "gain 7 -31"], run)
+    lines = ["gain 7 -30", "source 9 2", "open 3", "gain 4 101", "source 10 3", "gain 33 1", "y" * 63, "y" * 64, "y" * 65,
+             "open 5" + 300 * " ", "gain 7 -31"]
+    write(run, "".join(f"{it}\n" for it in lines), ends=False)
     checks.same(f"{name}: the front", until(lambda: asker.ask(4194, 5, 1)[1][:2] == b"\xff\xe1"), True)
     checks.same(f"{name}: datagrams were lost", network.lost > 0, True)
     network.close()
     held = lambda: kept.exists() and b"Bass" in kept.read_bytes() and b"DAT" in kept.read_bytes() and struct.pack("<q", -31) in kept.read_bytes()
     checks.same(f"{name}: what was set is kept", until(held), True)
-    run.kill()
-    noted = run.communicate(timeout=120)[1]
-    checks.same(f"{name}: its notes", sorted(set(noted.splitlines())), ["front: no such line"])
+    checks.same(f"{name}: its notes", sorted(set(stop(run).splitlines())), ["front: no such line"])
     run = start(12 if before else 6)
-    asker = Asker(listening(run))
+    asker = Peer(listening(run))
     for ono, level, index, params in desk(-31):
-        asked = asker.ask(ono, level, index, struct.pack(">H", 1) if index == 3 else b"", 1 if index == 3 else 0)
+        asked = asker.ask(ono, level, index, *([b"\0\1"] if index == 3 else []))
         checks.same(f"{name}: {ono} {level}.{index} after the restart", asked, (0, params))
-    run.kill()
-    run.communicate()
+    stop(run)
     run = start(12 if before else 2)
-    asker = Asker(listening(run))
+    asker = Peer(listening(run))
     for value in (1, 2, 3, 4):
-        checks.same(f"{name}: the gain is {value}", asker.ask(4194, 5, 2, struct.pack(">h", value), 1), (0, b""))
+        checks.same(f"{name}: the gain is {value}", asker.ask(4194, 5, 2, struct.pack(">h", value)), (0, b""))
         time.sleep(0.3)
     run.communicate()
     run = start(12 if before else 6)
-    asker = Asker(listening(run))
+    asker = Peer(listening(run))
     checks.same(f"{name}: what was set before its end", asker.ask(4194, 5, 1)[1][:2], b"\0\4")
     whole = kept.read_bytes()
     (made / f"kept of {name}.new").mkdir()
-    told(["gain 7 -32"], run)
+    write(run, "gain 7 -32\n", ends=False)
     checks.same(f"{name}: not kept", run.stderr.readline(), f"not kept: {kept}: unlink: Is a directory\n")
     checks.same(f"{name}: and as it was", kept.read_bytes() == whole, True)
     (made / f"kept of {name}.new").rmdir()
@@ -377,16 +341,12 @@ def a_mixer(checks, made, name, before=()):
 def calls_of_a_mixer(made, kept, turns, **settings):
     """What a mixer calls for its file, and what it says: each line of its front is given, and so many calls awaited."""
     calls = made / f"calls for {kept.name}"
-    run = subprocess.Popen([made / "mixer-plain", kept, "0", "600"], stdin=subprocess.PIPE, stdout=subprocess.PIPE, stderr=subprocess.PIPE, text=True,
-                           env=dict(os.environ, LD_PRELOAD=layer("unreliable"), CALLS=str(calls), **settings))
+    run = mixer(made, "plain", kept, 600, LD_PRELOAD=layer("unreliable"), CALLS=str(calls), **settings)
     listening(run)
     made_so_far = lambda: calls.read_text().splitlines() if calls.exists() else []
     for line, count in turns:
-        run.stdin.write(f"{line}\n")
-        run.stdin.flush()
-        until = time.monotonic() + 20
-        while len(made_so_far()) < count and time.monotonic() < until:
-            time.sleep(0.05)
+        write(run, f"{line}\n", ends=False)
+        waited(lambda least=count: len(made_so_far()) >= least, 20, 0.05)
     run.kill()
     return made_so_far(), run.communicate()[1]
 
@@ -408,43 +368,30 @@ def kept_safely(checks, made):
         checks.same(f"and what is kept then, {fails}", struct.pack("<q", -31) in kept.read_bytes(), True)
 
 
-def asked_once(asker, ono, level, index, params=b"", count=0):
-    """The status of a command that is sent once more under its handle, and nothing where no answer comes in a second."""
-    asker.end.settimeout(1)
-    asker.end.sendto(asks(asker.handle, ono, level, index, params, count), asker.to)
-    try:
-        return asker.end.recv(2000)[18]
-    except OSError:
-        return None
-
-
 def answers_wait(checks, made):
-    """A command that cannot be stored is not answered, one that reads is. Later a copy is answered, and kept over a
-    kill."""
+    """A command that can't be stored is answered only once it can be, one that reads at once."""
     kept = made / "kept with answers that wait"
     run, port = serving([made / "mixer-plain", kept, 0, 600])
-    asker, set_it, read_it = Asker(port), (4114, 5, 2, struct.pack(">h", -7), 1), (4114, 5, 1)
-    checks.same("a command that is stored", asker.ask(4113, 4, 2, b"\2", 1), (0, b""))
+    asker, set_it, read_it = Peer(port, patience=1), (4114, 5, 2, struct.pack(">h", -7)), (4114, 5, 1)
+    checks.same("a command that is stored", asker.ask(4113, 4, 2, b"\2"), (0, b""))
     (made / f"{kept.name}.new").mkdir()
     asker.handle += 1
-    told = [asked_once(asker, *set_it) for _ in range(3)]
+    told = [asker.again(*set_it, copies=1) for _ in range(3)]
     checks.same("a command that cannot be stored, and copies of it", told, [None] * 3)
     checks.same("what is kept meanwhile", struct.pack("<q", -7) in kept.read_bytes(), False)
-    own, asker.handle = asker.handle, asker.handle + 1
-    checks.same("a command that reads meanwhile", asked_once(asker, *read_it), 0)
-    asker.handle += 1
-    checks.same("a command that is refused meanwhile", asked_once(asker, 4114, 5, 2, struct.pack(">h", 101), 1), 7)
+    own = asker.handle
+    checks.same("a command that reads meanwhile", (asker.ask(*read_it, copies=1) or [None])[0], 0)
+    refused = asker.ask(4114, 5, 2, struct.pack(">h", 101), copies=1)
+    checks.same("a command that is refused meanwhile", (refused or [None])[0], 7)
     (made / f"{kept.name}.new").rmdir()
     asker.handle = own
-    checks.same("a copy, once it can be stored", asked_once(asker, *set_it), 0)
-    run.kill()
-    checks.same("what the mixer said", run.communicate(timeout=120)[1], f"not kept: {kept}: unlink: Is a directory\n")
+    checks.same("a copy, once it can be stored", (asker.again(*set_it, copies=1) or [None])[0], 0)
+    checks.same("what the mixer said", stop(run), f"not kept: {kept}: unlink: Is a directory\n")
     run, port = serving([made / "mixer-plain", kept, 0, 600])
-    checks.same("what was answered, behind a kill", Asker(port).ask(*read_it)[1][:2], struct.pack(">h", -7))
+    checks.same("what was answered, behind a kill", Peer(port).ask(*read_it)[1][:2], struct.pack(">h", -7))
     second = started([made / "mixer-plain", kept, 0, 1])
     checks.same("a second mixer with the file", second, ("", f"{kept}:".split(" ")[0], 1))
-    run.kill()
-    run.communicate()
+    stop(run)
 
 
 def killed(checks, made):
@@ -452,21 +399,19 @@ def killed(checks, made):
     kept, chance, held, answers = made / "kept over kills", random.Random(30), 0, 0
     for turn in range(30):
         run, port = serving([made / "mixer-plain", kept, 0, 600])
-        asker, asked, told = Asker(port), held, (0, b"")
-        asker.end.settimeout(0.05)
+        asker, asked, told = Peer(port, 0.05, 4), held, (0, b"")
         killer = threading.Timer(chance.uniform(0.02, 0.3), run.kill)
         killer.start()
         while told == (0, b"") and run.poll() is None:
             held, asked = asked, (asked + 601) % 700 - 600
-            told = asker.ask(4114, 5, 2, struct.pack(">h", asked), 1, tries=4)
+            told = asker.ask(4114, 5, 2, struct.pack(">h", asked))
             answers += told == (0, b"")
         killer.join()
         run.communicate()
         may_be = {asked} if told == (0, b"") else {held, asked}
         run, port = serving([made / "mixer-plain", kept, 0, 600])
-        held = struct.unpack(">h", Asker(port).ask(4114, 5, 1)[1][:2])[0]
-        run.kill()
-        run.communicate()
+        held = struct.unpack(">h", Peer(port).ask(4114, 5, 1)[1][:2])[0]
+        stop(run)
         checks.same(f"kill {turn}: {held} is one of {may_be}", held in may_be, True)
     checks.same("some numbers were answered", answers > 0, True)
     print(f"  30 kills, {answers} answers")
@@ -476,12 +421,11 @@ def from_python(checks, made, prefix):
     """The program in Python mutes a channel by the shared library, and says that nobody answers."""
     run, port = serving([made / "device-c11", 0, 4])
     words = [sys.executable, TOP / "examples/c/mute.py", prefix / "lib/liboca.so", port]
-    checks.same("a channel that is opened", Asker(port).ask(4113, 4, 2, b"\2", 1), (0, b""))
+    checks.same("a channel that is opened", Peer(port).ask(4113, 4, 2, b"\2"), (0, b""))
     checks.same("a mute that Python sets", [said_by([*words, ono]) for ono in (4113, 9)], [("status 0\n", 0), ("status 5\n", 0)])
-    checks.same("the device that Python muted", (run.communicate(timeout=120)[0], run.returncode),
+    checks.same("the device that Python muted", rest(run),
                 ("1: muted 0 dB/10, 2: open 0 dB/10\n1: muted 0 dB/10, 2: muted 0 dB/10\n", 0))
-    with socket.socket(socket.AF_INET, socket.SOCK_DGRAM) as silent:
-        silent.bind(("127.0.0.1", 0))
+    with bound() as silent:
         checks.same("Python where nobody answers", said_by([*words[:-1], silent.getsockname()[1]]), ("lost\n", 0))
 
 
@@ -513,20 +457,19 @@ def mixers(checks, made, prefix):
     killed(checks, made)
     if shutil.which("valgrind"):
         shutil.copy(made / "mixer-plain", made / "mixer-valgrind")
-        a_mixer(checks, made, "valgrind", ["valgrind", "-q", "--error-exitcode=99", "--leak-check=full"])
+        a_mixer(checks, made, "valgrind", CAREFUL)
 
 
 def refused_memory(checks, made):
     """Each request for memory refused in turn: the program says so and ends, or does without."""
     for words, refused in (([made / "device-c11", 0, 0], "not started: 8\n"), ([made / "panel-c11", 9], "not opened: 8\n")):
-        counts = made / "counts"
-        settings = dict(LD_PRELOAD=layer("unreliable"), COUNTS=str(counts))
-        quick = dict(settings, FAIL_SEND="1000", ERRNO="101")
-        subprocess.run([str(w) for w in words], env=dict(os.environ, **quick), capture_output=True, timeout=120)
+        counts, times = made / "counts", 0
+        quick = dict(os.environ, LD_PRELOAD=layer("unreliable"), COUNTS=str(counts), FAIL_SEND="1000", ERRNO="101")
+        ran = lambda **more: subprocess.run([*map(str, words)], env=quick | more, capture_output=True, text=True, timeout=120)
+        ran()
         requests = int(counts.read_text().split()[0])
-        times = 0
         for number in range(1, min(requests, 200) + 1):
-            run = subprocess.run([str(w) for w in words], env=dict(os.environ, REFUSE=str(number), **quick), capture_output=True, text=True, timeout=120)
+            run = ran(REFUSE=str(number))
             times += run.stderr == refused and run.returncode == 1
             checks.same(f"{words[0].name}: request {number} refused", run.returncode in (0, 1), True)
         checks.same(f"{words[0].name}: it says that memory was refused", times > 0, True)
@@ -608,8 +551,7 @@ def stays_below(checks, made, archive):
 
 
 def prefixes(checks, made, archive):
-    """Below a prefix with a space, with a sign of awk's, and a relative one the panel compiles by pkg-config, and
-    runs."""
+    """Below prefixes with a space, with a sign of awk's, and a relative one the panel runs."""
     relative = os.path.relpath(made / "rel", TOP)
     for prefix, place in ((made / "with a space", made / "with a space"), (made / "a&b", made / "a&b"), (relative, made / "rel")):
         make("install-library", prefix, archive)
@@ -744,15 +686,17 @@ class Board:
 
 
 # What the device without an operating system is asked, by commands of one peer, and what it answers.
-BARE = [(asks(1, 4097, 4, 2, b"\2", 1), answers(1, 0)), (asks(1, 4097, 4, 2, b"\2", 1), answers(1, 0)), (asks(2, 4097, 4, 1), answers(2, 0, b"\2", 1)),
-        (asks(3, 4098, 5, 2, struct.pack(">h", 101), 1), answers(3, 7)), (asks(4, 4098, 5, 2, struct.pack(">h", -600), 1), answers(4, 0)),
-        (asks(5, 4098, 5, 1), answers(5, 0, struct.pack(">hhh", -600, -600, 100), 3)), (asks(6, 9, 5, 1), answers(6, 5)),
+BARE = [(oca.command(1, 4097, 4, 2, 1, b"\2"), oca.response(1)), (oca.command(1, 4097, 4, 2, 1, b"\2"), oca.response(1)),
+        (oca.command(2, 4097, 4, 1), oca.response(2, 0, 1, b"\2")),
+        (oca.command(3, 4098, 5, 2, 1, struct.pack(">h", 101)), oca.response(3, 7)),
+        (oca.command(4, 4098, 5, 2, 1, struct.pack(">h", -600)), oca.response(4)),
+        (oca.command(5, 4098, 5, 1), oca.response(5, 0, 3, struct.pack(">hhh", -600, -600, 100))),
+        (oca.command(6, 9, 5, 1), oca.response(6, 5)),
         (b"\x3b\0\1\0\0\0\x0b\4\0\1\0\5", b"\x3b\0\1\0\0\0\x0b\4\0\1\0\5")]
 
 
 def without_a_system(checks, made, prefix):
-    """The bare device, over 24,576 bytes, answers one peer over its serial line, and nothing without room or
-    malformed."""
+    """The bare device, over 24,576 bytes, answers one peer over its serial line, and no more."""
     if not shutil.which("qemu-system-aarch64"):
         return print("NOT TRIED: a board without an operating system, without qemu-system-aarch64")
     program = made / "bare"
@@ -763,11 +707,12 @@ def without_a_system(checks, made, prefix):
     for asked, wanted in BARE:
         board.say(asked)
         checks.same(f"what it answers to {asked[10:].hex()}", board.answer(), wanted)
-    for what, data, of in (("a peer without room", asks(1, 4097, 4, 1), {"port": 65002}), ("a malformed datagram", b"\x3b\0", {}), ("a datagram of 1,473 bytes", bytes(1473), {})):
+    for what, data, of in (("a peer without room", oca.command(1, 4097, 4, 1), {"port": 65002}), ("a malformed datagram", b"\x3b\0", {}),
+                           ("a datagram of 1,473 bytes", bytes(1473), {})):
         board.say(data, **of)
         checks.same(f"its answer to {what}", board.answer(seconds=1), None)
-    board.say(asks(7, 4097, 4, 1))
-    checks.same("its answer behind these", board.answer(), answers(7, 0, b"\2", 1))
+    board.say(oca.command(7, 4097, 4, 1))
+    checks.same("its answer behind these", board.answer(), oca.response(7, 0, 1, b"\2"))
     board.run.kill()
     board.run.communicate()
 
@@ -785,7 +730,7 @@ def on_arm(checks, made):
     emulated = ["qemu-aarch64", "-L", "/usr/aarch64-linux-gnu"]
     run, port = serving([*emulated, made / "device-arm", 0, 6])
     checks.same("the panel on AArch64", said_by([*emulated, made / "panel-arm", port]), (PANEL, 0))
-    checks.same("the device on AArch64", (run.communicate(timeout=120)[0], run.returncode), (AMPLIFIER, 0))
+    checks.same("the device on AArch64", rest(run), (AMPLIFIER, 0))
     checks.same("each call on AArch64", said_by([*emulated, made / "calls-arm"])[1], 0)
     first = ["qemu-aarch64", "-cpu", "cortex-a53", "-L", "/usr/aarch64-linux-gnu"]
     checks.same("each call on an AArch64 of the first kind", said_by([*first, made / "calls-arm"])[1], 0)
@@ -852,12 +797,11 @@ def main():
         examples_alone(checks, made)
         refused_memory(checks, made)
         if shutil.which("valgrind"):
-            careful = ["valgrind", "-q", "--error-exitcode=99", "--leak-check=full"]
-            checks.same("each call under valgrind", said_by([*careful, made / "calls-c11"])[1], 0)
-            checks.same("the panel of the library under valgrind", said_by([*careful, made / "network-c11"])[1], 0)
-            run, port = serving([*careful, made / "device-c11", 0, 8])
-            checks.same("the panel under valgrind", said_by([*careful, made / "panel-c11", port]), (PANEL, 0))
-            checks.same("the device under valgrind", (run.communicate(timeout=120)[0], run.returncode), (AMPLIFIER, 0))
+            checks.same("each call under valgrind", said_by([*CAREFUL, made / "calls-c11"])[1], 0)
+            checks.same("the panel of the library under valgrind", said_by([*CAREFUL, made / "network-c11"])[1], 0)
+            run, port = serving([*CAREFUL, made / "device-c11", 0, 8])
+            checks.same("the panel under valgrind", said_by([*CAREFUL, made / "panel-c11", port]), (PANEL, 0))
+            checks.same("the device under valgrind", rest(run), (AMPLIFIER, 0))
         arena = made / "arena"
         subprocess.run(["cc", "-std=c11", "-DARENA=(6u<<20)", *STRICT, f"-I{prefix}/include", "-o", arena, made / "c_library.c", TOP / "examples/c/heap.c",
                         f"{prefix}/lib/liboca_c.a"], check=True)
@@ -866,8 +810,7 @@ def main():
         subprocess.run(["cc", "-std=c11", "-DCOUNTS_BLOCKS", *STRICT, f"-I{prefix}/include", "-o", counted, made / "c_library.c", f"{prefix}/lib/liboca_c.a"],
                        check=True)
         checks.same("each call, and each block of memory is given back", said_by([counted])[1], 0)
-    print(f"{checks.passed} passed, {checks.failed} failed")
-    return 1 if checks.failed else 0
+    return checks.verdict()
 
 
 if __name__ == "__main__":

@@ -20,6 +20,8 @@ from pathlib import Path
 from tables import data
 
 HERE = Path(__file__).resolve().parent
+LANGUAGES = {"c11": ["cc", "-std=c11"], "c++17": ["c++", "-x", "c++", "-std=c++17"]}
+SANITIZED = ["-O1", "-g", "-fsanitize=address,undefined", "-fno-sanitize-recover=all"]
 WORD = re.compile(r'(?:"(?:\\.|[^"\\])*"|\((?:[^()]|\((?:[^()]|\([^()]*\))*\))*\)|[^\s"()])+')
 A_TEXT = r'"(?:\\.|[^"\\])*"'
 ALONE = re.compile(r"struct oca_(device|link|socket|server|store|panel|flight) \*")  # a pointer to one, whatever number stands behind it

@@ -1,11 +1,11 @@
 #!/usr/bin/env python3
-"""The store of the library for C (c/store.c), as C11 and as C++17, as it is and under the sanitizers: what each call answers, and that
-the file is whole behind each failure (c_store.c); and that a program which stores nothing does not need POSIX.
+"""The store of the library for C (c/store.c), as C11 and as C++17, also sanitized: what each call answers, and that the file is whole
+behind each failure (c_store.c); and that a program which stores nothing does not need POSIX.
 
 Usage: c_store.py
 
-Each call of the system that the store makes can be made to fail: the test is linked with -Wl,--wrap for each, and a call that the
-store makes and the test does not wrap is a fault. The last line is 'N passed, M failed'."""
+Each call of the system is wrapped (-Wl,--wrap) and can fail; one that is not wrapped is a fault. The last line is 'N passed, M
+failed'."""
 import fcntl
 import os
 import re
@@ -16,12 +16,11 @@ import tempfile
 from pathlib import Path
 
 import c_rows
+from c_rows import LANGUAGES, SANITIZED
 from checks import Checks
 
 TOP = Path(__file__).resolve().parent.parent
 STRICT = ["-Wall", "-Wextra", "-Werror", "-Wconversion", f"-I{TOP}/include"]
-SANITIZED = ["-O1", "-g", "-fsanitize=address,undefined", "-fno-sanitize-recover=all"]
-LANGUAGES = {"c11": ["cc", "-std=c11"], "c++17": ["c++", "-x", "c++", "-std=c++17"]}
 WRAPPED = ["close", "fchmod", "fchown", "flock", "fstat", "fstatat", "fsync", "open", "openat", "read", "renameat", "unlinkat", "write"]
 # What the store needs of C itself, and not of the system.
 PLAIN = {"__errno_location", "memcmp", "memcpy", "memset", "strlen", "strrchr", "__stack_chk_fail", "_GLOBAL_OFFSET_TABLE_"}

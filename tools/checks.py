@@ -139,6 +139,11 @@ class Checks:
             except Exception as fault:  # nothing came, or something else than what was waited for
                 self.expect(part.__name__, False, repr(fault))
 
+    def tried(self, *parts, alone=()):
+        """Runs these parts, and answers the exit status."""
+        self.parts(*parts, alone=alone)
+        return self.verdict()
+
     def verdict(self):
         """Ends what still runs, prints the last line, and answers the exit status."""
         for run in self.started:

@@ -3,13 +3,10 @@
 
 Usage: damaged.py BIN     BIN is the folder with `trials`
 
-Each byte of 16 messages is replaced by each other value, each of them is cut off behind each of its bytes, and each is followed by each. `trials
-events` says of each datagram what the checks find and, where it is one command or one keep-alive, which bytes the writer writes for that; both are as
-the second implementation has them (oca_profile.py).
-
-A datagram that is refused comes to a device from a peer with a session and from one without. Then another peer reads what no line of objects shows
-(labels, enabled flags, names and flags of positions), and the peer with a session sends again each command for which a reply is retained. A second
-device hears all but the damaged datagrams: both answer alike, and have the same objects, locks and number of sessions."""
+Each byte of 16 messages is replaced by each other value, each message is cut off at each place and followed by each. `trials
+events` says what the checks find, and which bytes the writer writes for one command or keep-alive: as the second implementation
+(oca_profile.py) says. A refused datagram comes from a peer with a session and from one without; then another peer reads what no
+line of objects shows, and the first repeats its commands. A second device hears all but the damaged ones, and answers alike."""
 import sys
 
 import oca_profile as oca
@@ -42,12 +39,6 @@ def readings(first):
 
 def event(peer, data):
     return f"0 {peer} {oca.hex_text(data)}"
-
-
-def probes(number):
-    yield event(READER, readings(1 + number * len(READINGS)))
-    for k in AGAIN:
-        yield event(SENDER, MESSAGES[k])
 
 
 def found(data):
@@ -90,7 +81,7 @@ class Trial:
             tried.append((data, line, is_refused))
             events.append("again " + oca.hex_text(data))
             if is_refused:
-                asked = list(probes(refused))
+                asked = [event(READER, readings(1 + refused * len(READINGS))), *(event(SENDER, MESSAGES[k]) for k in AGAIN)]
                 events += [event(SENDER, data), event(STRANGER, data), *asked]
                 untouched += asked
                 refused += 1

@@ -3,30 +3,22 @@
 
   edits.py [CRATE ..]      the edits of all crates of crates.txt, or of those alone
 
-An edit has the form of a must-fail edit: a line 'file: src/lib.rt', then pairs of lines 'old: TEXT' and 'new: TEXT', each old text standing once in
-that file. Edits are checked together, one check of a copy of the crate for each group, of the functions that they touch and what these call: `rt ci`
-has proved the crate itself. The first edit of a function is made in its place; a further one in a copy of that function, which stands behind it under
-another name, with its contract and a copy of its proof files; one more copy, as the function stands, must be proved beside them. A function that no
-edit touches has no body there, since what calls it needs its contract alone (but methods of traits, constants, calls from C and cycles of calls keep
-theirs); where anything fails then that was not changed, the check is made once more with all.
+An edit is a line 'file: src/lib.rt' and pairs of lines 'old: TEXT' and 'new: TEXT'; each old text stands once in that file.
+One check tries a group of edits in a copy of the crate: of the functions that they touch, and what these call. The first edit
+of a function stands in its place; a further one in a copy of the function, and a copy without an edit must be proved. Other
+functions have no body (but methods of traits, constants, calls from C and cycles); if anything else fails, all have theirs in
+one more check. A line 'clause: NAME' says which clause of the contract refuses the edit: only that one is then ensured, which
+saves searches that fail; not if other code relies on the function, or if its proof is by hand.
 
-A line 'clause: NAME' says which clause of the function's contract refuses the edit. The function, or its copy, then ensures that one alone in this
-check, since a search that fails takes long and each clause that the edit breaks has one; not where other code that is checked calls it, and relies on
-the others, or where its proof is by hand and may name their goals.
+An edit is refused if a goal of a function that it touches fails by itself, and not only since a proof file names what is gone.
+What is not refused is tried in smaller groups without copies and with all bodies, and at last alone. An edit of no function
+is alone; its line 'of: PATH' has the function whose proof it must break. The edits of tools/edits_selftest/CRATE/ must not be
+refused, for what their line 'says: ' has: they try this tool.
 
-An edit is refused where a goal of a function that it touches fails: not where that function only calls one that is not proved, and not only since a
-proof file names what the edit took away. What is not refused in its group is tried in smaller ones without copies and with all bodies, and at last
-alone; what is not refused there has failed. An edit that touches no function, but a definition or a number, is alone; a line 'of: PATH' has the
-function whose proof it must break, and only that one and the lemmas that it cites are checked.
-
-The edits of tools/edits_selftest/CRATE/ must not be refused, and for what their line 'says: ' has: they try this tool.
-
-Crates run side by side, as many as there are processors and memory for, or as many as RT_JOBS says. The libraries below a crate are taken from
-out/rlib as `rt ci` left them, and are built where they are not there. Beside the gate's `rt ci`, which notes the crates that it has proved in the
-file GATE_PROVED, each crate waits for the libraries below it; and until that has ended, for a processor that is idle. Only half as many run side by
-side then, since `rt ci` takes memory too, and checks slow each other down. With EDITS_KEPT=1 a check begins with what earlier checks of the crate
-kept in out/incremental, which is faster while edits are written. The last line is 'N passed, M failed', and the exit status 1 where anything
-failed."""
+Crates run side by side, as many as there are processors and memory for, or as RT_JOBS says, over the libraries that `rt ci`
+left. Beside the gate's `rt ci`, which notes proved crates in the file GATE_PROVED, a crate waits for its libraries and for an
+idle processor, and half as many run. With EDITS_KEPT=1 a check begins with what is kept in out/incremental, while edits are
+written. The last line is 'N passed, M failed', and the exit status 1 if anything failed."""
 import copy
 import itertools
 import os
@@ -269,8 +261,7 @@ def proofs_of(crate, function):
 
 
 def body_of(lines, function):
-    """The line that opens a body which can be emptied: of no trait's method, constant, C function, cycle or one-
-    liner."""
+    """The line that opens a body which can be emptied: some kinds can't, nor a one-liner."""
     head = lines[function.first]
     attributes = "\n".join(lines[attributes_at(lines, function.first):function.first])
     if function.is_of_trait or re.search(r"\bconst fn|extern \"C\"", head) or "cycle(" in attributes:
@@ -286,8 +277,7 @@ def body_of(lines, function):
 
 
 def emptied(crate, texts, touched):
-    """The texts with the bodies of untouched functions empty, since callers need contracts alone; and these
-    functions."""
+    """The texts with empty bodies of untouched functions, which callers don't need; and these."""
     found, paths = [], {it.path() for it in touched}
     texts = dict(texts)
     for file in sorted(Path(crate.folder, "src").rglob("*.rt")):
@@ -316,8 +306,7 @@ def code_of(text):
 
 
 def narrowed(crate, texts, wanted):
-    """The texts with only the wanted clauses of functions that no other code names; and the paths of these
-    functions."""
+    """The texts with only wanted clauses of functions that no other code names; and their paths."""
     sources = {str(it.relative_to(crate.folder)): it.read_text() for it in sorted(Path(crate.folder, "src").rglob("*.rt"))}
     sources |= {path: text for path, text in texts.items() if path.startswith("src/")}
     named = Counter(itertools.chain(*(re.findall(r"\w+", code_of(text)) for text in sources.values())))
@@ -372,8 +361,7 @@ class Group:
         return found
 
     def wanted(self, crate, copies):
-        """The clauses that refuse the edits of each function, by its path, if each names one, and no proof is by
-        hand."""
+        """The clauses that refuse a function's edits, by its path, if each names one; none by hand."""
         of = [(it.functions[0], it.functions[0].path(), it.clause) for it in self.placed if len(it.keys()) == 1]
         for it in copies:
             whose = [it.edit] if it.edit else [its for its in self.copied if as_it_stands(its.functions[0]).path() == it.function.path()]
@@ -451,8 +439,7 @@ class Answer:
         return any(map(is_its, self.wrong)) or any(map(is_its, self.open)) and not any(map(is_its, self.gone))
 
     def strange(self, own, empty):
-        """A function, or with empty ones a lemma, that fails though it was not changed: then the crate itself is not
-        proved."""
+        """A function, or a lemma without its proofs, that fails though nothing changed it."""
         others = [it for it, calls in self.unproved if not calls] + self.wrong + (self.gone if empty else [])
         own = [*own, *empty]
         return next(("::".join(it) or "a lemma" for it in others if (it or empty) and not any(f.is_named(it) for f in own)), None)
@@ -479,8 +466,7 @@ class Trial:
             self.kept = shutil.copytree(earlier, f"{room}/kept")
 
     def checked(self, texts, paths, without=()):
-        """Checks a copy of the crate with these texts: these functions, or all if there is none; some without their
-        proofs."""
+        """Checks these functions of a copy of the crate, or all; some without their proofs."""
         self.checks += 1
         only = [word for path in sorted(paths) for word in ("--only", path)]
         with tempfile.TemporaryDirectory(prefix="edits-") as room:
@@ -499,8 +485,7 @@ class Trial:
         return Answer(ran, texts)
 
     def try_group(self, group, empties=False):
-        """Checks a group, and returns the edits that are not refused. If it empties bodies, and others fail, once more
-        whole."""
+        """Checks a group; the edits that are not refused. Once more whole if other functions fail."""
         copies = group.copies(self.crate)
         copied = {it.edit.name: [it.function] for it in copies if it.edit}
         tried = {edit.name: copied.get(edit.name, edit.functions) for edit in group.edits()}
@@ -528,8 +513,7 @@ class Trial:
         return [it for it in group.edits() if not it.is_refused]
 
     def run(self):
-        """Tries all edits: in groups with copies and empty bodies; then the rest in new groups, whole; at last each
-        alone."""
+        """Tries all edits: in groups with copies and empty bodies; then whole; at last alone."""
         left, alone, is_first = [it for it in self.edits if not it.why], False, True
         while left and not self.why:
             groups = [Group(it) for it in left] if alone else grouped(left, self.crate, is_first)
@@ -600,8 +584,7 @@ def is_idle(number):
 
 
 def beside_proofs(tasks, crates, most):
-    """Runs the tasks, the longest first, each once the libraries below are proved; until all are, half, on idle
-    processors."""
+    """Runs the tasks behind their libraries' proofs, the longest first, half as many till all end."""
     left, running, given = sorted(tasks, key=lambda it: -tasks[it][1]), {}, {}
     with ThreadPoolExecutor(most) as pool:
         while left or running:

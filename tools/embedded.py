@@ -1,8 +1,6 @@
 #!/usr/bin/env python3
-"""The two example programs over loopback: the panel sets the amplifier, also where another peer holds a lock, and lists
-its objects and those of `ocadev`; each of the amplifier's own knobs is turned and read back by a peer, each object is
-set by a peer and shown by the amplifier, with an input that stays open; and the amplifier serves where its standard
-streams are closed.
+"""The example programs over loopback: the panel sets and lists the amplifier, beside locks of another peer, and lists `ocadev`; the
+amplifier's knobs are read by a peer, a peer's settings are shown, and closed standard streams change nothing.
 
 Usage: embedded.py BIN     BIN is the folder with `amplifier`, `panel` and `ocadev`"""
 import itertools

@@ -3,9 +3,8 @@
 
 Usage: fuzz.py BIN SECONDS [SEED]     BIN is the folder with the two programs
 
-Scripts have well-formed and damaged datagrams, duplicates, overtaking, differing commands under a handle, many peers, moments that jump and run
-backwards, every window and span, and bad lines. At the first difference the script is made as small as it can be, printed, and the exit status is
-1."""
+Scripts have well-formed and damaged datagrams, duplicates, overtaking, other commands under a handle, many peers, moments that
+jump, every window and span, and bad lines. The first difference is made as small as it can be and printed; the status is 1."""
 import random
 import subprocess
 import sys
@@ -19,7 +18,7 @@ ONOS = [100, 4096, 4097, 4098, 4099, 4100, 4101, 4102, 4103, 1, 0]
 METHODS = [(1, i) for i in range(0, 8)] + [(2, i) for i in range(1, 14)] + [(3, 4), (3, 5), (3, 6), (3, 20), (3, 21)] \
     + [(4, i) for i in range(1, 11)] + [(5, 1), (5, 2), (5, 3), (0, 1), (6, 1)]
 # how many peers have room, and how many channel strips are added to the bench's own objects
-ROOMS, CHANNELS = [16], [0]
+ROOMS, CHANNELS = [16, 1, 2, 15, 17, 64], [0, 0, 0, 1, 5, 30, 1022]
 # (target, method, ParamCount, a maker of parameters): what a panel would send
 USUAL = [
     (4097, (4, 1), 0, lambda r: b""), (4097, (4, 2), 1, lambda r: bytes([r.choice([1, 2, 2, 1, 3])])),
@@ -83,7 +82,6 @@ class Panel:
         level, index = r.choice(METHODS)
         params = bytes(r.randrange(256) for _ in range(r.choice([0, 0, 1, 2, 3, 9])))
         return oca.Command(handle, r.choice(ONOS), level, index, r.randrange(3), params)
-
 
     def in_a_strip(self, target):
         """The number of an object, or now and then that of its like in a channel strip."""
@@ -196,12 +194,6 @@ def link_script(r):
     return words, finish(r, lines), lambda s: oca.link_replay(s, device, first, span)
 
 
-def more_sizes():
-    """Sizes besides those that are the default; that the program knows them shows in each script."""
-    ROOMS.extend([1, 2, 15, 17, 64])
-    CHANNELS.extend([0, 0, 1, 5, 30, 1022])
-
-
 def run(program, words, script):
     done = subprocess.run([program] + words, input=script, capture_output=True, timeout=60)
     return done.stdout, done.stderr.decode(errors="replace").strip() or None, done.returncode
@@ -238,7 +230,6 @@ def main():
     folder, seconds = sys.argv[1], float(sys.argv[2])
     seed = int(sys.argv[3]) if len(sys.argv) > 3 else 1
     r = random.Random(seed)
-    more_sizes()
     end, scripts, lines = time.time() + seconds, [0, 0], 0
     while time.time() < end:
         for kind, (name, make) in enumerate((("ocadev", device_script), ("ocactl", link_script))):

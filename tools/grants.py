@@ -13,6 +13,3 @@ def read_note(run):
     """Reads the note, which stands behind where the device listens, where there is one. Returns whether it is as it should be."""
     return not are_few() or run.stderr.readline().startswith(NOTE)
 
-
-def without_note(text):
-    return "".join(line for line in text.splitlines(keepends=True) if not line.startswith(NOTE))

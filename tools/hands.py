@@ -172,12 +172,10 @@ class Checks(checks.Checks):
         self.same(what, (out, re.sub(r"\b\d+ ms ago", "N ms ago", err), code), (printed, said, status))
 
 
-def long_bench():
-    """A device whose second block has too many members, and one object behind it."""
-    return oca.bench(1) + [oca.Object(6000 + n, "mute", 4096, "m", state=1) for n in range(100)] + [oca.Object(7000, "mute", 100, "behind", state=1)]
-
-
-TREES = {"bench 5": lambda: oca.bench(5), "stagebox": stagebox, "long": long_bench}
+# The objects of devices. The second block of the last has too many members, and one object stands behind it.
+TREES = {"bench 5": lambda: oca.bench(5), "stagebox": stagebox,
+         "long": lambda: [*oca.bench(1), *(oca.Object(6000 + n, "mute", 4096, "m", state=1) for n in range(100)),
+                          oca.Object(7000, "mute", 100, "behind", state=1)]}
 
 
 def of_object(obj):
@@ -413,8 +411,7 @@ class Terminal:
 
 
 def at_a_terminal(checks):
-    """At a terminal typed lines are read, commands are sent again meanwhile, and Ctrl-D ends `run` and `lock
-    --hold`."""
+    """At a terminal typed lines are read, copies sent, and Ctrl-D ends `run` and `lock --hold`."""
     for script in (False, True):
         with Missing(stagebox()) as device:
             words = [f"{checks.folder}/ocactl", "run", "--device", f"127.0.0.1:{device.port}", "--port", str(free_port())]
@@ -486,7 +483,7 @@ def behind_a_terminal(checks):
             for line in (b"a line of another program\n", b"and one more\n"):
                 run.write(line)
                 checks.same(f"{name}: it goes on", (run.says(b"unlocked", 1), b"its status" in run.said), (False, False))
-                state = state_of(pid)
+                state = Path(f"/proc/{pid}/stat").read_text().rsplit(")", 1)[1].split()[0]  # T if it is stopped
                 checks.same(f"{name}: it is not stopped, but {state}", state in "RS", True)
             checks.same(f"{name}: its lock", [o.lock is not None for o in device.tree if o.ono == 4097], [True])
             os.kill(pid, signal.SIGKILL)
@@ -496,12 +493,6 @@ def behind_a_terminal(checks):
         run = in_the_background(checks, device, "run", given="4097 4 1 0 -\n")
         checks.same(name, (run.says(b"answer 0 1 01"), run.says(b"its status is 0")), (True, True))
         checks.same(f"{name}: its end", run.ends(), 0)
-
-
-def state_of(pid):
-    """The letter by which the system says what a process does: T where it is stopped."""
-    with open(f"/proc/{pid}/stat", encoding="ascii") as file:
-        return file.read().rsplit(")", 1)[1].split()[0]
 
 
 def old_sessions(checks):
@@ -571,17 +562,8 @@ def held(checks):
         checks.same("lock --hold: nothing is locked", (run.wait(30), run.stdout.read()), (4, "77 BadONo\n"))
 
 
-# The parts that use the program's own ports, or hold one of them.
-ALONE = (old_sessions, no_other_port, own_port_in_use, missed_first)
-
-
-def main():
-    counts = Checks(sys.argv[1])
-    counts.parts(of_rows, sets_at_once, tells_at_once, helps, ends_as_told, strange_answers, silence, unnamed, answered,
-                 silence_of_a_run, failed_sends, old_sessions, no_other_port, own_port_in_use, missed_first, at_a_terminal,
-                 at_a_terminal_alone, behind_a_terminal, held, alone=ALONE)
-    return counts.verdict()
-
-
 if __name__ == "__main__":
-    sys.exit(main())
+    at_own_ports = (old_sessions, no_other_port, own_port_in_use, missed_first)
+    sys.exit(Checks(sys.argv[1]).tried(
+        of_rows, sets_at_once, tells_at_once, helps, ends_as_told, strange_answers, silence, unnamed, answered, silence_of_a_run,
+        failed_sends, *at_own_ports, at_a_terminal, at_a_terminal_alone, behind_a_terminal, held, alone=at_own_ports))

@@ -1,13 +1,10 @@
 #!/usr/bin/env python3
-"""include/oca.h held against the sources of the library: each prototype, by its parameters' names, order and types, and
-each constant and struct, by its numbers and fields; the manual pages that are made from it: each call has one; and the
-list of docs/API.md, which is to be what gate/api.py makes of the sources and the header.
+"""include/oca.h held against the sources of the library: each prototype, constant and struct; the manual pages made from it; and
+the list of docs/API.md, as gate/api.py makes it.
 
 Usage: header.py
 
-The step is tried itself: with two parameters, constants or fields exchanged, left out or of another type, a difference
-must be found, and so must a page with another title, declaration, description or list, and a list with another line.
-The last line is 'N passed, M failed'."""
+The step is tried itself: a header, page or list that is wrong in one place must be found. The last line is 'N passed, M failed'."""
 import re
 import sys
 import tempfile
@@ -54,8 +51,7 @@ def in_c(call, name, kind):
 
 
 def exported():
-    """The calls that the library exports, of Rattle and of c/, with the parameters and results that the header must
-    have."""
+    """The calls of Rattle and of c/, with the parameters and results that the header must have."""
     found = {}
     for file in sorted(CALLS.glob("*.rt")):
         for name, given, result in re.findall(r'pub extern "C" fn (\w+)\(([^)]*)\)\s*(?:-> (\w+))?', file.read_text()):

@@ -1,12 +1,12 @@
 #!/usr/bin/env python3
-"""`ocadev serve` and ten of `ocactl run` on two hosts: network namespaces of their own with a link between them, that loses and doubles a fifth of
-the datagrams each way and delays each by 10 to 90 ms, so that they overtake each other. The panels' lines come in pieces, with pauses at random.
+"""`ocadev serve` and ten of `ocactl run` on two hosts: network namespaces with a link that loses and doubles a fifth of the datagrams
+each way and delays each by 10 to 90 ms. The panels' lines come in pieces, with pauses at random.
 
 Usage: hosts.py BIN [COMMANDS] [SEED]     BIN is the folder with the programs; so many commands in all, 10,000 unless given
 
-No step of the gate. With 1, 2 and 16 commands under way each command must be executed once, and each answer be what the second implementation of the
-profile says of its own command (an answer differs from those around it), and a copy be too old only behind its command's answer. It needs root and
-`ip` (iproute2), and with 10,000 commands some 15 minutes. The last line is 'N passed, M failed'."""
+No step of the gate. With 1, 2 and 16 under way each command is executed once, each answer is what the second implementation says,
+and a copy is too old only behind its answer. It needs root and `ip` (iproute2), and 15 minutes. The last line is 'N passed, M
+failed'."""
 import os
 import random
 import re

@@ -1,12 +1,11 @@
 #!/usr/bin/env python3
-"""A device that keeps its state in a file (`ocadev serve --keep FILE`) is stopped and started again: by SIGTERM right behind
-an answer, by `kill -9` at random moments while commands come, with the power cut at each of its system calls, with no room for
-the file, with each step of a store refused or slow (the layer of `refusing.c`), and over files that are broken. Whatever was
-answered with OK is there.
+"""A device that keeps its state in a file (`ocadev serve --keep FILE`) is stopped and started again: by SIGTERM, by `kill -9`, with
+the power cut at each system call, without room, with each step of a store refused or slow (`refusing.c`), and over broken files.
+Whatever was answered with OK is there.
 
-Usage: keep.py BIN [KILLS [STOPS]]     BIN is the folder with `ocadev`
+Usage: keep.py BIN     BIN is the folder with `ocadev`
 
-What is expected is built here from docs/PROTOCOL.md, and not by the programs. The last line is 'N passed, M failed'."""
+What is expected is built from docs/PROTOCOL.md, and not by the programs. The last line is 'N passed, M failed'."""
 import contextlib
 import errno
 import os
@@ -25,17 +24,15 @@ from pathlib import Path
 
 import checks
 import peers
+from oca_profile import text_bytes
 from tables import data, octets
 
 MUTE, TRIM = 4097, 4100
 KILLS, STOPS = 30, 20
 DONE = (0, b"")
+NOT_KEPT, AGAIN = r"note: the state is not kept: [^\n]*\n", "note: the state is kept again: "
 DATA = data("keep")
 UNENDED = "its last line does not say how many objects it has: it is cut off, or not of this program"
-
-
-def text(said):
-    return struct.pack(">H", len(said)) + said.encode()
 
 
 def number(value):
@@ -63,8 +60,7 @@ def limit_files(most):
 
 class Checks(checks.Checks):
     def serve(self, keep, *words, most=None, refusing=False):
-        """A device at a port of the system's, what it says before it listens, and its peer; with the layer `refusing`
-        or without."""
+        """A device at a port of the system's, what it says first, and its peer; over the layer or not."""
         layer = {"LD_PRELOAD": checks.layer("refusing"), "REFUSING": f"{keep}.refusing", "TOLD": f"{keep}.told"} if refusing else {}
         run = self.start("ocadev", "serve", "--port", "0", "--keep", keep, *words, text=False, env={**os.environ, **layer}, stdin=subprocess.DEVNULL,
                          preexec_fn=None if most is None else lambda: limit_files(most))
@@ -103,10 +99,6 @@ def stop(run, how=signal.SIGKILL):
     return run.communicate(timeout=30)[1].decode()
 
 
-def again(keep):
-    return f"note: the state is kept again: {keep}\n"
-
-
 def answers(peer, commands):
     """What these commands are answered, each of whose parameters stand in hexadecimal digits, one behind the other."""
     return [peer.ask(target, level, index, *map(bytes.fromhex, params)) for target, level, index, *params in commands]
@@ -120,8 +112,8 @@ def restarts(checks, folder):
         checks.same("a file before anything was set", os.path.exists(keep), False)
         checks.same("statuses of what was set", [answer[0] for answer in answers(peer, DATA.sets)], [0] * 9)
         before = answers(peer, DATA.reads)
-        checks.same("the name that was set", before[5], (0, text("a\"b,\n")))
-        checks.same("the label that was set", before[6], (0, text("B\u00fchne \"1\"")))
+        checks.same("the name that was set", before[5], (0, text_bytes("a\"b,\n")))
+        checks.same("the label that was set", before[6], (0, text_bytes("B\u00fchne \"1\"")))
     with checks.served(keep, "--verbose") as peer:
         for at, (was, now) in enumerate(zip(before, answers(peer, DATA.reads))):
             checks.same(f"what was set, {at}, after a restart", now, was)
@@ -161,10 +153,10 @@ def written_once(checks, folder):
         checks.same("the file behind a copy of the command", which(), before)
 
 
-def kills(checks, folder, times=None):
+def kills(checks, folder):
     """Whenever it is killed, the file is whole and has what was answered, and at most the next command besides."""
     keep, last = f"{folder}/killed", 0
-    for turn in range(times or KILLS):
+    for turn in range(KILLS):
         run, said, peer = checks.serve(keep, "--channels", "200")
         if peer is None:
             checks.same(f"it starts after kill {turn}", said, "listening")
@@ -182,16 +174,16 @@ def kills(checks, folder, times=None):
             last = 0
 
 
-def stops(checks, folder, times):
+def stops(checks, folder):
     """What was answered right before it was told to end is there."""
     keep, lost = f"{folder}/stopped", []
-    for value in range(1, times + 1):
+    for value in range(1, STOPS + 1):
         with checks.served(keep, number=signal.SIGTERM) as peer:
             found = peer.trim()
             lost += [(value - 1, found)] if found != value - 1 else []
             answer = peer.trims(value)
         checks.same("a command before it is told to end", answer, DONE)
-    checks.same(f"what was answered and forgotten in {times} stops", lost, [])
+    checks.same(f"what was answered and forgotten in {STOPS} stops", lost, [])
 
 
 def told_so(checks, what, run, form):
@@ -199,12 +191,8 @@ def told_so(checks, what, run, form):
     checks.same(what, (told, re.fullmatch(form, told) is not None), (told, True))
 
 
-NOT_KEPT = r"note: the state is not kept: [^\n]*\n"
-
-
 def full(checks, folder):
-    """If the file can't be written, that is told once, the old file stays, and only readings are answered. Later it is
-    kept."""
+    """A file that can't be written is told once, and only readings are answered, until it can be."""
     keep = f"{folder}/full"
     checks.set_once(keep)
     old = Path(keep).read_bytes()
@@ -219,14 +207,13 @@ def full(checks, folder):
         resource.prlimit(run.pid, resource.RLIMIT_FSIZE, (resource.RLIM_INFINITY, resource.RLIM_INFINITY))
         checks.same(f"{what}, and then there is room: a copy of it", peer.trims_again(9), DONE)
         checks.same(f"{what}, and then there is room: it is kept", b"int16 -600 600 9 " in checks.shown(keep), True)
-        told_so(checks, f"{what}: told once, and that there is room", run, NOT_KEPT + re.escape(again(keep)))
+        told_so(checks, f"{what}: told once, and that there is room", run, NOT_KEPT + re.escape(AGAIN + f"{keep}\n"))
         Path(keep).write_bytes(old)
     goes_away(checks, folder)
 
 
 def goes_away(checks, folder):
-    """If its folder goes away, that is told once; once it is there, the next command is answered and kept; and once
-    more."""
+    """A folder that goes away is told once, and the next command behind its return is kept."""
     home = f"{folder}/away"
     keep = f"{home}/state"
     os.mkdir(home)
@@ -240,7 +227,7 @@ def goes_away(checks, folder):
         for more in (2, 3):
             checks.same("with its folder: a command", peer.trims(value + more), DONE)
             checks.same(f"with its folder: {value + more} is kept", trim_in(checks.shown(keep)), value + more)
-    told_so(checks, "without a folder: told each time once, and that it is there", run, (NOT_KEPT + re.escape(again(keep))) * 2)
+    told_so(checks, "without a folder: told each time once, and that it is there", run, (NOT_KEPT + re.escape(AGAIN + f"{keep}\n")) * 2)
 
 
 def put(path, words):
@@ -270,8 +257,7 @@ def of_system(code):
 
 
 def refused_steps(checks, folder):
-    """While a step of a store is refused, readings alone are answered, which is told once; later a copy is, and is
-    kept."""
+    """While a step of a store is refused only readings are answered; later all is kept."""
     for at, (step, name, is_replaced) in enumerate(DATA.steps):
         code = getattr(errno, name)
         keep, what = f"{folder}/steps{at}", f"{step} is refused ({os.strerror(code)})"
@@ -297,7 +283,7 @@ def refused_steps(checks, folder):
         peer.handle = sent[-1] + 10
         checks.same(f"behind {what}: a command", peer.trims(9), DONE)
         reason = "a write failed" if step == "write" else of_system(code)
-        checks.same(f"{what}: told once, and once that it is kept again", stop(run), f"note: the state is not kept: {keep}: {reason}\n{again(keep)}")
+        checks.same(f"{what}: told once, and once that it is kept again", stop(run), f"note: the state is not kept: {keep}: {reason}\n{AGAIN}{keep}\n")
         checks.has(f"behind {what}: after a restart", keep, 9)
 
 
@@ -601,8 +587,7 @@ class Disk:
 
 
 def power_cuts(checks, folder):
-    """The power is cut behind each system call: what was answered with OK is in the file, whole, on any possible
-    disk."""
+    """The power is cut behind each system call: what was answered OK is on any possible disk."""
     if shutil.which("strace") is None:
         print("no strace here: the power was not cut")
         return
@@ -635,11 +620,7 @@ def power_cuts(checks, folder):
 def main():
     with tempfile.TemporaryDirectory() as folder:
         its = Checks(sys.argv[1])
-        restarts(its, folder)
-        written_once(its, folder)
-        kills(its, folder, int(sys.argv[2]) if len(sys.argv) > 2 else None)
-        stops(its, folder, int(sys.argv[3]) if len(sys.argv) > 3 else STOPS)
-        for part in (full, refused_steps, short_writes, slow_store, refused_locks, mode_and_owner, linked, left_over, broken, others, power_cuts, unknown):
+        for part in (restarts, written_once, kills, stops, full, refused_steps, short_writes, slow_store, refused_locks, mode_and_owner, linked, left_over, broken, others, power_cuts, unknown):
             part(its, folder)
     return its.verdict()
 

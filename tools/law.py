@@ -3,16 +3,12 @@
 
 Usage: law.py BIN [HISTORIES] [SEED]     BIN is the folder with `trials`
 
- law      directed and random histories, run by `trials events`: of each event its verdict, its packets, what it wrote
-          to, the objects and the number of sessions after it are what the law says
- wrong    wrong devices (tools/rows/wrong_devices.toml): the law refuses a history of each, by the sentence that it breaks
- altered  transcripts of the program in which one line was altered: refused at that event, by the sentence that the line
-          belongs to
-
+ law      directed and random histories, run by `trials events`: verdicts, packets, writes, objects and sessions are the law's
+ wrong    the law refuses a history of each wrong device (tools/rows/wrong_devices.toml), by the sentence that it breaks
+ altered  a transcript with one line altered is refused at that event, by the sentence that the line belongs to
 The last line is 'N passed, M failed'."""
 import collections
 import random
-import subprocess
 import sys
 
 import oca_profile as oca
@@ -267,7 +263,7 @@ def wander(r):
     return h
 
 
-SIZES, CHANNELS = [16], [0]
+SIZES, CHANNELS = [16, 16, 16, 1, 2, 15, 17, 64], [0, 0, 0, 1, 2, 9]
 KINDS = [lapses, forgetting, crowds, windows, packings, limits, fronts, wander, wander, wander]
 
 
@@ -305,20 +301,14 @@ def tale_of(history, device):
     return tale
 
 
-def lock_of(text):
-    return None if not text else ({"t": "total", "r": "read-only"}[text[0]], oca.peer_of(text[1:]))
-
-
 def objects_of(line):
     read = []
     for word in line.split(" ")[1:]:
         ono, rest = word.split("=")
         setting, _, held = rest.partition("/")
-        read.append((int(ono), None if setting == "-" else int(setting), lock_of(held)))
+        lock = ({"t": "total", "r": "read-only"}[held[0]], oca.peer_of(held[1:])) if held else None
+        read.append((int(ono), None if setting == "-" else int(setting), lock))
     return tuple(read)
-
-
-TOLD = [None]  # its last is what is told where nothing was written; None as long as the program does not tell it
 
 
 def tale_in(lines):
@@ -334,7 +324,7 @@ def tale_in(lines):
         elif word == "objects":
             tale[-1] = tale[-1]._replace(objects=objects_of(line))
         else:
-            tale.append(Told(verdict_of(line), (), TOLD[-1], None, None))
+            tale.append(Told(verdict_of(line), (), (), None, None))
     return tale
 
 
@@ -470,23 +460,8 @@ def summary(seed, total, wrong):
     print(f"altered lines refused where they stand, by the sentence that they belong to: " f"{total['altered, refused']} of {total['altered']}")
 
 
-def learn(folder):
-    """Whether the program knows the sizes that are tried, and tells what was written: only then is all of it tried."""
-    def knows(line, said=b""):
-        done = subprocess.run([f"{folder}/trials", "events"], input=line, capture_output=True, timeout=60)
-        return done.returncode == 0 and said in done.stdout
-
-    SIZES.extend([16, 16, 1, 2, 15, 17, 64])
-    CHANNELS.extend([0, 0, 1, 2, 9])
-    TOLD.append(())
-    sets = ask(1, 4097, 4, 2, 1, b"\1").hex().encode()
-    return knows(b"history 1 2 0\n") and knows(b"history 1 16 1\n") and knows(b"history 1 16 0\n0 127.0.0.1:9001 " + sets + b"\n", b"written 4097\n")
-
-
 def main():
     folder = sys.argv[1]
-    if not learn(folder):
-        sys.exit("law: trials does not know the sizes that are tried, or does not tell what was written")
     count = int(sys.argv[2]) if len(sys.argv) > 2 else 300
     seed = int(sys.argv[3]) if len(sys.argv) > 3 else 1
     jobs = [(folder, seed, range(first, min(first + 9, count))) for first in range(0, count, 9)]

@@ -3,17 +3,16 @@
 
 Usage: lossy.py BIN [COMMANDS] [SEED]     so many commands one at a time, with a window of 32; four times as many with
                                           16 under way, with a window of 31. BIN is the folder with the programs
-       lossy.py BIN directed [WINDOW..]   16 under way, of which the last overtakes the others and stays unanswered
-                                          while they are answered and 15 more are executed; then a copy of it comes
+       lossy.py BIN directed [WINDOW..]   16 under way: the last overtakes the others and stays unanswered while 15 more
+                                          are executed; then a copy of it comes
 
 In the gate: lossy.py bin 30
 In the gate: lossy.py bin directed
 
-Of each run it prints a table, and at the end 'N passed, M failed' over the runs. One at a time, each answer must be what the second implementation of
-the profile says, and the last two commands read back what was set. With 16 under way the commands may be executed in any order, so they are such
-whose answers tell them apart in every order. The exit status is 1 if a command was executed twice, a copy was too old whose command's answer had not
-been carried yet, an answer was wrong, or one is missing; of `directed`, if with a window of 31 or more the copy is not answered from the window, or
-with a smaller one is not too old."""
+It prints a table of each run, and at the end 'N passed, M failed' over the runs. One at a time, each answer must be what the
+second implementation says; with 16 under way the answers tell the commands apart in every order. A run fails if a command
+was executed twice, if a copy was too old before its answer was carried, or if an answer is wrong or missing; `directed` also
+if with a window of 31 or more the copy is not answered from the window, or with a smaller one is not too old."""
 import heapq
 import random
 import re

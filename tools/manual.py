@@ -1,17 +1,14 @@
 #!/usr/bin/env python3
-"""Compares man/ocadev.1, man/ocactl.1 and man/ocapanel.1 with `--help`: the same commands, and for each command the same options with the same values
-and the same defaults (`[default: N]` in the help, `The default is N` in the page). A program without commands has one of its own name. What the help
-says of each option and each command is more than a word, and not what it says of another one.
+"""Compares man/ocadev.1, man/ocactl.1 and man/ocapanel.1 with `--help`: commands, options, values and defaults (`[default: N]` in
+the help, `The default is N` in the page). The help says something of its own of each option and command.
 
 Usage: manual.py BIN     BIN is the folder with the programs
 
-In a page a command is a `.SS` of the section COMMANDS, and an option of it, behind a `.TP`, a `.BI \\-\\-NAME " VALUE"` or, without a value, a `.B
-\\-\\-NAME`. Options that several commands have are in the section COMMON OPTIONS, where a `.SS` lists the commands: `replay and serve`, or `All
-commands`, or `All commands but replay`.
-
-A page is titled by its name, the day of its version and that version, and so is the page of each call from C, which gate/reference.py makes. Where
-groff is installed, it must find nothing to warn of in any of them. The step is tried itself, by pages that are wrong. The last line is 'N passed, M
-failed'."""
+In a page a command is a `.SS` of COMMANDS, and its option, behind a `.TP`, a `.BI \\-\\-NAME " VALUE"` or a `.B \\-\\-NAME`. A
+`.SS` of COMMON OPTIONS lists its commands: `replay and serve`, `All commands`, or `All commands but replay`. A program without
+commands has one of its own name. A page is titled by its name, the day of its version and that version, as the pages of the
+calls from C are (gate/reference.py). groff, if it is installed, must find nothing to warn of. Pages that are wrong must be
+found. The last line is 'N passed, M failed'."""
 import re
 import shutil
 import subprocess
@@ -40,10 +37,10 @@ def section(text, name):
 
 
 def options_in_help(text):
-    """Each option with its value or none; not `--help` and `--version`, which every command or program has."""
-    pattern = r"\s+(?:-\w, )?--([a-z-]+)(?:[ =]<([^>]+)>)?"
+    """Each option with its value and its default, or none; not `--help` and `--version`, which every program has."""
+    pattern = r"\s+(?:-\w, )?--([a-z-]+)(?:[ =]<([^>]+)>)?(.*)"
     found = [re.match(pattern, line) for line in section(text, "Options")]
-    return {m[1]: m[2] for m in found if m and m[1] not in ("help", "version")}
+    return {m[1]: (m[2], default_of(m[3])) for m in found if m and m[1] not in ("help", "version")}
 
 
 def commands_in_help(program):
@@ -90,11 +87,6 @@ def default_of(text):
     return found[1] if found else None
 
 
-def defaults_in_help(text):
-    found = [re.match(r"\s+(?:-\w, )?--([a-z-]+)(.*)", line) for line in section(text, "Options")]
-    return {m[1]: default_of(m[2]) for m in found if m and default_of(m[2])}
-
-
 def faults_of(text, program):
     """What differs between the text of a page and the program, a line each, and how much was compared."""
     documented, there = commands_in_page(text), commands_in_help(program)
@@ -102,14 +94,9 @@ def faults_of(text, program):
     count = len(there)
     for name in sorted(documented.keys() & there.keys()):
         said = options_in_help(help_of(program, *there[name]))
-        values = {option: value for option, (value, _) in documented[name].items()}
-        defaults = {option: default for option, (_, default) in documented[name].items() if default}
-        wanted = defaults_in_help(help_of(program, *there[name]))
-        count += len(said) + len(wanted)
-        if defaults != wanted:
-            faults.append(f"{name}: the defaults are {defaults} in the page, {wanted} in the help")
-        for option in sorted(values.keys() | said.keys()):
-            page_has, help_has = values.get(option, "nothing"), said.get(option, "nothing")
+        count += len(said) + sum(default is not None for _, default in said.values())
+        for option in sorted(documented[name].keys() | said.keys()):
+            page_has, help_has = documented[name].get(option), said.get(option)
             if page_has != help_has:
                 faults.append(f"{name} --{option}: {page_has!r} in the page, {help_has!r} in the help")
     return faults, count
@@ -174,8 +161,7 @@ def title_of(program, folder):
 
 
 def calls_faults(pages):
-    """The pages of the calls from C whose title has not their name, the day of CHANGELOG.md and the version of
-    oca.pc."""
+    """The pages of the calls from C that are not titled by name, day and version."""
     version = re.search(r"^Version: (.+)$", (PAGES.parent / "include/oca.pc.in").read_text(), re.MULTILINE)[1]
     day = re.search(rf"^## \[{re.escape(version)}\] - ([\d-]+)$", (PAGES.parent / "CHANGELOG.md").read_text(), re.MULTILINE)[1]
     return [f"{name} is not titled by {day} and {version}" for name, text in pages.items()

@@ -1,13 +1,11 @@
 #!/usr/bin/env python3
-"""`ocadev serve` beside hosts that answer nothing, in network namespaces of its own: what the device sends them fills the
-system's buffers, and must cost another peer nothing.
+"""`ocadev serve` beside hosts that answer nothing, in network namespaces: what the device sends them costs other peers nothing.
 
 Usage: neighbours.py BIN [SECONDS]     BIN is the folder with `ocadev`; each run takes so long, 4 unless given
 
-Datagrams in the name of silent hosts come at several rates, of 122 keep-alives each, which the device returns one by one,
-or of one. Meanwhile a peer asks for a state twenty times a second. Each of its commands must be answered, the slowest
-within 100 ms longer than where no host is silent; and at least half of the datagrams must have been sent. It needs root
-and `ip` (iproute2); without them it says so, and tries nothing. The last line is 'N passed, M failed'."""
+Datagrams of 1 or 122 keep-alives come in the names of silent hosts, at several rates. A peer that asks twenty times a second must
+get each answer, the slowest within 100 ms longer than alone; at least half of the datagrams must have been sent. It needs root
+and `ip` (iproute2); else it says so, and tries nothing. The last line is 'N passed, M failed'."""
 import os
 import re
 import socket

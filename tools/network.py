@@ -1,12 +1,11 @@
 #!/usr/bin/env python3
-"""The built programs on a network that is not kind: signals, sends without room, failing sockets, closed descriptors, other addresses; and with
-little stack.
+"""The built programs on a network that is not kind: signals, sends without room, failing sockets, closed descriptors, other
+addresses; and with little stack.
 
 Usage: network.py BIN     BIN is the folder with `ocadev` and `ocactl`
 
-Signals, failing calls and what a send buffer is granted come from the layer of `unreliable.c`. What the programs print and how long they take is
-compared. What is timed is held against waits of the same length that this script makes meanwhile, and tried again while it is too long, since a
-machine may be busy: a part is repeated only where nothing but times was wrong, and which were stands before the last line, 'N passed, M failed'."""
+Signals and failing calls come from the layer `unreliable.c`. Times are held against waits that this script makes meanwhile, and
+a part with wrong times alone is repeated, since a machine may be busy. The last line is 'N passed, M failed'."""
 import contextlib
 import errno
 import itertools
@@ -65,8 +64,7 @@ def answers_earlier(data, handle):
 
 
 def answer(peer, handle, to):
-    """The answer to GetState under a handle, and its sender. Sent again each 300 ms; answers to earlier copies are
-    skipped."""
+    """The answer to GetState under a handle, and its sender. It is sent again each 300 ms."""
     for _ in range(40):
         peer.sendto(get_command(handle), to)
         until = time.monotonic() + 0.3
@@ -289,8 +287,7 @@ def asks_the_host(checks):
 
 
 def is_a_program_there(checks):
-    """An unheard device's host is asked by an empty datagram, from the given address, for 200 ms: four waits of this
-    script."""
+    """An unheard device's host is asked by an empty datagram, for 200 ms: four waits meanwhile."""
     asked, took = set(), []
     for _ in range(TRIES):
         what, ms, wait = asks_the_host(checks)
@@ -305,8 +302,7 @@ def is_a_program_there(checks):
 
 
 def a_lost_address(checks):
-    """If the machine has lost the command's address, that is noted and nothing more is asked; else device and host
-    are."""
+    """A lost address is noted, and nothing more asked; else the device and its host are."""
     words = ("--port", free_port(), "--first-handle", 1, "--turns", 2, 4097)
     alive, is_program_there, wanted = oca.pdu(4, [b"\0\5"]), b"", oca.command(1, 4097, 1, 1)
     for settings, asks, note in (({"GONE": 1}, set(), "the address 127.0.0.1 is gone"),
@@ -323,8 +319,7 @@ def line_of(run):
 
 
 def sends_lines(checks, device, count):
-    """How many ms each line took that `ocactl run` is given 60 ms behind an answer, where its turns would be 10 ms
-    old."""
+    """How many ms each line took that `ocactl run` gets 60 ms behind the answer before."""
     words = ("--device", at(device), "--first-handle", 1, "--port", free_port())
     run = checks.start("ocactl", "run", *words, stdin=subprocess.PIPE)
     took, given = [], []
@@ -445,8 +440,7 @@ def broken_pipes(checks):
 
 
 def null_at_closed(checks):
-    """Each program has the null device at each closed one of descriptors 0 to 2, before it opens a socket; else only at
-    0."""
+    """The null device stands at each closed one of descriptors 0 to 2 before sockets, else at 0."""
     with bound() as silent:
         to = silent.getsockname()[1]
         send = ("--target", 1, "--level", 1, "--index", 1, "--count", 0)
@@ -491,8 +485,7 @@ def asleep(checks):
 
 
 def kept_safely(checks):
-    """A kept state is on the disk before it takes its place, and then its folder, also one named alone; once for each
-    set."""
+    """A state is on the disk before it takes its place, and then its folder; once for each set."""
     for is_alone in (False, True):
         with tempfile.TemporaryDirectory() as room, bound() as peer:
             place = os.path.realpath(room)
@@ -581,16 +574,8 @@ def small_stacks(checks):
     checks.same("show with 128 KiB of stack", ran("ocadev", "show")[2], 0)
 
 
-PARTS = (closed_descriptors, broken_pipes, null_at_closed, quiet_turns, signals, runs_under_signals, refused_sends, refused_sockets, send_buffers,
-         is_a_program_there, a_lost_address, lines_at_once, a_line_behind_a_pause, a_stalled_neighbour, asleep, a_failed_receive,
-         reports_behind_a_sleep, kept_safely, calls_in_a_row, other_addresses, small_stacks)
-
-
-def main():
-    counts = Checks(sys.argv[1])
-    counts.parts(*PARTS, alone=(small_stacks,))
-    return counts.verdict()
-
-
 if __name__ == "__main__":
-    sys.exit(main())
+    sys.exit(Checks(sys.argv[1]).tried(
+        closed_descriptors, broken_pipes, null_at_closed, quiet_turns, signals, runs_under_signals, refused_sends, refused_sockets,
+        send_buffers, is_a_program_there, a_lost_address, lines_at_once, a_line_behind_a_pause, a_stalled_neighbour, asleep,
+        a_failed_receive, reports_behind_a_sleep, kept_safely, calls_in_a_row, other_addresses, small_stacks, alone=(small_stacks,)))

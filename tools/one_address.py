@@ -1,14 +1,12 @@
 #!/usr/bin/env python3
-"""`ocactl` and `ocapanel` on a machine with two interfaces, of which the first goes between two copies of a command: the command is
-executed once, whatever the programs say of it.
+"""`ocactl` and `ocapanel` on a machine with two links to the device, the first of which goes between two copies of a command: the
+command is executed once, whatever the programs say of it.
 
 Usage: one_address.py BIN     BIN is the folder with the programs
 
-The panel's machine and the device's are network namespaces, with two links between them; the device is at an address that is reached by
-both, by the first as long as that is there. A program sets a mute; it is executed, and its answer is lost. Then another peer sets it back,
-and the first link goes: once with the address that the panel's machine has there, once without. By the second link a copy may come from
-the address of the first, where that is still there; one from another address would be of another peer, and be executed anew. It needs root
-and `ip` (iproute2); without them it says so, and tries nothing. The last line is 'N passed, M failed'."""
+The machines are network namespaces. A program sets a mute, it is executed, and its answer is lost; another peer sets it back, and
+the first link goes: with its address or without. A copy may come over the second link only from the first address, if that is
+still there. It needs root and `ip` (iproute2); else it says so, and tries nothing. The last line is 'N passed, M failed'."""
 import contextlib
 import http.client
 import json
@@ -62,8 +60,7 @@ def sets_mute(data):
 
 
 class Relay(peers.Relay):
-    """Before `ocadev serve`, at the device's address: loses the first mute's answer, and then all until the link is
-    gone."""
+    """Before `ocadev serve`: loses the first mute's answer, then all until the link is gone."""
 
     def __init__(self, device):
         self.passes, self.setting, self.other = True, set(), peers.Peer(device, 10, 1)

@@ -1,12 +1,9 @@
 #!/usr/bin/env python3
-"""Checks functions of a crate over the sources of the crates below it.
+"""Checks functions of a crate over the sources of the crates below it, which are not proved and built first.
 
 No step of the gate.
 
-Usage: only.py CRATE PATH..     as `rt check --only PATH` in the crate's folder
-
-`rt check` proves and builds each library below the crate first, which takes half an hour where nothing is kept. This
-proves the named functions and what they call alone, and keeps nothing."""
+Usage: only.py CRATE PATH..     as `rt check --only PATH` in the crate's folder; keeps nothing"""
 import os
 import subprocess
 import sys

@@ -69,12 +69,6 @@ def request(row):
     return "\r\n".join(lines).encode()
 
 
-def length_of(head):
-    """How many bytes the head of an answer says that it has behind it."""
-    found = re.search(rb"\r\ncontent-length: (\d+)", head, re.IGNORECASE)
-    return int(found[1]) if found else 0
-
-
 def whole_answer(s):
     """The next whole answer on a connection, or what came of it."""
     answer, size = b"", 1
@@ -82,7 +76,8 @@ def whole_answer(s):
         while len(answer) < size and (piece := s.recv(1 << 20)):
             answer += piece
             head, end, _ = answer.partition(b"\r\n\r\n")
-            size = len(head + end) + length_of(head) if end else len(answer) + 1
+            length = re.search(rb"\r\ncontent-length: (\d+)", head, re.IGNORECASE)
+            size = len(head + end) + (int(length[1]) if length else 0) if end else len(answer) + 1
     return answer
 
 
@@ -331,8 +326,7 @@ def protected(panel):
 
 
 def in_one_piece(panel):
-    """Many requests in one piece are answered in a row: in a tenth of a second, not in some 35 with waits between
-    them."""
+    """Requests in one piece are answered in a row: in a tenth of a second, not in some 35."""
     asked, count, size, seen = panel.asks("GET", "/"), 2500, 1, 0
     with contextlib.suppress(OSError), panel.connected() as s:
         s.sendall(asked)
@@ -405,8 +399,7 @@ def little_by_little(panel):
 
 
 def crowd(panel):
-    """Beside 128 connections with half a request others are answered at once, and 32 visitors keep their
-    connections."""
+    """Beside 140 half requests others are answered at once, and 32 keep their connections."""
     time.sleep(0.2)
     visitors = [panel.connected() for _ in range(32)]
 
@@ -604,8 +597,7 @@ def command(port, *words):
 
 
 class Noting(Other):
-    """The second implementation's device, which notes when each handle came, what it asks, and its copies; `says`
-    answers."""
+    """The second implementation's device, which notes what came when; `says` answers."""
 
     def __init__(self, tree=None, ono=TRIM, method=(5, 1)):
         super().__init__(tree)
@@ -661,6 +653,16 @@ def of_other_classes(folder):
             panel.comes(is_new, "an object of another class under the same number is found", 30)
 
 
+def is_walked_once(device, panel, where):
+    """Checks that the walk of a device that lists an object twice stands, and found each object once."""
+    same(f"each object that is listed {where} is found once", sorted(o["ono"] for o in panel.get("/tree")["objects"]),
+         sorted(o.ono for o in device.tree))
+    device.asked.clear()
+    panel.comes(lambda _: [*device.asked.values()].count(device.what) > 2, f"what is listed {where} is listed again", 60)
+    values = panel.look()
+    same(f"the walk of a device that lists an object {where} stands", (values["walked"], values["epoch"]), (True, 1))
+
+
 def in_two_blocks(folder):
     """A device that lists an object in two blocks, before the others of the second one, is walked once."""
     tree, real = oca.bench(2), oca.members
@@ -668,11 +670,7 @@ def in_two_blocks(folder):
     one = next(o for o in tree if o.container == first.ono)
     listed_in_both = lambda tree, ono: real(tree, ono) if ono != second.ono else [one, *real(tree, ono)]
     with patch.object(oca, "members", listed_in_both), walked(folder, Noting(tree, second.ono, (3, 5))) as (device, panel):
-        same("each object is found once", sorted(o["ono"] for o in panel.get("/tree")["objects"]), sorted(o.ono for o in tree))
-        device.asked.clear()
-        panel.comes(lambda _: [*device.asked.values()].count(device.what) > 2, "its blocks are listed again", 60)
-        values = panel.look()
-        same("the walk stands", (values["walked"], values["epoch"]), (True, 1))
+        is_walked_once(device, panel, "in two blocks")
 
 
 def listed_twice(folder):
@@ -685,11 +683,7 @@ def listed_twice(folder):
         return [*its, its[0]] if ono == block.ono and is_twice else its
 
     with patch.object(oca, "members", listed), walked(folder, Noting(tree, block.ono, (3, 5))) as (device, panel):
-        same("each object that is listed twice is found once", sorted(o["ono"] for o in panel.get("/tree")["objects"]), sorted(o.ono for o in tree))
-        device.asked.clear()
-        panel.comes(lambda _: [*device.asked.values()].count(device.what) > 2, "the block is listed again", 60)
-        values = panel.look()
-        same("the walk of a device that lists an object twice stands", (values["walked"], values["epoch"]), (True, 1))
+        is_walked_once(device, panel, "twice")
         is_twice.clear()
         panel.comes(lambda v: v["walked"] and v["epoch"] > 1, "it is walked again once the block lists something else", 30)
 
@@ -723,8 +717,7 @@ def often(folder):
 
 
 class Withheld(Noting):
-    """The same, which keeps back its answers about one object while `holds`, and notes when the last answered question
-    came."""
+    """The same, which keeps back its answers about one object while it `holds` them."""
 
     holds, answered = False, 0.0
 
@@ -758,8 +751,7 @@ def aged(folder):
 
 
 class Stale(Noting):
-    """The same, which keeps its answer about one object until that is set: then the old answer comes behind the new
-    one."""
+    """The same, which gives its old answer about one object behind the answer to its set."""
 
     holds, held = False, ()
 
@@ -815,8 +807,7 @@ def failing(folder):
 
 
 def unwatched(folder):
-    """Without a page answers wake the panel: of nine runs the fastest finds a device in a third of a second, not in
-    two."""
+    """Without a page answers wake the panel: the fastest of nine finds a device within a second."""
     took, is_found = [], False
     while len(took) < 9 and min(took, default=9) >= 1:
         with Served(oca.bench(80)) as device, Panel(folder, device.port) as panel:
@@ -918,8 +909,7 @@ def ticket_in(answer):
 
 
 def late_orders(folder):
-    """An order that waited while the panel stood still, or is past its moment, is told as not sent; the next is
-    done."""
+    """An order that waited over a stop, or past its moment, is told as not sent; the next is done."""
     ahead = Ahead()
     with walked(folder, **ahead.words) as (device, panel):
         same("an order beside no standstill", panel.fare("/set", MUTE, "muted"), None)
@@ -945,8 +935,7 @@ def late_orders(folder):
 
 
 def filled(panel):
-    """A connection that takes nothing, with more answers than the system keeps, so that the panel reads no more from
-    it."""
+    """A connection with more untaken answers than the system keeps: no more is read from it."""
     size = len(panel.exchange(panel.asks("GET", "/"))[2])
     most = int(Path("/proc/sys/net/ipv4/tcp_wmem").read_text().split()[2])
     s = panel.connected(small=True)
@@ -967,8 +956,7 @@ def last_answer(s):
 
 
 def behind_untaken_answers(folder):
-    """An order of while the panel stood still, behind answers that nobody took, is told as not sent. Tried again if
-    slow."""
+    """An order that is read late, behind untaken answers, is told as not sent. Tried again if slow."""
     ahead = Ahead()
     with walked(folder, **ahead.words) as (device, panel):
         same("an order before answers that nobody takes", panel.fare("/set", MUTE, "muted"), None)
@@ -1014,8 +1002,7 @@ def address_towards(device):
 
 
 def bound_for(folder):
-    """The socket for a device is at the one address that reaches it, or at the given one; without a route there is
-    none."""
+    """The socket is at the one address that reaches the device, or the given one, or nowhere."""
     rows = [(device, (), address_towards(device)) for device in ("127.0.0.1:9", "127.255.0.2:9", "10.255.255.254:9", "126.0.0.1:9", "192.0.2.1:9")]
     same("the system reaches itself from 127.0.0.1", [wanted for _, _, wanted in rows[:2]], ["127.0.0.1"] * 2)
     for device, given, wanted in [*rows, ("127.0.0.1:9", ("--ip", "127.0.0.2"), "127.0.0.2"), ("127.0.0.1:9", ("--ip", "0.0.0.0"), "127.0.0.1")]:
@@ -1068,8 +1055,7 @@ def finds_a_mute(device, panel):
 
 
 def a_mute(folder):
-    """One mute is found by one question a thing, and its orders fare in order. Tried again if a page asked too
-    early."""
+    """One mute is found by one question a thing, and its orders fare. Again if a page was early."""
     for _ in range(9):
         with OneMute() as device, Panel(folder, device.port) as panel:
             if finds_a_mute(device, panel) is None:
@@ -1117,8 +1103,7 @@ def spans(folder):
 
 
 def counted(folder):
-    """The panel counts commands and copies as they came, and how long ago it heard the device; nine first copies are
-    missed."""
+    """Commands, copies and the last hearing are told as they came; nine first copies are missed."""
     with Noting(oca.bench()) as device:
         misses = lambda data: any(device.copies[one.handle] == 1 and [*device.came].index(one.handle) < 9 for one, _ in commands_in(data))
         device.says = lambda peer, data, now: ("", []) if misses(data) else device.answers(peer, data, now)

@@ -1,15 +1,13 @@
 #!/usr/bin/env python3
-"""The controller in Python that stands in examples/python, and the worked bytes of docs/PROTOCOL.md, from which it is written.
+"""The controller in Python in examples/python, and the worked bytes of docs/PROTOCOL.md.
 
 Usage: python_controller.py BIN     BIN is the folder with `ocadev` and `ocactl`
 
-Its link is asked at moments that are handed in, and must send and take what the rules of PROTOCOL say; links that are wrong must be found. Then it
-runs against `ocadev serve` with examples/stagebox.tree, first alone, then over the network of lossy.py, which loses a fifth of the datagrams each
-way, and doubles and reorders others. `ocactl` must read and be refused what it set and locked; each command must be executed once, and what leaves
-its socket keep to the rules: one address and port, one command a datagram, handles that rise by one, unchanged copies, at most 20 of them, at most 16
-commands in flight.
-
-Each row of the table of worked bytes is a command to `ocadev replay`, which must answer what stands there. The last line is 'N passed, M failed'."""
+Its link is asked at moments that are handed in, and must send and take what PROTOCOL says; wrong links must be found. Then it
+runs against `ocadev serve`, first alone, then over the network of lossy.py. `ocactl` must read and be refused what it set and
+locked. Each command is executed once, and its socket keeps to the rules: one address, one command a datagram, handles that rise
+by one, at most 20 unchanged copies, at most 16 in flight. `ocadev replay` must answer each row of worked bytes as it stands
+there. The last line is 'N passed, M failed'."""
 import contextlib
 import io
 import re

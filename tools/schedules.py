@@ -3,7 +3,7 @@ runs them and holds them against the laws."""
 import oca_profile as oca
 from fuzz import USUAL
 
-PEERS = [16]
+PEERS = [16, 16, 16, 16, 16, 1, 2, 15, 17, 64]
 PAIRS = [(w, s) for s in range(1, 33) for w in range(2 * s - 1, 65)]
 
 
@@ -230,8 +230,7 @@ def lossy(r, window, span):
 
 
 def slow(r, window, span):
-    """Links that are asked for 15,000 ms, over a network that holds datagrams for 100,000 ms; some a little too
-    late."""
+    """Links asked for 15,000 ms, datagrams held for 100,000 ms; some a little too late."""
     schedule = Schedule(window, span, starts(r, r.choice([1, 1, 2])), r.choice(PEERS))
     network, left = schedule.network, {}
 
@@ -294,8 +293,7 @@ def take_others(schedule, pinned, order):
 
 
 def directed(window, span, r=None):
-    """The last command of a span overtakes the others and stays untaken while as many follow; then a copy of it
-    comes."""
+    """The last command of a span overtakes the others, and a copy of it comes behind as many more."""
     schedule = Schedule(window, span, [(peer(0), r.choice([1, 1, 1000]) if r else 1)])
     network, mixed = schedule.network, (lambda xs: r.sample(xs, len(xs))) if r else list
     for _ in range(r.choice([1, 1, 2]) if r and span < 20 else 1):

@@ -1,18 +1,11 @@
-#!/usr/bin/env python3
-"""The second implementation's device (oca_profile.py) behind a UDP socket, for what is tried against an independent device.
-
-Usage: served.py PORT [CHANNELS]     serves the bench device, until it is stopped; at port 0 the system chooses one
-
-No step of the gate.
-
-As a module: `with Served(tree) as device:` serves in a thread; `device.port`, `device.tree` and `device.heard`, each datagram that came with what was
+"""The second implementation's device (oca_profile.py) behind a UDP socket, for what is tried against an independent device. Other
+tools use it; it has no `main`. `with Served(tree) as device:` serves in a thread; `device.heard` has each datagram with what was
 said of it."""
-import socket
-import sys
 import threading
 import time
 
 import oca_profile as oca
+from own_ports import bound
 
 
 class Served:
@@ -21,8 +14,7 @@ class Served:
     def __init__(self, tree=None, port=0, window=32, peers=16):
         self.device = oca.Device(tree, window, peers)
         self.tree, self.heard = self.device.tree, []
-        self.socket = socket.socket(socket.AF_INET, socket.SOCK_DGRAM)
-        self.socket.bind(("127.0.0.1", port))
+        self.socket = bound(port=port)
         self.socket.settimeout(0.05)
         self.port, self.ends = self.socket.getsockname()[1], False
         self.thread = threading.Thread(target=self.serve, daemon=True)
@@ -60,17 +52,3 @@ class Other(Served):
     def __init__(self, tree=None, window=32):
         super().__init__(tree, window=window)
         self.answers, self.device.datagram = self.device.datagram, self.datagram
-
-
-def main():
-    channels = int(sys.argv[2]) if len(sys.argv) > 2 else 0
-    with Served(oca.bench(channels), int(sys.argv[1])) as device:
-        print(f"listening 127.0.0.1:{device.port}", file=sys.stderr, flush=True)
-        try:
-            device.thread.join()
-        except KeyboardInterrupt:
-            pass
-
-
-if __name__ == "__main__":
-    main()

@@ -1,24 +1,19 @@
 #!/usr/bin/env python3
-"""Runs the sessions of README.md and docs/EMBEDDING.md and compares what is printed, finds their pieces of code in the files that they are of, and
-the examples of doc comments in tests and samples, and looks at the tables of all documents.
+"""Runs the sessions of README.md and docs/EMBEDDING.md and compares what is printed, finds their pieces of code in the files that
+they are of, and the examples of doc comments in tests and samples, and looks at the tables of all documents.
 
 Usage: snippets.py BIN     BIN is the folder with the programs, which sessions call `bin/`
 
-A session is an indented block, or a fenced one whose first word is `sh`, that begins with `$ `. Its commands are run in order in a folder of their
-own with the repository's files; the lines behind a command are what it must print. One that ends in ` &` goes on beside the others: as many lines as
-stand behind it are waited for. `$ kill %1` ends the first of these, and the others are waited for at the end of the block, where the rest of what
-they print must stand. In an expected line `...` stands for any text, alone for any lines; a number behind `quiet`, which is of time, is not compared,
-nor is the note of a system that grants a socket little room. A session with a command of `make` is not run.
+A session is an indented block, or a fenced one whose first word is `sh`, that begins with `$ `. Its commands run in a folder
+with the repository's files; the lines behind each are what it must print. One that ends in ` &` goes on: as many lines as
+stand behind it are awaited, `$ kill %1` ends the first of these, and the rest is awaited at the end. `...` stands for any
+text, alone for any lines; a number behind `quiet` and the note of a small socket are not compared. `make` is not run.
 
-A fenced block whose info string has a path behind its first word, as `rust crates/panel/src/main.rt`, must stand in that file line by line, but for
-its indentation; `...` alone on a line, or in a comment, stands for any lines.
+A fenced block with a path, as `rust crates/panel/src/main.rt`, must stand in that file but for its indentation; `...` alone, or
+in a comment, stands for any lines. A fenced block in a doc comment of crates/ must stand in a test's crate or a sample.
 
-A fenced block in a doc comment of crates/ must stand so in a file of the tests' crates or of the samples, which the gate runs.
-
-A table of a document at the top (README.md, CHANGELOG.md) or in docs/ is lines that begin with a bar. Its second line is its rule (`|---|`), which
-stands nowhere else, and each line ends with a bar and has as many cells as the first. No item of a list is without a text.
-
-The last line is 'N passed, M failed'."""
+A table's second line is its rule (`|---|`), which stands nowhere else, and each line ends with a bar and has as many cells as
+the first. No item of a list is without a text. The last line is 'N passed, M failed'."""
 import os
 import re
 import signal
@@ -203,16 +198,10 @@ def tables(text):
         rows = []
 
 
-def all_tables():
-    """Of each table of the documents: where it stands, and what is wrong with it or None."""
-    for file in sorted([*TOP.glob("*.md"), *TOP.glob("docs/*.md")]):
-        for number, fault in tables(file.read_text()):
-            yield f"{file.relative_to(TOP)}:{number}", fault
-
-
 def main():
-    counts = Checks()
-    for where, fault in [*(it for name in DOCUMENTS for it in checks_of(name, os.path.abspath(sys.argv[1]))), *examples(), *all_tables()]:
+    counts, files = Checks(), sorted([*TOP.glob("*.md"), *TOP.glob("docs/*.md")])
+    all_tables = ((f"{file.relative_to(TOP)}:{number}", fault) for file in files for number, fault in tables(file.read_text()))
+    for where, fault in [*(it for name in DOCUMENTS for it in checks_of(name, os.path.abspath(sys.argv[1]))), *examples(), *all_tables]:
         counts.passed, counts.failed = counts.passed + (fault is None), counts.failed + (fault is not None)
         print(f"{where}: {'as it stands' if fault is None else fault}")
     return counts.verdict()

@@ -1,11 +1,10 @@
 #!/usr/bin/env python3
-"""The built `ocactl` where it stands still with commands at hand: stopped by signals, or since nobody reads what it prints.
+"""The built `ocactl` when it stands still with commands at hand: stopped by signals, or since nobody reads what it prints.
 
 Usage: standstill.py BIN     BIN is the folder with `ocadev` and `ocactl`
 
-Between the controller and the device lies a relay that loses what the row says. All clocks of both programs are set forward by the layer of `ahead.c`
-while the controller stands still, so that minutes pass in no time. Another controller changes the same object meanwhile: what the first one was asked
-for before must not be done behind that, and is told as lost. The last line is 'N passed, M failed'."""
+A relay loses what the row says, and the layer `ahead.c` sets the clocks of both programs forward. Another controller changes the
+object meanwhile: earlier commands must not be done behind that, and are told as lost. The last line is 'N passed, M failed'."""
 import contextlib
 import fcntl
 import os
@@ -36,15 +35,9 @@ def wait_for(holds, patience=PATIENCE):
     return waited(holds, patience, 0.002) is not None
 
 
-def commands_in(datagram):
+def messages_in(datagram, kind):
     with contextlib.suppress(oca.Fault):
-        return [it[2] for it in oca.check(datagram) if it[0] == "command"]
-    return []
-
-
-def answered_in(datagram):
-    with contextlib.suppress(oca.Fault):
-        return [it[1] for it in oca.check(datagram) if it[0] == "response"]
+        return [it[1:] for it in oca.check(datagram) if it[0] == kind]
     return []
 
 
@@ -68,8 +61,8 @@ class Relay(peers.Relay):
         self.passed += super().forth(datagram, way) and self.is_set
 
     def goes_forth(self, datagram):
-        found = commands_in(datagram)
-        setting = [command.handle for command in found if sets(command)]
+        found = messages_in(datagram, "command")
+        setting = [command.handle for _, command in found if sets(command)]
         self.is_set = bool(setting)
         self.handles.update(setting)
         self.commands += len(found)
@@ -78,7 +71,7 @@ class Relay(peers.Relay):
         return goes_on
 
     def goes_back(self, datagram):
-        found = answered_in(datagram)
+        found = [handle for handle, *_ in messages_in(datagram, "response")]
         if any(handle > self.last or self.loses_answers and handle in self.handles for handle in found):
             self.kept.append(datagram)
             return False
@@ -148,8 +141,7 @@ class Checks(checks.Checks):
 
 
 def stopped(checks):
-    """Copies come at seconds 0 (its answer is lost), 95 (lost) and 190 (the device forgot it); another unmutes at
-    60."""
+    """Copies come at seconds 0 (no answer), 95 (lost) and 190 (forgotten); another unmutes at 60."""
     for name, words, given, told in DATA.stopped:
         with checks.scene() as scene:
             relay, run = scene.relay, scene.control(name, *words.split())
@@ -234,8 +226,7 @@ def read_rarely(checks):
 
 
 def waits_behind(checks):
-    """A line that waited for 20 seconds, since nobody read the outcome before it, is not sent; nor those read with
-    it."""
+    """A line that waited 20 seconds for a reader is not sent, nor those read with it."""
     with checks.scene() as scene:
         relay, reader = scene.relay, Reader()
         relay.loses_answers = False
@@ -259,8 +250,7 @@ LEFT = b"4098 not sent\n4101 not sent\n"
 
 
 def stopped_between(checks):
-    """Stopped for 20 seconds in the first of three commands, its answer there: the rest is left out. Again if found
-    late."""
+    """Stopped for 20 seconds in the first of three commands: the rest is left out. Again if late."""
     for name, words, answered in DATA.several:
         for _ in range(20):
             with checks.scene() as scene:
@@ -321,12 +311,5 @@ def in_time(checks):
         checks.same("lines in time: the end", (run.communicate(timeout=PATIENCE)[0], run.returncode), (b"", 0))
 
 
-def main():
-    counts = Checks(sys.argv[1])
-    for part in (stopped, stopped_between, read_between, read_rarely, waits_behind, in_time):
-        part(counts)
-    return counts.verdict()
-
-
 if __name__ == "__main__":
-    sys.exit(main())
+    sys.exit(Checks(sys.argv[1]).tried(stopped, stopped_between, read_between, read_rarely, waits_behind, in_time))

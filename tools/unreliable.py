@@ -3,19 +3,13 @@
 
 Usage: unreliable.py BIN     BIN is the folder with `ocadev`, `ocactl` and `trials`
 
-- Memory: each request of a run is refused in turn, from the first to beyond the last. The run then says `no memory` with
-  status 1 and prints nothing, or it did without that request and prints what it prints with memory. The calls of `trials calls` do
-  without none: beside what every run asks for, each answers NoMemory. But a tree gives back what its map took beyond its room, by two
-  requests for less: where one is refused, it keeps that.
-- After building: a script asks for no more requests than an empty one, and runs to its end with every later one refused.
-- Over sockets: a device that serves and a controller that sends ask for no more requests than where nothing is heard or sent, and do all
-  with every later one refused.
-- Ends in memory, by `trials events`: a device that serves one on which a receive or a send fails is the device that serves it without
-  that (objects, sessions, and what is answered to copies of all commands), and a link that is driven over one has the answers that it
-  has without that; their reports count the failure and nothing else.
-- Ends: each read and each write fails in turn, in pieces of 100 bytes and, of the short scripts, in single bytes. The run then says
-  `read failed` or `write failed` with status 1, and what it printed is a front of what it prints otherwise. Pieces of 1, 7 and 100
-  bytes change nothing."""
+- Memory: each request of a run is refused in turn. The run says `no memory` with status 1 and prints nothing, or it prints what
+  it prints with memory. The calls of `trials calls` answer NoMemory, but a tree that gives back room keeps it.
+- After building, and over sockets: a run asks for no more requests than an empty one, and ends well with later ones refused.
+- Ends in memory, by `trials events`: with a failed receive or send, a device or a link does what it does without that, and its
+  report counts the failure and nothing else.
+- Ends: each read and each write fails in turn, in pieces of 100 bytes and of one. The run says `read failed` or `write failed`
+  with status 1, and printed a front of what it prints otherwise. Pieces of 1, 7 and 100 bytes change nothing."""
 import os
 import subprocess
 import sys

@@ -1,13 +1,14 @@
 #!/usr/bin/env python3
-"""What the words of the command lines make of a run: `ocadev serve`, `ocactl send` and `ocactl run` over real sockets,
-and the objects that a file lists.
+"""What the words of the command lines make of a run: `ocadev serve`, `ocactl send` and `ocactl run` over real sockets, and the
+objects that a file lists.
 
 Usage: words.py BIN     BIN is the folder with `ocadev` and `ocactl`
 
-A device of this script hears what `ocactl` sends, byte for byte, and from which port; a controller of this script speaks to `ocadev
-serve` and compares the counts at the end, each of another number. The last line is 'N passed, M failed'."""
+This script is the device that hears `ocactl`, and the controller that speaks to `ocadev serve`. The last line is 'N passed, M
+failed'."""
 import contextlib
 import errno
+import functools
 import os
 import random
 import re
@@ -56,8 +57,7 @@ def heard_until(device, holds):
 
 
 def drives_while_it_waits(checks):
-    """`run --ahead` whose input comes in pieces and stays open: commands are under way together, sent again until
-    answered, and keep-alives go out meanwhile. What stands behind the last command is no command yet, or none."""
+    """`run --ahead` with an open input: commands are under way together, sent again and answered."""
     wanted = [oca.command(handle, 1, 2, 3) for handle in (1, 2, 3)]
     for behind, rest in (("", ""), ("# done\n", ""), ("\n", ""), ("\n# a comment without an end", "\n"), ("1 2 3 0", " -\n")):
         name = f"run --ahead, {behind!r} behind a command"
@@ -162,8 +162,7 @@ def form_of(program, name, option):
 
 
 def bad_values(checks):
-    """A value that is not valid is named with its option and form, and nothing is done. The help's span is the
-    form's."""
+    """A value that is not valid is named with its option and form; the help's span is the form's."""
     for program, name, options in commands_of(checks):
         for option, told in options.items():
             form, values = form_of(program, name, option)
@@ -250,8 +249,7 @@ def spans_of_hands(checks):
 
 
 def typed(checks):
-    """`run` answers a typed line before the next one; with `--ahead` too, sooner than in 250 ms, when it is sent
-    again."""
+    """`run` answers a typed line before the next; with `--ahead` too, sooner than a second copy."""
     for more in ([], ["--ahead", 4]):
         with bound() as device:
             run, took = controls(checks, device, "run", *more), []
@@ -335,23 +333,23 @@ def serves_until_stopped(checks):
     checks.same("serve: stopped by a signal", ended(run), ("", "", -15))
     for turns in (0, 3):
         out, fault, _ = checks.ran("ocadev", "serve", "--port", 0, "--turns", turns, "--verbose")
-        told = grants.without_note(fault).splitlines()
+        told = [line for line in fault.splitlines() if not line.startswith(grants.NOTE)]
         checks.same(f"serve --verbose --turns {turns}", (out.split()[:2], out.split()[16:18], len(told)), (["turns", str(turns)], ["quiet", str(turns)], 1))
 
 
-def kept_or_not(part, checks):
-    """Runs a part for a device whose state is not kept, and for one whose state is kept in a file: both tell the same."""
-    with tempfile.TemporaryDirectory() as folder:
-        for keep in ((), ("--keep", f"{folder}/state")):
-            part(checks, *keep)
+def kept_or_not(part):
+    """The part for a device whose state is not kept, and for one whose state is kept in a file: both tell the same."""
+    @functools.wraps(part)
+    def both(checks):
+        with tempfile.TemporaryDirectory() as folder:
+            for keep in ((), ("--keep", f"{folder}/state")):
+                part(checks, *keep)
+    return both
 
 
-def tells_locks(checks):
+@kept_or_not
+def tells_locks(checks, *keep):
     """`serve --verbose`, with and without `--keep`: locks, unlocks and refusals of executed commands, and a lapse."""
-    kept_or_not(tells_locks_of, checks)
-
-
-def tells_locks_of(checks, *keep):
     run, device = serving(checks, *keep, "--verbose")
     serve = " ".join(["serve", *keep[:1], "--verbose"])
     lock = lambda handle, target, index=3: oca.Command(handle, target, 1, index).body()
@@ -373,20 +371,9 @@ def tells_locks_of(checks, *keep):
     run.kill()
 
 
-def tells_stats(checks):
-    """`serve --stats 1`, with and without `--keep`: reports of all datagrams, sessions and locks, once a second at
-    most."""
-    kept_or_not(tells_stats_of, checks)
-
-
-def counts_in(line):
-    """The counts of a report so far by their names; none where the line is no such report."""
-    is_report = line.startswith("note: turns ")
-    words = line.split()[1:]
-    return dict(zip(words[::2], map(int, words[1::2]))) if is_report else {}
-
-
-def tells_stats_of(checks, *keep):
+@kept_or_not
+def tells_stats(checks, *keep):
+    """`serve --stats 1`, also with `--keep`: reports of all datagrams, at most once a second."""
     serve, begun, told = " ".join(["serve", *keep[:1], "--stats"]), time.monotonic(), []
     run, device = serving(checks, *keep, "--stats", 1)
 
@@ -394,7 +381,8 @@ def tells_stats_of(checks, *keep):
         """Whether one of the next ten reports counts the datagrams so: some may have been told before the last datagram came."""
         wanted = {**datagrams, "sessions": 2, "locks": 3}
         for _ in range(10):
-            told.append(counts_in(run.stderr.readline()))
+            words = run.stderr.readline().split()[1:]
+            told.append(dict(zip(words[::2], map(int, words[1::2]))) if words[:1] == ["turns"] else {})
             found = {name: told[-1].get(name) for name in wanted}
             if found == wanted:
                 break
@@ -444,10 +432,6 @@ def listed_line(r, onos):
             5: line.replace(b'"', b"", 1), 6: b"# " + line, 7: b""}.get(damage, line)
 
 
-def channels_of(tree):
-    return [[(o.kind, o.role, o.state) for o in oca.members(tree, block.ono)] for block in tree if block.role.startswith("channel ")]
-
-
 def trees(checks):
     """`show --tree` and `replay --tree` of the example and of random texts, right and wrong, against the second implementation."""
     r = random.Random(1)
@@ -466,7 +450,9 @@ def trees(checks):
             except oca.ObjectFault as fault:
                 expected = (b"", f"line {fault.args[0]}: {fault.args[1]}\n".encode(), 2)
             checks.same(f"show --tree of {text!r}", checks.ran("ocadev", "show", "--tree", path, given=b"", text=False), expected)
-        strips = channels_of(oca.tree_of_text(texts[0]))
+        tree = oca.tree_of_text(texts[0])
+        blocks = [block.ono for block in tree if block.role.startswith("channel ")]
+        strips = [[(o.kind, o.role, o.state) for o in oca.members(tree, ono)] for ono in blocks]
         checks.same("the example: its channels are alike, muted and at 0", (len(strips), strips), (8, [strips[0]] * 8))
         checks.same("the example: a channel", strips[0], [("mute", "mute", 1), ("polarity", "polarity", 1), ("int16", "trim", 0), ("switch", "source", 0)])
         Path(path).write_bytes(texts[0])
@@ -488,13 +474,7 @@ def trees(checks):
                 checks.same(f"show {words}: {said!r} begins with the file's name", said.startswith(f"note: {words[1]}: "), True)
 
 
-def main():
-    checks = Checks(sys.argv[1])
-    checks.parts(drives_while_it_waits, typed, spans_of_hands, at_own_ports, faults,
-                 bad_values, missing_options, versions, unwritten, without_streams, serves, serves_until_stopped, tells_stats, tells_locks,
-                 trees, alone=(at_own_ports, unwritten))
-    return checks.verdict()
-
-
 if __name__ == "__main__":
-    sys.exit(main())
+    sys.exit(Checks(sys.argv[1]).tried(
+        drives_while_it_waits, typed, spans_of_hands, at_own_ports, faults, bad_values, missing_options, versions, unwritten,
+        without_streams, serves, serves_until_stopped, tells_stats, tells_locks, trees, alone=(at_own_ports, unwritten)))

@@ -1,47 +1,32 @@
 #!/usr/bin/env python3
-"""Schedules for a device and links over a network (schedules.py), run by `trials world`, and each transcript held
-against the laws of networks and against the second implementation (oca_profile.py).
+"""Schedules for a device and links over a network (schedules.py), run by `trials world`: each transcript is held against the
+laws of networks and against the second implementation (oca_profile.py).
 
 Usage: world.py BIN COUNT [SEED]     COUNT schedules over every pair of sizes that fits; BIN is the folder with `trials`
        world.py BIN broken W S       prints the directed schedule for a window of W and a span of S, with what it led to
 
-The checks, each written from the statement of the laws (docs/DEFINITIONS.md, section 8, and crates/oca_pair/specs) and
-made on a transcript alone. A peer keeps its session where its admitted datagrams come at most 120,000 ms apart.
- answers     an answer that a link holds or gave is what an execution gave of the very command that this link submitted
-             under that handle, for that link's peer. (What a link holds at the end is taken by the last steps; short
-             schedules are run to each of their steps.)
- only        where the peer kept its session, it is the only execution for that peer under that handle
- untaken     a delivered command that its link holds untaken is executed now or answered from the window, and gets one
-             datagram with the reply of an execution of that command: where 2 * S <= W + 1, the peer kept its session,
-             and the datagram finds room: its peer is known when it comes, or fewer peers are than have room. (Some find
-             room although more peers came since the device was made than have room: these are counted)
- room        where the well-formed datagrams of the last 120,000 ms came from at most as many peers as have room, the
-             latest finds room
- round trip  where that datagram comes to the link, at any later step, the link has the command's answer; where the peer
-             kept its session till then, the answer is the reply that the datagram carries
- through     while a link is asked at least every ms milliseconds until no command is left (for each run the least ms that it
-             meets is taken), a command that is unanswered was submitted at most ms ago or sent, with its own
-             bytes, less than 250 + ms ago; and after ms + 20 * (250 + ms) it is answered, or its link is lost
- once        no command is executed twice where the peer kept its session
- in time     nor, whatever the device forgets, where the link is in time: it is never asked what is due while a command
-             of it is unanswered that was submitted more than 15,000 ms ago, and each of its datagrams comes to the
-             device, by the device's clock, no earlier than it left by the link's, and at most 100,000 ms later. And an
-             answer of such a link is that of the only execution under its handle
- said        of such a link, that execution lies behind the command's submit; where the answer to a get method is OK, it is
-             what the object was then set to, with its limits, by the settings that were made till then: by OK answers to
-             set methods and at the front; no other answer sets anything
+The checks, by the statements of the laws (docs/DEFINITIONS.md, section 8, and crates/oca_pair/specs), on a transcript alone.
+A peer keeps its session while its admitted datagrams come at most 120,000 ms apart.
+ answers     a link's answer is what an execution gave of the command that it submitted under that handle, for its peer
+ only        that is the only execution for the peer under the handle, if the peer kept its session
+ untaken     a delivered command that its link holds untaken gets one datagram with the reply of an execution of it, if
+             2 * S <= W + 1, the peer kept its session, and the datagram finds room
+ room        if at most as many peers as have room spoke in the last 120,000 ms, the latest finds room
+ round trip  if that datagram comes to the link, the link has the answer; the datagram's, if the peer kept its session
+ through     a link that is asked every ms milliseconds sends each command within ms, and again within 250 + ms; after
+             ms + 20 * (250 + ms) the command is answered, or the link is lost. For each run its least ms is taken
+ once        no command is executed twice if the peer kept its session
+ in time     the same of a link in time, whatever the device forgets: it asks nothing 15,000 ms behind a submit, and its
+             datagrams come at most 100,000 ms late; its answer is that of the only execution under the handle
+ said        that execution lies behind the submit, and an OK answer to a get method is what was last set, with its limits
  second      the transcript is, byte for byte, that of the second implementation
- premises    there are schedules in which every datagram of a link is within the premises, and that lose, double and
-             overtake datagrams
- sizes       with W = 2 * S - 2 a schedule breaks 'untaken', at each of the 31 pairs; random ones do at (2, 2) and
-             (4, 3)
+ premises    some schedules are within the premises, and lose, double and overtake datagrams
+ sizes       with W = 2 * S - 2 a schedule breaks 'untaken', at each of the 31 pairs; random ones at (2, 2) and (4, 3)
  lines       bad lines are refused with their number
- wrong       the laws alone refuse runs of wrong devices and links: the second implementation with one rule changed
- altered     a transcript within the premises in which one answer, or what one copy led to, was altered is refused by
-             the law that it breaks
-Some schedules end in a step that names what is not there, or start two links of one peer: these are refused by number,
-and by name. At the first break the schedule is printed, and the exit status is 1. The last line is 'N passed, M failed'
-over these checks."""
+ wrong       the laws alone refuse the second implementation with one rule changed
+ altered     a transcript in which one answer, or what a copy led to, was altered is refused by the law that it breaks
+Schedules that name what is not there, or start two links of one peer, are refused. The first break is printed. The last line
+is 'N passed, M failed' over these checks."""
 import collections
 import random
 import subprocess
@@ -51,7 +36,7 @@ from unittest.mock import patch
 import oca_profile as oca
 import schedules
 from comparing import Break, broken, changed, in_processes, runs_of, verdict, wrong_rules
-from schedules import PAIRS, PEERS, crowd, directed, lossy, slow, visitors, wander
+from schedules import PAIRS, crowd, directed, lossy, slow, visitors, wander
 from tables import data
 
 BATCH, DATA = 40, data("world")
@@ -83,8 +68,7 @@ class Waiting:
 
 
 class Laws:
-    """Walks along a schedule and what its steps led to, and holds each step against the laws: datagrams, commands,
-    answers and executions, and nothing of what a device or a link is inside."""
+    """Holds each step against the laws, by datagrams, commands, answers and executions alone."""
 
     def __init__(self, schedule, lines, fit):
         self.fit, self.window, self.most, self.count = fit, schedule.window, schedule.peers, collections.Counter()
@@ -516,15 +500,14 @@ def sizes(program, seed):
     return found == 31 and random_found == 2
 
 
-def bad_lines():
-    """Each bad line with its word; the first one stands alone."""
-    return [("0 tick", "form"), *((line, word) for word, lines in DATA.bad_lines.items() for line in lines)]
+# Each bad line with its word; the first one stands alone.
+BAD_LINES = [("0 tick", "form"), *((line, word) for word, lines in DATA.bad_lines.items() for line in lines)]
 
 
 def lines_refused(program):
     """How many bad lines are refused with their number and their word, and status 2."""
     refused = 0
-    for line, word in bad_lines():
+    for line, word in BAD_LINES:
         before = [] if line == "0 tick" else ["# a comment", "", "schedule 1 1 127.0.0.1:1/1"]
         done = subprocess.run([program, "world"], input="\n".join(before + [line]).encode(), capture_output=True, timeout=60)
         if (done.stderr.decode(), done.returncode) == (f"line {len(before) + 1}: {word}\n", 2):
@@ -543,13 +526,6 @@ def summary(total):
     print("also met: " + ", ".join(f"{total[name]} {text}" for name, text in DATA.met))
 
 
-def learn_sizes(program):
-    """Whether the program knows room for peers: only then is all of it tried."""
-    line = b"schedule 1 1 2 127.0.0.1:1/1\n"
-    PEERS.extend([16, 16, 16, 16, 1, 2, 15, 17, 64])
-    return subprocess.run([program, "world"], input=line, capture_output=True, timeout=60).returncode == 0
-
-
 def main():
     program = f"{sys.argv[1]}/trials"
     if sys.argv[2] == "broken":
@@ -558,8 +534,6 @@ def main():
         print(result[0] if result else "no break")
         return 0
     count, seed = int(sys.argv[2]), int(sys.argv[3]) if len(sys.argv) > 3 else 1
-    if not learn_sizes(program):
-        sys.exit("world: trials does not know room for peers")
     jobs = [(program, seed, range(first, min(first + BATCH, count))) for first in range(0, count, BATCH)]
     total, fault, wrong = in_processes(work, jobs, refuses, [(seed, name) for name in RULES])
     if fault:
@@ -572,11 +546,11 @@ def main():
     print(f"seed {seed}, {fit} of {len(PAIRS)} pairs of sizes that fit")
     summary(total)
     lines, altered_lines = lines_refused(program), (total["altered, refused"], total["altered"])
-    print(f"bad lines refused: {lines} of {len(bad_lines())}")
+    print(f"bad lines refused: {lines} of {len(BAD_LINES)}")
     print("altered transcripts refused by the law that they break: {} of {}".format(*altered_lines))
     return verdict({
         **{law: all(total[name] for name in names) for law, names in DATA.needs.items()}, "second": total["schedules"] >= count and total["refused"],
-        "sizes": good, "lines": lines == len(bad_lines()), "wrong": all(found for found, _ in wrong),
+        "sizes": good, "lines": lines == len(BAD_LINES), "wrong": all(found for found, _ in wrong),
         "altered": total["altered"] and altered_lines[0] == altered_lines[1]})
 
 
