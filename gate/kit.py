@@ -44,7 +44,6 @@ def toolchain(builds=True):
 
 
 def crates(rt):
-    """The crates of crates.txt by their names, those below a crate before it."""
     return {it.name: it for it in rt.crates_below(str(TOP))}
 
 

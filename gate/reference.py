@@ -62,7 +62,6 @@ ANSWERS = [
 
 
 def answers_of(name):
-    """The results that a call answers with."""
     said = next((said for form, said in ANSWERS if re.fullmatch(form, name)), None)
     kind = re.match(r"oca_(store|socket)_", name)
     of = f"OCA_{kind[1].upper()}_" if kind else "OCA_"
@@ -70,7 +69,6 @@ def answers_of(name):
 
 
 def answers_text(header, name):
-    """They with their numbers and what a log says of them, a line each."""
     numbers = dict(re.findall(r"(OCA_\w+) = (\d+)", header))
     texts = dict(re.findall(r'case (OCA_\w+): return "([^"]*)";', header))
     return "\n".join(f"{it} ({numbers[it]}): {texts[it]}" for it in answers_of(name))
@@ -127,7 +125,6 @@ def day_of(version):
 
 
 def title(name, section, version, kind):
-    """The first line of a page: its name, its section, the day of its version, that version, and what it belongs to."""
     return f'.TH {name} {section} {day_of(version.split()[-1])} "{version}" "{kind}"'
 
 

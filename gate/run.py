@@ -159,7 +159,6 @@ def left_out(steps, tools):
 
 
 def least_of_ci(top=TOP):
-    """`rt ci` counts each crate of crates.txt, and each edit that must fail."""
     lines = (line.split("#")[0].strip() for line in (top / "crates.txt").read_text().splitlines())
     return sum(map(bool, lines)) + len(list(top.glob("crates/*/must-fail/*.edit")))
 
@@ -200,7 +199,6 @@ class Early:
             print(name, file=file)
 
     def note(self, line):
-        """Takes a line of `rt ci`, and begins the steps at the first crate that is proved."""
         proved = PROVED.match(line)
         if proved:
             self.add(proved[1])
@@ -254,7 +252,6 @@ def writes():
 
 
 def refused(steps):
-    """What is wrong with the lines of the steps, a line each."""
     wrong = [f"a step is no 'LEAST MINUTES COMMAND', with LEAST above 0: {step.command}" for step in steps if not step.is_read]
     return wrong if steps else ["there is no step"]
 

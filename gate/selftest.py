@@ -38,7 +38,6 @@ GOOD = "3 1 echo '3 passed, 0 failed'"
 DATA = data("gate")
 
 def gate_over(folder, steps):
-    """The status of the gate over these steps, its last line, and what it tells of what failed."""
     (folder / "steps").write_text(steps + "\n")
     words, env = [sys.executable, str(HERE / "run.py"), "steps", str(folder / "steps")], dict(os.environ, NICE=str(os.nice(0)))
     ran = subprocess.run(words, env=env, capture_output=True, text=True, timeout=120)
@@ -73,7 +72,6 @@ def finds_what_is_left_out(folder):
 
 
 def leaves_none_out(_):
-    """Each tool of this repository that is a program stands in a step of its gate."""
     missing = run.left_out([step for part in run.paragraphs(HERE / "steps") for step in part], run.TOP / "tools")
     for name in missing:
         print(f"no step runs tools/{name}")
@@ -397,7 +395,6 @@ def told_of_clause(crate, clause, narrow, whole, wanted):
 
 
 def is_lost(_, now, wanted):
-    """Whether these commands are lost where the two steps stand so."""
     return is_same([*wanted], lost(DATA.steps, now))
 
 
@@ -545,7 +542,6 @@ def tells_a_verdict(_):
 
 
 def tools_with_checks():
-    """The tools that compare by a class of their own, and the one that others share."""
     names = [file.stem for file in sorted((run.TOP / "tools").glob("*.py")) if re.search(r"(?m)^class Checks\b(?!\(checks)", file.read_text())]
     return [(name, importlib.import_module(name)) for name in names]
 

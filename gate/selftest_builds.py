@@ -59,7 +59,6 @@ def of_prover(lines, is_wrong=None):
 
 
 def main_of(program, tools, *words):
-    """What a program answers that is run with these words and this toolchain, and what it prints."""
     with patch.object(kit, "toolchain", lambda: tools), patch.object(sys, "argv", [f"{program.__name__}.py", *map(str, words)]):
         return said(program.main)
 
@@ -176,7 +175,6 @@ def takes_what_stands(folder):
         return call_e(*words)
 
     def over(it):
-        """A crate whose library below is replaced while it is built."""
         return lambda: (has(e, f"over {it.name}")(), calls(e, functools.partial(replaced, it))())
 
     meanwhile = lambda: (has(b, "of before")(), calls(b, lambda *words: has(b, "third")() or call(*words))())
@@ -209,14 +207,12 @@ def begun_with(crates, number, goes_on=None, until=None):
 
 
 def meets(barrier):
-    """Whether as many come to this as are awaited."""
     with contextlib.suppress(threading.BrokenBarrierError):
         return barrier.wait() >= 0
     return False
 
 
 def crate_of(name, hundreds, *below):
-    """A crate that takes so many hundreds of seconds, above others."""
     return FakeCrate(name=name, below=lambda: [*below], count=lambda _: 1000 * hundreds)
 
 
@@ -414,7 +410,6 @@ def stand_in(file, text):
 
 
 def without_make():
-    """The environment without what a `make` around this one has put there."""
     return {name: value for name, value in os.environ.items() if not name.startswith(("MAKE", "MFLAGS", "PYTHONPATH"))}
 
 

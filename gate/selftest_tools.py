@@ -32,7 +32,6 @@ KEPT = []  # of which crates the prover was asked, what was kept there before, F
 
 
 def crate_of_edits(folder, name, edits, bodies=DATA.bodies, constant=""):
-    """A crate with these functions, one of which may be constant, and edits, whose libraries are built."""
     functions = "".join(f"{'const ' * (it == constant)}fn {it}() {{\n    {body}\n}}\n" for it, body in bodies.items())
     texts = {f"wrong/{edit}.edit": "file: src/lib.rt\nold: {}\nnew: {}\n".format(*DATA.tried[edit]) for edit in edits}
     laid(folder / "crates" / name, {"src/lib.rt": f"const N = 1;\n{functions}", **texts})
@@ -121,7 +120,6 @@ def compares_scripts(folder):
 
 
 def ran_as(tool, *words):
-    """The status of a tool that is run with these words, its last line, and all that it tells."""
     with patch.object(sys, "argv", [f"{tool.__name__}.py", *words]):
         status, told = said(tool.main)
     return status, run.last_line(told), told
@@ -219,7 +217,6 @@ SCOPES = (ast.FunctionDef, ast.Lambda, ast.ListComp, ast.SetComp, ast.DictComp, 
 
 
 def own_names(tree):
-    """The names that a piece of code gives to values of its own."""
     nodes = list(ast.walk(tree))
     return {it.arg for it in nodes if isinstance(it, ast.arg)} | {it.id for it in nodes if isinstance(it, ast.Name) and isinstance(it.ctx, ast.Store)}
 

@@ -60,7 +60,6 @@ def library(target):
 
 
 def flags(prefix, lib="lib"):
-    """What pkg-config gives for oca; where it is missing, what it would give."""
     if shutil.which("pkg-config"):
         env = dict(os.environ, PKG_CONFIG_PATH=f"{prefix}/{lib}/pkgconfig")
         return [shlex.split(subprocess.run(["pkg-config", which, "oca"], env=env, check=True, capture_output=True, text=True).stdout)
@@ -84,18 +83,15 @@ def listening(run):
 
 
 def serving(words):
-    """A device, and its port."""
     run = subprocess.Popen([str(word) for word in words], stdout=subprocess.PIPE, stderr=subprocess.PIPE, text=True)
     return run, listening(run)
 
 
 def rest(run):
-    """What a run prints to its end, and its status."""
     return run.communicate(timeout=120)[0], run.returncode
 
 
 def stop(run):
-    """What a run that is killed has said of faults."""
     run.kill()
     return run.communicate(timeout=120)[1]
 
@@ -199,7 +195,6 @@ def oversize(checks, made):
 
 
 def started(words):
-    """What a program says that is to end by itself: its output, the first word of its errors, and its status."""
     run = subprocess.run([str(word) for word in words], capture_output=True, text=True, timeout=120)
     return run.stdout, run.stderr.split(" ")[0], run.returncode
 
@@ -214,7 +209,6 @@ def objects_of_the_device(checks, asker):
 
 
 def printed(run):
-    """The next line that a program which goes on has printed into a pipe: nothing where none comes in 30 seconds."""
     return run.stdout.readline() if select.select([run.stdout], [], [], 30)[0] else ""
 
 
@@ -279,7 +273,6 @@ def desk(front):
 
 
 def mixer(made, name, kept, seconds, before=(), **settings):
-    """A run of the mixer with this file, whose front stays open."""
     words = [*before, made / f"mixer-{name}", kept, "0", str(seconds)]
     return subprocess.Popen(words, stdin=subprocess.PIPE, stdout=subprocess.PIPE, stderr=subprocess.PIPE, text=True,
                             env=dict(os.environ, **settings))
@@ -573,7 +566,6 @@ def own_version():
 
 
 def configured(made, folder, *words):
-    """What CMake says when it configures the project in this folder."""
     project = made / "project"
     project.mkdir(exist_ok=True)
     shutil.copy(TOP / "examples/c/panel.c", project)
@@ -677,7 +669,6 @@ class Board:
         self.run.stdin.write(struct.pack(">HIH", len(data), ip, port) + data)
 
     def answer(self, ip=0x0a000001, port=65001, seconds=60):
-        """The next datagram for this peer; nothing where none comes."""
         head = self.read(8, seconds)
         if len(head) < 8:
             return None

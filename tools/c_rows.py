@@ -28,7 +28,6 @@ ALONE = re.compile(r"struct oca_(device|link|socket|server|store|panel|flight) \
 
 
 def prototypes():
-    """Of each call of the header, by its name without oca_: what it answers, and the type of each argument."""
     text = re.sub(r"/\*.*?\*/", "", (HERE.parent / "include/oca.h").read_text(), flags=re.DOTALL)
     found = re.findall(r"^(?:static inline )?((?:const |enum |struct )*\w+ \*?)oca_(\w+)\(([^()]*)\)", text, re.MULTILINE)
     return {name: (answers, [re.sub(r"\w+$", "", it.strip()) for it in takes.split(",") if it != "void"]) for answers, name, takes in found}

@@ -67,7 +67,6 @@ class Serving:
 
 
 def verdict(passed, failed):
-    """Prints the last line over so many checks, and answers the exit status: 1 where one failed or none passed."""
     print(f"{passed} passed, {failed} failed")
     return int(failed > 0 or not passed)
 
@@ -115,7 +114,6 @@ class Checks:
         return run
 
     def ran(self, *words, given="", **how):
-        """What a program prints for these words and this input, what it says of faults, and its status."""
         return ended(self.start(*words, given=given, **how))
 
     def part(self, part):
@@ -140,7 +138,6 @@ class Checks:
                 self.expect(part.__name__, False, repr(fault))
 
     def tried(self, *parts, alone=()):
-        """Runs these parts, and answers the exit status."""
         self.parts(*parts, alone=alone)
         return self.verdict()
 

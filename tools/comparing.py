@@ -66,7 +66,6 @@ def in_processes(work, jobs, refuses, wrong):
 
 
 def verdict(checks):
-    """Prints the checks that failed and the last line; answers the exit status."""
     its = Checks()
     for name, passed in checks.items():
         its.expect(name, passed)

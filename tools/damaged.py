@@ -104,7 +104,6 @@ class Trial:
             self.expect(good, line, data)
 
     def told(self, touched, untouched):
-        """Whether both devices say the same, and the state in which they are then."""
         one, other = next(touched), next(untouched)
         return one == other, other[1]
 

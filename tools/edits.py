@@ -73,7 +73,6 @@ class Function:
         return other
 
     def path(self):
-        """Its path below the crate, as the prover prints it."""
         return "::".join([*self.module, *([self.of + self.trait] if self.of else []), self.name])
 
     def is_named(self, parts):
@@ -109,7 +108,6 @@ def capital(name):
 
 
 def module_of(path):
-    """The module of a source file below src/."""
     return [it for it in Path(path).with_suffix("").parts[1:] if it not in ("lib", "main", "mod")]
 
 
@@ -222,13 +220,11 @@ class Edit:
         return not self.functions or self.must_pass
 
     def can_be_copied(self):
-        """Whether it changes one function alone, which is no method of a trait."""
         counts = [len(re.findall(rf"(?m)^{word}: ", self.text)) for word in ("file", "old")]
         return counts == [1, len(self.functions)] and len(self.keys()) == 1 and not self.functions[0].is_of_trait
 
 
 def attributes_at(lines, first):
-    """The line at which the comments and attributes of the function begin whose head is this line."""
     while first > 0 and lines[first - 1].strip() and (lines[first - 1].lstrip().startswith("//") or lines[first - 1][-1] not in "};{"):
         first -= 1
     return first
@@ -334,7 +330,6 @@ class Group:
         return [*self.placed, *self.copied]
 
     def empties(self):
-        """Whether other functions may be empty: not where the edit touches none, or must not be refused."""
         return not self.placed[0].is_alone()
 
     def take(self, edit, crate, with_copies):
@@ -601,7 +596,6 @@ def beside_proofs(tasks, crates, most):
 
 
 def verdict(counts):
-    """How many edits passed and failed, those that try the tool itself counted, by the counts of all crates."""
     refused, missed, tried_well, tried_badly = (sum(it[key] for it in counts) for key in KINDS)
     say(f"edits: {refused} of {refused + missed} refused; the tool itself: {tried_well} of {tried_well + tried_badly}")
     return refused + tried_well, missed + tried_badly

@@ -78,7 +78,6 @@ DESK = ('100 OcaBlock "root": its members follow', '4096 OcaBlock "desk": its me
 
 
 def channel(number, mute, gain):
-    """The lines of a channel's objects; where a mute or a gain is Locked, it does not say what it is."""
     block = 3096 + 1000 * number
     rows = ((block + 1, 'OcaMute "mute"', mute), (block + 2, 'OcaInt16Actuator "gain"', gain))
     lines = [f"{ono}: Locked" if value == "Locked" else f"{ono} {found}: {value}" for ono, found, value in rows]

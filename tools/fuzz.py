@@ -84,7 +84,6 @@ class Panel:
         return oca.Command(handle, r.choice(ONOS), level, index, r.randrange(3), params)
 
     def in_a_strip(self, target):
-        """The number of an object, or now and then that of its like in a channel strip."""
         if not self.channels or target not in STRIP or self.r.randrange(2):
             return target
         return 4103 + 4 * self.r.choice([0, self.channels - 1, self.r.randrange(self.channels)]) + STRIP[target]

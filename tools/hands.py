@@ -141,13 +141,11 @@ class OldSession(Served):
 
 @contextlib.contextmanager
 def silent(port=0):
-    """The port of a socket that hears, and never answers."""
     with own_ports.bound(port=port) as s:
         yield s.getsockname()[1]
 
 
 def asked(device):
-    """The commands that were heard, each once: target, method and parameters."""
     found = {command.handle: (command.target, method, command.params) for data, _ in device.heard for command, method in commands_in(data)}
     return list(found.values())
 
@@ -158,7 +156,6 @@ class Checks(checks.Checks):
         self.port = free_port()  # one for all calls: one session at each device
 
     def run(self, device, command, *words, own=True, given=""):
-        """What `ocactl` prints of this device, what it says of faults, and its status; at the port of all calls, or at its own."""
         port = ["--port", self.port] if own and "--port" not in words else []
         return self.ran("ocactl", command, "--device", f"127.0.0.1:{getattr(device, 'port', device)}", *port, *words, given=given)
 
@@ -187,7 +184,6 @@ def of_command(target, method, params):
 
 
 def heard_as(device, asks):
-    """What was heard of the device, as far as the row says it."""
     heard = [of_command(*it) for it in asked(device)]
     if asks == "nothing":
         return ["nothing"] if not {method for _, method, _ in asked(device)} & {*SETS} else heard
@@ -280,7 +276,6 @@ def ends_as_told(checks):
 
 
 def ended(checks, command, answers, words, lines):
-    """The status with which a command ends at a device that answers, or at one that is silent."""
     with Served(stagebox()) if answers else silent() as device:
         return checks.run(device, command, *words.split(), given=lines)[2]
 
@@ -329,7 +324,6 @@ def unnamed(checks):
 
 
 def are_commands(device):
-    """Whether all datagrams that were heard have commands alone."""
     return all(message[0] == "command" for data, _ in device.heard for message in oca.check(data))
 
 
@@ -343,7 +337,6 @@ def answered(checks):
 
 
 def is_deaf(device, own):
-    """The note on a device that is heard and answers no command."""
     return f"note: 127.0.0.1:{device} is heard, but answers no command from port {own}: wait two minutes, or give " "another --port\n"
 
 
@@ -446,7 +439,6 @@ def at_a_terminal_alone(checks):
 
 
 def says_in(path, wanted, seconds=10):
-    """What a file has, as soon as that is what is wanted, or at last in so many seconds."""
     has = lambda: Path(path).read_text() if Path(path).exists() else None
     checks.waited(lambda: has() == wanted, seconds, 0.02)
     return has()
@@ -465,7 +457,6 @@ print("its status is", run.returncode, flush=True)
 
 
 def in_the_background(checks, device, *words, given="", place=""):
-    """A terminal, and in its background a run of `ocactl` at this device."""
     command, *more = words
     return Terminal(sys.executable, "-c", IN_THE_BACKGROUND, given, place, f"{checks.folder}/ocactl", command,
                     "--device", f"127.0.0.1:{device.port}", "--port", str(free_port()), *more)

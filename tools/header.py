@@ -223,7 +223,6 @@ def comments(header):
 
 
 def part(page, heading):
-    """The text of a page under a heading, none where the heading is not there."""
     return page.split(f"\n.SH {heading}\n")[-1].split("\n.SH")[0] if f"\n.SH {heading}\n" in page else ""
 
 
@@ -232,7 +231,6 @@ def words(text):
 
 
 def stands(some, text):
-    """Whether the words of one text stand in another one, one after another."""
     return f" {' '.join(words(some))} " in f" {' '.join(words(text))} "
 
 

@@ -47,7 +47,6 @@ class Peer(peers.Peer):
         return self.again(TRIM, 5, 2, number(value), **how)
 
     def trim(self):
-        """The trim, or nothing where the device is gone."""
         answer = self.ask(TRIM, 5, 1)
         return answer and struct.unpack(">h", answer[1][:2])[0]
 
@@ -89,7 +88,6 @@ class Checks(checks.Checks):
         return subprocess.run([f"{self.folder}/ocadev", "show", "--text", "--tree", keep], capture_output=True, timeout=30, check=False).stdout
 
     def is_whole(self, what, keep):
-        """The file holds the objects that `show --text` prints of it, and how many they are."""
         objects = self.shown(keep)
         self.same(what, Path(keep).read_bytes(), objects + f"# end of {objects.count(b'object ') + 1} objects\n".encode())
 
@@ -100,7 +98,6 @@ def stop(run, how=signal.SIGKILL):
 
 
 def answers(peer, commands):
-    """What these commands are answered, each of whose parameters stand in hexadecimal digits, one behind the other."""
     return [peer.ask(target, level, index, *map(bytes.fromhex, params)) for target, level, index, *params in commands]
 
 
@@ -243,7 +240,6 @@ def lines_told(keep):
 
 
 def are_refused(keep, step, count):
-    """Waits until so many calls of a step were refused; whether they were."""
     return checks.waited(lambda: lines_told(keep).count(f"refused {step}") >= count, 20) is not None
 
 
@@ -319,7 +315,6 @@ class Setter:
             self.statuses.append(status)
 
     def repeat(self):
-        """Sends copies of what was not answered for a time."""
         if time.monotonic() - self.heard > 3:
             self.heard = time.monotonic()
             for handle, value in self.open.items():

@@ -111,7 +111,6 @@ def lapses(r):
 
 
 def start_of_noise(r):
-    """A datagram that is malformed, or that holds what is not served."""
     return r.choice([b"\0", b"", get(1)[:-1], get(1) + b"\0", oca.response(1), get(1)])
 
 

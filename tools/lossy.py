@@ -166,7 +166,6 @@ def told_apart(r, count):
 
 
 def answers_of(made):
-    """What `ocactl run` prints where each command is executed once, in this order."""
     tree, printed = oca.bench(), []
     for _, command in made:
         status, items, params = oca.execute(tree, "the panel", command)

@@ -31,7 +31,6 @@ def help_of(program, *words):
 
 
 def section(text, name):
-    """The lines under a heading of the help, to the next empty line."""
     found = re.search(rf"^{name}:\n((?:.+\n)+)", text, re.MULTILINE)
     return found[1].splitlines() if found else []
 
@@ -44,28 +43,24 @@ def options_in_help(text):
 
 
 def commands_in_help(program):
-    """The words that ask for each command: none where the program has no commands."""
     found = {line.split()[0]: [line.split()[0]] for line in section(help_of(program), "Commands")}
     found.pop("help", None)
     return found or {Path(program).name: []}
 
 
 def parts_of(text, section):
-    """The name of each `.SS` of a section, with its text; none where there is no such section."""
     found = re.search(rf"^\.SH {section}\n(.*?)(?=^\.SH |\Z)", text, re.MULTILINE | re.DOTALL)
     parts = re.split(r"^\.SS ", found[1], flags=re.MULTILINE)[1:] if found else []
     return [part.split("\n", 1) for part in parts]
 
 
 def options_in(text):
-    """Each option of a part of a page: its value or none, and its default or none."""
     option = r'^\.TP\n\.BI? ((?:\\-)+[a-z\\-]+)(?: " ([^"]+)")?\n((?:(?!\.TP).*\n)*)'
     blocks = re.findall(option, text, re.MULTILINE)
     return {name.replace("\\", "").lstrip("-"): (value or None, default_of(told)) for name, value, told in blocks}
 
 
 def has_options(heading, name, names):
-    """Whether the options under this heading of COMMON OPTIONS are those of the command `name`, one of `names`."""
     listed = set(re.findall(r"[a-z]+", heading)) & names
     return (name in listed) != heading.startswith("All commands")
 
@@ -155,7 +150,6 @@ def ends_told(text, program):
 
 
 def title_of(program, folder):
-    """The title of a program's page: its name, the day of its version by CHANGELOG.md, and the version that it says."""
     version = subprocess.run([f"{folder}/{program}", "--version"], capture_output=True, text=True, timeout=30, check=True).stdout.split()[1]
     return reference.title(program.upper(), 1, f"Rouxcanyon {version}", "User Commands")
 

@@ -5,7 +5,6 @@ import subprocess
 
 
 def is_able(tool):
-    """Whether this process may make namespaces. Where not it says so, and nothing is tried."""
     if os.geteuid() == 0 and shutil.which("ip"):
         return True
     print(f"{tool}: NOT TRIED: it needs root and `ip`\n1 passed, 0 failed")

@@ -59,7 +59,6 @@ def next_command(device):
 
 
 def answers_earlier(data, handle):
-    """Whether a datagram is a response under an earlier handle."""
     return data[7:8] == b"\3" and int.from_bytes(data[14:18], "big") < handle
 
 
@@ -100,7 +99,6 @@ class Checks(checks.Checks):
         return run, int(listening[1]) if listening else 0
 
     def send(self, device, handle, *words, **settings):
-        """One command of `ocactl send`: what it prints, what it says of faults, and its status."""
         return ended(self.start("ocactl", "send", "--device", device, "--first-handle", handle, *ASKS, *words, **settings))
 
 
@@ -240,7 +238,6 @@ def refused_sockets(checks):
 
 
 def with_a_buffer(checks, granted, *words):
-    """A run to which so many bytes are granted for a send buffer: the notes on that, its status, and what it asked."""
     with tempfile.TemporaryDirectory() as place:
         run = checks.start(*words, GRANTED=granted, ASKED=f"{place}/asked")
         said, asked = run.communicate(timeout=60)[1], Path(place, "asked")
@@ -314,7 +311,6 @@ def a_lost_address(checks):
 
 
 def line_of(run):
-    """The next line that a run prints; nothing where none comes in ten seconds."""
     return run.stdout.readline() if select.select([run.stdout], [], [], 10)[0] else None
 
 

@@ -227,7 +227,6 @@ Execution = namedtuple("Execution", "tree status count parameters wrote")
 
 
 def with_copies(tree, ones):
-    """The objects in a new list, with copies of those of these numbers."""
     return [o.copy() if o.ono in ones else o for o in tree.objects]
 
 

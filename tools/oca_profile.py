@@ -129,7 +129,6 @@ class Object:
         return new
 
     def setting(self):
-        """The state, the position, the truth or the number as a number; None of a block."""
         return None if self.state is None else int(self.state)
 
 
@@ -548,7 +547,6 @@ class Device:
         self.sessions = [s for s in self.sessions if s.stays(self.now)]
 
     def session_for(self, peer):
-        """The session of a peer, opened where there is none; None where there is no room."""
         session = next((s for s in self.sessions if s.peer == peer), None)
         if session is None and len(self.sessions) < self.peers:
             session = Session(peer, self.now)

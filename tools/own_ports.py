@@ -11,14 +11,12 @@ import time
 
 
 def by_turns():
-    """The port whose turn it is, and the other one."""
     turn = int(time.time() * 100000) // 2**31 % 2
     return (65002, 65001) if turn else (65001, 65002)
 
 
 @contextlib.contextmanager
 def alone():
-    """While this lasts no other tool is in it."""
     with open(f"/tmp/oca-own-ports-{os.getuid()}", "w", encoding="ascii") as file:  # whatever TMPDIR says
         fcntl.flock(file, fcntl.LOCK_EX)
         yield
@@ -36,7 +34,6 @@ def free_port():
 
 
 def bound(ip="127.0.0.1", port=0):
-    """A socket at this address, which waits for ten seconds for what comes."""
     s = socket.socket(socket.AF_INET, socket.SOCK_DGRAM)
     s.bind((ip, port))
     s.settimeout(10)

@@ -91,7 +91,6 @@ class Panel(Serving):
         self.since, self.epoch, self.run, self.shown, self.told = 0, 0, None, {}, {}
 
     def rows(self, kind, **default):
-        """The rows of requests of this kind, each with what it leaves out."""
         token = self.token or "?"
         names = {"port": str(self.port), "next": str(self.port + 1), "token": token, "short": token[:-1], "other": token[:-1] + "12"[token[-1] == "1"]}
         read = table("panel", host=self.host, **names)
@@ -119,11 +118,9 @@ class Panel(Serving):
         return int(status[1]) if status else 0, {name.lower(): value for name, _, value in fields}, text
 
     def asks(self, method, path, text=None, **fields):
-        """The bytes of a request, which has the panel's Host and these fields."""
         return request({"method": method, "path": path, "text": text, "Host": self.host} | fields)
 
     def orders_by(self, path, body, **fields):
-        """The bytes of an order of a page of this panel."""
         return self.asks("POST", path, json.dumps(body), **{"Origin": f"http://{self.host}", "Content-Type": JSON} | fields)
 
     def get(self, path):
@@ -137,11 +134,9 @@ class Panel(Serving):
         return status, json.loads(text) if text else None
 
     def order(self, path, ono, value=None, **more):
-        """The status, and the ticket where it was taken."""
         return self.post(path, {"ono": ono} | ({} if value is None else {"value": value}) | more)
 
     def orders(self, wanted, **more):
-        """The status and what is answered to many orders, for this run of the panel unless another is given."""
         self.run = self.run or self.get("/values")["run"]
         return self.post("/orders", {"run": self.run, "orders": wanted} | more)
 
@@ -157,7 +152,6 @@ class Panel(Serving):
         return values
 
     def wait(self, holds, seconds=20.0):
-        """Looks until this holds of what was answered, and answers the seconds that it took, or None."""
         return waited(lambda: holds(self.look()), seconds)
 
     def comes(self, holds, what, seconds=20.0):
@@ -167,12 +161,10 @@ class Panel(Serving):
         return took
 
     def fare(self, path, ono, value=None, seconds=30.0):
-        """How an order fared: None where it was carried out, else the word."""
         status, ticket = self.order(path, ono, value)
         return self.settled([ticket], seconds)[0] if status == 202 else f"status {status}"
 
     def settled(self, tickets, seconds=30.0):
-        """How orders with these tickets fared, once all are told."""
         self.wait(lambda _: all(t in self.told for t in tickets), seconds)
         return [self.told.get(t, "not told") for t in tickets]
 
@@ -838,7 +830,6 @@ class Ailing(Noting):
 
 
 def trouble_of(panel, ono, trouble, value=None):
-    """Checks that this trouble of an object comes to be shown, and this value, if any."""
     is_so = lambda _: ono in panel.shown and panel.shown[ono]["trouble"] == trouble and value in (None, panel.value(ono))
     panel.comes(is_so, f"the trouble of {ono} is shown as {trouble}, and its value as {value}: {panel.shown.get(ono)}")
 
@@ -904,7 +895,6 @@ def stopped(panel, ahead=None, seconds=0.0):
 
 
 def ticket_in(answer):
-    """The ticket that an answer has, 0 where it takes no order."""
     return int(answer.rsplit(b"\r\n\r\n", 1)[1]) if answer.startswith(b"HTTP/1.1 202") else 0
 
 
@@ -994,7 +984,6 @@ def over_a_stop(folder):
 
 
 def address_towards(device):
-    """The address from which the system reaches a device, by a socket that is connected to it; None where it has no route."""
     host, port = device.split(":")
     with socket.socket(socket.AF_INET, socket.SOCK_DGRAM) as s, contextlib.suppress(OSError):
         s.connect((host, int(port)))

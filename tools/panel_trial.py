@@ -38,7 +38,6 @@ DATA = data("panel_trial")
 
 
 def prepared(sources=None, place=None):
-    """The page and its cases with the short names, as files in a folder."""
     text, _, _ = page.page(sources)
     Path(place, "page.html").write_text(text)
     for name in ("stand", "cases"):
@@ -106,7 +105,6 @@ class Browser:
         return json.loads(one)
 
     def send(self, method, session=None, **params):
-        """Asks for something, and answers the number of the question."""
         self.number += 1
         sent = {"id": self.number, "method": method, "params": params} | ({"sessionId": session} if session else {})
         os.write(self.writes, json.dumps(sent).encode() + b"\0")
@@ -159,7 +157,6 @@ class Window:
         self.call("Emulation.setEmulatedMedia", features=[{"name": "prefers-color-scheme", "value": "dark" if is_dark else "light"}])
 
     def ask(self, script):
-        """Begins a script as it stands, and answers the number of the question."""
         return self.browser.send("Runtime.evaluate", self.session, expression=script, returnByValue=True, awaitPromise=True)
 
     def answer(self, number):
@@ -172,11 +169,9 @@ class Window:
         return self.answer(self.ask(page.shorten(script)))
 
     def looks(self, script):
-        """What a script answers that may call what looks.js has."""
         return self.answer(self.ask(f"(()=>{{{LOOKS.read_text()}\nreturn {script}}})()"))
 
     def wait(self, script, seconds=20.0):
-        """Waits until a script is true, and answers the seconds that it took, or None."""
         return waited(lambda: self.run(script) is True, seconds, 0.02)
 
     def holds(self, script, what, seconds=20.0):
@@ -184,7 +179,6 @@ class Window:
         return check(is_so, f"{what}: {'' if is_so else self.run('program.state+document.title')}")
 
     def place(self, what):
-        """The middle of an element of the page, and its size."""
         return self.run(f"(()=>{{const e={what};e.scrollIntoView({{'block':'center'}});const r=e.getBoundingClientRect();"
                         "return[r.x+r.width/2,r.y+r.height/2,r.width,r.height]})()")
 
@@ -209,7 +203,6 @@ class Window:
             self.mouse("mouseReleased", x, y - by)
 
     def let_go(self, what):
-        """The mouse is let go over an element."""
         x, y, _, _ = self.place(what)
         self.mouse("mouseReleased", x, y)
 
@@ -221,7 +214,6 @@ class Window:
         self.call("Input.insertText", text=text)
 
     def wheel(self, what):
-        """The wheel is turned upwards over an element."""
         x, y, _, _ = self.place(what)
         self.call("Input.dispatchMouseEvent", type="mouseWheel", x=x, y=y, deltaX=0, deltaY=-100)
 
@@ -612,7 +604,6 @@ ROWS = {"sources": 2, "node": 79, "wrong pages": 46, "chromium": 79, "by hand": 
 
 
 def counted(name, part_of, *given):
-    """Runs a part, which must have as many rows as it is to have."""
     before, begun = ITS.passed + ITS.failed, time.monotonic()
     part_of(*given)
     rows = ITS.passed + ITS.failed - before
@@ -621,7 +612,6 @@ def counted(name, part_of, *given):
 
 
 def sources():
-    """page.rt is what the page's sources make."""
     check(page.TARGET.read_text() == page.made(), "page.rt is not what its sources make: run tools/page.py")
     size = len(page.page()[0].encode())
     check(size < page.MOST, f"the page has {size} bytes, not below {page.MOST}")

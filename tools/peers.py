@@ -23,7 +23,6 @@ class Peer:
         self.socket.send(oca.command(handle, target, level, index, len(params), b"".join(params)))
 
     def send(self, *command):
-        """Sends a command and waits for nothing; its handle."""
         self.handle += 1
         self.copy(self.handle, *command)
         return self.handle

@@ -84,7 +84,6 @@ def wrong_ones(checks):
 
 
 def refuses(link, datagram):
-    """Whether a datagram is worth nothing to the link."""
     try:
         link.heard(datagram)
     except struct.error:

@@ -64,7 +64,6 @@ class Runs(Checks):
 
 
 def await_read(end, run):
-    """Waits until all that was written to the end is read, the run is over, or a minute is."""
     left, until = array.array("i", [1]), time.monotonic() + 60
     while left[0] and run.poll() is None and time.monotonic() < until:
         fcntl.ioctl(end, termios.FIONREAD, left)
@@ -101,7 +100,6 @@ def ran_cut(runs, words, given, prints):
 
 
 def ran_in_room(runs, words, given, most):
-    """A run whose output is a file that may have so many bytes."""
     with tempfile.TemporaryFile() as out:
         limit = lambda: resource.setrlimit(resource.RLIMIT_FSIZE, (most, most))
         run = runs.ran(words, given, stdout=out, preexec_fn=limit, restore_signals=False)

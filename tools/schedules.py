@@ -26,7 +26,6 @@ class Schedule:
         return self.add(kind, self.now, *fields)
 
     def deliver(self, way, numbers=None, holds=lambda k: True):
-        """The datagrams of these numbers that were sent this way come, or all, where this holds of them."""
         sent = self.network.to_device if way == "to-device" else self.network.to_links
         for k in range(len(sent)) if numbers is None else numbers:
             if holds(k):
@@ -59,7 +58,6 @@ class Schedule:
         return ["schedule", self.refusal] if self.refusal else self.network.transcript(self.outcomes)
 
     def front(self, count):
-        """The first steps, and then all that links hold is taken."""
         short = Schedule(self.window, self.span, self.starts, self.peers)
         for step in self.steps[:count]:
             short.add(*step)
@@ -205,7 +203,6 @@ def visitors(r, window, span):
 
 
 def goes_on(r, schedule, pace):
-    """Now and then all that links hold is taken; then some time passes."""
     if r.randrange(3) == 0:
         schedule.take_all()
     schedule.now += r.choice(pace)

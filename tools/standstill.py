@@ -107,7 +107,6 @@ class Scene:
         self.relay, self.peer = Relay(self.device), Peer(self.device)
 
     def is_at(self, seconds):
-        """It is so many seconds later than it was at first, and what passed besides."""
         os.pwrite(self.time, struct.pack("q", seconds * 1000), 0)
 
     def start(self, *words, **streams):
@@ -135,7 +134,6 @@ class Checks(checks.Checks):
         return contextlib.closing(Scene(self))
 
     def stands(self, what, scene, passed=1):
-        """What another controller set stands, and the command that sets came to the device so often."""
         self.same(f"{what}: the state", scene.peer.state(), bytes([UNMUTED]))
         self.same(f"{what}: copies that came to the device", scene.relay.passed, passed)
 

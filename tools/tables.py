@@ -31,7 +31,6 @@ def table(name, **names):
 
 
 def frozen(value):
-    """The same with tuples for lists."""
     if isinstance(value, list):
         return tuple(map(frozen, value))
     return {key: frozen(it) for key, it in value.items()} if isinstance(value, dict) else value

@@ -61,7 +61,6 @@ NO_SEND = 1000  # the number of a send that no run has
 
 
 def entries(script, moments, failed):
-    """The lines of a script, with a failed receive before its entry of the number `failed`, where there is one."""
     for number, (entry, now) in enumerate(zip(script, moments)):
         if number == failed:
             yield "then failed"

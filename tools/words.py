@@ -34,7 +34,6 @@ DATA = data("words")
 
 
 def controls(checks, device, command, *words, given=None, first=1):
-    """A run of `ocactl` at a port of its own, with this input; without one it stays open."""
     return checks.start("ocactl", command, "--device", at(device), "--first-handle", first, "--port", free_port(), *words, given=given)
 
 
@@ -126,7 +125,6 @@ def at_own_ports(checks):
 
 
 def faults(checks):
-    """Words that are no UTF-8 are bad words."""
     for program in ("ocadev", "ocactl", "ocapanel"):
         done = subprocess.run([f"{checks.folder}/{program}".encode(), b"\xff"], capture_output=True, timeout=30)
         said = done.stdout, done.stderr, done.returncode
@@ -197,7 +195,6 @@ def versions(checks):
 
 
 def granted():
-    """How many bytes the system grants who asks for 4,000,000 for datagrams that have not left."""
     with bound() as asks:
         asks.setsockopt(socket.SOL_SOCKET, socket.SO_SNDBUF, 4_000_000)
         return asks.getsockopt(socket.SOL_SOCKET, socket.SO_SNDBUF)
