@@ -131,18 +131,11 @@ static void calls_device(struct oca_device *d) {
     case 20: result = CALL(oca_device_set_unsigned)(d, ono, number()); break;
     case 21: result = CALL(oca_device_setting)(d, ono, (struct oca_setting *)room(0, sizeof(struct oca_setting))), count = 1; break;
     case 22: result = CALL(oca_device_object_words)(d, below(12), (uint32_t *)room(0, 4 * (size % 6)), size % 6, (uint8_t *)room(1, size), size), count = 2; break;
-    case 23:
+    case 23: case 27:
         read = (struct oca_spec *)room(0, sizeof spec);
-        read->size = below(2) ? (uint32_t)sizeof spec : (uint32_t)number();
+        read->size = below(3) ? (uint32_t)sizeof spec : (uint32_t)number();
         memcpy(places[0].before + EDGE, &read->size, 4);
-        result = CALL(oca_device_spec)(d, below(12), read), count = 1;
-        expect(read->size == sizeof spec || result != OCA_DONE, "a struct of another size is written to");
-        break;
-    case 27:
-        read = (struct oca_spec *)room(0, sizeof spec);
-        read->size = below(4) ? (uint32_t)sizeof spec : (uint32_t)number();
-        memcpy(places[0].before + EDGE, &read->size, 4);
-        result = CALL(oca_device_spec_of)(d, below(3) ? ono : 100, read), count = 1;
+        result = below(2) ? CALL(oca_device_spec)(d, below(12), read) : CALL(oca_device_spec_of)(d, below(3) ? ono : 100, read), count = 1;
         expect(read->size == sizeof spec || result != OCA_DONE, "a struct of another size is written to");
         break;
     case 28: result = CALL(oca_device_peers)(d, (size_t *)room(0, sizeof(size_t))), count = 1; break;

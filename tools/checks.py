@@ -10,6 +10,7 @@ import sys
 import tempfile
 import time
 
+import grants
 import own_ports
 
 
@@ -113,15 +114,23 @@ class Checks:
             write(run, given)
         return run
 
+    def serve(self, *words, **how):
+        """`ocadev serve` at a port that the system chooses, and this port; 0 if it does not listen."""
+        run = self.start("ocadev", "serve", "--port", 0, *words, **how)
+        found = re.match(r"listening [\d.]+:(\d+)\n", run.stderr.readline())
+        grants.read_note(run)
+        return run, int(found[1]) if found else 0
+
     def ran(self, *words, given="", **how):
         return ended(self.start(*words, given=given, **how))
 
     def part(self, part):
-        """Runs a part. If times alone were wrong it is tried twice more: a machine that stands still for a second or
+        """Runs a part, and ends what it started. If times alone were wrong it is tried twice more: a machine that stands still for a second or
         two is no fault of the programs. Whatever else is wrong has failed at once."""
         for left in (2, 1, 0):
             passed, failed, self.late = self.passed, self.failed, 0
             part(self)
+            self.end()
             if self.failed == failed or self.failed > failed + self.late or not left:
                 return
             print(f"once more: {part.__name__}: {self.late} times were too long", flush=True)
@@ -141,12 +150,16 @@ class Checks:
         self.parts(*parts, alone=alone)
         return self.verdict()
 
-    def verdict(self):
-        """Ends what still runs, prints the last line, and answers the exit status."""
+    def end(self):
+        """Ends what still runs."""
         for run in self.started:
             if run.poll() is None:
                 run.kill()
                 run.wait()
+
+    def verdict(self):
+        """Ends what still runs, prints the last line, and answers the exit status."""
+        self.end()
         if self.repeated:
             print(f"parts that were repeated since times were too long: {', '.join(self.repeated)}")
         return verdict(self.passed, self.failed)

@@ -14,7 +14,7 @@ from pathlib import Path
 
 import oca_profile as oca
 import peers
-from checks import Checks
+from checks import Checks, Serving
 from own_ports import bound
 
 OPENED = "open channel 1: status 0\n"
@@ -22,18 +22,13 @@ MUTES, GAINS = (4097, 5097), (4098, 5098)
 LOCK_TOTAL, LOCK_READONLY = 3, 6
 
 
-class Amplifier:
+class Amplifier(Serving):
     def __init__(self, folder, **settings):
-        self.run = subprocess.Popen([f"{folder}/amplifier", "0", "100000"], stdin=subprocess.PIPE, stdout=subprocess.PIPE,
-                                    stderr=subprocess.PIPE, text=True, bufsize=1, **settings)
-        self.port = int(re.search(r":(\d+)", self.run.stderr.readline())[1])
+        super().__init__(f"{folder}/amplifier", 0, 100000, stdin=subprocess.PIPE, stdout=subprocess.PIPE, bufsize=1, **settings)
+        self.run = self.process
 
     def turn(self, line):
         self.run.stdin.write(f"{line}\n")
-
-    def stop(self):
-        self.run.kill()
-        self.run.communicate(timeout=60)
 
 
 class Peer(peers.Peer):
@@ -68,7 +63,7 @@ def panel_sets(checks, folder):
         if after == -60:
             checks.same("the gain is shown", amplifier.run.stdout.readline(), shown((("open", -60), ("muted", 0))))
         checks.same(f"what is read, lock {lock}", peer.levels(), shown((("open", after or 0), ("muted", 0))))
-        amplifier.stop()
+        amplifier.end()
 
 
 FOLLOW = "its members follow"
@@ -99,14 +94,11 @@ def listing(checks, folder):
         if command:
             checks.same(f"before a listing, {command}", peer.ask(*command)[0], 0)
         checks.same(f"a listing behind {command}", panel(folder, amplifier.port, "objects").splitlines(), root + lines)
-    amplifier.stop()
+    amplifier.end()
     # 104 members of 14 bytes each and the two bytes of their count are more than the 1,452 of an answer.
     for words, lines in (((), DESK), (("--channels", "103"), ('100 OcaBlock "root": BufferOverflow',))):
-        device = subprocess.Popen([f"{folder}/ocadev", "serve", "--port", "0", *words], stdout=subprocess.DEVNULL, stderr=subprocess.PIPE, text=True)
-        port = int(re.search(r"listening 127\.0\.0\.1:(\d+)", device.stderr.readline())[1])
-        checks.same(f"a listing of ocadev {words}", tuple(panel(folder, port, "objects").splitlines()), lines)
-        device.kill()
-        device.communicate(timeout=60)
+        with Serving(f"{folder}/ocadev", "serve", "--port", "0", *words) as device:
+            checks.same(f"a listing of ocadev {words}", tuple(panel(folder, device.port, "objects").splitlines()), lines)
     with bound() as silent:
         port = silent.getsockname()[1]
         checks.same("a listing where nobody answers", panel(folder, port, "objects"), "100: lost\n")
@@ -146,7 +138,7 @@ def knobs(checks, folder):
     checks.same("a last line without its end", amplifier.run.stdout.readline(), shown(levels))
     checks.same("behind the end of the input", peer.levels(), shown(levels))
     amplifier.run.stdin = None
-    amplifier.stop()
+    amplifier.end()
 
 
 def objects(checks, folder):
@@ -161,7 +153,7 @@ def objects(checks, folder):
             checks.same(f"{ono}: its role", peer.ask(ono, 1, 5), (0, oca.text_bytes(role)))
             checks.same(f"{ono}: it can be locked", peer.ask(ono, 1, 2), (0, b"\1"))
         checks.same(f"{gains}: its limits", peer.ask(gains, 5, 1), (0, b"\0\0" + b"\xfc\xe0" + b"\0\x64"))
-    amplifier.stop()
+    amplifier.end()
 
 
 def bound_at(port):
@@ -174,7 +166,7 @@ def at_this_machine(checks, folder):
     """Amplifier and panel are at this machine alone; the panel says what is no port, and sends nothing."""
     amplifier = Amplifier(folder)
     checks.same("where the amplifier listens", bound_at(amplifier.port), ["127.0.0.1"])
-    amplifier.stop()
+    amplifier.end()
     with bound() as silent:
         run = subprocess.Popen([f"{folder}/panel", str(silent.getsockname()[1])], stdout=subprocess.DEVNULL)
         own = silent.recvfrom(2000)[1][1]
@@ -190,10 +182,10 @@ def closed(checks, folder):
     for descriptor in (0, 1):
         amplifier = Amplifier(folder, preexec_fn=lambda: os.close(descriptor))
         checks.same(f"the amplifier with {descriptor} closed", Peer(amplifier.port).levels(), shown((("muted", 0), ("muted", 0))))
-        amplifier.stop()
+        amplifier.end()
     amplifier = Amplifier(folder)
     checks.same("the panel with 0 closed", panel(folder, amplifier.port, preexec_fn=lambda: os.close(0))[:len(OPENED)], OPENED)
-    amplifier.stop()
+    amplifier.end()
     checks.same("an amplifier whose turns are over", subprocess.run([f"{folder}/amplifier", "0", "2"], stdin=subprocess.DEVNULL, capture_output=True,
                                                                     timeout=60).returncode, 0)
 

@@ -115,8 +115,9 @@ def methods():
     return found
 
 
-def struct(file, name):
-    body = re.search(rf"pub struct {name} \{{(.*?)\n\}}", text(file), re.S)[1]
+def struct(name):
+    sources = "\n".join(file.read_text() for file in STRUCTURES.glob("*.rt"))
+    body = re.search(rf"pub struct {name} \{{(.*?)\n\}}", sources, re.S)[1]
     found = []
     for field, of in re.findall(r"pub (\w+): (.+),", body):
         size = re.fullmatch(r"\[(\w+); (\d+)\]", of)
@@ -157,15 +158,7 @@ def expected():
         "enum oca_reception": arms(text("link.rt"), "Reception", "OCA_"),
         "struct oca_verdict": [(name, "uint32_t") for name in ["kind", *verdict[:4], "fault", "at"]],
         "struct oca_object": [(name, "uint32_t") for name in object_words[:2]] + [("class_number", "uint32_t"), ("role_size", "uint32_t"), ("role[64]", "uint8_t")],
-        "struct oca_setting": struct("reading.rt", "Reading"),
-        "struct oca_name": struct("name.rt", "Name"),
-        "struct oca_value": struct("value_words.rt", "ValueWords"),
-        "struct oca_reading": struct("value_words.rt", "ReadingWords"),
-        "struct oca_request": struct("value_words.rt", "RequestWords"),
-        "struct oca_spec": struct("spec_words.rt", "SpecWords"),
-        "struct oca_names": struct("answer_words.rt", "Names"),
-        "struct oca_members": struct("answer_words.rt", "Members"),
-        "struct oca_class_id": struct("answer_words.rt", "ClassId"),
+        **{of: struct(name) for name, of in STRUCTS.items()},
         "size of oca_spec": int(re.search(r"const SPEC_SIZE: u32 = (\d+);", text("spec_words.rt"))[1]),
         "enum oca_status": variants("oca_types/src/status.rt", "Status", "OCA_STATUS_"),
         "enum oca_fault": variants("oca_pdu/src/fault.rt", "PduFaultKind", "OCA_FAULT_"),

@@ -6,6 +6,7 @@ Usage: neighbours.py BIN [SECONDS]     BIN is the folder with `ocadev`; each run
 Datagrams of 1 or 122 keep-alives come in the names of silent hosts, at several rates. A peer that asks twenty times a second must
 get each answer, the slowest within 100 ms longer than alone; at least half of the datagrams must have been sent. It needs root
 and `ip` (iproute2); else it says so, and tries nothing. The last line is 'N passed, M failed'."""
+import contextlib
 import os
 import re
 import socket
@@ -64,12 +65,10 @@ def ask(seconds):
         sent = time.monotonic()
         peer.sendto(oca.command(asked, 4097, 4, 1), (DEVICE, PORT))
         wanted = oca.response(asked, 0, 1, b"\1")
-        try:
+        with contextlib.suppress(TimeoutError):
             while peer.recv(2000) != wanted:
                 pass
             answered += 1
-        except TimeoutError:
-            pass
         slowest = max(slowest, 1000 * (time.monotonic() - sent))
         time.sleep(0.05)
     print(asked, answered, round(slowest))

@@ -10,7 +10,6 @@ import contextlib
 import errno
 import itertools
 import os
-import re
 import resource
 import select
 import socket
@@ -23,7 +22,6 @@ import time
 from pathlib import Path
 
 import checks
-import grants
 import oca_profile as oca
 from checks import ended, layer, nulls_of, waited, write
 from own_ports import at, bound, free_port, heard
@@ -58,10 +56,6 @@ def next_command(device):
     return b"", None
 
 
-def answers_earlier(data, handle):
-    return data[7:8] == b"\3" and int.from_bytes(data[14:18], "big") < handle
-
-
 def answer(peer, handle, to):
     """The answer to GetState under a handle, and its sender. It is sent again each 300 ms."""
     for _ in range(40):
@@ -73,7 +67,7 @@ def answer(peer, handle, to):
                 got = peer.recvfrom(2000)
             except TimeoutError:
                 break
-            if not answers_earlier(got[0], handle):
+            if got[0][7:8] != b"\3" or oca.number(got[0][14:18]) >= handle:  # an answer to an earlier copy is none
                 return got
     return None, None
 
@@ -91,12 +85,6 @@ class Checks(checks.Checks):
                 resource.setrlimit(resource.RLIMIT_STACK, (stack, stack))
 
         return super().start(*words, env=env, preexec_fn=prepare, **{"stdin": subprocess.DEVNULL, **how})
-
-    def serve(self, turns, *words, **settings):
-        run = self.start("ocadev", "serve", "--port", 0, "--turns", turns, *words, **settings)
-        listening = re.match(r"listening [\d.]+:(\d+)\n", run.stderr.readline())
-        grants.read_note(run)
-        return run, int(listening[1]) if listening else 0
 
     def send(self, device, handle, *words, **settings):
         return ended(self.start("ocactl", "send", "--device", device, "--first-handle", handle, *ASKS, *words, **settings))
@@ -150,7 +138,7 @@ def quiet_turns(checks):
         took, short = [], False
         for _ in range(TRIES):
             begun = time.monotonic()
-            run, _ = checks.serve(turns, **settings)
+            run, _ = checks.serve("--turns", turns, **settings)
             with Waits() as waits:
                 listening = time.monotonic()
                 counts = report(run)
@@ -169,19 +157,18 @@ def quiet_turns(checks):
 def signals(checks):
     """Commands are answered while signals come, and before each call of a socket some."""
     for settings in ({"SIGNALS": 30}, {"SIGNALS": 1000}, {"INTERRUPT": 5}):
-        run, port = checks.serve(100000, **settings)
+        run, port = checks.serve(**settings)
         with bound() as peer:
             for handle in range(1, 31):
                 checks.same(f"{settings}: answer {handle} of `serve`", answer(peer, handle, ("127.0.0.1", port))[0], response(handle))
         for handle in range(1, 4):
             got = checks.send(f"127.0.0.1:{port}", handle, **settings)
             checks.same(f"{settings}: `send`", got, ("answer 0 1 01\n", "", 0), is_time=got[0] == "lost\n")
-        run.kill()
 
 
 def runs_under_signals(checks):
     """`ocactl run` whose input stays open, while signals come: each line is answered, nothing else is said, and it ends with its input."""
-    run, port = checks.serve(100000)
+    run, port = checks.serve()
     reader, writer = os.pipe()
     os.write(writer, b"4097 4 1 0 -\n")
     asks = checks.start("ocactl", "run", "--device", f"127.0.0.1:{port}", "--first-handle", 1, "--port", free_port(), stdin=reader, SIGNALS=1000)
@@ -194,14 +181,13 @@ def runs_under_signals(checks):
             os.write(writer, b"4097 4 1 0 -\n" if count < 3 else b"")
     os.close(writer)
     checks.same("`run` under signals: its end", ended(asks), ("", "", 0))
-    run.kill()
 
 
 def refused_sends(checks):
     """Sends that the system refuses are counted, each, and the command is answered when it comes again; a note says how many and why."""
     for number, count, words in ((errno.ENETUNREACH, 1, ()), (errno.ENOBUFS, 2, ()), (errno.EPERM, 3, ()), (errno.EPERM, 2, ("--verbose",)),
                                  (errno.EPERM, 2, ("--stats", 86400))):
-        run, port = checks.serve(TURNS_OF_A_COPY, *words, FAIL_SEND=count, ERRNO=number)
+        run, port = checks.serve("--turns", TURNS_OF_A_COPY, *words, FAIL_SEND=count, ERRNO=number)
         with bound() as peer:
             checks.same(f"error {number}: the answer to a copy", answer(peer, 5, ("127.0.0.1", port))[0], response(5))
         out, told = flooded(run, port)
@@ -383,7 +369,7 @@ def a_line_behind_a_pause(checks):
 def a_stalled_neighbour(checks):
     """Datagrams to a host that takes none hold up nobody else."""
     with bound() as stalled, bound() as peer:
-        run, port = checks.serve(100000, STALL=stalled.getsockname()[1])
+        run, port = checks.serve(STALL=stalled.getsockname()[1])
         slowest, handle = [], 0
         for _ in range(TRIES):
             with Waits() as waits:
@@ -397,7 +383,6 @@ def a_stalled_neighbour(checks):
             if soon < 1.2:
                 break
         checks.expect("behind five sends without room an answer comes as soon as a wait of 50 ms ends", soon < 1.2, f"{slowest} ms", is_time=True)
-        run.kill()
 
 
 def closed_descriptors(checks):
@@ -453,14 +438,13 @@ def asleep(checks):
     """A machine's sleep counts: locks lapse in it, and 15 seconds behind its submit no command is sent again."""
     lock = oca.command(1, 4097, 1, 3)
     for seconds, status in ((20, 0), (10, 3), (0, 3)):
-        run, port = checks.serve(100000, SLEPT=seconds)
+        run, port = checks.serve(SLEPT=seconds)
         with bound() as holder, bound() as other:
             holder.sendto(lock, ("127.0.0.1", port))
             checks.same(f"a sleep of {seconds} seconds: the lock", holder.recv(2000), oca.response(1))
             got = answer(other, 1, ("127.0.0.1", port))[0]
             checks.same(f"a sleep of {seconds} seconds: what another peer gets", got and got[18], status)
-        run.kill()
-    run, port = checks.serve(100000, UNBOOTED=1000)
+    run, port = checks.serve(UNBOOTED=1000)
     with bound() as holder, bound() as other:
         holder.sendto(lock, ("127.0.0.1", port))
         checks.same("no clock that counts sleep: the lock", holder.recv(2000), oca.response(1))
@@ -472,7 +456,6 @@ def asleep(checks):
         time.sleep(3.5)
         got = answer(other, 2, ("127.0.0.1", port))[0]
         checks.same("no clock that counts sleep: another peer behind a silence of three", got and got[18], 0)
-    run.kill()
     for seconds, copies in ((16, 1), (5, 20)):
         with bound() as silent:
             got = checks.send(at(silent), 1, SLEPT=seconds)
@@ -486,7 +469,7 @@ def kept_safely(checks):
         with tempfile.TemporaryDirectory() as room, bound() as peer:
             place = os.path.realpath(room)
             state = "state" if is_alone else f"{place}/state"
-            run, port = checks.serve(100000, "--keep", state, cwd=place, CALLS=f"{place}/calls")
+            run, port = checks.serve("--keep", state, cwd=place, CALLS=f"{place}/calls")
             wanted = []
             for handle, value in ((1, b"\2"), (2, b"\1")):
                 peer.sendto(oca.command(handle, 4097, 4, 2, 1, value), ("127.0.0.1", port))
@@ -515,7 +498,7 @@ def a_failed_receive(checks):
 
 def reports_behind_a_sleep(checks):
     """`--stats 1`: behind a sleep of 20 seconds one report is told, and not one for each second of it."""
-    run, port = checks.serve(100000, "--stats", 1, SLEPT=20)
+    run, port = checks.serve("--stats", 1, SLEPT=20)
     with bound() as peer:
         checks.same("--stats: the answer", answer(peer, 1, ("127.0.0.1", port))[0], response(1))
         begun = time.monotonic()
@@ -523,7 +506,6 @@ def reports_behind_a_sleep(checks):
         took = time.monotonic() - begun
     checks.same("--stats behind a sleep: what is told", [line[:12] for line in lines], ["note: turns "] * 3)
     checks.expect("--stats behind a sleep: three reports take more than a second", took > 1, f"{took:.2f} s")
-    run.kill()
 
 
 def calls_in(room):
@@ -533,20 +515,18 @@ def calls_in(room):
 
 def calls_in_a_row(checks):
     """Forty commands from one port, each answered as the first."""
-    run, port = checks.serve(100000)
+    run, port = checks.serve()
     own = free_port()
     for handle in range(1, 41):
         checks.same(f"call {handle} in a row", checks.send(f"127.0.0.1:{port}", handle, "--port", own), ("answer 0 1 01\n", "", 0))
-    run.kill()
 
 
 def other_addresses(checks):
     """A device at another address of the machine answers from there."""
-    run, port = checks.serve(100000, "--ip", "127.0.0.2")
+    run, port = checks.serve("--ip", "127.0.0.2")
     checks.same("a device at 127.0.0.2", checks.send(f"127.0.0.2:{port}", 1), ("answer 0 1 01\n", "", 0))
     with bound() as peer:
         checks.same("its answer comes from there", answer(peer, 9, ("127.0.0.2", port)), (response(9), ("127.0.0.2", port)))
-    run.kill()
 
 
 def small_stacks(checks):
@@ -554,7 +534,7 @@ def small_stacks(checks):
     def ran(name, *words, given=""):
         return ended(checks.start(name, *words, given=given, stdin=subprocess.PIPE, stack=STACK[name]))
 
-    run, port = checks.serve(100000, stack=STACK["ocadev"])
+    run, port = checks.serve(stack=STACK["ocadev"])
     to = ("--device", f"127.0.0.1:{port}")
     for words, given, printed in DATA.little_stack:
         command, *more = words.split()
@@ -562,7 +542,6 @@ def small_stacks(checks):
     printed, told, status = ran("ocactl", "tree", *to)
     checks.same("tree with 256 KiB of stack", ([line.split()[0] for line in printed.splitlines()], told, status),
                 ([str(o.ono) for o in oca.bench()], "", 0))
-    run.kill()
     with bound() as silent:
         for command, words, given, printed in (("get", ("--turns", 2, 4097), "", "4097 no answer\n"), ("run", (), "4097 4 1 0 -\n", "lost\n")):
             got = ran("ocactl", command, "--device", at(silent), *words, given=given)

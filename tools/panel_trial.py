@@ -133,9 +133,9 @@ class Browser:
 class Window:
     """A window of the browser with the page in it. Scripts for it are written with the names of the page's sources."""
 
-    def __init__(self, browser, address, width=1280, height=900, before=""):
+    def __init__(self, browser, address, width=1280, height=900, before="", **of):
         self.browser = browser
-        self.target = browser.call("Target.createTarget", url="about:blank", newWindow=True)["targetId"]
+        self.target = browser.call("Target.createTarget", url="about:blank", **of or {"newWindow": True})["targetId"]
         self.session = browser.call("Target.attachToTarget", targetId=self.target, flatten=True)["sessionId"]
         for domain in ("Page", "Runtime", "Log"):
             self.call(f"{domain}.enable")
@@ -582,21 +582,9 @@ def with_token(folder, browser):
     with Device(folder) as device, program(folder, device.port, "--verbose", token=True) as panel, \
             opened(browser, f"{panel.address}?token={panel.token}", "a page that has the token shows the device") as window:
         same("the address bar without the token", window.run("location.search+location.pathname"), "/")
-        with started_without_cookies(browser) as clean:
-            clean.go(panel.address)
-            clean.holds("document.body.textContent.includes('ocapanel printed')", "a window without it is told what to open")
-
-
-@contextlib.contextmanager
-def started_without_cookies(browser):
-    context = browser.call("Target.createBrowserContext")["browserContextId"]
-    window = object.__new__(Window)
-    window.browser = browser
-    window.target = browser.call("Target.createTarget", url="about:blank", browserContextId=context)["targetId"]
-    window.session = browser.call("Target.attachToTarget", targetId=window.target, flatten=True)["sessionId"]
-    window.call("Page.enable")
-    yield window
-    window.close()
+        clean = Window(browser, panel.address, browserContextId=browser.call("Target.createBrowserContext")["browserContextId"])
+        clean.holds("document.body.textContent.includes('ocapanel printed')", "a window without it is told what to open")
+        clean.close()
 
 
 # How many rows there are of each part; a part that has fewer tried too little.

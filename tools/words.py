@@ -282,15 +282,6 @@ def without_streams(checks):
         for words in ("ocadev serve --port 0", f"ocactl send --device {at(device)} {SENT}", f"ocapanel --device {at(device)} --listen 127.0.0.1:0"):
             run = checks.start(*words.split(), stdin=None, stdout=None, stderr=None, preexec_fn=lambda: [os.close(stream) for stream in range(3)])
             checks.same(f"{words} without standard streams: what they are", (nulls_of(run) or [])[:3], [0, 1, 2])
-            run.kill()
-            run.wait()
-
-
-def serving(checks, *words):
-    run = checks.start("ocadev", "serve", "--port", 0, *words)
-    port = int(run.stderr.readline().split(":")[1])
-    grants.read_note(run)
-    return run, ("127.0.0.1", port)
 
 
 def serves_until_stopped(checks):
@@ -312,18 +303,17 @@ def serves_until_stopped(checks):
             f"{at(second)} no-room\n", f"{at(second)} malformed 9 at 1\n", "oversize\n"])
     run.terminate()
     checks.same("serve: stopped by a signal", ended(run), ("", "", -15))
-    run, device = serving(checks, "--window", 1, "--verbose")
+    run, port = checks.serve("--window", 1, "--verbose")
     with bound() as peer:
         told = []
         for handle in (1, 2, 1):
-            peer.sendto(oca.command(handle, 4097, 4, 1), device)
+            peer.sendto(oca.command(handle, 4097, 4, 1), ("127.0.0.1", port))
             told.append(run.stderr.readline().split(" ", 1)[1])
         checks.same("serve --verbose: an old command", told, ["served 1 0 0\n", "served 1 0 0\n", "served 0 0 1\n"])
-    run.kill()
-    run, device = serving(checks)
+    run, port = checks.serve()
     with bound() as peer:
         for handle in range(1, 3001):
-            peer.sendto(oca.command(handle, 4097, 4, 1), device)
+            peer.sendto(oca.command(handle, 4097, 4, 1), ("127.0.0.1", port))
             checks.failed += not select.select([peer], [], [], 5)[0] or len(peer.recv(2000)) != 21
     checks.same("serve: it goes on after 3,000 turns", run.poll(), None)
     run.terminate()
@@ -347,13 +337,13 @@ def kept_or_not(part):
 @kept_or_not
 def tells_locks(checks, *keep):
     """`serve --verbose`, with and without `--keep`: locks, unlocks and refusals of executed commands, and a lapse."""
-    run, device = serving(checks, *keep, "--verbose")
+    run, port = checks.serve(*keep, "--verbose")
     serve = " ".join(["serve", *keep[:1], "--verbose"])
     lock = lambda handle, target, index=3: oca.Command(handle, target, 1, index).body()
     put = lambda handle, target: oca.Command(handle, target, 4, 2, 1, b"\1").body()
 
     def told(peer, data):
-        peer.sendto(data, device)
+        peer.sendto(data, ("127.0.0.1", port))
         sender, _, said = run.stderr.readline().rstrip("\n").partition(" ")
         return said if sender == at(peer) else f"{sender} in place of {at(peer)}: {said}"
 
@@ -365,14 +355,14 @@ def tells_locks(checks, *keep):
         time.sleep(3.5)
         lapsed = told(second, oca.pdu(1, [put(6, 4097)]))
         checks.same(f"{serve}: a set after the locks lapsed", lapsed, "served 1 0 0 wrote 4097")
-    run.kill()
 
 
 @kept_or_not
 def tells_stats(checks, *keep):
     """`serve --stats 1`, also with `--keep`: reports of all datagrams, at most once a second."""
     serve, begun, told = " ".join(["serve", *keep[:1], "--stats"]), time.monotonic(), []
-    run, device = serving(checks, *keep, "--stats", 1)
+    run, port = checks.serve(*keep, "--stats", 1)
+    device = "127.0.0.1", port
 
     def tells(what, **datagrams):
         """Whether one of the next ten reports counts the datagrams so: some may have been told before the last datagram came."""
