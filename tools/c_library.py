@@ -29,7 +29,7 @@ import reference
 import c_rows
 import oca_profile as oca
 from c_rows import LANGUAGES, SANITIZED
-from checks import Checks, layer, waited, write
+from checks import Checks, layer, next_line, waited, write
 from embedded import bound_at
 from own_ports import bound, free_port
 from peers import Lossy, Peer
@@ -67,15 +67,21 @@ def flags(prefix, lib="lib"):
     return [[f"-I{prefix}/include"], [f"-L{prefix}/{lib}", "-loca"]]
 
 
+def compiled(program, *words, language="c11", strict=STRICT):
+    """A program, strictly compiled."""
+    subprocess.run([*LANGUAGES[language], *strict, "-o", program, *words], check=True)
+    return program
+
+
 def compile_all(made, prefix):
     cflags, shared = flags(prefix)
     c_rows.test("c_library", made)
-    for language, compiler in LANGUAGES.items():
+    for language in LANGUAGES:
         libs = [*shared, f"-Wl,-rpath,{prefix}/lib"] if language == "c11" else [f"{prefix}/lib/liboca.a"]
         for name, source in (("device", "examples/c/device.c"), ("panel", "examples/c/panel.c"), ("calls", made / "c_library.c")):
             text = made / f"{name}.c"
             shutil.copy(TOP / source, text)
-            subprocess.run([*compiler, *STRICT, *cflags, "-o", made / f"{name}-{language}", text, "-x", "none", *libs], cwd=made, check=True)
+            compiled(made / f"{name}-{language}", *cflags, text, "-x", "none", *libs, language=language)
 
 
 def listening(run):
@@ -128,10 +134,10 @@ def against_the_programs(checks, made, folder):
 def panels(checks, made, prefix, folder):
     """The panel of c/panel.c over its own network, strict and sanitized, and at `ocadev`."""
     test = c_rows.test("c_library_panel", made)
-    for language, compiler in LANGUAGES.items():
+    for language in LANGUAGES:
         for name, more in ((f"network-{language}", []), (f"network-{language}-sanitized", SANITIZED)):
-            subprocess.run([*compiler, *STRICT, "-Wconversion", *more, f"-I{prefix}/include", "-Doca_link_datagram=handed", "-o", made / name,
-                            test, TOP / "c/panel.c", "-x", "none", prefix / "lib/liboca.a"], check=True)
+            compiled(made / name, "-Wconversion", *more, f"-I{prefix}/include", "-Doca_link_datagram=handed", test, TOP / "c/panel.c",
+                     "-x", "none", prefix / "lib/liboca.a", language=language)
             checks.counted(f"the panel of the library ({name})", *said_by([made / name]))
     for words in ([], ["--tree", TOP / "examples/stagebox.tree"]):
         run, port = serving([f"{folder}/ocadev", "serve", "--port", 0, "--turns", 100000, *words])
@@ -144,18 +150,18 @@ def panels(checks, made, prefix, folder):
 
 
 def each_call_sanitized(checks, made, prefix):
-    program = made / "calls-sanitized"
     parts = [TOP / f"c/{name}.c" for name in PARTS]
-    subprocess.run(["cc", "-std=c11", *STRICT[1:], *SANITIZED, f"-I{prefix}/include", "-o", program, made / "c_library.c", *parts, prefix / "lib/liboca.a"], check=True)
+    program = compiled(made / "calls-sanitized", *SANITIZED, f"-I{prefix}/include", made / "c_library.c", *parts, prefix / "lib/liboca.a",
+                       strict=STRICT[1:])
     checks.counted("each call under the sanitizers", *said_by([program]))
 
 
 def random_calls(checks, made, prefix):
     """Calls of devices, links and panels in any order, with any numbers, under the sanitizers: what each answers, and what it writes."""
-    for seed, (language, compiler) in enumerate(LANGUAGES.items(), 1):
-        program = made / f"random-{language}"
-        subprocess.run([*compiler, *STRICT, *SANITIZED, f"-I{prefix}/include", "-o", program, HERE / "c_library_random.c", TOP / "c/panel.c", TOP / "c/kept.c", "-x", "none",
-                        prefix / "lib/liboca.a"], check=True)
+    sources = HERE / "c_library_random.c", TOP / "c/panel.c", TOP / "c/kept.c"
+    for seed, language in enumerate(LANGUAGES, 1):
+        program = compiled(made / f"random-{language}", *SANITIZED, f"-I{prefix}/include", *sources, "-x", "none",
+                           prefix / "lib/liboca.a", language=language)
         out, status = said_by([program, CALLS, seed])
         counts = re.search(r"(\d+) passed, (\d+) failed\n$", out)
         checks.same(f"calls of anything ({language})", (counts is not None and int(counts[1]) > CALLS, counts and counts[2], status), (True, "0", 0))
@@ -208,10 +214,6 @@ def objects_of_the_device(checks, asker):
         checks.same(f"the limits of {block + 2}", asker.ask(block + 2, 5, 1), (0, struct.pack(">hhh", 0, -600, 100)))
 
 
-def printed(run):
-    return run.stdout.readline() if select.select([run.stdout], [], [], 30)[0] else ""
-
-
 def examples_alone(checks, made):
     """The device of the example alone: its objects, prints, place, and a taken port; and the panel's words."""
     run, port = serving([made / "device-c11", 0, 600])
@@ -220,7 +222,7 @@ def examples_alone(checks, made):
     for ono, level, params, said in ((4113, 4, b"\2", "1: muted 0 dB/10, 2: open 0 dB/10\n"),
                                      (4114, 5, b"\xff\xfb", "1: muted 0 dB/10, 2: open -5 dB/10\n")):
         checks.same(f"set {ono}", asker.ask(ono, level, 2, params), (0, b""))
-        checks.same(f"what the device prints while it goes on, {ono}", printed(run), said)
+        checks.same(f"what the device prints while it goes on, {ono}", next_line(run, 30), said)
     checks.same("where the device listens", bound_at(port), ["127.0.0.1"])
     for name, words in (("device", [made / "device-c11", port, 1]),
                         ("mixer", [made / "mixer-plain", made / "kept of none", port, 1])):
@@ -263,13 +265,14 @@ def for_every_processor(checks, archive):
     checks.same("instructions", len(used) > 50, True)
 
 
+def gain(value):
+    return struct.pack(">hhh", value, -600, 100)
+
+
 # What the mixer's desk is asked for after its restart: an object, the method's level and index, and the answer's parameters.
-def desk(front):
-    number = struct.Struct(">hhh")
-    return [(4097, 4, 1, b"\x02"), (4098, 5, 1, number.pack(-60, -600, 100)), (4593, 4, 1, b"\x02"), (4594, 5, 1, number.pack(-60, -600, 100)),
-            (4113, 4, 1, b"\x01"), (4161, 4, 1, b"\x01"), (4129, 4, 1, b"\x02"), (4194, 5, 1, number.pack(front, -600, 100)), (4146, 5, 1, number.pack(0, -600, 100)),
-            (4227, 4, 1, struct.pack(">HHH", 2, 0, 2)), (4243, 4, 1, struct.pack(">HHH", 0, 0, 2)), (4194, 2, 8, b"\0\4Bass"), (100, 2, 8, b"\0\3FOH"),
-            (4195, 2, 1, b"\0"), (4211, 4, 3, b"\0\3DAT"), (4211, 4, 9, b"\0\3\1\0\1")]
+DESK = [(4097, 4, 1, b"\2"), (4098, 5, 1, gain(-60)), (4593, 4, 1, b"\2"), (4594, 5, 1, gain(-60)), (4113, 4, 1, b"\1"), (4161, 4, 1, b"\1"),
+        (4129, 4, 1, b"\2"), (4194, 5, 1, gain(-31)), (4146, 5, 1, gain(0)), (4227, 4, 1, b"\0\2\0\0\0\2"), (4243, 4, 1, b"\0\0\0\0\0\2"),
+        (4194, 2, 8, b"\0\4Bass"), (100, 2, 8, b"\0\3FOH"), (4195, 2, 1, b"\0"), (4211, 4, 3, b"\0\3DAT"), (4211, 4, 9, b"\0\3\1\0\1")]
 
 
 def mixer(made, name, kept, seconds, before=(), **settings):
@@ -303,7 +306,7 @@ def a_mixer(checks, made, name, before=()):
     checks.same(f"{name}: its notes", sorted(set(stop(run).splitlines())), ["front: no such line"])
     run = start(12 if before else 6)
     asker = Peer(listening(run))
-    for ono, level, index, params in desk(-31):
+    for ono, level, index, params in DESK:
         asked = asker.ask(ono, level, index, *([b"\0\1"] if index == 3 else []))
         checks.same(f"{name}: {ono} {level}.{index} after the restart", asked, (0, params))
     stop(run)
@@ -437,13 +440,12 @@ static inline void held(pthread_mutex_t *by) {
 
 def mixers(checks, made, prefix):
     """The mixer as it is, over addresses and undefined behaviour, over threads, and under valgrind; and as C++."""
-    subprocess.run(["c++", "-x", "c++", "-std=c++17", *STRICT, f"-I{prefix}/include", "-c", "-o", made / "mixer.o", TOP / "examples/c/mixer.c"], check=True)
+    compiled(made / "mixer.o", f"-I{prefix}/include", "-c", TOP / "examples/c/mixer.c", language="c++17")
     (made / "held.c").write_text(HELD)
     mixer, whole = [TOP / "examples/c/mixer.c"], [TOP / "examples/c/mixer.c", *(TOP / f"c/{name}.c" for name in PARTS)]
     for name, more, of in (("plain", ["-O2"], mixer), ("sanitized", SANITIZED, whole), ("threads", ["-O1", "-g", "-fsanitize=thread"], whole),
                            ("held", ["-O2", f"-I{TOP}"], [made / "held.c"])):
-        subprocess.run(["cc", "-std=c11", *STRICT[1:], "-Wpedantic", *more, f"-I{prefix}/include", "-o", made / f"mixer-{name}", *of,
-                        f"{prefix}/lib/liboca.a", "-pthread"], check=True)
+        compiled(made / f"mixer-{name}", "-Wpedantic", *more, f"-I{prefix}/include", *of, f"{prefix}/lib/liboca.a", "-pthread", strict=STRICT[1:])
         a_mixer(checks, made, name)
     kept_safely(checks, made)
     answers_wait(checks, made)
@@ -471,9 +473,8 @@ def refused_memory(checks, made):
 
 def arenas(checks, made):
     """The heap of examples/c over arenas of each size, in both languages, under the sanitizers."""
-    for language, compiler in LANGUAGES.items():
-        subprocess.run([*compiler, *STRICT, *SANITIZED, "-o", made / f"heap-{language}", HERE / "heap.c"], check=True)
-        out, status = said_by([made / f"heap-{language}"])
+    for language in LANGUAGES:
+        out, status = said_by([compiled(made / f"heap-{language}", *SANITIZED, HERE / "heap.c", language=language)])
         checks.same(f"arenas of each size ({language})", (re.fullmatch(r"[1-9]\d{6} passed, 0 failed\n", out) is not None, status), (True, 0))
 
 
@@ -550,8 +551,7 @@ def prefixes(checks, made, archive):
         make("install-library", prefix, archive)
         checks.same(f"what is installed below {place.name}", files_below(place), INSTALLED)
         cflags, libs = flags(place)
-        panel = made / "panel-placed"
-        subprocess.run(["cc", "-std=c11", *STRICT, *cflags, "-o", panel, TOP / "examples/c/panel.c", *libs], check=True)
+        panel = compiled(made / "panel-placed", *cflags, TOP / "examples/c/panel.c", *libs)
         checks.same(f"the panel of {place.name}", said_by([panel], LD_LIBRARY_PATH=f"{place}/lib"), ("", 2))
     if shutil.which("pkg-config"):
         number = int(re.search(r"#define OCA_VERSION 0x(\w+)u", (TOP / "include/oca.h").read_text())[1], 16)
@@ -793,13 +793,10 @@ def main():
             run, port = serving([*CAREFUL, made / "device-c11", 0, 8])
             checks.same("the panel under valgrind", said_by([*CAREFUL, made / "panel-c11", port]), (PANEL, 0))
             checks.same("the device under valgrind", rest(run), (AMPLIFIER, 0))
-        arena = made / "arena"
-        subprocess.run(["cc", "-std=c11", "-DARENA=(6u<<20)", *STRICT, f"-I{prefix}/include", "-o", arena, made / "c_library.c", TOP / "examples/c/heap.c",
-                        f"{prefix}/lib/liboca_c.a"], check=True)
+        calls, core = made / "c_library.c", f"{prefix}/lib/liboca_c.a"
+        arena = compiled(made / "arena", "-DARENA=(6u<<20)", f"-I{prefix}/include", calls, TOP / "examples/c/heap.c", core)
         checks.same("each call over an arena", said_by([arena])[1], 0)
-        counted = made / "counted"
-        subprocess.run(["cc", "-std=c11", "-DCOUNTS_BLOCKS", *STRICT, f"-I{prefix}/include", "-o", counted, made / "c_library.c", f"{prefix}/lib/liboca_c.a"],
-                       check=True)
+        counted = compiled(made / "counted", "-DCOUNTS_BLOCKS", f"-I{prefix}/include", calls, core)
         checks.same("each call, and each block of memory is given back", said_by([counted])[1], 0)
     return checks.verdict()
 

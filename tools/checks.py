@@ -4,6 +4,7 @@ import contextlib
 import functools
 import os
 import re
+import select
 import shutil
 import subprocess
 import sys
@@ -21,6 +22,11 @@ def ended(run, seconds=60):
     except subprocess.TimeoutExpired:
         run.kill()
         return ("it did not end", *run.communicate(timeout=60))
+
+
+def next_line(run, seconds=10):
+    """The next line that a run prints into a pipe; nothing if none comes in so many seconds."""
+    return run.stdout.readline() if select.select([run.stdout], [], [], seconds)[0] else None
 
 
 def waited(holds, seconds=60.0, pause=0.01):

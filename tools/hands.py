@@ -22,6 +22,7 @@ from pathlib import Path
 import checks
 import oca_profile as oca
 import own_ports
+from checks import next_line
 from own_ports import free_port
 from served import Other, Served, commands_in
 from tables import data, table
@@ -242,8 +243,7 @@ def tells_at_once(checks):
     """`set --ahead 2`, and `get` and `lock`: a line is printed as soon as its outcome and those before it are known."""
     with Late(stagebox()) as device:
         run = checks.start("ocactl", *f"set --ahead 2 --device 127.0.0.1:{device.port} --port {checks.port} 4097 muted 4098 inverted".split())
-        there = bool(select.select([run.stdout], [], [], 4)[0])
-        checks.same("set --ahead: the first line while the second command waits", there and run.stdout.readline(), "4097 muted\n")
+        checks.same("set --ahead: the first line while the second command waits", next_line(run, 4), "4097 muted\n")
         device.goes_on.set()
         checks.same("set --ahead: the rest", run.stdout.read(), "4098 inverted\n")
         checks.same("set --ahead: the status", run.wait(10), 0)

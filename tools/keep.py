@@ -1,6 +1,6 @@
 #!/usr/bin/env python3
 """A device that keeps its state in a file (`ocadev serve --keep FILE`) is stopped and started again: by SIGTERM, by `kill -9`, with
-the power cut at each system call, without room, with each step of a store refused or slow (`refusing.c`), and over broken files.
+the power cut at each system call, without room, with each step of a store refused or slow (`unreliable.c`), and over broken files.
 Whatever was answered with OK is there.
 
 Usage: keep.py BIN     BIN is the folder with `ocadev`
@@ -60,7 +60,7 @@ def limit_files(most):
 class Checks(checks.Checks):
     def serve(self, keep, *words, most=None, refusing=False):
         """A device at a port of the system's, what it says first, and its peer; over the layer or not."""
-        layer = {"LD_PRELOAD": checks.layer("refusing"), "REFUSING": f"{keep}.refusing", "TOLD": f"{keep}.told"} if refusing else {}
+        layer = {"LD_PRELOAD": checks.layer("unreliable"), "REFUSING": f"{keep}.refusing", "TOLD": f"{keep}.told"} if refusing else {}
         run = self.start("ocadev", "serve", "--port", "0", "--keep", keep, *words, text=False, env={**os.environ, **layer}, stdin=subprocess.DEVNULL,
                          preexec_fn=None if most is None else lambda: limit_files(most))
         said = run.stderr.readline().decode()

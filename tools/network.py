@@ -11,7 +11,6 @@ import errno
 import itertools
 import os
 import resource
-import select
 import socket
 import struct
 import subprocess
@@ -23,8 +22,8 @@ from pathlib import Path
 
 import checks
 import oca_profile as oca
-from checks import ended, layer, nulls_of, waited, write
-from own_ports import at, bound, free_port, heard
+from checks import ended, layer, next_line, nulls_of, waited, write
+from own_ports import at, bound, comes, free_port, heard
 from tables import data
 
 GET, ASKS = (4097, 4, 1), ("--target", 4097, "--level", 4, "--index", 1, "--count", 0)
@@ -48,12 +47,7 @@ def response(handle, params=b"\1"):
 
 def next_command(device):
     """The next command that comes, and from where; nothing where none comes in ten seconds. Keep-alives are passed over."""
-    with contextlib.suppress(TimeoutError):
-        while True:
-            data, sender = device.recvfrom(2000)
-            if data[7:8] != b"\4":
-                return data, sender
-    return b"", None
+    return next(((data, sender) for data, sender in comes(device) if data[7:8] != b"\4"), (b"", None))
 
 
 def answer(peer, handle, to):
@@ -174,8 +168,7 @@ def runs_under_signals(checks):
     asks = checks.start("ocactl", "run", "--device", f"127.0.0.1:{port}", "--first-handle", 1, "--port", free_port(), stdin=reader, SIGNALS=1000)
     os.close(reader)
     for count in (1, 2, 3):
-        is_there = bool(select.select([asks.stdout], [], [], 10)[0])
-        checks.same(f"`run` under signals: answer {count}", is_there and asks.stdout.readline(), "answer 0 1 01\n")
+        checks.same(f"`run` under signals: answer {count}", next_line(asks), "answer 0 1 01\n")
         time.sleep(0.2)
         with contextlib.suppress(BrokenPipeError):
             os.write(writer, b"4097 4 1 0 -\n" if count < 3 else b"")
@@ -296,10 +289,6 @@ def a_lost_address(checks):
             checks.same(f"{settings}: what is sent besides the command", {*heard(silent)} - {wanted}, asks)
 
 
-def line_of(run):
-    return run.stdout.readline() if select.select([run.stdout], [], [], 10)[0] else None
-
-
 def sends_lines(checks, device, count):
     """How many ms each line took that `ocactl run` gets 60 ms behind the answer before."""
     words = ("--device", at(device), "--first-handle", 1, "--port", free_port())
@@ -312,7 +301,7 @@ def sends_lines(checks, device, count):
         took.append((time.monotonic() - begun) * 1000)
         if sender:
             device.sendto(response(handle), sender)
-        given.append((data, sender and line_of(run)))
+        given.append((data, sender and next_line(run)))
         if not given[-1][1]:
             break
         time.sleep(1.2 * WAIT_MS / 1000)
@@ -351,7 +340,7 @@ def copies_behind_a_pause(checks):
             device.settimeout(10)
             if sender:
                 device.sendto(response(handle), sender)
-            printed.append(sender and line_of(run))
+            printed.append(sender and next_line(run))
         checks.same("`run` with a pause: its lines", printed, ["answer 0 1 01\n"] * 2)
         checks.same("`run` with a pause: its end", ended(run), ("", "", 0))
     return heard.count(get_command(2))

@@ -44,6 +44,13 @@ def at(end):
     return "{}:{}".format(*end.getsockname())
 
 
+def comes(end):
+    """The datagrams that come to a socket, each with its sender, until none comes in its time."""
+    with contextlib.suppress(TimeoutError):
+        while True:
+            yield end.recvfrom(2048)
+
+
 def heard(end):
     end.setblocking(False)
     found = []

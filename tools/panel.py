@@ -874,7 +874,7 @@ class Ahead:
 
     def __init__(self):
         self.file = tempfile.NamedTemporaryFile(buffering=0)
-        self.words = {"LD_PRELOAD": layer("ahead"), "AHEAD": self.file.name}
+        self.words = {"LD_PRELOAD": layer("unreliable"), "AHEAD": self.file.name}
         self.set(0)
 
     def set(self, seconds):

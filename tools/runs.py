@@ -36,7 +36,7 @@ import termios
 import time
 
 from checks import Checks, write
-from own_ports import at, bound, free_port, heard
+from own_ports import at, bound, comes, free_port, heard
 from tables import each, octets, table
 
 # Runs a program without any word, not even its own name: a system may make a word of nothing of that.
@@ -136,13 +136,9 @@ def lets_ahead(runs, words, given, end, ahead):
 
 def next_new(end, seen):
     """The next datagram that comes, and from where: no keep-alive, and none that was seen; nothing where none comes."""
-    with contextlib.suppress(TimeoutError):
-        while True:
-            data, sender = end.recvfrom(2048)
-            if data[7:8] != b"\4" and data not in seen:
-                seen.add(data)
-                return data.hex(), sender
-    return "nothing", None
+    data, sender = next(((data, sender) for data, sender in comes(end) if data[7:8] != b"\4" and data not in seen), (None, None))
+    seen.add(data)
+    return data.hex() if data else "nothing", sender
 
 
 def talks(runs, words, talk, end):

@@ -3,7 +3,7 @@
 
 Usage: standstill.py BIN     BIN is the folder with `ocadev` and `ocactl`
 
-A relay loses what the row says, and the layer `ahead.c` sets the clocks of both programs forward. Another controller changes the
+A relay loses what the row says, and the layer `unreliable.c` sets the clocks of both programs forward. Another controller changes the
 object meanwhile: earlier commands must not be done behind that, and are told as lost. The last line is 'N passed, M failed'."""
 import contextlib
 import fcntl
@@ -110,7 +110,7 @@ class Scene:
         os.pwrite(self.time, struct.pack("q", seconds * 1000), 0)
 
     def start(self, *words, **streams):
-        env = dict(os.environ, LD_PRELOAD=layer("ahead"), AHEAD=f"{self.folder.name}/time")
+        env = dict(os.environ, LD_PRELOAD=layer("unreliable"), AHEAD=f"{self.folder.name}/time")
         run = subprocess.Popen([f"{self.checks.folder}/{words[0]}", *words[1:]], env=env, **streams)
         self.runs.append(run)
         return run

@@ -1,6 +1,6 @@
 /* A test's layer over the C library, put before it by LD_PRELOAD: it refuses requests for memory, fails or shortens reads of
- * standard input and writes of standard output, and interrupts, fails or stalls the calls of sockets. Numbers count from 1; what
- * is not set does not happen.
+ * standard input and writes of standard output, interrupts, fails or stalls the calls of sockets, fails the calls by which a file
+ * is stored, and sets clocks forward. Numbers count from 1; what is not set does not happen.
  *   REFUSE=N         the request for memory number N is refused        REFUSE_FROM=N  it and every later one
  *   FAIL_READ=N      the read number N fails                           FAIL_WRITE=N   the write number N fails
  *   PIECE=N          reads and writes take at most N bytes             COUNTS=FILE    the five counts go to this file at the end
@@ -16,24 +16,38 @@
  *   ASKED=FILE       a line goes to this file for each time that a send buffer is asked for, with the number of bytes
  *   GRANTED=N        the system says that it grants a send buffer of N bytes, where it was asked for one; below 0 it does not tell
  *   GONE=1           behind the first send that is taken no socket can be bound: the system says that the address is not there
- *   FULL=N           the write number N to what is no standard stream finds no room: the one before it takes half */
+ *   FULL=N           the write number N to what is no standard stream finds no room: the one before it takes half
+ *   REFUSING=FILE    the words 'STEP N' of this file, which may change meanwhile: each call of this step fails with the error number
+ *                    N. The steps: `create` (a file is made anew), `mode`, `write` and `sync` (of a file), `rename`, `folder` (it
+ *                    is opened), `sync-folder` and `lock`. `short N`: a write to a file takes at most N bytes. `slow N`: each
+ *                    fsync takes N milliseconds more
+ *   TOLD=FILE        a line goes to this file for each call that is refused so (`refused STEP`), for each fsync of a folder that
+ *                    was done (`stored`), and for each datagram that is sent (`sent PORT HANDLE`, as it begins)
+ *   AHEAD=FILE       all clocks are ahead by the milliseconds that the first 8 bytes of this file say, an integer of this machine,
+ *                    which may change meanwhile: so time passes for a program that stands still */
 #define _GNU_SOURCE
 #include <dlfcn.h>
 #include <errno.h>
 #include <fcntl.h>
 #include <netinet/in.h>
 #include <signal.h>
+#include <stdarg.h>
+#include <stdint.h>
 #include <stdio.h>
 #include <stdlib.h>
 #include <string.h>
+#include <sys/file.h>
+#include <sys/mman.h>
 #include <sys/socket.h>
+#include <sys/stat.h>
+#include <sys/syscall.h>
 #include <sys/time.h>
 #include <time.h>
 #include <unistd.h>
 
 /* The calls that this layer stands before, and what is set by a number. */
 #define CALLS(OF) OF(malloc) OF(realloc) OF(read) OF(write) OF(recvfrom) OF(sendto) OF(clock_gettime) OF(fsync) OF(rename) OF(renameat) \
-    OF(setsockopt) OF(getsockopt) OF(bind)
+    OF(setsockopt) OF(getsockopt) OF(bind) OF(open) OF(fchmod) OF(flock)
 #define SETTINGS(OF) OF(REFUSE) OF(REFUSE_FROM) OF(FAIL_READ) OF(FAIL_WRITE) OF(PIECE) OF(INTERRUPT) OF(FAIL_RECEIVE) OF(FAIL_SEND) OF(ERRNO) OF(STALL) \
     OF(SLEPT) OF(UNBOOTED) OF(FAIL_SYNC) OF(FULL) OF(GONE)
 #define DECLARE_CALL(name) static __typeof__(name) *real_##name;
@@ -45,6 +59,7 @@ CALLS(DECLARE_CALL)
 SETTINGS(DECLARE_SETTING)
 static long requests, reads, writes, receives, sends, interrupted, syncs, kept_writes;
 static int started, has_sent, asked = -1; /* the socket for which a send buffer was asked last */
+static volatile int64_t *ahead;
 
 static long set(const char *name) {
     const char *text = getenv(name);
@@ -63,9 +78,51 @@ static void send_signals(long a_second) {
     setitimer(ITIMER_REAL, &every, NULL);
 }
 
+/* The files of the layer itself are opened, read and written past it. */
+static long past(const char *setting, int flags) {
+    const char *path = getenv(setting);
+    return path ? syscall(SYS_openat, AT_FDCWD, path, flags | O_CLOEXEC, 0600) : -1;
+}
+
+static void tell(const char *setting, const char *line) {
+    long file = past(setting, O_WRONLY | O_CREAT | O_APPEND);
+    if (file < 0) return;
+    if (syscall(SYS_write, file, line, strlen(line)) < 0) abort();
+    syscall(SYS_close, file);
+}
+
+/* The number that stands behind this step now; 0 if another one, or none, is named. */
+static int said(const char *step) {
+    long file = past("REFUSING", O_RDONLY);
+    char text[64], name[32];
+    int number = 0;
+    if (file < 0) return 0;
+    long length = syscall(SYS_read, file, text, sizeof text - 1);
+    syscall(SYS_close, file);
+    text[length > 0 ? length : 0] = 0;
+    return sscanf(text, "%31s %d", name, &number) == 2 && strcmp(name, step) == 0 ? number : 0;
+}
+
+static int step_fails(const char *step) {
+    char line[64];
+    int number = said(step);
+    if (!number) return 0;
+    snprintf(line, sizeof line, "refused %s\n", step);
+    tell("TOLD", line);
+    errno = number;
+    return 1;
+}
+
+static mode_t kind_of(int file) {
+    struct stat found;
+    return fstat(file, &found) == 0 ? found.st_mode & S_IFMT : 0;
+}
+
 __attribute__((constructor)) static void start(void) {
     find();
     SETTINGS(READ_SETTING)
+    if (getenv("AHEAD")) ahead = mmap(NULL, sizeof *ahead, PROT_READ, MAP_SHARED, past("AHEAD", O_RDONLY), 0);
+    if (ahead == MAP_FAILED) abort();
     if (set("SIGNALS")) send_signals(set("SIGNALS"));
     started = 1;
 }
@@ -105,6 +162,11 @@ ssize_t write(int file, const void *bytes, size_t size) {
     }
     if (file > 2 && ++kept_writes == FULL) { errno = ENOSPC; return -1; }
     if (file > 2 && kept_writes + 1 == FULL) size = size / 2;
+    if (getenv("REFUSING") && kind_of(file) == S_IFREG) {
+        const size_t most = said("short");
+        if (step_fails("write")) return -1;
+        if (most && size > most) size = most;
+    }
     return real_write(file, bytes, size);
 }
 
@@ -138,6 +200,13 @@ ssize_t sendto(int file, const void *bytes, size_t size, int flags, const struct
     if (is_interrupted()) return -1;
     if (++sends <= FAIL_SEND) { errno = ERRNO; return -1; }
     if (STALL && ntohs(((const struct sockaddr_in *)to)->sin_port) == STALL) return wait_for_room(file, flags);
+    if (getenv("TOLD") && to && to->sa_family == AF_INET && size >= 18) {
+        char line[64];
+        uint32_t handle;
+        memcpy(&handle, (const char *)bytes + 14, 4);
+        snprintf(line, sizeof line, "sent %d %u\n", ntohs(((const struct sockaddr_in *)to)->sin_port), ntohl(handle));
+        tell("TOLD", line);
+    }
     ssize_t taken = real_sendto(file, bytes, size, flags, to, length);
     has_sent = has_sent || taken >= 0;
     return taken;
@@ -154,16 +223,29 @@ int clock_gettime(clockid_t clock, struct timespec *time) {
     int status = real_clock_gettime(clock, time);
     if (status == 0 && clock == CLOCK_REALTIME && has_sent) time->tv_sec += UNBOOTED;
     if (status == 0 && clock == CLOCK_BOOTTIME && has_sent) time->tv_sec += SLEPT;
+    if (status == 0 && ahead) {
+        time->tv_nsec += *ahead % 1000 * 1000000;
+        time->tv_sec += *ahead / 1000 + time->tv_nsec / 1000000000;
+        time->tv_nsec %= 1000000000;
+    }
     return status;
 }
 
-static void tell(const char *setting, const char *line) {
-    const char *path = getenv(setting);
-    int file = path ? open(path, O_WRONLY | O_CREAT | O_APPEND, 0600) : -1;
-    if (file < 0) return;
-    if (real_write(file, line, strlen(line)) < 0) abort();
-    close(file);
+int open(const char *path, int flags, ...) {
+    struct stat found;
+    va_list rest;
+    va_start(rest, flags);
+    mode_t mode = flags & O_CREAT ? va_arg(rest, mode_t) : 0;
+    va_end(rest);
+    if (!real_open) find();
+    if (flags & O_EXCL && step_fails("create")) return -1;
+    if (getenv("REFUSING") && stat(path, &found) == 0 && S_ISDIR(found.st_mode) && step_fails("folder")) return -1;
+    return real_open(path, flags, mode);
 }
+
+int fchmod(int file, mode_t mode) { return step_fails("mode") ? -1 : real_fchmod(file, mode); }
+
+int flock(int file, int how) { return step_fails("lock") ? -1 : real_flock(file, how); }
 
 /* Told with the file's name; it takes so many milliseconds more. */
 int fsync(int file) {
@@ -173,10 +255,15 @@ int fsync(int file) {
     name[length > 0 ? length : 0] = 0;
     snprintf(line, sizeof line, "fsync %s\n", name);
     tell("CALLS", line);
-    struct timespec time = {set("SLOW") / 1000, set("SLOW") % 1000 * 1000000};
-    if (time.tv_sec || time.tv_nsec) nanosleep(&time, NULL);
+    const long more = set("SLOW") + said("slow");
+    const int is_folder = kind_of(file) == S_IFDIR;
+    struct timespec time = {more / 1000, more % 1000 * 1000000};
+    if (more) nanosleep(&time, NULL);
     if (++syncs == FAIL_SYNC) { errno = EIO; return -1; }
-    return real_fsync(file);
+    if (step_fails(is_folder ? "sync-folder" : "sync")) return -1;
+    int status = real_fsync(file);
+    if (is_folder && status == 0) tell("TOLD", "stored\n");
+    return status;
 }
 
 static void tell_rename(const char *from, const char *to) {
@@ -187,7 +274,7 @@ static void tell_rename(const char *from, const char *to) {
 
 int rename(const char *from, const char *to) {
     tell_rename(from, to);
-    return real_rename(from, to);
+    return step_fails("rename") ? -1 : real_rename(from, to);
 }
 
 int renameat(int from_folder, const char *from, int to_folder, const char *to) {

@@ -23,8 +23,8 @@ from pathlib import Path
 import grants
 import oca_profile as oca
 import own_ports
-from checks import Checks, ended, nulls_of, write
-from own_ports import at, bound, free_port, heard
+from checks import Checks, ended, next_line, nulls_of, write
+from own_ports import at, bound, comes, free_port, heard
 from tables import data
 
 TURNS = 80
@@ -48,10 +48,9 @@ def answers(device, handle, status=0, count=0, params=b"", wanted=None):
 
 def heard_until(device, holds):
     """The datagrams that come until this holds of them, or for ten seconds none does."""
-    found = []
-    with contextlib.suppress(TimeoutError):
-        while not holds(found):
-            found.append(device.recvfrom(2000)[0])
+    found, datagrams = [], comes(device)
+    while not holds(found) and (came := next(datagrams, None)):
+        found.append(came[0])
     return found
 
 
@@ -255,9 +254,9 @@ def typed(checks):
                 data, _ = answers(device, handle, handle)
                 checks.same(f"run {more}, typed: its bytes", data, oca.command(handle, 1, 2, 3))
                 begun = time.monotonic()
-                ready = select.select([run.stdout], [], [], 10)[0]
+                line = next_line(run)
                 took.append(time.monotonic() - begun)
-                checks.same(f"run {more}, typed: its answer", ready and run.stdout.readline(), f"answer {handle} 0 -\n")
+                checks.same(f"run {more}, typed: its answer", line, f"answer {handle} 0 -\n")
             checks.same(f"run {more}, typed: the fastest answer, {1000 * min(took):.0f} ms", min(took) < 0.2, True)
             checks.same(f"run {more}, typed: its end", ended(run), ("", "", 0))
 
