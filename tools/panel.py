@@ -4,7 +4,7 @@ device that goes and comes back, 4,096 objects, more connections than there are 
 
 Usage: panel.py BIN     BIN is the folder with `ocapanel`, `ocadev` and `ocactl`
 
-Times are printed, and none fails but by a wait of many times its length. The last line is 'N passed, M failed'."""
+No wait fails but by many times its length. The last line is 'N passed, M failed'."""
 import base64
 import contextlib
 import errno
@@ -280,11 +280,9 @@ def others(folder, device, panel):
         panel.comes(lambda _: panel.lock(POLARITY) == "other", "a lock of a different controller is shown")
         same("an order under its lock", panel.fare("/set", POLARITY, "non-inverted"), "Locked")
     panel.comes(lambda _: panel.lock(POLARITY) == "free", "it is free again")
-    times = []
     for value in ("100", "200", "300"):
         ocactl(folder, device.port, "set", TRIM, value)
-        times.append(panel.comes(lambda _, v=value: panel.value(TRIM) == v, "a change by a different controller is shown") or 0)
-    print(f"a change by a different controller is shown {max(times) * 1000:.0f} ms after it was answered, at most")
+        panel.comes(lambda _, v=value: panel.value(TRIM) == v, "a change by a different controller is shown")
 
 
 def hostile(panel):
@@ -341,16 +339,13 @@ def slow(panel):
         greedy.settimeout(1)
         for _ in range(200):
             greedy.sendall(panel.asks("GET", "/tree"))
-    begun = time.monotonic()
     same("an order beside slow clients", panel.fare("/set", TRIM, "-100"), None)
-    print(f"an order beside five slow clients: {(time.monotonic() - begun) * 1000:.0f} ms")
-    begun, dropped = time.monotonic(), 0
+    dropped = 0
     select.select(halves, [], [], 20)
     had = time.monotonic() - connected
     for s in halves:
         with contextlib.suppress(OSError):
             dropped += s.recv(100) == b"" or True
-    print(f"{dropped} half requests were dropped after {time.monotonic() - begun:.1f} s")
     same("half requests are dropped", dropped, 4)
     check(had > 4, f"a half request has 5 seconds: one was dropped after {had:.1f} s")
     for s in [*halves, greedy]:
@@ -408,10 +403,7 @@ def crowd(panel):
     for s in halves:
         with contextlib.suppress(OSError):
             s.sendall(b"GET / HT")
-    begun = time.monotonic()
-    got = [panel.status() for _ in range(10)]
-    print(f"ten new connections beside 140 half requests: {(time.monotonic() - begun) * 1000:.0f} ms")
-    same("new connections beside 140 half requests", got, 10 * [200])
+    same("new connections beside 140 half requests", [panel.status() for _ in range(10)], 10 * [200])
     same("visitors that still have their connections", answered(), 32)
     for s in [*visitors, *halves]:
         s.close()
@@ -420,8 +412,7 @@ def crowd(panel):
 def lossy(folder):
     """Over a network that loses 20 % each way, each order is told as it was carried out."""
     with Device(folder) as device, Lossy(device.port) as relay, Panel(folder, relay.port) as panel:
-        took = panel.comes(is_walked, "the objects are found at 20 % loss", 90)
-        print(f"the walk at 20 % loss took {took or 0:.1f} s")
+        panel.comes(is_walked, "the objects are found at 20 % loss", 90)
         generator, wrong = random.Random(2), 0
         for _ in range(30):
             ono, value = generator.choice([TRIM, 4105, 4110, 4115]), str(generator.randrange(-600, 601))
@@ -436,7 +427,6 @@ def lossy(folder):
         panel.comes(lambda _: all(t in panel.told for t in tickets), "and told", 60)
         same("and carried out", panel.settled(tickets), 16 * [None])
         same("the last value of each object stands", ocactl(folder, device.port, "get", TRIM, 4105), f"{TRIM} 7\n4105 7\n")
-        print(f"{relay.lost} of {relay.came} datagrams were lost")
 
 
 def cut_off(folder):
@@ -451,8 +441,7 @@ def cut_off(folder):
             panel.wait(lambda v: ticket in panel.told and v["link"]["lost"] >= times, 60)
             same("cut off, an order", (panel.told.get(ticket), panel.look()["link"]["lost"] >= times), ("lost", True))
             relay.share = 0
-            took = panel.comes(lambda v: v["walked"] and v["epoch"] > epoch and v["link"]["lost_for"] is None, "a device that lived on is found again", 60)
-            print(f"behind a cut the device was found again after {took or 0:.1f} s")
+            panel.comes(lambda v: v["walked"] and v["epoch"] > epoch and v["link"]["lost_for"] is None, "a device that lived on is found again", 60)
             fared = panel.fare("/set", TRIM, str(10 * times)), ocactl(folder, device.port, "get", TRIM)
             same("and takes orders", fared, (None, f"{TRIM} {10 * times}\n"))
 
@@ -468,13 +457,11 @@ def gone_and_back(folder):
         check(panel.wait(is_walked) is not None and other.wait(is_walked) is not None, "found")
         epoch = panel.look()["epoch"]
         first.end()
-        begun = time.monotonic()
         is_lost(panel, other)
         with Device(folder, first.port, None):
-            took = panel.comes(lambda v: v["walked"] and v["epoch"] > epoch, "a device that came back is walked anew", 30)
+            panel.comes(lambda v: v["walked"] and v["epoch"] > epoch, "a device that came back is walked anew", 30)
             check({o["role"] for o in panel.get("/tree")["objects"]} >= {"desk"}, "with the objects that it has now")
             same("and is no longer lost", panel.look()["link"]["lost_for"], None)
-            print(f"a device that came back was walked after {took or 0:.1f} s; gone for {time.monotonic() - begun:.1f} s")
             same("and takes orders", panel.fare("/set", 4097, "muted"), None)
             other.comes(lambda v: v["walked"] and v["link"]["lost"] >= 1, "the other panel lost it too, and found it again", 30)
             epoch = panel.look()["epoch"]
@@ -492,9 +479,8 @@ def is_lost(panel, other):
     """The device of both panels is gone: it is lost, with an order of each."""
     other_ticket = other.order("/set", MUTE, "unmuted")[1]
     status, ticket = panel.order("/set", MUTE, "unmuted")
-    took = panel.wait(lambda _: ticket in panel.told, 30)
+    panel.wait(lambda _: ticket in panel.told, 30)
     same("an order to a device that is gone", (status, panel.told.get(ticket)), (202, "lost"))
-    print(f"it was told after {took or 0:.1f} s")
     other.comes(lambda _: other_ticket in other.told, "one of the other panel is told too", 30)
     values, times = panel.look(), []
     link = values["link"]
@@ -521,24 +507,15 @@ def many_tree():
 def many(folder):
     text, last = many_tree()
     with Device(folder, 0, text) as device, Panel(folder, device.port) as panel:
-        took = panel.comes(is_walked, "4,096 objects are walked", 60)
-        tree = panel.get("/tree")["objects"]
-        same("objects of 4,096", len(tree), 4096)
-        print(f"{len(tree)} objects were walked in {took or 0:.1f} s")
+        panel.comes(is_walked, "4,096 objects are walked", 60)
+        same("objects of 4,096", len(panel.get("/tree")["objects"]), 4096)
         panel.comes(lambda _: panel.value(last) == "0", "the last object is read", 60)
-        times, quick, place = [], [], [o["ono"] for o in tree].index(last)
+        times = []
         for value in ("5", "6", "7"):
             ocactl(folder, device.port, "set", last, value)
             times.append(panel.wait(lambda _, v=value: panel.value(last) == v, 60) or 60)
         check(max(times) < 60, "a change of the last object is shown")
-        for value in ("8", "9"):
-            ocactl(folder, device.port, "set", last, value)
-            quick.append(waited(lambda v=value: panel.look(f"&first={place}&count=1") and panel.value(last) == v) or 60)
-        print(f"a change of the last of them is shown after {max(times) * 1000:.0f} ms, "
-              f"where it is visible after {max(quick) * 1000:.0f} ms, at most")
-        begun = time.monotonic()
         same("an order among 4,096 objects", panel.fare("/set", last, "-5"), None)
-        print(f"an order among 4,096 objects was told after {(time.monotonic() - begun) * 1000:.0f} ms")
 
 
 def used_by(panel, seconds):
@@ -555,15 +532,7 @@ def rest(folder):
     """With no page open, next to no work is done."""
     with walked(folder) as (_, panel):
         time.sleep(3.5)
-        used = used_by(panel, 4)
-        print(f"idle: {100 * used:.2f} % of a processor")
-        check(used < 0.05, "an idle panel uses no processor")
-        times = []
-        for n in range(100):
-            begun = time.monotonic()
-            panel.fare("/set", TRIM, str(n))
-            times.append(time.monotonic() - begun)
-        print(f"from an order to its answer: {1000 * sorted(times)[50]:.1f} ms at the 50th, {1000 * sorted(times)[90]:.1f} ms at the 90th of 100")
+        check(used_by(panel, 4) < 0.05, "an idle panel uses no processor")
 
 
 def classes(folder):
@@ -793,7 +762,6 @@ def failing(folder):
     with bound() as silent, Panel(folder, silent.getsockname()[1], **fails) as panel:
         time.sleep(0.5)
         used = used_by(panel, 2)
-        print(f"while each receive fails: {100 * used:.2f} % of a processor")
         check(used < 0.4, f"a panel whose receives fail uses {used:.2f} of a processor")
         same("and answers its pages", panel.look()["link"]["heard"], None)
 
@@ -805,7 +773,6 @@ def unwatched(folder):
         with Served(oca.bench(80)) as device, Panel(folder, device.port) as panel:
             took.append(waited(lambda: len(device.heard) >= 1300, 9) or 9)
             is_found = panel.wait(is_walked) is not None
-    print(f"without a page 1,300 datagrams came in {min(took):.1f} s")
     check(min(took) < 1, f"without a page 1,300 datagrams take {min(took):.1f} s")
     check(is_found, "and the device is found")
 

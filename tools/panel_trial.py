@@ -329,10 +329,8 @@ def by_hand(folder, device, browser, address):
         if not comes_to(one, wanted):
             check(False, f"a click changes the mute: {one.run(row(MUTE, '.strip.message.textContent'))}")
             break
-    times = sorted(one.run("times"))
-    check(len(times) >= 100, f"100 clicks were answered: {len(times)}")
-    print(f"from a click to its answer shown: {times[len(times) // 2]:.1f} ms at the 50th, {times[len(times) * 95 // 100]:.1f} ms at the 95th "
-          f"of {len(times)}, at load {os.getloadavg()[0]:.1f}")
+    answered = len(one.run("times"))
+    check(answered >= 100, f"100 clicks were answered: {answered}")
     same("the mute is what the page shows", said(folder, device, MUTE), ["muted"])
     two.holds(shows(MUTE, "muted"), "and what the other window shows")
     one.drag(CAP, 60)
@@ -510,17 +508,17 @@ def ages(folder, browser, seconds=20):
             opened(browser, panel.address, "a stage box is shown at 20 % loss", 120, height=1600) as window:
         # what the device had, each with the moment at which it was there and the one from which on it was surely gone
         had = [(said(folder, device, TRIM)[0], time.monotonic(), None)]
-        took, wrong, looks, sure, set_at, value = [], [], 0, 0, 0.0, 0
+        seen, wrong, looks, set_at, value = 0, [], 0, 0.0, 0
         until = time.monotonic() + seconds
         while time.monotonic() < until:
             begun = time.monotonic()
             shown, is_sure, _ = window.run(SEEN)
-            looks, sure = looks + 1, sure + is_sure
+            looks += 1
             last = [gone for one, _, gone in had if one == shown][-1:]
             if is_sure and last != [None] and not (last and last[0] > begun - 2):
                 wrong.append((shown, last, begun))
             if shown == had[-1][0] and set_at:
-                took, set_at = [*took, begun - set_at], 0.0
+                seen, set_at = seen + 1, 0.0
             if not set_at and begun > had[-1][1] + 1:
                 value += 1
                 ocactl(folder, device.port, "set", TRIM, value)
@@ -528,11 +526,7 @@ def ages(folder, browser, seconds=20):
                 had[-1:] = [(*had[-1][:2], set_at), (str(value), set_at, None)]
             time.sleep(0.02)
         same("values that are shown as confirmed, and that the device had no longer 2 s before", wrong[:3], [])
-        check(looks > 0 and len(took) > 0, "changes are seen")
-        took.sort()
-        print(f"at 20 % loss each way a change of one of {window.run('rows.size')} objects was seen after {took[len(took) // 2]:.2f} s at the 50th, "
-              f"{took[len(took) * 95 // 100]:.2f} s at the 95th, {took[-1]:.2f} s at most of {len(took)}; "
-              f"it was confirmed in {100 * sure // looks} % of {looks} looks")
+        check(looks > 0 and seen > 0, "changes are seen")
 
 
 def cut_off(folder, browser):
@@ -545,14 +539,11 @@ def cut_off(folder, browser):
 def large(folder, browser):
     """4,096 objects: what is near is built, and the rest when it comes near."""
     with Device(folder, 0, many_tree()[0]) as device, program(folder, device.port) as panel:
-        first = Window(browser, panel.address)  # so that the times below are not those of a browser's start
-        first.holds("rows.size>4000&&isOpen()", "4,096 objects are walked", 90)
-        first.close()
         window = Window(browser, panel.address)
+        window.holds("rows.size>4000&&isOpen()", "4,096 objects are walked", 90)
+        window.go(panel.address)
         usable = "rows.size>4000&&isOpen()&&inView.size>0&&[...inView].flatMap(s=>s.rows).every(r=>r.view&&r.value!==null)"
         window.holds(usable, "what is visible can be used", 60)
-        print(f"a page with 4,096 objects: what is visible could be used {window.run('performance.now()') / 1000:.2f} s after it was opened "
-              f"at the latest, at load {os.getloadavg()[0]:.1f}")
         made = window.run("[...rows.values()].filter(r=>r.view).length")
         check(0 < made < 1000, f"controls are made for what is near alone: {made}")
         steps(folder, device, window, "large")
