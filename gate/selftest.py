@@ -72,6 +72,7 @@ def finds_what_is_left_out(folder):
 
 
 def leaves_none_out(_):
+    """Each tool of this repository that is a program stands in a step of its gate."""
     missing = run.left_out([step for part in run.paragraphs(HERE / "steps") for step in part], run.TOP / "tools")
     for name in missing:
         print(f"no step runs tools/{name}")
@@ -549,21 +550,14 @@ def tools_with_checks():
 ROWS = [(what, functools.partial(is_as_wanted, steps=steps, passes=passes, last=last)) for what, steps, passes, last in DATA.cases] + [
     (what, functools.partial(is_counted, command=command, least=least, wanted=wanted)) for what, command, least, wanted in DATA.of_ci] + [
     (f"a gate that signal {number} ends", functools.partial(ends_when_told, number=number)) for number in (signal.SIGTERM, signal.SIGINT, signal.SIGHUP)] + [
-    ("a gate under nohup goes on", functools.partial(ends_when_told, number=signal.SIGTERM, before=signal.SIGHUP)),
-    ("a tool that no step runs is found", finds_what_is_left_out), ("the least of rt ci", knows_the_least),
-    ("the crate that others wait for", knows_what_is_waited_for), ("what hangs is ended", ends_all_that_hangs),
-    ("what failed is told", tells_what_failed), ("a step goes on beside others", goes_on_beside), ("steps begin beside rt ci", begins_early),
-    ("examples/run.py compares", compares_examples), ("library.py builds as asked", builds_as_asked), ("snippets.py compares", compares_documents),
-    ("edits.py lists each edit", lists_each_edit), ("edits.py names functions", names_functions),
-    ("edits.py judges edits", judges_edits), ("no step is lost", loses_no_step),
-    ("each tool stands in a step", leaves_none_out), ("make library stands on its sources", stands_on_its_sources),
-    ("all that is tried counts", counts_all), ("how many checks run at once", knows_the_lanes), ("a missing kit is told", says_what_is_missing),
-    ("edits.py counts all", counts_edits), ("edits.py waits for proofs", waits_for_proofs), ("edits.py copies functions", copies_edits),
-    ("edits.py empties functions", empties_functions), ("edits.py narrows contracts", narrows_contracts),
-    ("checks.py forgives no lateness", forgives_no_lateness), ("checks.py tells a verdict", tells_a_verdict), ("lossy.py judges runs", judges_lossy_runs),
-    ("lossy.py carries badly", carries_badly), ("tools count what differs", counts_what_differs)] + [
+    ("a gate under nohup goes on", functools.partial(ends_when_told, number=signal.SIGTERM, before=signal.SIGHUP))] + [
     (f"of two steps {what}", functools.partial(is_lost, now=now, wanted=wanted)) for what, now, wanted in DATA.of_steps] + [
-    (f"{name}.py sees differences", functools.partial(sees_differences, tool=tool)) for name, tool in tools_with_checks()]
+    (f"{name}.py sees differences", functools.partial(sees_differences, tool=tool)) for name, tool in tools_with_checks()] + [(it.__doc__, it) for it in (
+    finds_what_is_left_out, knows_the_least, knows_what_is_waited_for, ends_all_that_hangs, tells_what_failed,
+    goes_on_beside, begins_early, compares_examples, builds_as_asked, compares_documents, lists_each_edit,
+    names_functions, judges_edits, loses_no_step, leaves_none_out, stands_on_its_sources, counts_all,
+    knows_the_lanes, says_what_is_missing, counts_edits, waits_for_proofs, copies_edits, empties_functions,
+    narrows_contracts, forgives_no_lateness, tells_a_verdict, judges_lossy_runs, carries_badly, counts_what_differs)]
 
 
 def main():

@@ -552,13 +552,8 @@ def installs_whole(folder):
 
 
 # What is tried, each in a folder of its own.
-ROWS = [(f"make {goal} fails with what it runs", functools.partial(make_fails_with, goal)) for goal in DATA.goals] + [
-    (".ci/run runs the gate", ci_runs_the_gate), ("build.py proves each library", proves_each_library),
-    ("build.py takes what stands", takes_what_stands), ("build.py shares the processors", shares_processors),
-    ("build.py begins crates in order", begins_in_order), ("build.py gives long chains more", gives_long_chains_more),
-    ("build.py builds each program", builds_each_program), ("build.py builds what is named", builds_what_is_named),
-    ("build.py proves a program", proves_a_program), ("build.py has checks write in memory", writes_in_memory),
-    ("run.py has all written where it may", writes_where_git_is), ("own_ports.py keeps others out", keeps_others_out),
-    ("library.py takes what the gate left", takes_what_the_gate_left),
-    ("library.py leaves no old library", leaves_no_old_library), ("install.sh installs all", installs_whole),
-    ("make install builds programs anew", builds_programs_anew)]
+ROWS = [(f"make {goal} fails with what it runs", functools.partial(make_fails_with, goal)) for goal in DATA.goals] + [(it.__doc__, it) for it in (
+    ci_runs_the_gate, proves_each_library, takes_what_stands, shares_processors, begins_in_order,
+    gives_long_chains_more, builds_each_program, builds_what_is_named, proves_a_program, writes_in_memory,
+    writes_where_git_is, keeps_others_out, takes_what_the_gate_left, leaves_no_old_library, installs_whole,
+    builds_programs_anew)]

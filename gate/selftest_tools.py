@@ -367,14 +367,8 @@ def sees_what_is_not_kept(folder):
 
 
 # What is tried, each in a folder of its own.
-ROWS = [("edits.py tries edits in groups", tries_edits_in_groups),
-        ("edits.py sees what is not proved", sees_what_is_not_proved), ("fuzz.py compares scripts", compares_scripts),
-        ("snippets.py runs what documents say", runs_what_documents_say),
-        ("snippets.py comes to what documents say", finds_what_documents_say),
-        ("neighbours.py judges runs", judges_neighbours), ("all that the tools have is called", calls_all_that_it_has),
-        ("edits.py keeps for more groups", keeps_for_more_groups),
-        ("snippets.py finds examples of doc comments", finds_examples),
-        ("snippets.py refuses broken tables", refuses_broken_tables), ("api.py lists what is public", lists_what_is_public),
-        ("a definition's name stands in one spec", finds_names_defined_twice),
-        ("unreliable.py fails each in turn", fails_each_in_turn),
-        ("keep.py sees what is not kept", sees_what_is_not_kept)]
+ROWS = [(it.__doc__, it) for it in (
+    tries_edits_in_groups, sees_what_is_not_proved, compares_scripts, runs_what_documents_say,
+    finds_what_documents_say, judges_neighbours, calls_all_that_it_has, keeps_for_more_groups, finds_examples,
+    refuses_broken_tables, lists_what_is_public, finds_names_defined_twice, fails_each_in_turn,
+    sees_what_is_not_kept)]

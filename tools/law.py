@@ -447,16 +447,10 @@ def work(job):
 
 
 def summary(seed, total, wrong):
-    print(f"law: seed {seed}: {total['histories']} histories of {total['events']} events: "
-          f"{total['executed']} executed, {total['duplicates']} duplicates, {total['old']} old, " f"{total['reused']} reused, "
-          f"{total['said malformed']} malformed, {total['said no-room']} without room, {total['packets']} packets")
-    print(f"room for {sorted(set(SIZES))} peers, {sorted(set(CHANNELS))} channels")
-    print(f"changes at the front: {total['said set']}, refused {total['said refused']}; " f"objects written: {total['writes']}; 0 breaks")
     sentences = collections.Counter(sentence for _, sentence, _ in wrong)
-    refused = sum(found for found, _, _ in wrong)
-    print(f"wrong devices refused by the sentence that they break: {refused} of {len(wrong)} "
+    print(f"law: seed {seed}: " + ", ".join(f"{count} {name}" for name, count in sorted(total.items())) + "; 0 breaks")
+    print(f"wrong devices refused by the sentence that they break: {sum(found for found, _, _ in wrong)} of {len(wrong)} "
           f"({', '.join(f'{name} {n}' for name, n in sorted(sentences.items()))})")
-    print(f"altered lines refused where they stand, by the sentence that they belong to: " f"{total['altered, refused']} of {total['altered']}")
 
 
 def main():

@@ -9,7 +9,7 @@ Usage: lossy.py BIN [COMMANDS] [SEED]     so many commands one at a time, with a
 In the gate: lossy.py bin 30
 In the gate: lossy.py bin directed
 
-It prints a table of each run, and at the end 'N passed, M failed' over the runs. One at a time, each answer must be what the
+It prints what each run did, and at the end 'N passed, M failed' over the runs. One at a time, each answer must be what the
 second implementation says; with 16 under way the answers tell the commands apart in every order. A run fails if a command
 was executed twice, if a copy was too old before its answer was carried, or if an answer is wrong or missing; `directed` also
 if with a window of 31 or more the copy is not answered from the window, or with a smaller one is not too old."""
@@ -139,18 +139,11 @@ class Directed(Network):
 
 def set_and_read(r, count):
     """(the line for `ocactl run`, the command), the last two reading back what was set"""
-    made = []
-    for handle in range(1, count + 1):
-        if handle == count:
-            c = oca.Command(handle, 4097, 4, 1, 0, b"")
-        elif handle == count - 1:
-            c = oca.Command(handle, 4100, 5, 1, 0, b"")
-        elif r.randrange(2):
-            c = oca.Command(handle, 4097, 4, 2, 1, bytes([r.choice([1, 2])]))
-        else:
-            c = oca.Command(handle, 4100, 5, 2, 1, r.randrange(-700, 701).to_bytes(2, "big", signed=True))
-        made.append((line_of(c), c))
-    return made
+    mute = lambda: (4097, 4, 2, 1, bytes([r.choice([1, 2])]))
+    trim = lambda: (4100, 5, 2, 1, r.randrange(-700, 701).to_bytes(2, "big", signed=True))
+    asked = [mute() if r.randrange(2) else trim() for _ in range(count - 2)] + [(4100, 5, 1), (4097, 4, 1)]
+    made = [oca.Command(handle, *its) for handle, its in enumerate(asked, 1)]
+    return [(line_of(c), c) for c in made]
 
 
 ONOS = [100, 4096, 4097, 4098, 4099, 4100, 4101, 4102, 5000]
@@ -158,11 +151,9 @@ ONOS = [100, 4096, 4097, 4098, 4099, 4100, 4101, 4102, 5000]
 
 def told_apart(r, count):
     """The same of commands whose answers do not depend on the others: neighbours answer differently."""
-    made, methods = [], [(1, 1), (1, 2), (1, 5), (2, 10), (3, 5), (5, 2), (7, 7)]
-    for handle in range(1, count + 1):
-        c = oca.Command(handle, ONOS[(handle + r.randrange(3)) % len(ONOS)], *methods[handle % len(methods)], 0, b"")
-        made.append((line_of(c), c))
-    return made
+    methods = [(1, 1), (1, 2), (1, 5), (2, 10), (3, 5), (5, 2), (7, 7)]
+    made = [oca.Command(handle, ONOS[(handle + r.randrange(3)) % len(ONOS)], *methods[handle % len(methods)]) for handle in range(1, count + 1)]
+    return [(line_of(c), c) for c in made]
 
 
 def answers_of(made):
@@ -210,18 +201,13 @@ class Run:
 
 
 def told(folder, made, window, seed, words):
-    """Runs the commands, prints the table, and answers whether all was as promised."""
+    """Runs the commands, prints what came of them, and answers whether all was as promised."""
     run = Run(folder, made, window, lambda device: Network(device, seed), words)
     network = run.network
-    rows = [("commands", len(made)), ("window", window), ("datagrams sent", network.carried), ("  lost", network.lost),
-            ("  doubled", network.doubled), ("  overtaken", network.overtaken),
-            ("commands executed", run.report.get("executed")), ("duplicates answered", run.report.get("kept")),
-            ("copies behind the answer", network.behind.copies), ("  too old", run.report.get("old")), ("wrong answers", run.wrong),
-            ("missing answers", run.missing), ("exit status", run.status)]
-    for name, n in rows:
-        print(f"{name:24} {n}")
     good = run.is_as_promised(len(made))
-    print("each command was executed once and got its own answer" if good else "NOT as promised", flush=True)
+    print(f"{len(made)} commands, window {window}: of {network.carried} datagrams {network.lost} lost, {network.doubled} doubled, "
+          f"{network.overtaken} overtaken; {run.report}, {network.behind.copies} copies behind their answers; {run.wrong} answers wrong, "
+          f"{run.missing} missing, status {run.status}: {'as promised' if good else 'NOT as promised'}", flush=True)
     return good
 
 

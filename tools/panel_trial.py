@@ -503,7 +503,7 @@ SEEN = f"(()=>{{const r={row(TRIM)};return[r.value,isOpen()&&isSure(r),program.u
 
 
 def ages(folder, browser, seconds=20):
-    """At 20 % loss what is shown as confirmed was so within the last 2 s; and how soon another's change is seen."""
+    """At 20 % loss what is shown as confirmed was so within the last 2 s; and another's change is seen."""
     with Device(folder) as device, Lossy(device.port, 5) as relay, program(folder, relay.port) as panel, \
             opened(browser, panel.address, "a stage box is shown at 20 % loss", 120, height=1600) as window:
         # what the device had, each with the moment at which it was there and the one from which on it was surely gone
@@ -541,7 +541,6 @@ def large(folder, browser):
     with Device(folder, 0, many_tree()[0]) as device, program(folder, device.port) as panel:
         window = Window(browser, panel.address)
         window.holds("rows.size>4000&&isOpen()", "4,096 objects are walked", 90)
-        window.go(panel.address)
         usable = "rows.size>4000&&isOpen()&&inView.size>0&&[...inView].flatMap(s=>s.rows).every(r=>r.view&&r.value!==null)"
         window.holds(usable, "what is visible can be used", 60)
         made = window.run("[...rows.values()].filter(r=>r.view).length")
