@@ -98,10 +98,10 @@ class Scene:
     """A device, a way to it, another controller, and the time of both programs."""
 
     def __init__(self, checks):
-        self.checks, self.folder, self.runs = checks, tempfile.TemporaryDirectory(), []
+        self.checks, self.folder = checks, tempfile.TemporaryDirectory()
         self.time = os.open(f"{self.folder.name}/time", os.O_RDWR | os.O_CREAT, 0o600)
         self.is_at(0)
-        device = self.start("ocadev", "serve", "--port", "0", stderr=subprocess.PIPE)
+        device = self.start("ocadev", "serve", "--port", "0")
         self.device = int(device.stderr.readline().split(b":")[1])
         threading.Thread(target=device.stderr.read, daemon=True).start()
         self.relay, self.peer = Relay(self.device), Peer(self.device)
@@ -111,19 +111,13 @@ class Scene:
 
     def start(self, *words, **streams):
         env = dict(os.environ, LD_PRELOAD=layer("unreliable"), AHEAD=f"{self.folder.name}/time")
-        run = subprocess.Popen([f"{self.checks.folder}/{words[0]}", *words[1:]], env=env, **streams)
-        self.runs.append(run)
-        return run
+        return self.checks.start(*words, env=env, text=False, **streams)
 
     def control(self, command, *words, stdout=subprocess.PIPE):
         return self.start("ocactl", command, "--device", f"{HOST}:{self.relay.port}", "--port", str(free_port()), "--first-handle", "1",
                           *words, stdin=subprocess.PIPE, stdout=stdout, stderr=subprocess.DEVNULL)
 
     def close(self):
-        for run in self.runs:
-            with contextlib.suppress(ProcessLookupError):
-                run.kill()
-            run.wait()
         self.relay.close()
         os.close(self.time)
         self.folder.cleanup()
