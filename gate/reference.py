@@ -12,8 +12,6 @@ from pathlib import Path
 TOP = Path(__file__).resolve().parent.parent
 HEADER = TOP / "include/oca.h"
 CALL = r"^(?:static inline )?(?:(?:enum|struct) oca_\w+|const char|u?int\d+_t|size_t|void) \*?(oca_\w+)\([^)]*\)"
-
-
 # On each page anyway; and what the header's own functions call, which has no page.
 NAMED_ANYWAY = ("struct oca_device", "struct oca_link", "enum oca_result")
 HELPERS = {"oca_device_close_any", "oca_link_close_any", "oca_outcome_of"}

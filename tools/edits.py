@@ -49,8 +49,6 @@ GONE = re.compile(r"has no field|is not in scope|has no `|was not admitted|is no
 KINDS = [(False, True), (False, False), (True, True), (True, False)]
 PRINTING = threading.Lock()
 ENDED = "(ended)"  # the last line of GATE_PROVED
-
-
 rt = kit.toolchain(builds=False)
 
 

@@ -37,22 +37,14 @@ def stagebox():
     return oca.bench() + [oca.Object(*fields, **how) for *fields, how in table("hands")["stagebox"]]
 
 
-class Strange(Other):
-    """A device that answers each command by a function of (target, (level, index)): a status and parameters."""
-
-    def __init__(self, answer):
-        super().__init__()
-        self.answer = answer
+class InItself(Other):
+    """A device whose root block is its own member, as that of no device of the profile."""
 
     def datagram(self, peer, data, now):
-        packets = []
-        for message in oca.check(data):
-            if message[0] == "command":
-                status, params = self.answer(message[2].target, (message[2].level, message[2].index))
-                packets.append(oca.response(message[2].handle, status, 1 if params else 0, params))
-            else:
-                packets.append(oca.pdu(4, [message[1]]))
-        return "", packets
+        block = oca.u16(3) + b"\0\1\0\1\0\3\0\2"
+        said = {CLASS: block, ROLE: oca.text_bytes("r"), MEMBERS: oca.u16(1) + (100).to_bytes(4, "big") + block}
+        alive = [oca.pdu(4, [message[1]]) for message in oca.check(data) if message[0] == "keep-alive"]
+        return "", alive + [oca.response(command.handle, 0, 1, said[method]) for command, method in commands_in(data)]
 
 
 class Holding(Other):
@@ -282,11 +274,7 @@ def ended(checks, command, answers, words, lines):
 
 def strange_answers(checks):
     """A device that answers what no device of the profile does: a block that is in itself."""
-    def endless(target, method):
-        block = oca.u16(3) + b"\0\1\0\1\0\3\0\2"
-        return 0, {CLASS: block, ROLE: oca.text_bytes("r"), MEMBERS: oca.u16(1) + (100).to_bytes(4, "big") + block}[method]
-
-    with Strange(endless) as device:
+    with InItself() as device:
         printed = "100 1.1.3 0 r\n" + "100 1.1.3 100 r\n" * 4095 + "more than 4096 objects\n"
         checks.prints("tree: a block in itself", device, ["tree"], printed, 4)
 

@@ -17,8 +17,6 @@ from fuzz import Panel, datagram
 from oca_law import LARGEST_DATAGRAM, Datagram, Local, Tick, Told, shown_objects, walk
 
 # ---- histories
-
-
 LONGEST = 2000  # so that a line of a script has at most 4,096 bytes
 
 
@@ -272,8 +270,6 @@ def made(seed, number):
 
 
 # ---- tales: what was said of the events of a history
-
-
 def verdict_of(text):
     words = text.split(" ")
     if words[0] == "malformed":
@@ -340,8 +336,6 @@ def shown(history, tale, fault):
 
 
 # ---- altered transcripts
-
-
 def altered(r, history, tale):
     """(the sentence, the event, the tale with one line of it altered), or None."""
     at = r.randrange(len(tale))
@@ -388,8 +382,6 @@ def parted(packet):
 
 
 # ---- wrong devices
-
-
 def refuses(job):
     """Whether the law refuses a history of the wrong device of this name by its sentence, that sentence, and how."""
     seed, name = job
@@ -408,8 +400,6 @@ RULES, WRONG_HISTORIES = wrong_rules("wrong_devices"), 400
 
 
 # ---- the whole
-
-
 def count_of(tale):
     total = collections.Counter(events=len(tale), packets=sum(len(told.packets) for told in tale))
     for told in tale:

@@ -9,8 +9,6 @@ import oca_profile as oca
 from comparing import Break
 
 # ---- messages and PDUs (Messages.antt), their encodings (Encoding.antt)
-
-
 CommandFields = namedtuple("CommandFields", "handle target level index count params")
 ResponseFields = namedtuple("ResponseFields", "handle status count params")
 Seconds = namedtuple("Seconds", "n")
@@ -21,8 +19,6 @@ KeepAlive = namedtuple("KeepAlive", "form")
 Commands = namedtuple("Commands", "respond commands")
 Responses = namedtuple("Responses", "responses")
 OneKeepAlive = namedtuple("OneKeepAlive", "form")
-
-
 LARGEST_DATAGRAM = 1472
 SYNC_VALUE, COMMAND_HEAD, RESPONSE_HEAD = 0x3B, 17, 10
 
@@ -71,8 +67,6 @@ def is_datagram(ps, data):
 
 
 # ---- which PDUs bytes are the encodings of: found by reading, and tested by encoding them again
-
-
 def unsigned(data):
     return int.from_bytes(data, "big")
 
@@ -192,8 +186,6 @@ def is_first_fault(data, fault):
 
 
 # ---- groups (Groups.antt)
-
-
 def is_group(p):
     return isinstance(p, OneKeepAlive) or (isinstance(p, Responses) and 0 < len(p.responses) and len(pdu_encoding(p)) <= LARGEST_DATAGRAM)
 
@@ -252,8 +244,6 @@ def after_set(tree, ono, value):
 
 
 # ---- what happened (LawByEvents.antt)
-
-
 Datagram = namedtuple("Datagram", "sender data now")
 Tick = namedtuple("Tick", "now")
 Local = namedtuple("Local", "ono value")

@@ -11,8 +11,6 @@ U32, U64 = 2**32 - 1, 2**64 - 1
 LARGEST = 1472
 
 # ---- datagrams
-
-
 class Fault(Exception):
     def __init__(self, kind, at):
         super().__init__(kind, at)
@@ -502,8 +500,6 @@ def set_local(tree, ono, kind, value):
 
 
 # ---- the device
-
-
 class Session:
     def __init__(self, peer, now):
         self.peer, self.heard, self.heartbeat = peer, now, 5000
@@ -607,8 +603,6 @@ def packets(answers):
 
 
 # ---- the controller
-
-
 class Link:
     def __init__(self, device, first, span=16, now=0):
         self.device, self.next, self.span, self.now, self.given, self.lost = device, first, span, now, now, False
@@ -741,8 +735,6 @@ def step_line(step):
 
 
 # ---- scripts
-
-
 def digits(field, most, largest):
     if not 1 <= len(field) <= most or any(ch not in "0123456789" for ch in field) or int(field) > largest:
         return None

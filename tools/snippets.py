@@ -22,8 +22,7 @@ import sys
 import tempfile
 from pathlib import Path
 
-from checks import Checks
-from grants import NOTE
+from checks import NOTE, Checks
 
 TOP = Path(__file__).resolve().parent.parent
 DOCUMENTS = ["README.md", "docs/EMBEDDING.md"]

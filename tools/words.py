@@ -20,10 +20,9 @@ import tempfile
 import time
 from pathlib import Path
 
-import grants
 import oca_profile as oca
 import own_ports
-from checks import Checks, ended, next_line, nulls_of, write
+from checks import NOTE, Checks, are_few, ended, next_line, nulls_of, read_note, write
 from own_ports import at, bound, comes, free_port, heard
 from tables import data
 
@@ -204,9 +203,9 @@ def serves(checks):
     run = checks.start("ocadev", "serve", "--port", 0, "--turns", TURNS, "--ip", "127.0.0.2", "--window", 2)
     said = re.fullmatch(r"listening 127\.0\.0\.2:(\d+)\n", run.stderr.readline())
     checks.same("serve: where it listens", said is not None, True)
-    note = run.stderr.readline() if grants.are_few() else ""
-    few = (note[:len(grants.NOTE)], f" {granted()} bytes" in note or note)
-    checks.same("serve: how many bytes the system grants", few, (grants.NOTE, True) if grants.are_few() else ("", ""))
+    note = run.stderr.readline() if are_few() else ""
+    few = (note[:len(NOTE)], f" {granted()} bytes" in note or note)
+    checks.same("serve: how many bytes the system grants", few, (NOTE, True) if are_few() else ("", ""))
     device = ("127.0.0.2", int(said[1]))
     first, *others, stranger = [bound() for _ in range(17)]
     get = lambda handle, level=4: oca.command(handle, 4097, level, 1)
@@ -289,7 +288,7 @@ def serves_until_stopped(checks):
     said = re.fullmatch(r"listening 0\.0\.0\.0:(\d+)\n", run.stderr.readline())
     checks.same("serve at 0.0.0.0: where it listens", said is not None, True)
     checks.same("serve at 0.0.0.0: a note", run.stderr.readline()[:14], "note: 0.0.0.0 ")
-    checks.same("serve: a note where little is granted", grants.read_note(run), True)
+    checks.same("serve: a note where little is granted", read_note(run), True)
     both = [oca.Command(1, 4108, 4, 2, 1, b"\2").body(), oca.Command(2, 4110, 5, 2, 1, b"\0\5").body()]
     with bound() as first, bound() as second:
         told = []
@@ -319,7 +318,7 @@ def serves_until_stopped(checks):
     checks.same("serve: stopped by a signal", ended(run), ("", "", -15))
     for turns in (0, 3):
         out, fault, _ = checks.ran("ocadev", "serve", "--port", 0, "--turns", turns, "--verbose")
-        told = [line for line in fault.splitlines() if not line.startswith(grants.NOTE)]
+        told = [line for line in fault.splitlines() if not line.startswith(NOTE)]
         checks.same(f"serve --verbose --turns {turns}", (out.split()[:2], out.split()[16:18], len(told)), (["turns", str(turns)], ["quiet", str(turns)], 1))
 
 

@@ -40,10 +40,7 @@ from schedules import PAIRS, crowd, directed, lossy, slow, visitors, wander
 from tables import data
 
 BATCH, DATA = 40, data("world")
-
-
 # ---- the laws, on a transcript
-
 # the get method of a class and its set method (AES70-2, the profile's numbers)
 READS = {"mute": (4, 1), "polarity": (4, 1), "switch": (4, 1), **dict.fromkeys(["boolean", *oca.WIDTHS], (5, 1))}
 SETS = {kind: (level, 2) for kind, (level, _) in READS.items()}
@@ -356,8 +353,6 @@ class Laws:
 
 
 # ---- runs
-
-
 def transcripts(program, schedules):
     return runs_of(program, "world", "schedule", [schedule.text() for schedule in schedules])
 
@@ -445,8 +440,6 @@ def laws(schedule, lines, fit=None):
 
 
 # ---- wrong devices and links
-
-
 RULES = wrong_rules("wrong_networks")
 
 
@@ -473,31 +466,16 @@ def first_broken(program, schedules):
 
 
 def sizes(program, seed):
-    """Whether each pair of W = 2 * S - 2 breaks 'untaken'; prints what was found."""
-    found = 0
-    for span in range(2, 33):
-        window = 2 * span - 2
-        schedule = directed(window, span)
-        result = first_broken(program, [schedule])
-        if result is None:
-            print(f"no break with a window of {window} and a span of {span}")
-            continue
-        found += 1
-        if span == 2:
-            print("with a window of 2 and a span of 2, which do not fit, this breaks, as it must:")
-            print(result[0])
-    print(f"windows of 2 * S - 2: {found} of 31 directed schedules break 'untaken'")
+    """Whether each pair of W = 2 * S - 2 breaks 'untaken', and random schedules do at two pairs; prints what was found."""
+    found = [span for span in range(2, 33) if first_broken(program, [directed(2 * span - 2, span)])]
+    print(f"windows of 2 * S - 2: {len(found)} of 31 directed schedules break 'untaken'")
     random_found = 0
     for window, span in ((2, 2), (4, 3)):
         r = random.Random(f"{seed} {window}")
-        schedules = [wander(r, window, span) if n % 2 else directed(window, span, r) for n in range(400)]
-        result = first_broken(program, schedules)
-        if result:
-            random_found += 1
-            print(f"window {window}, span {span}: a random schedule breaks too, at step {result[1].at}")
-        else:
-            print(f"window {window}, span {span}: none of {len(schedules)} random schedules breaks")
-    return found == 31 and random_found == 2
+        result = first_broken(program, [wander(r, window, span) if n % 2 else directed(window, span, r) for n in range(400)])
+        random_found += result is not None
+        print(f"window {window}, span {span}: {f'a random schedule breaks at step {result[1].at}' if result else 'none breaks'}")
+    return len(found) == 31 and random_found == 2
 
 
 # Each bad line with its word; the first one stands alone.
@@ -518,11 +496,8 @@ def lines_refused(program):
 
 
 def summary(total):
-    for name in DATA.shown:
-        print(f"{name:48}{total[name]:9}")
-    print("held against the laws, without a break:")
-    for name, text in DATA.held:
-        print(f"  {text:46}{total[name]:9}")
+    print(", ".join(f"{total[name]} {name}" for name in DATA.shown))
+    print("held against the laws, without a break: " + ", ".join(f"{total[name]} {text}" for name, text in DATA.held))
     print("also met: " + ", ".join(f"{total[name]} {text}" for name, text in DATA.met))
 
 
