@@ -3,8 +3,9 @@
 
 Usage: build.py FOLDER PROGRAM..     each program is copied into FOLDER
 
-A library is proved from nothing and holds its statements alone, in out/statements of its crate; a program is proved and built as
-`rt run` does it. What stands as it would be built now is taken. A line is printed for each crate as it ends."""
+A library is proved from nothing and holds its statements alone, in out/statements of its crate; a program is proved and
+built as `rt run` does it. What stands as it would be built now is taken. A line is printed for each crate as it
+ends."""
 import os
 import shutil
 import subprocess

@@ -3,9 +3,9 @@
 
 Usage: library.py [TARGET [CPU]]     TARGET is x86_64-unknown-linux-gnu or aarch64-unknown-linux-gnu
 
-Writes crates/oca_c/out/TARGET/liboca_c.a, for every processor of that kind unless CPU names one (x86-64-v2, x86-64-v3; neoverse-v2).
-Crates that the gate has just proved are taken, else all are built. An earlier archive is removed. `oca_c` is proved by as many
-processes as there are processors, or as LIBRARY_JOBS says."""
+Writes crates/oca_c/out/TARGET/liboca_c.a, for every processor of that kind unless CPU names one (x86-64-v2, x86-64-v3;
+neoverse-v2). Crates that the gate has just proved are taken, else all are built. An earlier archive is removed. `oca_c`
+is proved by as many processes as there are processors, or as LIBRARY_JOBS says."""
 import os
 import sys
 from pathlib import Path

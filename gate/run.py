@@ -4,14 +4,15 @@
 Usage: run.py                    all of it
        run.py steps [FILE]       the steps alone, of this file
 
-The steps of a paragraph run three at a time, in their order; a paragraph begins when the one before is over. What a step
-prints is shown when it ends: as a whole if it failed, else its last lines. A line that begins with '&' is a step beside those
-three, which gives way to them and is awaited at the end. One with '&&' begins as soon as `rt ci` has proved a crate; the file
-GATE_PROVED has the proved crates, a line each, and at the end '(ended)'.
+The steps of a paragraph run three at a time, in their order; a paragraph begins when the one before is over. What a
+step prints is shown when it ends: as a whole if it failed, else its last lines. A line that begins with '&' is a step
+beside those three, which gives way to them and is awaited at the end. One with '&&' begins as soon as `rt ci` has
+proved a crate; the file GATE_PROVED has the proved crates, a line each, and at the end '(ended)'.
 
-A step has failed if one of its checks failed, if its status is not 0, if it passed fewer checks than its line names, or if it
-took longer. The gate fails too for a line that can't be read, and for a tool in no step. The last lines are a table of the
-minutes, some lines that say what failed, and 'N passed, M failed'; the exit status is 1 if anything failed."""
+A step has failed if one of its checks failed, if its status is not 0, if it passed fewer checks than its line names, or
+if it took longer. The gate fails too for a line that can't be read, and for a tool in no step. The last lines are a
+table of the minutes, some lines that say what failed, and 'N passed, M failed'; the exit status is 1 if anything
+failed."""
 import contextlib
 import os
 import re

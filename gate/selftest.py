@@ -1,7 +1,8 @@
 #!/usr/bin/env python3
-"""The gate's own test: steps that try nothing or too little, fail, crash, hang or can't be read make the gate fail, and so do a
-failing `rt ci` and a signal; tools without a step, lost steps, and differences are found; edits are judged by what the prover
-says. selftest_builds.py has the rows of builds, selftest_tools.py those of tools. The last line is 'N passed, M failed'."""
+"""The gate's own test: steps that try nothing or too little, fail, crash, hang or can't be read make the gate fail, and
+so do a failing `rt ci` and a signal; tools without a step, lost steps, and differences are found; edits are judged by
+what the prover says. selftest_builds.py has the rows of builds, selftest_tools.py those of tools. The last line is 'N
+passed, M failed'."""
 import contextlib
 import functools
 import importlib

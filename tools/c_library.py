@@ -3,13 +3,13 @@
 
 Usage: c_library.py BIN     BIN is the folder with `ocadev` and `ocactl`; the library is proved and built
 
-Device and panel of examples/c are compiled strictly as C11 and as C++17 from what `make install` installs, by oca.pc and by CMake,
-and run against each other, `ocadev` and `ocactl`, also under valgrind, for AArch64 under emulation, and on the first x86-64; what
-is not installed here is named as NOT TRIED. The mixer is killed and started anew over losses, also sanitized. Each call is tried
-on a closed handle and at its limits (c_library.c), in any order (c_library_random.c), and the panel over a bad network and at
-wrong peers (c_library_panel.c). Each request for memory is refused in turn. Header and library name the same functions. What is
-installed lies below its folder, one for each kind of processor, and `make uninstall` leaves nothing. The last line is
-'N passed, M failed'."""
+Device and panel of examples/c are compiled strictly as C11 and as C++17 from what `make install` installs, by oca.pc
+and by CMake, and run against each other, `ocadev` and `ocactl`, also under valgrind, for AArch64 under emulation, and
+on the first x86-64; what is not installed here is named as NOT TRIED. The mixer is killed and started anew over losses,
+also sanitized. Each call is tried on a closed handle and at its limits (c_library.c), in any order
+(c_library_random.c), and the panel over a bad network and at wrong peers (c_library_panel.c). Each request for memory
+is refused in turn. Header and library name the same functions. What is installed lies below its folder, one for each
+kind of processor, and `make uninstall` leaves nothing. The last line is 'N passed, M failed'."""
 import os
 import random
 import re

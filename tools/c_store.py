@@ -1,11 +1,11 @@
 #!/usr/bin/env python3
-"""The store of the library for C (c/store.c), as C11 and as C++17, also sanitized: what each call answers, and that the file is whole
-behind each failure (c_store.c); and that a program which stores nothing does not need POSIX.
+"""The store of the library for C (c/store.c), as C11 and as C++17, also sanitized: what each call answers, and that the
+file is whole behind each failure (c_store.c); and that a program which stores nothing does not need POSIX.
 
 Usage: c_store.py
 
-Each call of the system is wrapped (-Wl,--wrap) and can fail; one that is not wrapped is a fault. The last line is 'N passed, M
-failed'."""
+Each call of the system is wrapped (-Wl,--wrap) and can fail; one that is not wrapped is a fault. The last line is 'N
+passed, M failed'."""
 import fcntl
 import os
 import re

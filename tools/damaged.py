@@ -3,10 +3,11 @@
 
 Usage: damaged.py BIN     BIN is the folder with `trials`
 
-Each byte of 16 messages is replaced by each other value, each message is cut off at each place and followed by each. `trials
-events` says what the checks find, and which bytes the writer writes for one command or keep-alive: as the second implementation
-(oca_profile.py) says. A refused datagram comes from a peer with a session and from one without; then another peer reads what no
-line of objects shows, and the first repeats its commands. A second device hears all but the damaged ones, and answers alike."""
+Each byte of 16 messages is replaced by each other value, each message is cut off at each place and followed by each.
+`trials events` says what the checks find, and which bytes the writer writes for one command or keep-alive: as the
+second implementation (oca_profile.py) says. A refused datagram comes from a peer with a session and from one without;
+then another peer reads what no line of objects shows, and the first repeats its commands. A second device hears all but
+the damaged ones, and answers alike."""
 import sys
 
 import oca_profile as oca

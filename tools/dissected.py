@@ -5,9 +5,9 @@ Usage: dissected.py BIN     BIN is the folder with `ocadev`; it needs `tshark` (
 
 No step of the gate.
 
-The frames are those of the scripts in examples/ and of each method in docs/PROTOCOL.md ("Each method, byte by byte"), with what
-`ocadev replay` answers. Each must be well formed, with the fields of section 2 of PROTOCOL; of a command without a response the
-dissector reads the header alone. The last line is 'N passed, M failed'."""
+The frames are those of the scripts in examples/ and of each method in docs/PROTOCOL.md ("Each method, byte by byte"),
+with what `ocadev replay` answers. Each must be well formed, with the fields of section 2 of PROTOCOL; of a command
+without a response the dissector reads the header alone. The last line is 'N passed, M failed'."""
 import re
 import shutil
 import struct

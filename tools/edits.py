@@ -3,22 +3,23 @@
 
   edits.py [CRATE ..]      the edits of all crates of crates.txt, or of those alone
 
-An edit is a line 'file: src/lib.rt' and pairs of lines 'old: TEXT' and 'new: TEXT'; each old text stands once in that file.
-One check tries a group of edits in a copy of the crate: of the functions that they touch, and what these call. The first edit
-of a function stands in its place; a further one in a copy of the function, and a copy without an edit must be proved. Other
-functions have no body (but methods of traits, constants, calls from C and cycles); if anything else fails, all have theirs in
-one more check. A line 'clause: NAME' says which clause of the contract refuses the edit: only that one is then ensured, which
-saves searches that fail; not if other code relies on the function, or if its proof is by hand.
+An edit is a line 'file: src/lib.rt' and pairs of lines 'old: TEXT' and 'new: TEXT'; each old text stands once in that
+file. One check tries a group of edits in a copy of the crate: of the functions that they touch, and what these call.
+The first edit of a function stands in its place; a further one in a copy of the function, and a copy without an edit
+must be proved. Other functions have no body (but methods of traits, constants, calls from C and cycles); if anything
+else fails, all have theirs in one more check. A line 'clause: NAME' says which clause of the contract refuses the edit:
+only that one is then ensured, which saves searches that fail; not if other code relies on the function, or if its proof
+is by hand.
 
-An edit is refused if a goal of a function that it touches fails by itself, and not only since a proof file names what is gone.
-What is not refused is tried in smaller groups without copies and with all bodies, and at last alone. An edit of no function
-is alone; its line 'of: PATH' has the function whose proof it must break. The edits of tools/edits_selftest/CRATE/ must not be
-refused, for what their line 'says: ' has: they try this tool.
+An edit is refused if a goal of a function that it touches fails by itself, and not only since a proof file names what
+is gone. What is not refused is tried in smaller groups without copies and with all bodies, and at last alone. An edit
+of no function is alone; its line 'of: PATH' has the function whose proof it must break. The edits of
+tools/edits_selftest/CRATE/ must not be refused, for what their line 'says: ' has: they try this tool.
 
-Crates run side by side, as many as there are processors and memory for, or as RT_JOBS says, over the libraries that `rt ci`
-left. Beside the gate's `rt ci`, which notes proved crates in the file GATE_PROVED, a crate waits for its libraries and for an
-idle processor, and half as many run. With EDITS_KEPT=1 a check begins with what is kept in out/incremental, while edits are
-written. The last line is 'N passed, M failed', and the exit status 1 if anything failed."""
+Crates run side by side, as many as there are processors and memory for, or as RT_JOBS says, over the libraries that `rt
+ci` left. Beside the gate's `rt ci`, which notes proved crates in the file GATE_PROVED, a crate waits for its libraries
+and for an idle processor, and half as many run. With EDITS_KEPT=1 a check begins with what is kept in out/incremental,
+while edits are written. The last line is 'N passed, M failed', and the exit status 1 if anything failed."""
 import copy
 import itertools
 import os

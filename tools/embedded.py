@@ -1,6 +1,7 @@
 #!/usr/bin/env python3
-"""The example programs over loopback: the panel sets and lists the amplifier, beside locks of another peer, and lists `ocadev`; the
-amplifier's knobs are read by a peer, a peer's settings are shown, and closed standard streams change nothing.
+"""The example programs over loopback: the panel sets and lists the amplifier, beside locks of another peer, and lists
+`ocadev`; the amplifier's knobs are read by a peer, a peer's settings are shown, and closed standard streams change
+nothing.
 
 Usage: embedded.py BIN     BIN is the folder with `amplifier`, `panel` and `ocadev`"""
 import itertools

@@ -1,10 +1,12 @@
 #!/usr/bin/env python3
-"""Compares `ocadev replay` and `ocactl replay` with the second implementation of the profile (oca_profile.py) on random scripts.
+"""Compares `ocadev replay` and `ocactl replay` with the second implementation of the profile (oca_profile.py) on random
+scripts.
 
 Usage: fuzz.py BIN SECONDS [SEED]     BIN is the folder with the two programs
 
-Scripts have well-formed and damaged datagrams, duplicates, overtaking, other commands under a handle, many peers, moments that
-jump, every window and span, and bad lines. The first difference is made as small as it can be and printed; the status is 1."""
+Scripts have well-formed and damaged datagrams, duplicates, overtaking, other commands under a handle, many peers,
+moments that jump, every window and span, and bad lines. The first difference is made as small as it can be and printed;
+the status is 1."""
 import random
 import subprocess
 import sys

@@ -1,10 +1,11 @@
 #!/usr/bin/env python3
-"""include/oca.h held against the sources of the library: each prototype, constant and struct; the manual pages made from it; and
-the list of docs/API.md, as gate/api.py makes it.
+"""include/oca.h held against the sources of the library: each prototype, constant and struct; the manual pages made
+from it; and the list of docs/API.md, as gate/api.py makes it.
 
 Usage: header.py
 
-The step is tried itself: a header, page or list that is wrong in one place must be found. The last line is 'N passed, M failed'."""
+The step is tried itself: a header, page or list that is wrong in one place must be found. The last line is 'N passed, M
+failed'."""
 import re
 import sys
 import tempfile

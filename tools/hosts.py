@@ -1,12 +1,13 @@
 #!/usr/bin/env python3
-"""`ocadev serve` and ten of `ocactl run` on two hosts: network namespaces with a link that loses and doubles a fifth of the datagrams
-each way and delays each by 10 to 90 ms. The panels' lines come in pieces, with pauses at random.
+"""`ocadev serve` and ten of `ocactl run` on two hosts: network namespaces with a link that loses and doubles a fifth of
+the datagrams each way and delays each by 10 to 90 ms. The panels' lines come in pieces, with pauses at random.
 
-Usage: hosts.py BIN [COMMANDS] [SEED]     BIN is the folder with the programs; so many commands in all, 10,000 unless given
+Usage: hosts.py BIN [COMMANDS] [SEED]     BIN is the folder with the programs; so many commands in all, 10,000 unless
+given
 
-No step of the gate. With 1, 2 and 16 under way each command is executed once, each answer is what the second implementation says,
-and a copy is too old only behind its answer. It needs root and `ip` (iproute2), and 15 minutes. The last line is 'N passed, M
-failed'."""
+No step of the gate. With 1, 2 and 16 under way each command is executed once, each answer is what the second
+implementation says, and a copy is too old only behind its answer. It needs root and `ip` (iproute2), and 15 minutes.
+The last line is 'N passed, M failed'."""
 import os
 import random
 import re

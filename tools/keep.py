@@ -1,7 +1,7 @@
 #!/usr/bin/env python3
-"""A device that keeps its state in a file (`ocadev serve --keep FILE`) is stopped and started again: by SIGTERM, by `kill -9`, with
-the power cut at each system call, without room, with each step of a store refused or slow (`unreliable.c`), and over broken files.
-Whatever was answered with OK is there.
+"""A device that keeps its state in a file (`ocadev serve --keep FILE`) is stopped and started again: by SIGTERM, by
+`kill -9`, with the power cut at each system call, without room, with each step of a store refused or slow
+(`unreliable.c`), and over broken files. Whatever was answered with OK is there.
 
 Usage: keep.py BIN     BIN is the folder with `ocadev`
 

@@ -1,5 +1,6 @@
 #!/usr/bin/env python3
-"""`ocadev serve` and `ocactl run` on 127.0.0.1, with a network between them that loses, doubles, delays and reorders datagrams.
+"""`ocadev serve` and `ocactl run` on 127.0.0.1, with a network between them that loses, doubles, delays and reorders
+datagrams.
 
 Usage: lossy.py BIN [COMMANDS] [SEED]     so many commands one at a time, with a window of 32; four times as many with
                                           16 under way, with a window of 31. BIN is the folder with the programs
@@ -9,10 +10,11 @@ Usage: lossy.py BIN [COMMANDS] [SEED]     so many commands one at a time, with a
 In the gate: lossy.py bin 30
 In the gate: lossy.py bin directed
 
-It prints what each run did, and at the end 'N passed, M failed' over the runs. One at a time, each answer must be what the
-second implementation says; with 16 under way the answers tell the commands apart in every order. A run fails if a command
-was executed twice, if a copy was too old before its answer was carried, or if an answer is wrong or missing; `directed` also
-if with a window of 31 or more the copy is not answered from the window, or with a smaller one is not too old."""
+It prints what each run did, and at the end 'N passed, M failed' over the runs. One at a time, each answer must be what
+the second implementation says; with 16 under way the answers tell the commands apart in every order. A run fails if a
+command was executed twice, if a copy was too old before its answer was carried, or if an answer is wrong or missing;
+`directed` also if with a window of 31 or more the copy is not answered from the window, or with a smaller one is not
+too old."""
 import heapq
 import random
 import re

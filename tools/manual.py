@@ -1,14 +1,15 @@
 #!/usr/bin/env python3
-"""Compares man/ocadev.1, man/ocactl.1 and man/ocapanel.1 with `--help`: commands, options, values and defaults (`[default: N]` in
-the help, `The default is N` in the page). The help says something of its own of each option and command.
+"""Compares man/ocadev.1, man/ocactl.1 and man/ocapanel.1 with `--help`: commands, options, values and defaults
+(`[default: N]` in the help, `The default is N` in the page). The help says something of its own of each option and
+command.
 
 Usage: manual.py BIN     BIN is the folder with the programs
 
-In a page a command is a `.SS` of COMMANDS, and its option, behind a `.TP`, a `.BI \\-\\-NAME " VALUE"` or a `.B \\-\\-NAME`. A
-`.SS` of COMMON OPTIONS lists its commands: `replay and serve`, `All commands`, or `All commands but replay`. A program without
-commands has one of its own name. A page is titled by its name, the day of its version and that version, as the pages of the
-calls from C are (gate/reference.py). groff, if it is installed, must find nothing to warn of. Pages that are wrong must be
-found. The last line is 'N passed, M failed'."""
+In a page a command is a `.SS` of COMMANDS, and its option, behind a `.TP`, a `.BI \\-\\-NAME " VALUE"` or a `.B
+\\-\\-NAME`. A `.SS` of COMMON OPTIONS lists its commands: `replay and serve`, `All commands`, or `All commands but
+replay`. A program without commands has one of its own name. A page is titled by its name, the day of its version and
+that version, as the pages of the calls from C are (gate/reference.py). groff, if it is installed, must find nothing to
+warn of. Pages that are wrong must be found. The last line is 'N passed, M failed'."""
 import re
 import shutil
 import subprocess

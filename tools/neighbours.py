@@ -1,11 +1,12 @@
 #!/usr/bin/env python3
-"""`ocadev serve` beside hosts that answer nothing, in network namespaces: what the device sends them costs other peers nothing.
+"""`ocadev serve` beside hosts that answer nothing, in network namespaces: what the device sends them costs other peers
+nothing.
 
 Usage: neighbours.py BIN [SECONDS]     BIN is the folder with `ocadev`; each run takes so long, 4 unless given
 
-Datagrams of 1 or 122 keep-alives come in the names of silent hosts, at several rates. A peer that asks twenty times a second must
-get each answer, the slowest within 100 ms longer than alone; at least half of the datagrams must have been sent. It needs root
-and `ip` (iproute2); else it says so, and tries nothing. The last line is 'N passed, M failed'."""
+Datagrams of 1 or 122 keep-alives come in the names of silent hosts, at several rates. A peer that asks twenty times a
+second must get each answer, the slowest within 100 ms longer than alone; at least half of the datagrams must have been
+sent. It needs root and `ip` (iproute2); else it says so, and tries nothing. The last line is 'N passed, M failed'."""
 import contextlib
 import os
 import re

@@ -1,11 +1,12 @@
 #!/usr/bin/env python3
-"""The built programs on a network that is not kind: signals, sends without room, failing sockets, closed descriptors, other
-addresses; and with little stack.
+"""The built programs on a network that is not kind: signals, sends without room, failing sockets, closed descriptors,
+other addresses; and with little stack.
 
 Usage: network.py BIN     BIN is the folder with `ocadev` and `ocactl`
 
-Signals and failing calls come from the layer `unreliable.c`. Times are held against waits that this script makes meanwhile, and
-a part with wrong times alone is repeated, since a machine may be busy. The last line is 'N passed, M failed'."""
+Signals and failing calls come from the layer `unreliable.c`. Times are held against waits that this script makes
+meanwhile, and a part with wrong times alone is repeated, since a machine may be busy. The last line is 'N passed, M
+failed'."""
 import contextlib
 import errno
 import itertools

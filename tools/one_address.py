@@ -1,12 +1,13 @@
 #!/usr/bin/env python3
-"""`ocactl` and `ocapanel` on a machine with two links to the device, the first of which goes between two copies of a command: the
-command is executed once, whatever the programs say of it.
+"""`ocactl` and `ocapanel` on a machine with two links to the device, the first of which goes between two copies of a
+command: the command is executed once, whatever the programs say of it.
 
 Usage: one_address.py BIN     BIN is the folder with the programs
 
-The machines are network namespaces. A program sets a mute, it is executed, and its answer is lost; another peer sets it back, and
-the first link goes: with its address or without. A copy may come over the second link only from the first address, if that is
-still there. It needs root and `ip` (iproute2); else it says so, and tries nothing. The last line is 'N passed, M failed'."""
+The machines are network namespaces. A program sets a mute, it is executed, and its answer is lost; another peer sets it
+back, and the first link goes: with its address or without. A copy may come over the second link only from the first
+address, if that is still there. It needs root and `ip` (iproute2); else it says so, and tries nothing. The last line is
+'N passed, M failed'."""
 import contextlib
 import http.client
 import json

@@ -3,11 +3,11 @@
 
 Usage: python_controller.py BIN     BIN is the folder with `ocadev` and `ocactl`
 
-Its link is asked at moments that are handed in, and must send and take what PROTOCOL says; wrong links must be found. Then it
-runs against `ocadev serve`, first alone, then over the network of lossy.py. `ocactl` must read and be refused what it set and
-locked. Each command is executed once, and its socket keeps to the rules: one address, one command a datagram, handles that rise
-by one, at most 20 unchanged copies, at most 16 in flight. `ocadev replay` must answer each row of worked bytes as it stands
-there. The last line is 'N passed, M failed'."""
+Its link is asked at moments that are handed in, and must send and take what PROTOCOL says; wrong links must be found.
+Then it runs against `ocadev serve`, first alone, then over the network of lossy.py. `ocactl` must read and be refused
+what it set and locked. Each command is executed once, and its socket keeps to the rules: one address, one command a
+datagram, handles that rise by one, at most 20 unchanged copies, at most 16 in flight. `ocadev replay` must answer each
+row of worked bytes as it stands there. The last line is 'N passed, M failed'."""
 import contextlib
 import io
 import re

@@ -1,6 +1,6 @@
-"""The second implementation's device (oca_profile.py) behind a UDP socket, for what is tried against an independent device. Other
-tools use it; it has no `main`. `with Served(tree) as device:` serves in a thread; `device.heard` has each datagram with what was
-said of it."""
+"""The second implementation's device (oca_profile.py) behind a UDP socket, for what is tried against an independent
+device. Other tools use it; it has no `main`. `with Served(tree) as device:` serves in a thread; `device.heard` has each
+datagram with what was said of it."""
 import threading
 import time
 

@@ -1,19 +1,21 @@
 #!/usr/bin/env python3
-"""Runs the sessions of README.md and docs/EMBEDDING.md and compares what is printed, finds their pieces of code in the files that
-they are of, and the examples of doc comments in tests and samples, and looks at the tables of all documents.
+"""Runs the sessions of README.md and docs/EMBEDDING.md and compares what is printed, finds their pieces of code in the
+files that they are of, and the examples of doc comments in tests and samples, and looks at the tables of all documents.
 
 Usage: snippets.py BIN     BIN is the folder with the programs, which sessions call `bin/`
 
-A session is an indented block, or a fenced one whose first word is `sh`, that begins with `$ `. Its commands run in a folder
-with the repository's files; the lines behind each are what it must print. One that ends in ` &` goes on: as many lines as
-stand behind it are awaited, `$ kill %1` ends the first of these, and the rest is awaited at the end. `...` stands for any
-text, alone for any lines; a number behind `quiet` and the note of a small socket are not compared. `make` is not run.
+A session is an indented block, or a fenced one whose first word is `sh`, that begins with `$ `. Its commands run in a
+folder with the repository's files; the lines behind each are what it must print. One that ends in ` &` goes on: as many
+lines as stand behind it are awaited, `$ kill %1` ends the first of these, and the rest is awaited at the end. `...`
+stands for any text, alone for any lines; a number behind `quiet` and the note of a small socket are not compared.
+`make` is not run.
 
-A fenced block with a path, as `rust crates/panel/src/main.rt`, must stand in that file but for its indentation; `...` alone, or
-in a comment, stands for any lines. A fenced block in a doc comment of crates/ must stand in a test's crate or a sample.
+A fenced block with a path, as `rust crates/panel/src/main.rt`, must stand in that file but for its indentation; `...`
+alone, or in a comment, stands for any lines. A fenced block in a doc comment of crates/ must stand in a test's crate or
+a sample.
 
-A table's second line is its rule (`|---|`), which stands nowhere else, and each line ends with a bar and has as many cells as
-the first. No item of a list is without a text. The last line is 'N passed, M failed'."""
+A table's second line is its rule (`|---|`), which stands nowhere else, and each line ends with a bar and has as many
+cells as the first. No item of a list is without a text. The last line is 'N passed, M failed'."""
 import os
 import re
 import signal

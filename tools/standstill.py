@@ -1,10 +1,12 @@
 #!/usr/bin/env python3
-"""The built `ocactl` when it stands still with commands at hand: stopped by signals, or since nobody reads what it prints.
+"""The built `ocactl` when it stands still with commands at hand: stopped by signals, or since nobody reads what it
+prints.
 
 Usage: standstill.py BIN     BIN is the folder with `ocadev` and `ocactl`
 
-A relay loses what the row says, and the layer `unreliable.c` sets the clocks of both programs forward. Another controller changes the
-object meanwhile: earlier commands must not be done behind that, and are told as lost. The last line is 'N passed, M failed'."""
+A relay loses what the row says, and the layer `unreliable.c` sets the clocks of both programs forward. Another
+controller changes the object meanwhile: earlier commands must not be done behind that, and are told as lost. The last
+line is 'N passed, M failed'."""
 import contextlib
 import fcntl
 import os

@@ -1,11 +1,11 @@
 #!/usr/bin/env python3
-"""What the words of the command lines make of a run: `ocadev serve`, `ocactl send` and `ocactl run` over real sockets, and the
-objects that a file lists.
+"""What the words of the command lines make of a run: `ocadev serve`, `ocactl send` and `ocactl run` over real sockets,
+and the objects that a file lists.
 
 Usage: words.py BIN     BIN is the folder with `ocadev` and `ocactl`
 
-This script is the device that hears `ocactl`, and the controller that speaks to `ocadev serve`. The last line is 'N passed, M
-failed'."""
+This script is the device that hears `ocactl`, and the controller that speaks to `ocadev serve`. The last line is 'N
+passed, M failed'."""
 import contextlib
 import errno
 import functools

@@ -1,6 +1,6 @@
 #!/usr/bin/env python3
-"""Schedules for a device and links over a network (schedules.py), run by `trials world`: each transcript is held against the
-laws of networks and against the second implementation (oca_profile.py).
+"""Schedules for a device and links over a network (schedules.py), run by `trials world`: each transcript is held
+against the laws of networks and against the second implementation (oca_profile.py).
 
 Usage: world.py BIN COUNT [SEED]     COUNT schedules over every pair of sizes that fits; BIN is the folder with `trials`
        world.py BIN broken W S       prints the directed schedule for a window of W and a span of S, with what it led to
