@@ -74,13 +74,10 @@ class Late(Other):
         super().__init__(tree)
         self.first, self.goes_on = None, threading.Event()
 
-    def datagram(self, peer, data, now):
-        for command, method in commands_in(data):
-            if method in SETS and not self.goes_on.is_set():
-                self.first = self.first or command.handle
-                if command.handle != self.first:
-                    return "", []
-        return self.answers(peer, data, now)
+    def hears(self, _, data):
+        handles = [command.handle for command, method in commands_in(data) if method in SETS]
+        self.first = self.first or min(handles, default=None)
+        return self.goes_on.is_set() or all(handle == self.first for handle in handles)
 
 
 class Deaf(Other):
@@ -90,10 +87,8 @@ class Deaf(Other):
         super().__init__(tree)
         self.methods = methods
 
-    def datagram(self, peer, data, now):
-        if any(self.methods is None or method in self.methods for _, method in commands_in(data)):
-            return "", []
-        return self.answers(peer, data, now)
+    def hears(self, _, data):
+        return not any(self.methods is None or method in self.methods for _, method in commands_in(data))
 
 
 class Faint(Deaf):
@@ -101,12 +96,10 @@ class Faint(Deaf):
 
     beats = 0
 
-    def datagram(self, peer, data, now):
-        if any(message[0] == "keep-alive" for message in oca.check(data)):
-            self.beats += 1
-            if self.beats % 3:
-                return "", []
-        return super().datagram(peer, data, now)
+    def hears(self, peer, data):
+        is_beat = any(message[0] == "keep-alive" for message in oca.check(data))
+        self.beats += is_beat
+        return not (is_beat and self.beats % 3) and super().hears(peer, data)
 
 
 class Missing(Other):
@@ -114,12 +107,10 @@ class Missing(Other):
 
     missed = frozenset()
 
-    def datagram(self, peer, data, now):
+    def hears(self, peer, data):
         came = {(peer, command.handle) for command, _ in commands_in(data)}
-        if not came <= self.missed:
-            self.missed |= came
-            return "", []
-        return self.answers(peer, data, now)
+        is_known, self.missed = came <= self.missed, self.missed | came
+        return is_known
 
 
 class OldSession(Served):

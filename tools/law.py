@@ -15,6 +15,7 @@ import oca_profile as oca
 from comparing import broken, changed, in_processes, runs_of, verdict, wrong_rules
 from fuzz import Panel, datagram
 from oca_law import LARGEST_DATAGRAM, Datagram, Local, Tick, Told, shown_objects, walk
+from schedules import peer
 
 # ---- histories
 LONGEST = 2000  # so that a line of a script has at most 4,096 bytes
@@ -58,10 +59,6 @@ def front_line(ono, kind, value):
     if kind == "label":
         return f"label {ono} {oca.hex_text(value.encode())}"
     return {"enabled": f"enabled {ono} {value}", "unlock": f"unlock {ono}", "failing": f"failing {ono} {value}"}.get(kind, f"set {ono} {kind} {value}")
-
-
-def peer(number):
-    return (127, 0, 0, 1 + number % 3, 9001 + number)
 
 
 def ask(handle, target, level, index, count=0, params=b"", respond=True):
@@ -211,8 +208,7 @@ def fronts(r):
         kind = r.choice(["mute", "polarity", "switch", "boolean", *oca.WIDTHS])
         value = {"mute": r.choice([1, 2]), "polarity": r.choice([1, 2]), "switch": r.choice([0, 1, 2, 3, 65535]), "boolean": r.randrange(2)}.get(kind)
         if value is None:
-            size, signed = oca.WIDTHS[kind]
-            low, high = (-1 << 8 * size - 1, (1 << 8 * size - 1) - 1) if signed else (0, (1 << 8 * size) - 1)
+            low, high = oca.LIMITS[kind]
             value = r.choice([n for n in (0, 600, 601, -600, -601, 100, 101, -1, low, high) if low <= n <= high])
         if r.randrange(3):
             kind, value = {4097: ("mute", r.choice([1, 2])), 4098: ("polarity", r.choice([1, 2])),

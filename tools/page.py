@@ -13,11 +13,9 @@ import functools
 import hashlib
 import re
 from collections import Counter
-from pathlib import Path
 
-from tables import data
+from tables import TOP, data
 
-TOP = Path(__file__).resolve().parent.parent
 SOURCES, TARGET = TOP / "crates/oca_web/page", TOP / "crates/oca_web/src/page.rt"
 SCRIPTS = ["words", "link", "orders", "log", "controls", "faders", "strips", "tree", "main"]
 MOST = 45_000

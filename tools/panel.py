@@ -31,9 +31,9 @@ from hands import SETS, Deaf, OldSession, stagebox
 from own_ports import bound, by_turns, free_port
 from peers import Lossy, Peer
 from served import Other, Served, commands_in
-from tables import each, octets, table
+from tables import TOP, each, octets, table
 
-TREE = (Path(__file__).resolve().parent.parent / "examples" / "stagebox.tree").read_text()
+TREE = (TOP / "examples/stagebox.tree").read_text()
 MUTE, POLARITY, TRIM, SOURCE = 4098, 4099, 4100, 4101
 JSON, LATE = "application/json", "not sent: too late"
 ITS, OWN_PORTS = Checks(), {}

@@ -23,9 +23,8 @@ import oca_profile as oca
 from checks import Checks, Serving
 from lossy import Network
 from own_ports import free_port
-from tables import table
+from tables import TOP, table
 
-TOP = Path(__file__).resolve().parent.parent
 EXAMPLE, TREE = TOP / "examples/python/controller.py", "examples/stagebox.tree"
 SPAN, TRIES, DATA = 16, 20, table("python_controller")
 MUTES, TRIMS = range(4098, 4138, 5), range(4100, 4138, 5)

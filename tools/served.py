@@ -47,8 +47,11 @@ def commands_in(data):
 
 
 class Other(Served):
-    """The second implementation's device, which hears and answers otherwise: a `datagram` of its own calls `answers` where it is like it."""
+    """The second implementation's device, which hears or answers otherwise, by a `hears` or a `datagram` of its own."""
 
     def __init__(self, tree=None, window=32):
         super().__init__(tree, window=window)
         self.answers, self.device.datagram = self.device.datagram, self.datagram
+
+    def datagram(self, peer, data, now):
+        return self.answers(peer, data, now) if self.hears(peer, data) else ("", [])

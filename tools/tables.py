@@ -8,7 +8,8 @@ import tomllib
 from pathlib import Path
 from types import SimpleNamespace
 
-ROWS = Path(__file__).resolve().parent / "rows"
+TOP = Path(__file__).resolve().parent.parent
+ROWS = TOP / "tools/rows"
 TIMES, NAME = re.compile(r"\{(\d+)\*([^{}]*)\}"), re.compile(r"\{([a-z][a-z0-9_]*)\}")
 
 

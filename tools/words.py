@@ -24,11 +24,10 @@ import oca_profile as oca
 import own_ports
 from checks import NOTE, Checks, are_few, ended, next_line, nulls_of, read_note, write
 from own_ports import at, bound, comes, free_port, heard
-from tables import data
+from tables import TOP, data
 
 TURNS = 80
 ALIVE = oca.pdu(4, [b"\0\5"])  # a keep-alive of five seconds
-EXAMPLES = Path(__file__).resolve().parent.parent / "examples"
 DATA = data("words")
 
 
@@ -184,9 +183,8 @@ def missing_options(checks):
 
 def versions(checks):
     """`--version` prints the number of `include/oca.pc.in` and the toolchain's line of README."""
-    top = EXAMPLES.parent
-    number = re.search(r"^Version: (.*)$", (top / "include/oca.pc.in").read_text(), re.MULTILINE)[1]
-    toolchain = re.search(r"checked with\s+`(rattle-kit-[^`]*)`", (top / "README.md").read_text())[1]
+    number = re.search(r"^Version: (.*)$", (TOP / "include/oca.pc.in").read_text(), re.MULTILINE)[1]
+    toolchain = re.search(r"checked with\s+`(rattle-kit-[^`]*)`", (TOP / "README.md").read_text())[1]
     for program in ("ocadev", "ocactl", "ocapanel"):
         for word in ("--version", "-V"):
             checks.same(f"{program} {word}", checks.ran(program, word), (f"{program} {number}\nchecked with {toolchain}\n", "", 0))
@@ -404,8 +402,7 @@ def listed_line(r, onos):
                  for _ in range(r.choice([1, 2, 3, 5, 9, 12, 16, 17]))]
         value = [",".join(names), r.choice(names * 9 + ["nowhere"])]
     elif kind != "block":
-        size, signed = oca.WIDTHS[kind]
-        least, greatest = (-2**(8 * size - 1), 2**(8 * size - 1) - 1) if signed else (0, 2**(8 * size) - 1)
+        least, greatest = oca.LIMITS[kind]
         limits = r.choice([least, 0, 5] * 6 + [least - 1]), r.choice([greatest, 100, 6] * 6 + [greatest + 1])
         value = [str(n) for n in (*limits, r.choice([5, 6] * 9 + [50, least, greatest]))]
     fields = [str(ono), str(r.choice([100] * 9 + [4096] * 6 + onos[-12:])), kind, *value, r.choice(["lockable", "no-lock"] * 15 + ["yes"]),
@@ -423,7 +420,7 @@ def trees(checks):
     with tempfile.TemporaryDirectory() as folder:
         path = f"{folder}/objects.tree"
         long = b"".join(b"%d 100 mute muted lockable mute\n# %s\n" % (4096 + n, b"-" * (n % 90)) for n in range(127))
-        texts = [(EXAMPLES / "stagebox.tree").read_bytes(), b"", long, long.replace(b"4190 100", b"4190 101")]
+        texts = [(TOP / "examples/stagebox.tree").read_bytes(), b"", long, long.replace(b"4190 100", b"4190 101")]
         for _ in range(300):
             onos = []
             lines = [b"4096 100 block lockable desk"] * r.randrange(2) + [listed_line(r, onos) for _ in range(r.choice([1, 2, 5, 9, 12]))]
