@@ -42,6 +42,15 @@ def next_line(run, seconds=10):
     return run.stdout.readline() if select.select([run.stdout], [], [], seconds)[0] else None
 
 
+def read_until(file, holds, seconds=10):
+    """What comes from the descriptor of a file until this holds of it, to its end, or for so many seconds."""
+    said, until = b"", time.monotonic() + seconds
+    with contextlib.suppress(OSError):  # of a terminal whose other end is closed
+        while not holds(said) and select.select([file], [], [], max(0, until - time.monotonic()))[0] and (more := os.read(file, 4096)):
+            said += more
+    return said
+
+
 def waited(holds, seconds=60.0, pause=0.01):
     """The seconds until this holds, or None where it does not in so many."""
     begun = time.monotonic()

@@ -10,7 +10,6 @@ import contextlib
 import os
 import pty
 import re
-import select
 import shlex
 import signal
 import sys
@@ -22,7 +21,7 @@ from pathlib import Path
 import checks
 import oca_profile as oca
 import own_ports
-from checks import next_line
+from checks import next_line, read_until
 from own_ports import free_port
 from served import Other, Served, commands_in
 from tables import data, table
@@ -360,13 +359,7 @@ class Terminal:
         os.write(self.file, text)
 
     def says(self, text, seconds=10):
-        until = time.monotonic() + seconds
-        while text not in self.said and time.monotonic() < until:
-            if select.select([self.file], [], [], 0.1)[0]:
-                try:
-                    self.said += os.read(self.file, 4096)
-                except OSError:  # the run has ended
-                    break
+        self.said += read_until(self.file, lambda said: text in self.said + said, seconds)
         return text in self.said
 
     def ends(self, seconds=10):

@@ -13,15 +13,13 @@ import http.client
 import json
 import os
 import re
-import select
 import subprocess
 import sys
-import time
 
 import namespaces
 import oca_profile as oca
 import peers
-from checks import Checks, Serving, ended, waited, write
+from checks import Checks, Serving, ended, next_line, read_until, waited, write
 from own_ports import bound
 
 DEVICE, PORT, OWN_PORT, MUTE = "10.98.9.9", 65000, 20001, 4097
@@ -112,7 +110,7 @@ def order(host):
 
 def cut_between(machines, relay, keeps_address):
     """Cuts the first link once the mute is executed, and lets what comes pass."""
-    executed = bool(select.select([relay.stdout], [], [], 30)[0]) and relay.stdout.readline() == "executed\n"
+    executed = next_line(relay, 30) == "executed\n"
     machines.cut(keeps_address)
     write(relay, "gone\n", ends=False)
     return executed
@@ -144,17 +142,6 @@ def by_ocactl(checks, folder, words, lines, keeps_address):
                     (0, False, False) if keeps_address else (3, True, True))
 
 
-def told_so_far(run, wanted, seconds):
-    """What a run says of faults until this is in it, for so many seconds at most."""
-    told, until = "", time.monotonic() + seconds
-    while wanted not in told and select.select([run.stderr], [], [], max(0, until - time.monotonic()))[0]:
-        more = os.read(run.stderr.fileno(), 4096).decode()
-        if not more:
-            break
-        told += more
-    return told
-
-
 def by_ocapanel(checks, folder, keeps_address):
     with Machines() as machines:
         relay = relayed(machines, folder)
@@ -166,11 +153,11 @@ def by_ocapanel(checks, folder, keeps_address):
         what = f"`ocapanel`, {'the link' if keeps_address else 'the address'} goes"
         state = told_by(relay)
         checks.same(f"{what}: executed, then set back, by one peer", (executed, state), (True, ["unmuted", "1"]))
-        notes = "" if keeps_address else told_so_far(panel, "gone", 20)
+        notes = b"" if keeps_address else read_until(panel.stderr.fileno(), lambda said: b"gone" in said, 20)
         panel.kill()
         panel.wait()
         checks.same(f"{what}: whether the order is said to be done, and the address gone",
-                    (fared == "None\n", f"the address {FIRST[0]} is gone" in notes), (keeps_address, not keeps_address))
+                    (fared == "None\n", f"the address {FIRST[0]} is gone" in notes.decode()), (keeps_address, not keeps_address))
 
 
 def main():

@@ -22,7 +22,7 @@ from pathlib import Path
 
 import oca_profile as oca
 import own_ports
-from checks import NOTE, Checks, are_few, ended, next_line, nulls_of, read_note, write
+from checks import NOTE, Checks, are_few, ended, next_line, nulls_of, read_note, read_until, write
 from own_ports import at, bound, comes, free_port, heard
 from tables import TOP, data
 
@@ -69,9 +69,7 @@ def drives_while_it_waits(checks):
             checks.same(f"{name}: it is sent again, and the one before it", (set(came), came.count(wanted[0]) >= 2), (set(wanted[:2]), True))
             for handle in (1, 2):
                 device.sendto(oca.response(handle, handle), sender)
-            said = b""
-            while said.count(b"\n") < 2 and select.select([run.stdout], [], [], 10)[0]:
-                said += os.read(run.stdout.fileno(), 4096) or b"\n" * 9
+            said = read_until(run.stdout.fileno(), lambda said: said.count(b"\n") > 1)
             checks.same(f"{name}: its answer is printed", said, b"answer 1 0 -\nanswer 2 0 -\n")
             came = heard_until(device, lambda found: found.count(ALIVE) == 2)
             checks.same(f"{name}: keep-alives while nothing is under way", (set(came) <= {ALIVE, *wanted[:2]}, came.count(ALIVE)), (True, 2))
