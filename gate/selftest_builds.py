@@ -21,8 +21,8 @@ import library
 import run
 
 sys.path.insert(0, str(run.TOP / "tools"))
+import checks
 import edits
-import own_ports
 from checks import waited
 from tables import data
 
@@ -399,7 +399,7 @@ def keeps_others_out(folder):
     asked = []
     locks = SimpleNamespace(LOCK_EX="alone", flock=lambda file, how: asked.append((file.name, how)))
     for at in range(2):
-        with memory_at(folder / f"memory-of-ports-{at}"), kit.in_memory(fake_tools(2, 99e9)), patch.object(own_ports, "fcntl", locks), own_ports.alone():
+        with memory_at(folder / f"memory-of-ports-{at}"), kit.in_memory(fake_tools(2, 99e9)), patch.object(checks, "fcntl", locks), checks.by_itself():
             pass
     return len(asked) == 2 and {*asked} == {(f"/tmp/oca-own-ports-{os.getuid()}", "alone")}
 

@@ -29,9 +29,8 @@ import reference
 import c_rows
 import oca_profile as oca
 from c_rows import LANGUAGES, SANITIZED
-from checks import Checks, layer, next_line, waited, write
+from checks import Checks, bound, free_port, layer, next_line, waited, write
 from embedded import bound_at
-from own_ports import bound, free_port
 from peers import Lossy, Peer
 from tables import data
 

@@ -1,18 +1,69 @@
-"""What tools count: what is as it must be, and what is not, which they tell. Other tools use it; it has no `main`."""
+"""What tools share: checks that are counted, runs of programs, sockets and ports. It has no `main`."""
 import atexit
 import contextlib
+import fcntl
 import functools
 import os
+import random
 import re
 import select
 import shutil
+import socket
 import subprocess
 import sys
 import tempfile
 import time
 from pathlib import Path
 
-import own_ports
+def by_turns():
+    turn = int(time.time() * 100000) // 2**31 % 2
+    return (65002, 65001) if turn else (65001, 65002)
+
+
+@contextlib.contextmanager
+def by_itself():
+    """While this lasts no other tool is in it: that of who runs `ocactl` at its own ports, or holds one of them."""
+    with open(f"/tmp/oca-own-ports-{os.getuid()}", "w", encoding="ascii") as file:  # whatever TMPDIR says
+        fcntl.flock(file, fcntl.LOCK_EX)
+        yield
+
+
+def free_port():
+    """A port of this machine that nobody has. It lies below those that the system chooses, so that it stays free while it is not bound."""
+    with open("/proc/sys/net/ipv4/ip_local_port_range", encoding="ascii") as file:
+        least = int(file.read().split()[0])
+    while True:
+        port = random.SystemRandom().randrange(10000, max(least, 20000))
+        with socket.socket(socket.AF_INET, socket.SOCK_DGRAM) as s, contextlib.suppress(OSError):
+            s.bind(("0.0.0.0", port))
+            return port
+
+
+def bound(ip="127.0.0.1", port=0):
+    s = socket.socket(socket.AF_INET, socket.SOCK_DGRAM)
+    s.bind((ip, port))
+    s.settimeout(10)
+    return s
+
+
+def at(end):
+    return "{}:{}".format(*end.getsockname())
+
+
+def comes(end):
+    """The datagrams that come to a socket, each with its sender, until none comes in its time."""
+    with contextlib.suppress(TimeoutError):
+        while True:
+            yield end.recvfrom(2048)
+
+
+def heard(end):
+    end.setblocking(False)
+    found = []
+    with contextlib.suppress(BlockingIOError):
+        while True:
+            found.append(end.recv(2000))
+    return found
 
 
 def ended(run, seconds=60):
@@ -169,7 +220,7 @@ class Checks:
         """Runs these parts, some of them alone at the ports that `ocactl` takes by turns; one that breaks off has failed."""
         for part in parts:
             try:
-                with own_ports.alone() if part in alone else contextlib.nullcontext():
+                with by_itself() if part in alone else contextlib.nullcontext():
                     self.part(part)
             except Exception as fault:  # nothing came, or something else than what was waited for
                 self.expect(part.__name__, False, repr(fault))

@@ -15,8 +15,7 @@ from pathlib import Path
 
 import oca_profile as oca
 import peers
-from checks import Checks, write
-from own_ports import bound
+from checks import Checks, bound, write
 
 OPENED = "open channel 1: status 0\n"
 MUTES, GAINS = (4097, 5097), (4098, 5098)

@@ -1,6 +1,6 @@
 #!/usr/bin/env python3
 """What `ocactl tree`, `get`, `set`, `lock` and `unlock` print, ask and leave, against an independent device: the second
-implementation behind a socket (served.py), and devices that answer what no device of the profile does.
+implementation behind a socket (peers.py), and devices that answer what no device of the profile does.
 
 Usage: hands.py BIN     BIN is the folder with `ocactl` and `ocadev`
 
@@ -20,10 +20,8 @@ from pathlib import Path
 
 import checks
 import oca_profile as oca
-import own_ports
-from checks import next_line, read_until
-from own_ports import free_port
-from served import Other, Served, commands_in
+from checks import bound, by_turns, free_port, next_line, read_until
+from peers import Other, Served, commands_in
 from tables import data, table
 
 DATA = data("hands")
@@ -124,7 +122,7 @@ class OldSession(Served):
 
 @contextlib.contextmanager
 def silent(port=0):
-    with own_ports.bound(port=port) as s:
+    with bound(port=port) as s:
         yield s.getsockname()[1]
 
 
@@ -271,7 +269,7 @@ def strange_answers(checks):
 
 def silence(checks):
     """Nobody answers: each object has its line, and a note says what was heard, and that no program has the port where none has."""
-    port = own_ports.free_port()
+    port = free_port()
     note = f"note: nothing was heard from 127.0.0.1:{port}: its host says that no program has this port\n"
     checks.prints("get: nobody has the port", port, ["get", "--turns", 2, 4097], "4097 no answer\n", 3, note)
     for ahead, printed in ((1, "4097 lost\n4098 not sent\n4101 not sent\n"), (2, "4097 lost\n4098 lost\n4101 not sent\n")):
@@ -321,7 +319,7 @@ def is_deaf(device, own):
 def silence_of_a_run(checks):
     """`run`, which nobody answers: its line, the note and the status, as for the commands above."""
     runs = lambda what, device, note: checks.same(f"run: {what}", checks.run(device, "run", "--first-handle", 1, given="4097 4 1 0 -\n"), ("lost\n", note, 3))
-    port, unheard = own_ports.free_port(), "note: nothing was heard from 127.0.0.1:{}"
+    port, unheard = free_port(), "note: nothing was heard from 127.0.0.1:{}"
     runs("nobody has the port", port, f"{unheard.format(port)}: its host says that no program has this port\n")
     with Deaf(stagebox(), None) as device:
         runs("a device that is deaf", device, is_deaf(device.port, checks.port))
@@ -340,7 +338,7 @@ def missed_first(checks):
     """One datagram that is lost does not make the program take its other port."""
     for command, printed in (("lock", "4097 locked\n"), ("get", "4097 muted\n")):
         with Missing(stagebox()) as device:
-            own = own_ports.by_turns()[0]
+            own = by_turns()[0]
             checks.same(f"{command}: the first copy is lost", checks.run(device, command, 4097, own=False), (printed, "", 0))
             if command == "lock":
                 checks.same("lock: the holder, where the first copy is lost", [o.lock for o in device.tree if o.ono == 4097], [("total", (127, 0, 0, 1, own))])
@@ -460,7 +458,7 @@ def behind_a_terminal(checks):
 
 def old_sessions(checks):
     """A session that is ahead of the clock, as behind a clock that was set back: the other port is taken before anything is set."""
-    own, other = own_ports.by_turns()
+    own, other = by_turns()
     used = "note: 127.0.0.1:{} answers no command from port {}: port {} is used instead\n"
     for words, printed, done in ((("set", 4097, "unmuted"), "4097 unmuted\n", lambda o: o.state == 2),
                                  (("lock", 4097), "4097 locked\n", lambda o: o.lock == ("total", (127, 0, 0, 1, other)))):
@@ -474,7 +472,7 @@ def old_sessions(checks):
 
 def no_other_port(checks):
     """If the session is ahead of the clock and the other port in use, the own port is used, and the silence is told."""
-    own, other = own_ports.by_turns()
+    own, other = by_turns()
     with OldSession(stagebox(), [own]) as device, silent(other):
         got = checks.run(device, "get", "--turns", 2, 4097, own=False)
         checks.same("an old session, and no other port", got, ("4097 no answer\n", is_deaf(device.port, own), 3))
@@ -482,7 +480,7 @@ def no_other_port(checks):
 
 def own_port_in_use(checks):
     """`lock` and `unlock` take no other port than the program's own, and neither of its two may be in use; `get` takes another."""
-    first, second = own_ports.by_turns()
+    first, second = by_turns()
     for used in (first, second):
         with Served(stagebox()) as device, silent(used):
             for command in ("lock", "unlock"):

@@ -16,11 +16,10 @@ import sys
 import threading
 import time
 
-from checks import verdict
+from checks import bound, verdict
 from lossy import Network, answers_of, step, told_apart
 from namespaces import Machines
 from neighbours import DEVICE, PEER, PORT
-from own_ports import bound
 
 PANELS, WINDOW = 10, 31
 

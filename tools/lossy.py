@@ -24,8 +24,7 @@ import sys
 import time
 
 import oca_profile as oca
-from checks import Serving, verdict
-from own_ports import at, bound, free_port
+from checks import Serving, at, bound, free_port, verdict
 
 LOSS, DOUBLING, SLOW = 0.2, 0.2, 0.15
 TURNS = 20000

@@ -16,8 +16,7 @@ import time
 
 import namespaces
 import oca_profile as oca
-from checks import verdict
-from own_ports import bound
+from checks import bound, verdict
 
 DEVICE, PEER, SILENT = "10.91.0.1", "10.91.0.2", "10.91.0.{}"
 PORT = 65000

@@ -23,8 +23,7 @@ from pathlib import Path
 
 import checks
 import oca_profile as oca
-from checks import ended, layer, next_line, nulls_of, waited, write
-from own_ports import at, bound, comes, free_port, heard
+from checks import at, bound, comes, ended, free_port, heard, layer, next_line, nulls_of, waited, write
 from tables import data
 
 GET, ASKS = (4097, 4, 1), ("--target", 4097, "--level", 4, "--index", 1, "--count", 0)

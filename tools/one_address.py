@@ -19,8 +19,7 @@ import sys
 import namespaces
 import oca_profile as oca
 import peers
-from checks import Checks, Serving, ended, next_line, read_until, waited, write
-from own_ports import bound
+from checks import Checks, Serving, bound, ended, next_line, read_until, waited, write
 
 DEVICE, PORT, OWN_PORT, MUTE = "10.98.9.9", 65000, 20001, 4097
 # the links: the panel's address at each, and the device's

@@ -26,11 +26,9 @@ from pathlib import Path
 from unittest.mock import patch
 
 import oca_profile as oca
-from checks import Checks, Serving, layer, waited
+from checks import Checks, Serving, bound, by_turns, free_port, layer, waited
 from hands import SETS, Deaf, OldSession, stagebox
-from own_ports import bound, by_turns, free_port
-from peers import Lossy, Peer
-from served import Other, Served, commands_in
+from peers import Lossy, Other, Peer, Served, commands_in
 from tables import TOP, each, octets, table
 
 TREE = (TOP / "examples/stagebox.tree").read_text()

@@ -24,8 +24,7 @@ from concurrent.futures import ThreadPoolExecutor
 from pathlib import Path
 
 import page
-from checks import waited
-from own_ports import free_port
+from checks import free_port, waited
 from panel import ITS, MUTE, TREE, TRIM, Device, Panel, check, locked, many_tree, ocactl, same
 from peers import Lossy
 from tables import data, table

@@ -20,9 +20,8 @@ from pathlib import Path
 from types import ModuleType
 
 import oca_profile as oca
-from checks import Checks, Serving
+from checks import Checks, Serving, free_port
 from lossy import Network
-from own_ports import free_port
 from tables import TOP, table
 
 EXAMPLE, TREE = TOP / "examples/python/controller.py", "examples/stagebox.tree"

@@ -35,8 +35,7 @@ import tempfile
 import termios
 import time
 
-from checks import Checks, write
-from own_ports import at, bound, comes, free_port, heard
+from checks import Checks, at, bound, comes, free_port, heard, write
 from tables import each, octets, table
 
 # Runs a program without any word, not even its own name: a system may make a word of nothing of that.

@@ -23,8 +23,7 @@ from pathlib import Path
 import checks
 import oca_profile as oca
 import peers
-from checks import ended, layer, waited, write
-from own_ports import free_port
+from checks import ended, free_port, layer, waited, write
 from tables import data, octets
 
 HOST, DATA = "127.0.0.1", data("standstill")

@@ -18,11 +18,9 @@ import threading
 import time
 
 import oca_profile as oca
-from checks import layer, verdict
+from checks import free_port, layer, verdict
 from damaged import MESSAGES
-from own_ports import free_port
-from peers import Peer
-from served import Served
+from peers import Peer, Served
 
 PEERS = ["127.0.0.1:9001", "127.0.0.1:9002"]
 

@@ -21,9 +21,9 @@ import time
 from pathlib import Path
 
 import oca_profile as oca
-import own_ports
-from checks import NOTE, Checks, are_few, ended, next_line, nulls_of, read_note, read_until, write
-from own_ports import at, bound, comes, free_port, heard
+from checks import (
+    NOTE, Checks, are_few, at, bound, by_turns, comes, ended, free_port, heard, next_line, nulls_of, read_note,
+    read_until, write)
 from tables import TOP, data
 
 TURNS = 80
@@ -91,7 +91,7 @@ def next_command(device, before=b""):
 
 def at_own_ports(checks):
     """`run` and `lock` take 65001 or 65002 by turns and ask first; `run` avoids a port in use, `lock` is refused."""
-    own = own_ports.by_turns()[0]
+    own = by_turns()[0]
     for taken in (False, True):
         with bound() as device, bound(port=own) if taken else contextlib.nullcontext():
             for words, given, command, printed in ((["run"], "1 2 3 0 -\n", (1, 2, 3), "answer 0 0 -\n"),
