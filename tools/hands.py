@@ -93,10 +93,10 @@ class Faint(Deaf):
 
     beats = 0
 
-    def hears(self, peer, data):
+    def datagram(self, peer, data, now):
         is_beat = any(message[0] == "keep-alive" for message in oca.check(data))
         self.beats += is_beat
-        return not (is_beat and self.beats % 3) and super().hears(peer, data)
+        return ("", []) if is_beat and self.beats % 3 else super().datagram(peer, data, now)
 
 
 class Missing(Other):
