@@ -615,7 +615,8 @@ def power_cuts(checks, folder):
 def main():
     with tempfile.TemporaryDirectory() as folder:
         its = Checks(sys.argv[1])
-        for part in (restarts, written_once, kills, stops, full, refused_steps, short_writes, slow_store, refused_locks, mode_and_owner, linked, left_over, broken, others, power_cuts, unknown):
+        for part in (restarts, written_once, kills, stops, full, refused_steps, short_writes, slow_store, refused_locks, mode_and_owner,
+                     linked, left_over, broken, others, power_cuts, unknown):
             part(its, folder)
     return its.verdict()
 

@@ -153,7 +153,8 @@ ONOS = [100, 4096, 4097, 4098, 4099, 4100, 4101, 4102, 5000]
 def told_apart(r, count):
     """The same of commands whose answers do not depend on the others: neighbours answer differently."""
     methods = [(1, 1), (1, 2), (1, 5), (2, 10), (3, 5), (5, 2), (7, 7)]
-    made = [oca.Command(handle, ONOS[(handle + r.randrange(3)) % len(ONOS)], *methods[handle % len(methods)]) for handle in range(1, count + 1)]
+    asked = [(ONOS[(handle + r.randrange(3)) % len(ONOS)], *methods[handle % len(methods)]) for handle in range(1, count + 1)]
+    made = [oca.Command(handle, *its) for handle, its in enumerate(asked, 1)]
     return [(line_of(c), c) for c in made]
 
 

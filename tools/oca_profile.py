@@ -109,7 +109,8 @@ CLASSES = {
     "int64": (1, 1, 1, 1, 5), "uint8": (1, 1, 1, 1, 6), "uint16": (1, 1, 1, 1, 7), "uint32": (1, 1, 1, 1, 8),
     "uint64": (1, 1, 1, 1, 9)}
 WIDTHS = {name: (int(name.lstrip("uint")) // 8, name[0] == "i") for name in CLASSES if name.startswith(("int", "uint"))}
-LIMITS = {name: (-1 << 8 * size - 1, (1 << 8 * size - 1) - 1) if signed else (0, (1 << 8 * size) - 1) for name, (size, signed) in WIDTHS.items()}
+LIMITS = {name: (-1 << 8 * size - 1, (1 << 8 * size - 1) - 1) if signed else (0, (1 << 8 * size) - 1)
+          for name, (size, signed) in WIDTHS.items()}
 OK, LOCKED, BAD_ONO, PARAMETER_ERROR, OUT_OF_RANGE = 0, 3, 5, 6, 7
 NOT_IMPLEMENTED, INVALID, FAILED, BAD_METHOD, OVERFLOW = 8, 9, 10, 11, 14
 
