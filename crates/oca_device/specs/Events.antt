@@ -1,6 +1,7 @@
 -- What happens to a device: datagrams, of any bytes and from any peer, clock readings, and changes at its own front
--- (profile). Moments are in milliseconds. In a list of events the latest stands first.
-use Rattle.std.specs.Prelude.{ℕ, max, List, [], ◌∷◌}
+-- (profile). Moments are in milliseconds. In a list of events the latest stands first. A moment earlier than one already
+-- seen counts as the one already seen: the clock is in States and in LawByEvents.
+use Rattle.std.specs.Prelude.{ℕ, List}
 use Rattle.oca_types.specs.declared.words.Peer.{Peer}
 use Rattle.oca_tree.specs.LocalChanges.{LocalChange}
 
@@ -9,11 +10,3 @@ pub data Event : Type 0 where
   Datagram : (from : Peer) (bytes : List ℕ) (now : ℕ) → Event
   Tick : (now : ℕ) → Event
   Local : (ono : ℕ) (change : LocalChange) → Event
-
--- The clock after events is the greatest moment seen, and 0 before the first: a moment earlier than one already seen
--- counts as the one already seen.
-abbrev pub clock_after : List Event → ℕ
-clock_after [] = 0
-clock_after (Datagram from bytes now ∷ events) = max (clock_after events) now
-clock_after (Tick now ∷ events) = max (clock_after events) now
-clock_after (Local ono change ∷ events) = clock_after events

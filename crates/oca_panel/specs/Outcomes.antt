@@ -9,9 +9,8 @@ use Rattle.oca_control.specs.declared.outcome.Outcome.TheVariants as outcomes
 use Rattle.oca_model.specs.declared.answer.Answer.{Answer}
 use Rattle.oca_model.specs.declared.answer.Answer.TheVariants as answers
 use Rattle.oca_model.specs.declared.reading.Reading.{Reading}
-use Rattle.oca_model.specs.declared.value.Value.{Value}
 use Rattle.oca_model.specs.Parameters.{whole}
-use Rattle.oca_model.specs.Readings.{reading_in, value_read}
+use Rattle.oca_model.specs.Readings.{reading_in}
 use Rattle.oca_model.specs.Members.{class_id_in, class_with, members_in}
 use Rattle.oca_model.specs.Answers.{answer_in, switch_names_in}
 use Rattle.oca_panel.specs.declared.trouble.Trouble.{Trouble}
@@ -61,12 +60,9 @@ class_of_fields (Err t) = Err t
 abbrev pub class_answered : Outcome → Result Class Trouble
 class_answered outcome = class_of_fields (fields_answered outcome)
 
--- a value with its limits, and without
+-- a value with its limits
 abbrev pub reading_answered : Class → Outcome → Result Reading Trouble
 reading_answered of outcome = read_from (reading_in of) (parameters_answered outcome)
-
-abbrev pub value_answered : Class → Outcome → Result Value Trouble
-value_answered of outcome = read_from (value_read of) (parameters_answered outcome)
 
 abbrev pub text_answered : Outcome → Result (List ℕ) Trouble
 text_answered outcome = read_from (λ params. whole (text_at params)) (parameters_answered outcome)
