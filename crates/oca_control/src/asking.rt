@@ -14,20 +14,24 @@ use crate::turning::turn;
 use oca_net::End;
 use oca_types::{Handle, Request};
 
-/// Sends one command and waits for its answer, for at most `turns` turns ([`turn`]). Each turn receives once, at a
-/// socket for at most 50 ms, and sends what is due. `request` has the object, the method, ParamCount and the encoded
-/// parameters, which are not checked (AES70-3).
+/// Sends one command over an end and waits for its answer, for at most `turns` turns. A turn receives once, at a socket
+/// for at most 50 ms, and sends what is due ([`turn`]). `request` has the object, the method, ParamCount and the
+/// encoded parameters, which the call does not check (AES70-3). [`Link`] explains the words *lost* and *late*.
 ///
-/// - `Answered` with the answer, whatever its status: the command is then removed from the link.
-/// - `Lost` if the link was lost or late before, in which case nothing is changed or sent. `Lost` too if the link
-///   becomes lost, or is found late, before an answer comes.
-/// - `Refused` with `HandlesSpent`, `SpanFull` or `TooLong`, in the cases of [`Link::submit`]. Nothing is changed or
-///   sent.
-/// - `Unanswered` if no answer comes in `turns` turns; with 0 turns the command is sent and not waited for. The command
-///   stays in the link, is sent again, and can be waited for again, under the handle that [`Link::next_handle`]
-///   returned before the call.
+/// The link refuses the command in two cases, and nothing is changed or sent:
+/// - `Lost` if the link is lost or late at the start of the call.
+/// - `Refused` with `HandlesSpent`, `SpanFull` or `TooLong`, in the cases of [`Link::submit`].
 ///
-/// After `Unanswered`, and after a `Lost` in the wait, the device may have carried out the command.
+/// Otherwise the command is in the link, with the handle that [`Link::next_handle`] returned before the call:
+/// - `Answered` with the answer if the answer comes, whatever its status is. The command is then removed from the link.
+/// - `Lost` if the link becomes lost, or a turn finds the link late, before the answer comes. The command stays in the
+///   link. No turn sends the command while the link is lost or late. An answer that still comes is stored, and
+///   [`Link::take`] takes it.
+/// - `Unanswered` if no answer comes in `turns` turns. The command stays in the link, and later turns send it again.
+///   With 0 turns the command is sent and not waited for.
+///
+/// After `Unanswered`, or `Lost` with the command in the link, the device may have carried out the command. A later
+/// wait under the same handle may return the answer ([`wait_for`]).
 pub fn ask<E: End>(link: &mut Link, end: &mut E, request: Request<'_>, turns: u32) -> Outcome
     ensures asks { Asks (request_of request.entry) turns link.old result link.new (E.state end.old) (E.state end.new) }
     ensures receives { (E.state end.new).receives < last_u64 →
@@ -39,16 +43,22 @@ pub fn ask<E: End>(link: &mut Link, end: &mut E, request: Request<'_>, turns: u3
     }
 }
 
-/// Submits a command at the end's present moment, sends it at once, and returns its handle. If the end keeps no time,
-/// the moment is the latest that the link was given. The call does not wait. `request` has the object, the method,
-/// ParamCount and the encoded parameters, which are not checked (AES70-3).
+/// Submits a command, sends it at once, and returns its handle without waiting for the answer. `request` has the
+/// object, the method, ParamCount and the encoded parameters, which the call does not check (AES70-3). The moment of
+/// the submit is what [`now`](End::now) of the end returns, or the link's clock if that is later or the end keeps no
+/// time. The *link's clock* is the latest moment that the link was given. [`Link`] explains the words *lost*, *late*
+/// and *due*.
 ///
-/// What else is due at this moment is sent too, older commands first. If an older command that is due was sent 20 times
-/// already, the link becomes lost: the handle is returned, and this command is not sent. Otherwise nothing is left to
-/// send at this moment (`law_of_running`). A send that fails is not reported: the command is due again after 250 ms.
+/// What is due at this moment is sent, older commands first:
+/// - If an older command that is due was sent 20 times already, the link becomes lost. The call returns the handle, but
+///   does not send this command. The command stays in the link.
+/// - Otherwise the command is sent, and nothing is left to send at this moment
+///   ([`law_of_running`](crate::law_of_running)).
+/// - A send that fails is not reported: the command is due again after 250 ms.
 ///
-/// Refusals, the first that applies, which change and send nothing: `Lost` if the link is late at this moment
-/// ([`is_late`](crate::is_late)) or lost. `HandlesSpent`, `SpanFull` and `TooLong` in the cases of [`Link::submit`].
+/// Refusals, the first that applies, which change and send nothing:
+/// - `Lost` if the link is late at this moment, or is lost.
+/// - `HandlesSpent`, `SpanFull` or `TooLong`, in the cases of [`Link::submit`].
 pub fn begin<E: End>(
     link: &mut Link,
     end: &mut E,
@@ -71,15 +81,21 @@ pub fn begin<E: End>(
     Ok(handle)
 }
 
-/// Waits for the answer under this handle, for at most `turns` turns ([`turn`]), and takes the answer. Each turn
-/// receives once, at a socket for at most 50 ms. A closed end does not end the wait. With 0 turns the call only looks.
+/// Waits for the answer to the command with the handle `handle`, for at most `turns` turns, and takes the answer. A
+/// turn receives once, at a socket for at most 50 ms, and sends what is due ([`turn`]). To take an answer is to return
+/// it and to remove its command from the link. [`Link`] explains the words *lost* and *late*.
 ///
-/// Before each turn and after the last, the first that applies:
-/// - `Answered` if the answer is there: the command is then removed from the link.
-/// - `Lost` if the link is lost, or the last turn found it late.
+/// Before each turn and after the last turn, the first that applies:
+/// - `Answered` with the answer if the answer is in the link, whatever its status is. The command is then removed from
+///   the link.
+/// - `Lost` if the link is lost, or the last turn found the link late. The command stays in the link. An answer that
+///   still comes can be taken later.
 ///
-/// `Unanswered` if neither applies after `turns` turns, as for a handle that no command has. A command without an
-/// answer stays in flight: the link still sends it, and a later wait may take its answer. `Refused` does not come.
+/// The result is `Unanswered` if neither applies after `turns` turns. The command stays in the link: later turns send
+/// it again, and a later wait may take its answer.
+///
+/// A handle that no command has is treated like that of a command without an answer. With 0 turns the call only looks
+/// whether an answer is there. A closed end does not end the wait. The call never returns `Refused`.
 pub fn wait_for<E: End>(link: &mut Link, end: &mut E, handle: Handle, turns: u32) -> Outcome
     ensures waits { Waits handle.0 turns link.old result link.new (E.state end.old) (E.state end.new) }
     ensures receives { (E.state end.new).receives < last_u64 →
@@ -98,18 +114,23 @@ pub fn wait_for<E: End>(link: &mut Link, end: &mut E, handle: Handle, turns: u32
     }
 }
 
-/// Waits for the answer under this handle until the moment `until`, in milliseconds of the end's clock, and takes the
-/// answer. Datagrams of other senders do not end the wait. The present moment is what [`now`](End::now) of the end
-/// returns, or the latest moment that the link was given, if that is later.
+/// Waits for the answer to the command with the handle `handle` until the moment `until`, and takes the answer. `until`
+/// is in milliseconds of the end's clock. The *present moment* is what [`now`](End::now) of the end returns, or the
+/// latest moment that the link was given, if that is later. To take an answer is to return it and to remove its command
+/// from the link. [`Link`] explains the words *lost* and *late*.
 ///
-/// Before each turn ([`turn`]) the first that applies:
-/// - `Answered` if the answer is there, even if `until` is past: the command is then removed from the link.
-/// - `Lost` if the link is lost, or the last turn found it late.
-/// - `Unanswered` if the last turn found the end closed, or the present moment is `until` or later.
+/// The call takes turns. A turn receives once, for at most 50 ms at a socket, and sends what is due ([`turn`]). A turn
+/// begins only before `until`. Datagrams of other senders do not end the wait. Before each turn the first that applies:
+/// - `Answered` with the answer if the answer is in the link, even if `until` is past. The command is then removed from
+///   the link.
+/// - `Lost` if the link is lost, or the last turn found the link late. The command stays in the link. An answer that
+///   still comes can be taken later.
+/// - `Unanswered` if the last turn found the end closed, or the present moment is `until` or later. The command stays
+///   in the link: later turns send it again, and a later wait may take its answer.
 ///
-/// A turn begins only before `until`, and takes at most 50 ms at a socket. `Unanswered` also for a handle that no
-/// command has, and after 4,294,967,295 turns, in case the clock stands still. A command without an answer stays in
-/// flight, and can be waited for again.
+/// A handle that no command has is treated like that of a command without an answer. If the clock stands still, the
+/// wait ends after 4,294,967,295 turns, with the outcome `Unanswered` if neither of the first two applies. The call
+/// never returns `Refused`.
 pub fn wait_until<E: End>(link: &mut Link, end: &mut E, handle: Handle, until: u64) -> Outcome
     ensures waits { WaitsUntil handle.0 until link.old result link.new (E.state end.old) (E.state end.new) }
     ensures receives { ReceivesInAWait (E.state end.old).receives (E.state end.new).receives }
@@ -130,15 +151,22 @@ pub fn wait_until<E: End>(link: &mut Link, end: &mut E, handle: Handle, until: u
     }
 }
 
-/// Waits for the answer under this handle for at most `milliseconds` from the present moment on, and takes the answer.
-/// The present moment is what [`now`](End::now) of the end returns, or the latest moment that the link was given, if
-/// that is later. The last turn may end later, at a socket by at most 50 ms. With 0 milliseconds the call looks once
-/// and takes no turn.
+/// Waits for the answer to the command with the handle `handle` for at most `milliseconds` from the present moment on,
+/// and takes the answer. The *present moment* is what [`now`](End::now) of the end returns, or the latest moment that
+/// the link was given, if that is later. To take an answer is to return it and to remove its command from the link.
+/// [`Link`] explains the words *lost* and *late*.
 ///
-/// `Answered` with the answer: the command is then removed from the link. `Lost` if the link is lost or found late, and
-/// no answer is there. `Unanswered` if no answer comes in time, if the end is closed, and for a handle that no command
-/// has. A command without an answer stays in flight, and can be waited for again. The order is that of
-/// [`wait_until`].
+/// The call takes turns ([`turn`]). The last turn may end later than `milliseconds`, at a socket by at most 50 ms. With
+/// 0 milliseconds the call looks once and takes no turn. Before each turn the first that applies:
+/// - `Answered` with the answer if the answer is in the link, even if the time is over. The command is then removed
+///   from the link.
+/// - `Lost` if the link is lost, or the last turn found the link late. The command stays in the link. An answer that
+///   still comes can be taken later.
+/// - `Unanswered` if the time is over, or the last turn found the end closed. The command stays in the link: later
+///   turns send it again, and a later wait may take its answer.
+///
+/// A handle that no command has is treated like that of a command without an answer. If the clock stands still, the
+/// wait ends after 4,294,967,295 turns, as [`wait_until`] says. The call never returns `Refused`.
 pub fn wait_while<E: End>(
     link: &mut Link,
     end: &mut E,
@@ -232,8 +260,10 @@ fn take_one<E: End>(link: &mut Link, end: &mut E) -> bool
     turn(link, end).lost
 }
 
-/// Returns the outcome of a command that the link refused for the reason `fault`: [`Outcome::Lost`] for
-/// `ControlFault::Lost`, and otherwise [`Outcome::Refused`] with the reason. Nothing is changed.
+/// Returns the outcome of a command that the link refused for the reason `fault`. Nothing is changed or sent. The
+/// outcome is:
+/// - [`Outcome::Lost`] for `ControlFault::Lost`: the link was lost or late ([`Link`] explains these words).
+/// - [`Outcome::Refused`] with the reason for `HandlesSpent`, `SpanFull` and `TooLong`.
 pub fn refused(fault: ControlFault) -> Outcome
     ensures { result ≡ refused_by fault }
 {

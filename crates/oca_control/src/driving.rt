@@ -13,18 +13,22 @@ use crate::report::DriveReport;
 use oca_net::{End, Heard};
 use oca_types::{Packet, Peer};
 
-/// Drives a link over an end for at most `turns` turns. Returns the numbers of turns, of commands and keep-alives that
-/// were given to the end to send, of commands answered, and of failed receives and sends, and whether the link is lost
-/// ([`DriveReport`](crate::DriveReport)).
+/// Drives a link over an end for at most `turns` turns, and returns what the turns did
+/// ([`DriveReport`](crate::DriveReport)). A turn receives once, at a socket for at most 50 ms, and then sends what is
+/// due. A command is *due* if it has no answer, and was never sent or was last sent 250 ms ago or earlier. A keep-alive
+/// is due if no command is due and nothing was sent for 2,500 ms.
 ///
-/// A turn receives once: at a socket for at most 50 ms. A datagram goes to the link. After a datagram, after an
-/// oversize datagram (more than 1,472 bytes), and if none came, everything that is due is sent to the device. A send
-/// that fails is counted as sent and as failed, and the loop goes on: its command is due again after 250 ms. After a
-/// failed receive nothing is sent in that turn, and the loop goes on.
+/// Each turn is one of these:
+/// - A datagram came: the link stores its answers, and everything that is due is sent.
+/// - An oversize datagram (more than 1,472 bytes) or none came: everything that is due is sent.
+/// - The receive failed: nothing is sent, the failure is counted, and the loop goes on.
 ///
-/// The loop ends after `turns` turns, or after a turn in which [`due`](Link::due) returns `Lost`, since a command got
-/// no answer to 20 transmissions: then `lost` is `true`. It also ends if the end is closed, which does not count as a
-/// turn. With 0 turns nothing is done.
+/// A send that fails is counted as sent and as failed. The loop goes on, and the command is due again after 250 ms.
+///
+/// The loop ends:
+/// - After `turns` turns. With 0 turns nothing is done.
+/// - After a turn that finds the link lost, because a command got no answer to 20 transmissions: then `lost` is `true`.
+/// - If the end is closed, which does not count as a turn.
 ///
 /// The call does not check whether the link is late: after a pause of the program it may send a command more than
 /// 15,000 ms after its submit. Use [`turn`](crate::turn) unless the program checks that itself
@@ -52,15 +56,20 @@ pub fn drive<E: End>(link: &mut Link, end: &mut E, turns: u32) -> DriveReport
     report
 }
 
-/// Sends the device everything that is due at the moment `now`, in milliseconds of the link's clock. A moment earlier
-/// than the latest one so far is taken as that latest one. Nothing is received. Returns the numbers of commands
-/// (`sent`) and keep-alives (`keep_alives`) that were given to the end to send, how many of these sends failed
-/// (`failed_sends`), and whether the link is lost. `turns` is 0 in the report. After a send that fails the next is
-/// made; its command is due again after 250 ms.
+/// Sends the device everything that is due at the moment `now`, and receives nothing. `now` is in milliseconds of the
+/// link's clock. An earlier moment than the latest one that the link was given is treated as that latest one. A command
+/// is *due* if it has no answer, and was never sent or was last sent 250 ms ago or earlier. A keep-alive is due if no
+/// command is due and nothing was sent for 2,500 ms.
 ///
-/// Afterwards nothing is left to send at that moment, or the link is lost and `lost` is `true` (`law_of_sending`). A
-/// link that was lost before sends nothing. The call does not check whether the link is late:
-/// [`send_in_time`](crate::send_in_time) does.
+/// The report has these numbers, and all others are 0:
+/// - `sent` and `keep_alives`: the commands and the keep-alives that were given to the end to send.
+/// - `failed_sends`: how many of these sends failed. After a send that fails the next is made. Its command is due again
+///   after 250 ms.
+/// - `lost`: whether the link is lost, as a command got no answer to 20 transmissions ([`Link`]).
+///
+/// Afterwards nothing is left to send at that moment, or the link is lost and `lost` is `true`
+/// ([`law_of_sending`](crate::law_of_sending)). A link that was lost before sends nothing. The call does not check
+/// whether a command was submitted more than 15,000 ms ago. [`send_in_time`](crate::send_in_time) checks that.
 pub fn send_due<E: End>(link: &mut Link, end: &mut E, now: u64) -> DriveReport
     ensures gives { SendsDue now (link.old.span + 1) link.old link.new (E.state end.old) (E.state end.new) result }
     ensures lost { result.lost ≡ link.new.lost }

@@ -10,30 +10,29 @@ ghost use Rattle.oca_control.specs.Histories.{EveryHistoryIsLawful, EveryLinkAgr
 
 use oca_pdu::law_one_list_of_messages;
 
-/// Law: what a link returns follows from the list of its calls alone, whatever this list is. With the clauses of
-/// [`Link`](crate::Link) this is a promise of every run of a link. The premise is a span of at least 1. The function
-/// does nothing at run time.
+/// Law: what a link returns follows from the list of its calls alone, whatever this list is. The only premise is a span
+/// of at least 1. The clauses of [`Link`](crate::Link) make the law a promise of every run of a link.
+/// [`Link`](crate::Link) explains the words *handle*, *in flight*, *span*, *take*, *due*, *lost* and *link's clock*.
+/// The function does nothing at run time.
 ///
-/// Handles: each accepted command gets its own handle, and these rise by one from the first. The next handle is above
-/// each handle in flight by at most the span. A submit is refused in exactly four cases. The link is lost. No handle of
-/// 32 bits is left. The next handle is not below each one in flight plus the span. The parameters have more than 1,445
-/// bytes.
-///
-/// Sending: what is sent for a handle has the same bytes each time: a PDU of type 1 with its command alone (AES70-3).
-/// It is sent at most 20 times, at least 250 ms apart by the link's clock, which is the latest moment so far.
-/// [`due`](crate::Link::due) returns the lowest handle that is unanswered and was not sent for 250 ms. If there is no
-/// such handle, it returns a keep-alive if nothing was sent for 2,500 ms, and otherwise nothing. The link is lost
-/// exactly if `due` finds a handle that was sent 20 times.
-///
-/// Answers: a take of a handle in flight returns the first answer to it that came in a well-formed datagram of the
-/// device since its submit. A take returns none if no answer came. The link cannot know whether the answer is to a
-/// command that an earlier link of this address and port had under this handle. `datagram` returns by the sender
-/// whether it is a stranger, and by the bytes whether they are well-formed. Otherwise it returns how many commands in
-/// flight got their first answer in it. The same bytes always have the same content.
-///
-/// State: `last_heard` is the clock at the last well-formed datagram of the device, and before the first one that of
-/// the opening. `is_lost` is true if `due` has returned `Lost`. `answered` is the lowest handle in flight to which an
-/// answer came.
+/// - Handles: each accepted command gets its own handle. The handles rise by one from the first. The next handle is
+///   above each handle in flight by at most the span.
+/// - Refusals: a submit is refused exactly if the link is lost, no handle of 32 bits is left, the next handle is not
+///   below each handle in flight plus the span, or the parameters have more than 1,445 bytes.
+/// - Transmissions: what is sent for a handle has the same bytes each time, a PDU of type 1 with its command alone
+///   (AES70-3). It is sent at most 20 times, at least 250 ms apart by the link's clock.
+/// - [`due`](crate::Link::due) returns the lowest handle that is unanswered and was not sent for 250 ms. If no handle
+///   is, it returns a keep-alive if nothing was sent for 2,500 ms, and otherwise nothing. The link is lost exactly if
+///   `due` finds a handle that was sent 20 times.
+/// - [`take`](crate::Link::take) of a handle in flight returns the first answer to the handle that came in a
+///   well-formed datagram of the device since the submit. It returns `None` if no answer came. The link cannot know
+///   whether the answer is to a command that an earlier link of this address and port had under this handle.
+/// - [`datagram`](crate::Link::datagram) returns `Stranger` if the sender is not the device, and otherwise `Malformed`
+///   if the bytes are not well-formed. Otherwise it returns `Answered` with the number of commands in flight that got
+///   their first answer, or `NothingNew` if none did. The same bytes always contain the same messages.
+/// - `last_heard` is the clock at the last well-formed datagram of the device, and before the first one the moment of
+///   the opening. `is_lost` is `true` if `due` has returned `Lost`. `answered` is the lowest handle in flight with an
+///   answer.
 pub fn law_of_histories()
     ensures law { EveryHistoryIsLawful }
     ensures datagrams { EveryDatagramIsCounted }
@@ -43,46 +42,63 @@ pub fn law_of_histories()
     law_one_list_of_messages();
 }
 
-/// Law: once an answer to a command has come, the link has an answer to that command until it is taken. Take a
-/// well-formed datagram of the device with a response to a command in flight, whatever else is in the datagram. From
-/// then on the link stores the first answer that came, until a take of its handle returns it. The function does nothing
-/// at run time.
+/// Law: once an answer to a command has come, the link stores the first answer that came until the answer is taken. The
+/// function does nothing at run time.
+///
+/// - The words: a command is *in flight* from its submit until its answer is taken. [`take`](crate::Link::take) returns
+///   an answer and removes its command from the link.
+/// - The premise: a well-formed datagram of the device comes with a response to a command in flight. Anything else can
+///   be in the datagram too.
+/// - The conclusion: from then on the link stores the first answer that came, until a take of its handle returns it.
 pub fn law_of_answering()
     ensures { EveryAnswerIsKept }
 {}
 
-/// Law: a link whose [`due`](crate::Link::due) is called often enough sends each command again until it has its answer
-/// or is lost. A command is due while it is unanswered, and was never sent, or was last sent 250 ms ago or earlier. If
-/// k commands are due at a moment, each of them is sent within k calls of `due` at that moment, or the link is lost.
+/// Law: a link that is asked often enough sends each command again until the command has its answer or the link is
+/// lost. A link is *asked* if its [`due`](crate::Link::due) is called. A command is *due* while it is unanswered, and
+/// was never sent or was last sent 250 ms ago or earlier. A link is *lost* once a command got no answer to 20
+/// transmissions. The function does nothing at run time.
 ///
-/// Take a link whose `due` is called at least every `ms` milliseconds from the submit of a command on, each time until
-/// it does not return `Send`. It sends the command within `ms` of its submit, and again less than `250 + ms` after each
-/// transmission. It does so until an answer came, the command was taken, or the link is lost. One of these comes within
-/// `ms + 20 * (250 + ms)` of the submit. With `ms` of 250 the link sends a command again in less than 500 ms, and has
-/// its answer or is lost after at most 10,250 ms. The function does nothing at run time.
+/// - If k commands are due at a moment, each of them is sent within k calls of `due` at that moment, or the link is
+///   lost.
+///
+/// The other conclusions have one premise. From the submit of a command on, `due` is called at least every `ms`
+/// milliseconds, and each time until it returns something else than `Send`:
+/// - The link sends the command within `ms` of its submit, and again less than `250 + ms` after each transmission.
+/// - The link does so until an answer came, the command was taken from the link, or the link is lost. One of these
+///   comes within `ms + 20 * (250 + ms)` of the submit.
+/// - With `ms` of 250 the link sends the command again in less than 500 ms. It has its answer or is lost after at most
+///   10,250 ms.
 pub fn law_of_sending()
     ensures due { EveryDueCommandIsSent }
     ensures in_time { EveryCommandIsSentInTime }
 {}
 
-/// Law: a link that runs over an end is asked often enough what is due, which is the premise of [`law_of_sending`].
-/// Asked means that [`due`](crate::Link::due) is called.
+/// Law: a link that runs over an end is asked often enough, which is the premise of [`law_of_sending`]. The function
+/// does nothing at run time. The words:
+/// - A link is *asked* if its [`due`](crate::Link::due) is called. [`Link`](crate::Link) explains *lost*, *late* and
+///   *in flight*.
+/// - A *run* is what [`drive`](crate::drive), [`turn`](crate::turn), [`begin`](crate::begin), [`ask`](crate::ask) and
+///   the waits do with a link. Its *moments* are those of what the end delivered, and those at which commands were
+///   begun.
+/// - *Nothing is left to send* if `due` returns `Nothing` at the moment of the link's clock.
+/// - A command *has time left* if it is answered, or if the transmissions that are left to it, `250 + ms` apart, end
+///   before it is late.
 ///
-/// A run is what [`drive`](crate::drive), [`turn`](crate::turn), [`begin`](crate::begin), [`ask`](crate::ask) and the
-/// waits do with a link. Its moments are those of what the end delivered, and those at which commands were begun. The
-/// premises are these three. Each moment is at most `ms` milliseconds after the latest one before it, and `ms` is at
-/// most 500. When the run began, nothing was left to send. Each command then had time left. Under these premises the
-/// link is asked every `ms` milliseconds, or it is lost.
+/// The premises of the first conclusion:
+/// - Each moment is at most `ms` milliseconds after the latest one before it, and `ms` is at most 500.
+/// - When the run began, nothing was left to send, and each command had time left.
 ///
-/// A command has time left if the transmissions that are left to it, `250 + ms` apart, end before it is late. In such a
-/// run each command that is begun has time left, however many others are in flight. It has time left too if no other
-/// command waited when it was begun, whatever the link did before. After a [`begin`](crate::begin) nothing is left to
-/// send. So each command is sent at once, and from then on in time as long as it waits. With receives of at most 50 ms
-/// it is sent again less than 300 ms after each transmission.
-///
-/// For an end that records what it delivers, the first premise is a fact of the end's state: its receives return within
-/// `ms` of one another. An end in memory meets it if its script does. An end at a socket meets it as long as the
-/// program comes back to receive in time. The function does nothing at run time.
+/// The conclusions:
+/// - The link is asked every `ms` milliseconds, or it is lost.
+/// - In such a run each command that is begun has time left, however many others are in flight. It has time left too if
+///   no other command waited when it was begun, whatever the link did before.
+/// - After a [`begin`](crate::begin) nothing is left to send, or the link is lost. Each command is sent at once, and
+///   from then on in time as long as it waits. With receives of at most 50 ms it is sent again less than 300 ms after
+///   each transmission.
+/// - The first premise is a fact of the state of an end that records what it delivers: its receives return within `ms`
+///   of one another. An end in memory meets the premise if its script does. An end at a socket meets it as long as the
+///   program comes back to receive in time.
 pub fn law_of_running()
     ensures calls { EveryCallRuns }
     ensures goes_on { EveryRunGoesOn }
@@ -94,13 +110,18 @@ pub fn law_of_running()
     ensures in_memory { EveryScriptIsKept }
 {}
 
-/// Law: no transmission of a command is too late if its link is never asked what is due while the link is late
-/// ([`is_late`](crate::is_late)). Then each transmission of a command leaves at most 15,000 ms after the submit of the
-/// command, by the link's clock. Asked means that [`due`](crate::Link::due) is called. The law holds for every list of
-/// calls of a link. The function does nothing at run time.
+/// Law: no transmission of a command leaves more than 15,000 ms after its submit if the link is never asked while it is
+/// late. A link is *asked* if its [`due`](crate::Link::due) is called. A link is *late* while a command that was
+/// submitted more than 15,000 ms ago has no answer ([`is_late`](crate::is_late)). The function does nothing at run
+/// time.
 ///
-/// [`send_in_time`](crate::send_in_time), [`turn`](crate::turn), [`begin`](crate::begin), [`ask`](crate::ask) and the
-/// waits make only such calls. A link that is late at a moment is late at each later one, if nothing is called between.
+/// - The premise: no call of `due` is made at a moment at which the link is late. The law holds for every list of such
+///   calls and of other calls of a link.
+/// - The conclusion: each transmission of a command leaves at most 15,000 ms after the submit of the command, by the
+///   link's clock. This clock is the latest moment that the link was given.
+/// - [`send_in_time`](crate::send_in_time), [`turn`](crate::turn), [`begin`](crate::begin), [`ask`](crate::ask) and the
+///   waits ask the link only while it is not late.
+/// - A link that is late at a moment is late at each later moment, if nothing is called between.
 pub fn law_copies_in_time()
     ensures copies { EveryCopyIsInTime }
     ensures steps { EveryStepIsInTime }

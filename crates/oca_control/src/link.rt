@@ -34,16 +34,23 @@ use std::marker::Model;
 /// A keep-alive is sent after so many milliseconds without anything.
 const KEEP_ALIVE_MS: u64 = 2500;
 
-/// A controller's link to one device: it decides what is sent and when, and stores the answers.
+/// A controller's link to one device: it decides what is sent and when, and stores the answers. No call takes memory.
+/// The commands, at most 32, lie in the link itself.
 ///
-/// A command is submitted, and gets a *handle*, a 32-bit number (AES70-3). It is *in flight* until its answer is taken.
-/// The link sends it, and again each 250 ms until its answer comes. A link that sent nothing for 2,500 ms sends a
-/// keep-alive. The link is *lost* once a command got no answer to 20 transmissions. The *span* limits the commands in
-/// flight ([`Span`]).
-///
-/// The caller gives the link each datagram and the moment, in milliseconds of a clock of its own. A moment that is
-/// earlier than the latest one so far is taken as the latest one: that is the *link's clock*. No call takes memory: the
-/// commands, at most 32, lie in the link itself.
+/// The words of its calls:
+/// - The *handle* of a command is a 32-bit number (AES70-3), which the link gives the command at its submit.
+/// - A command is *in flight* from its submit until its answer is taken. A call *takes* an answer if the call returns
+///   the answer and removes the command from the link.
+/// - The *span* limits the commands in flight: a new handle is lower than the lowest handle in flight plus the span
+///   ([`Span`]).
+/// - A command is *due* if it has no answer, and was never sent or was last sent 250 ms ago or earlier. A keep-alive is
+///   due if no command is due and nothing was sent for 2,500 ms.
+/// - The link is *lost* once a command got no answer to 20 transmissions. A lost link sends nothing more and refuses
+///   each command. It still stores answers.
+/// - The link is *late* while a command that was submitted more than 15,000 ms ago has no answer
+///   ([`is_late`](crate::is_late)).
+/// - The *link's clock* is the latest moment that the link was given, in milliseconds of a clock of the caller. An
+///   earlier moment is treated as that latest moment. The caller gives the link each datagram with its moment.
 #[derive(Drop)]
 pub struct Link {
     device: Peer,
@@ -78,16 +85,19 @@ impl Model for Link {
 }
 
 impl Link {
-    /// Makes a link to the device at the address `device`. `now` is the present moment, in milliseconds of the caller's
-    /// clock. Nothing is sent, no memory is taken, and nothing is refused. The first command gets the handle
-    /// `first_handle`, 0 to 4294967295. Each later handle is one higher, and lies below the lowest handle in flight
-    /// plus `span` (*profile*).
+    /// Makes a link to the device at the address `device`. Nothing is sent, no memory is taken, and nothing is refused.
+    /// The arguments:
+    /// - `first_handle` is the handle of the first command, 0 to 4294967295. Each later handle is one higher.
+    /// - `now` is the present moment, in milliseconds of the caller's clock, and any 64-bit number.
+    /// - `span` is the span, 1 to 32 with the default 16 (*profile*). A new handle is lower than the lowest handle in
+    ///   flight plus `span`. A command is in flight from its submit until its answer is taken.
     ///
     /// A device remembers what it executed for an address and port until it has heard nothing from there for 120
-    /// seconds. So the first handle must be above all handles that an earlier link used from this address and port in
-    /// that time. If it is not, the device may leave a command unanswered, as an old one or as another command under a
-    /// used handle. A late answer to a command of the earlier link would also be taken for the answer to this link's
-    /// command under that handle.
+    /// seconds. The first handle must be above all handles that an earlier link used from this address and port in that
+    /// time. Otherwise:
+    /// - The device may leave a command unanswered, as an old one or as another command under a used handle.
+    /// - A late answer to a command of the earlier link is treated as the answer to this link's command under that
+    ///   handle.
     pub fn new(device: Peer, first_handle: Handle, now: u64, span: Span) -> Link
         ensures { result ≡ new_link device first_handle.0 now (span_size span) }
     {

@@ -14,29 +14,36 @@ use oca_types::Packet;
 /// How long a turn receives at most, in milliseconds.
 const WAIT_MS: u64 = 50;
 
-/// Whether a link is late at the moment `now`: a command was submitted more than 15,000 ms ago and has no answer
-/// (*profile*). `now` is in milliseconds of the link's clock. A moment earlier than the latest one so far is taken as
-/// that latest one. Whether the command was sent does not matter. `false` for a link without commands. Nothing is
-/// changed.
+/// Returns whether a link is late at the moment `now`: a command was submitted more than 15,000 ms before and has no
+/// answer (*profile*). `now` is in milliseconds of the link's clock. A moment earlier than the latest one that the link
+/// was given is treated as that latest one. Whether the command was sent does not matter. The result is `false` for a
+/// link without commands. Nothing is changed.
 ///
-/// A late link means that the program was paused: a link that is asked in time has its answer by then, or is lost. A
-/// command must not act so long after it was submitted. After 120 seconds without a datagram a device forgets what it
-/// executed, and would execute a command a second time. The network may hold a datagram for up to 100 seconds. So a
-/// late link must send nothing. It stays late until the answer comes.
+/// A link becomes late only if the program paused. A link that is asked in time has its answer by then, or is lost. A
+/// late link must send nothing, for these reasons:
+/// - A command must not act so long after it was submitted.
+/// - After 120 seconds without a datagram a device forgets what it executed. It would then execute a command a second
+///   time.
+/// - The network may hold a datagram for up to 100 seconds.
+///
+/// The link stays late until the answer comes.
 pub fn is_late(link: &Link, now: u64) -> bool
     ensures { result ≡ late_at now link.now }
 {
     link.late_at(now)
 }
 
-/// Sends everything that is due at the moment `now` as [`send_due`] does, if the link is not late at that moment
-/// ([`is_late`]). `now` is in milliseconds of the link's clock. Returns the numbers of commands (`sent`) and
-/// keep-alives (`keep_alives`) that were given to the end to send, and how many of these sends failed (`failed_sends`).
-/// `turns` is 0 in the report.
+/// Sends the device everything that is due at the moment `now` if the link is not late at that moment, and receives
+/// nothing. `now` is in milliseconds of the link's clock. [`Link`] explains the words *due*, *lost* and *late*.
 ///
-/// If the link is late, nothing is changed or sent, and `lost` is `true` in the report. `lost` is also `true` if the
-/// link is lost or becomes lost. If `lost` is `false`, nothing is left to send at that moment. After a send that fails
-/// the next is made; its command is due again after 250 ms.
+/// - If the link is late ([`is_late`]), nothing is changed or sent, and `lost` is `true` in the report.
+/// - Otherwise the call does what [`send_due`] does. `lost` is `true` if the link is lost or becomes lost. If `lost` is
+///   `false`, nothing is left to send at that moment.
+///
+/// The report has these numbers, and all others are 0:
+/// - `sent` and `keep_alives`: the commands and the keep-alives that were given to the end to send.
+/// - `failed_sends`: how many of these sends failed. After a send that fails the next is made. Its command is due again
+///   after 250 ms.
 pub fn send_in_time<E: End>(link: &mut Link, end: &mut E, now: u64) -> DriveReport
     ensures gives { SendsInTime now link.old link.new (E.state end.old) (E.state end.new) result }
     ensures left { result.lost ≡ false → NothingIsLeft link.new }
@@ -47,17 +54,20 @@ pub fn send_in_time<E: End>(link: &mut Link, end: &mut E, now: u64) -> DriveRepo
     send_due(link, end, now)
 }
 
-/// Takes one turn of a link over an end: receives once, and sends what is due in time. Returns the numbers of turns
-/// (1), of commands and keep-alives that were given to the end to send, of commands answered, and of failed receives
-/// and sends, and whether the link is lost or late ([`DriveReport`](crate::DriveReport)).
+/// Takes one turn of a link over an end: it receives once, and then sends what is due in time. An end that keeps time
+/// ([`End`]) receives until something is due ([`Link::next_due`]), and for at most 50 ms. [`Link`] explains the words
+/// *due*, *lost* and *late*. The turn is one of these:
+/// - A datagram came: the link stores its answers, even if the link is late. Then [`send_in_time`] sends what is due.
+/// - An oversize datagram (more than 1,472 bytes) or none came: [`send_in_time`] sends what is due.
+/// - The receive failed: nothing is sent, `failed_receives` is 1, and `lost` is `false`.
+/// - The end is closed: the link is unchanged, nothing is sent, and `turns` is 0. In all other cases `turns` is 1.
 ///
-/// An end that keeps time ([`End`]) receives until something is due ([`Link::next_due`]), and for at most 50 ms. A
-/// datagram goes to the link, even if the link is late. After a datagram, after an oversize datagram (more than 1,472
-/// bytes), and if none came, [`send_in_time`] follows: `lost` is `true` if it finds the link lost or late. Otherwise
-/// nothing is left to send at the link's moment. A send that fails is counted as sent and as failed.
-///
-/// After a failed receive nothing is sent, `failed_receives` is 1, and `lost` is `false`. If the end is closed, the
-/// link is unchanged and `turns` is 0.
+/// The report has these numbers too ([`DriveReport`](crate::DriveReport)):
+/// - `answered`: the commands that got their first answer.
+/// - `sent` and `keep_alives`: the commands and the keep-alives that were given to the end to send. `failed_sends`: how
+///   many of these sends failed. Such a command is due again after 250 ms.
+/// - `lost`: `true` if [`send_in_time`] finds the link lost or late. If it is `false` and the receive did not fail,
+///   nothing is left to send at the moment of the link's clock.
 pub fn turn<E: End>(link: &mut Link, end: &mut E) -> DriveReport
     ensures turns { Turns link.old link.new (E.state end.old) (E.state end.new) result }
     ensures left { LeavesNothing result link.new }
