@@ -38,8 +38,11 @@ struct Answer {
     packet: Packet,
 }
 
-/// What [`serve_keeping`] needs between its calls: memory for 366 packets of answers that wait until the objects are
-/// stored, and whether the last store failed ([`is_behind`](Keeping::is_behind)).
+/// What [`serve_keeping`] needs between its calls:
+/// - Memory for 366 packets of answers. The answers to a datagram that wrote to an object wait there until the objects
+///   are stored.
+/// - Whether the device *is behind*: something that a datagram wrote is not stored, since the last store failed
+///   ([`is_behind`](Keeping::is_behind)).
 #[derive(Drop)]
 pub struct Keeping {
     is_behind: bool,
@@ -61,9 +64,9 @@ impl Keeping {
     ghost use Rattle.std.specs.Prelude.{false};
 
     /// Makes the state of a device that starts: no answer waits, and [`is_behind`](Keeping::is_behind) is `false`. The
-    /// caller must make sure that the store has the device's objects: the call does not check that. The call takes the
-    /// memory for 366 packets, some 1,480 bytes each. Refusal: `NoMemory` if that memory is refused; then no memory is
-    /// kept.
+    /// caller must make sure that the store has the device's objects at this time. The call does not check that. The
+    /// call takes the memory for 366 packets from `alloc`, some 1,480 bytes each. The only refusal is `NoMemory` if
+    /// that memory is refused. No memory is then kept.
     pub fn new(alloc: Global) -> Result<Keeping, NoMemory>
         ensures { IfOk result (λ keeping. (keeping.is_behind ≡ false) × (keeping.held ≡ [])) }
     {
@@ -169,21 +172,28 @@ impl fmt::Debug for Keeping {
     }
 }
 
-/// Serves an end for at most `turns` turns as [`serve_with`](crate::serve_with) does, and stores the objects in
-/// `store`. `electronics` follow the objects after each datagram, before they are stored. Returns how many turns were
-/// taken, how many commands and datagrams were handled in each way, and how many receives and sends failed
-/// ([`Report`]). A number stays at 2^64 - 1 if it would pass that. The loop ends early if the end is closed. `outbox`
-/// is memory for the answers to one datagram, and is empty at the end. No answer waits in `keeping` at the end.
+/// Serves an end for at most `turns` turns, and sends the answers to a datagram that wrote to an object only after the
+/// objects are stored. A turn receives once and handles what came, as [`serve_with`](crate::serve_with) explains. The
+/// call returns how often each thing was done ([`Report`]). A number stays at 2^64 - 1 if it would pass that. The loop
+/// ends early if the end is closed. The arguments that change:
+/// - `outbox` is memory for the answers to one datagram, and is empty at the end.
+/// - `keeping` has memory for answers that wait for the store, and whether something written is not stored
+///   ([`Keeping::is_behind`]). No answer waits in it at the end.
+/// - `store` gets the objects ([`Store::store`](crate::Store::store)).
+/// - `electronics` get the objects after each datagram, before they are stored ([`Electronics::follow`]).
 ///
-/// The answers to a datagram that wrote to an object wait. Meanwhile further datagrams that have come already are
-/// served, in at most 64 turns together, and while at most 244 packets wait. Then the objects are stored once. If the
-/// store returns `true`, the answers are sent. All other answers are sent at once, even if they report what is not
-/// stored yet.
+/// What becomes of the answers:
+/// - The answers to a datagram that wrote to an object wait. Meanwhile further datagrams that have come already are
+///   served, in at most 64 turns together, and while at most 244 packets wait. Then the objects are stored once.
+/// - If the store returns `true`, the answers that wait are sent.
+/// - If the store returns `false`, the answers that wait are dropped, as if the network had lost them. The loop goes
+///   on. The objects stay changed, and the device keeps the replies: a peer that repeats its command gets its reply.
+/// - The answers to a datagram with a duplicate wait too while something that a datagram wrote is not stored. The
+///   objects are then stored, also if the last store failed. A *duplicate* is a command that came again and gets the
+///   reply of its execution ([`Device`]).
+/// - All other answers are sent at once, even if they report what is not stored yet.
 ///
-/// If the store returns `false`, the answers that wait are dropped, as if the network had lost them, and the loop goes
-/// on. The objects stay as they are and the replies stay retained, so a peer that repeats its command gets its reply.
-/// While [`is_behind`](Keeping::is_behind) is `true`, the answers to a datagram with a duplicate wait too, and the
-/// objects are stored again. What was set at the local front panel is stored with the next datagram that writes.
+/// What was set at the local front panel is stored with the next datagram that writes.
 pub fn serve_keeping<E: End, S: Store, L: Electronics>(
     device: &mut Device,
     end: &mut E,

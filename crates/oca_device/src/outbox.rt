@@ -34,9 +34,9 @@ impl Model for Outbox {
 impl Outbox {
     ghost use Rattle.oca_device.specs.Outboxes.{bytes_of_packets};
 
-    /// Makes an empty outbox with room for 122 packets, the most that answer one datagram. The call takes all the
-    /// memory that the outbox will need, some 180 kB. Refusal: `NoMemory` if that memory is refused; then no memory is
-    /// kept.
+    /// Makes an empty outbox with room for 122 packets of at most 1,472 bytes, the most that answer one datagram. The
+    /// call takes from `alloc` all the memory that the outbox will need, some 180 kB. The only refusal is `NoMemory` if
+    /// that memory is refused. No memory is then kept.
     pub fn new(alloc: Global) -> Result<Outbox, NoMemory>
         ensures { IfOk result (λ outbox. outbox ≡ []) }
     {

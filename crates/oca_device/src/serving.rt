@@ -16,18 +16,28 @@ use crate::verdict::Verdict;
 use oca_net::{End, Heard};
 use oca_types::{Packet, Peer};
 
-/// Serves an end for at most `turns` turns. Returns the number of turns, the numbers of commands that were executed,
-/// were duplicates, were old, or reused a handle, the numbers of datagrams that were malformed, found no room for a
-/// session, or were oversize, and the numbers of quiet receives, failed receives and failed sends ([`Report`]).
+/// Serves an end for at most `turns` turns, and returns how often each thing was done ([`Report`]). A turn receives
+/// once, at a socket for at most 50 ms. `outbox` is memory for the answers to one datagram. The call empties it at the
+/// start and after each turn. The call takes no memory.
 ///
-/// A turn receives once, at a socket for at most 50 ms. A datagram goes to [`Device::datagram`], and its answers are
-/// sent to its sender, in order. A send that fails is counted, and the next packet is sent. If no datagram came
-/// (quiet), or one of more than 1,472 bytes (oversize), the device's clock moves on. A receive that fails is counted
-/// and does nothing else.
+/// Each turn is one of these:
+/// - A datagram came: it goes to [`Device::datagram`], and its answers are sent to its sender, in order. A send that
+///   fails is counted, and the next packet is sent.
+/// - No datagram came, or one of more than 1,472 bytes: the device's clock moves on.
+/// - The receive failed: the failure is counted, and nothing else is done.
 ///
-/// The loop ends after `turns` turns; with 0 turns nothing is received. It ends earlier if the end is closed, which
-/// does not count as a turn. `outbox` is memory for the answers: it is emptied at the start and after each turn. No
-/// memory is taken.
+/// The loop ends after `turns` turns. It ends earlier if the end is closed, which does not count as a turn. With 0
+/// turns nothing is received.
+///
+/// The report has these numbers:
+/// - `turns`, `quiet` (no datagram came), `oversize`, `failed_receives` and `failed_sends`.
+/// - `executed`: the commands that were executed. `kept`: the duplicates, which are commands that came again and got
+///   the reply of their execution.
+/// - `old`: the commands that are too old for the reply window. `reused`: the commands that ask something else under
+///   the handle of a command in the reply window. Both are ignored. The reply window has the peer's last commands with
+///   their replies ([`Device`]).
+/// - `malformed`: the datagrams that are not well-formed. `no_room`: those for whose peer there is no room for a
+///   session.
 pub fn serve<E: End>(device: &mut Device, end: &mut E, outbox: &mut Outbox, turns: u32) -> Report
     ensures served { ServesEnd device.old device.new (E.state end.old) (E.state end.new) result }
     ensures turns { result.turns ≤ turns }
@@ -40,18 +50,23 @@ pub fn serve<E: End>(device: &mut Device, end: &mut E, outbox: &mut Outbox, turn
     serve_with(device, end, outbox, &mut none, turns)
 }
 
-/// Serves an end for at most `turns` turns as [`serve`] does, and lets `electronics` follow the objects. Returns the
-/// numbers that `serve` returns: of turns, of commands and datagrams that were handled in each way, and of failed
-/// receives and sends ([`Report`]). A turn receives once, at a socket for at most 50 ms. A datagram goes to the device,
-/// and its answers are sent. `outbox` is memory for the answers, and is empty at the end.
+/// Serves an end for at most `turns` turns, and calls `electronics` after each datagram. *Electronics* are the
+/// program's code that makes the hardware do what the objects say ([`Electronics`]). `outbox` is memory for the answers
+/// to one datagram, and is empty at the end. The call returns the numbers that [`serve`] returns: of turns, of commands
+/// and datagrams that were handled in each way, and of failed receives and sends ([`Report`]).
 ///
-/// After the answers to a datagram were sent, the electronics get the objects and the numbers of those that the
-/// datagram wrote to, which may be none ([`Electronics::follow`]). They get them also if a send failed. They are not
-/// called if no datagram came.
+/// A turn receives once, at a socket for at most 50 ms. Each turn is one of these:
+/// - A datagram came: the device handles it, and its answers are sent to its sender, in order. Then
+///   [`Electronics::follow`] gets the objects and the numbers of the objects that the datagram wrote to. These may be
+///   none. The call is made even if a send failed.
+/// - No datagram came, or one of more than 1,472 bytes: the device's clock moves on. The electronics are not called.
+/// - The receive failed: the failure is counted. The electronics are not called.
 ///
-/// All sends come first, so failed sends delay the electronics, each for as long as the end takes. At a `UdpEnd` that
-/// is up to a millisecond a packet, and there are at most 122 packets. The loop ends early if the end is closed, which
-/// does not count as a turn.
+/// The loop ends after `turns` turns. It ends earlier if the end is closed, which does not count as a turn. With 0
+/// turns nothing is received.
+///
+/// All sends come first. Failed sends delay the electronics, each for as long as the end takes. At a `UdpEnd` that is
+/// up to a millisecond a packet, and there are at most 122 packets.
 pub fn serve_with<E: End, L: Electronics>(
     device: &mut Device,
     end: &mut E,

@@ -17,16 +17,24 @@ use oca_model::{law_of_answers, law_of_requests};
 use oca_pdu::{law_reading, law_written_is_read_back};
 use oca_tree::law_of_typed_requests;
 
-/// Law: over every schedule, and for all sizes of window, peers and span, each answer is the answer to its command. A
-/// schedule is a list of steps of a device and some links ([`Step`](crate::Step)). The law holds of each answer that a
-/// link has, or that was taken from it, under a handle. The answer is what an execution returned for that link's peer,
-/// of the very command that the link submitted under that handle. The handles of the commands that a link submitted
-/// rise by one.
+/// Law: over every schedule, each answer that a link gets is the answer to its own command. The device executed this
+/// command exactly once for the link's peer if the peer kept its session. The law holds for all sizes of reply windows,
+/// all numbers of peers, and all spans. The function does nothing at run time. The words:
+/// - A *schedule* is a list of steps of one device and some links ([`Step`](crate::Step)). No two links have the same
+///   address and port, and no link has the device's.
+/// - The *peer* of a link is its address and port.
+/// - The device *executes* a command if it carries the command out on its objects, which gives the reply.
+///   [`law_by_events`](oca_device::law_by_events) says which commands a device executes.
+/// - The device *admits* a well-formed datagram if its peer has a session, or if there is room for a new session.
+/// - A peer *keeps its session* if each of its admitted datagrams came at most 120,000 ms after the one before it.
 ///
-/// What is executed is what [`law_by_events`](oca_device::law_by_events) says of the events of the device. If the peer
-/// kept its session, it is the only execution for the peer under that handle. A peer keeps its session if each of its
-/// datagrams that the device admitted came at most 120,000 ms after the one before it. The function does nothing at run
-/// time.
+/// The conclusions, for each answer that a link has, or that was taken from the link, under a handle:
+/// - The link submitted a command under this handle.
+/// - The device executed this very command for the link's peer. A datagram of the peer had brought this command alone.
+/// - The answer is the reply of this execution.
+/// - If the peer kept its session, this is the only execution for the peer under this handle.
+///
+/// The handles of the commands that a link submitted rise by one.
 pub fn law_answers()
     ensures answers { EveryScheduleAnswersItsCommands }
     ensures happened { TheseHappened }
@@ -35,22 +43,28 @@ pub fn law_answers()
     law_reading();
 }
 
-/// Laws: over every schedule, under the premises below, a datagram with a command in flight is answered, and no command
-/// is executed twice. A schedule is a list of steps of a device and some links ([`Step`](crate::Step)). The function
-/// does nothing at run time.
+/// Laws: over every schedule, a datagram with a command in flight is answered, and no command is executed twice. Each
+/// law has its premises below. The function does nothing at run time. The words:
+/// - A *schedule* is a list of steps of one device and some links ([`Step`](crate::Step)). The *peer* of a link is its
+///   address and port: no two links have the same, and no link has the device's.
+/// - A command is *in flight* from its submit until its answer is taken from the link.
+/// - A peer is *known* for 120,000 ms after each of its admitted datagrams. A datagram *finds room* if its peer is
+///   known when it comes, or fewer peers are known than there is room for. A well-formed datagram that finds room is
+///   *admitted*.
+/// - A peer *keeps its session* if each of its admitted datagrams came at most 120,000 ms after the one before it.
 ///
-/// The first law is for a span `s` of at least 1 and a reply window `w` with `2 * s <= w + 1`. Take a datagram with a
-/// command that is still in flight at its link. When it is delivered to the device, it is answered: the command is
-/// executed now, or its reply is found in the window. It is never rejected as old, and never taken for another command
-/// under its handle. The premises are that the datagram finds room, and that the link's peer kept its session, this
-/// datagram counted ([`law_answers`] says what that is).
+/// The first law has these premises:
+/// - The span `s` is at least 1, and the reply window has `w` commands with `2 * s <= w + 1`.
+/// - A datagram with a command that is still in flight at its link is delivered to the device.
+/// - The datagram finds room, and the link's peer kept its session, this datagram counted.
 ///
-/// Second, for all sizes: no command of a link is executed twice, if its peer kept its session.
+/// The device then answers the datagram: it executes the command now, or finds the command's reply in the reply window.
+/// It never rejects the command as old, and never treats it as another command under its handle.
 ///
-/// Third, for all sizes: a datagram finds room if its peer is known when it comes, or fewer peers are known than there
-/// is room for. A peer is known for 120,000 ms after each of its admitted datagrams. So a datagram finds room if few
-/// enough peers sent well-formed datagrams in the last 120,000 ms, its own peer counted. Few enough are at most as many
-/// as there is room for.
+/// The second law holds for all sizes: no command of a link is executed twice if its peer kept its session.
+///
+/// The third law holds for all sizes: a datagram finds room if at most as many peers as there is room for sent
+/// well-formed datagrams in the last 120,000 ms, its own peer counted.
 pub fn law_never_old()
     ensures answered { NoUntakenCommandIsTooOld }
     ensures once { EveryCommandIsExecutedOnce }
@@ -59,59 +73,77 @@ pub fn law_never_old()
     law_written_is_read_back();
 }
 
-/// Law: over every schedule, under the premises of [`law_never_old`], one delivered command and the delivered response
-/// bring the answer to the link. A schedule is a list of steps of a device and some links ([`Step`](crate::Step)). The
-/// premises include a span `s` of at least 1 and a reply window `w` with `2 * s <= w + 1`. The function does nothing at
-/// run time.
+/// Law: over every schedule, one delivered command and the delivered response bring the answer to the link. The
+/// function does nothing at run time. The words:
+/// - A *schedule* is a list of steps of one device and some links ([`Step`](crate::Step)).
+/// - A command is *in flight* from its submit until its answer is taken from the link.
+/// - A peer *kept its session* if each of its admitted datagrams came at most 120,000 ms after the one before it. A
+///   datagram *finds room* if the device has a session for its peer, or room for one more. [`law_never_old`] has these
+///   words too.
 ///
-/// Take a datagram with a command that is still in flight at its link, delivered to the device under these premises.
-/// The device then sends one datagram to the link. Any steps may follow, with no further premise, until that datagram
-/// is delivered to the link.
+/// The premises:
+/// - The span `s` is at least 1, and the reply window has `w` commands with `2 * s <= w + 1`.
+/// - A datagram with a command that is still in flight at its link is delivered to the device.
+/// - The datagram finds room, and the link's peer kept its session, this datagram counted.
 ///
-/// If the link still had the command before that, it then has the command's answer. Otherwise the answer was taken
-/// earlier. The answer is the reply of an execution of that very command for that link's peer. If the peer kept its
-/// session till the end, the answer is the reply that this datagram carried.
+/// The device then sends one datagram to the link. Any steps may follow until this datagram is delivered to the link:
+/// no further premise is needed. The conclusions:
+/// - If the command was still in flight just before that delivery, the link then has the command's answer.
+/// - Otherwise the answer was taken earlier.
+/// - The answer is the reply of an execution of that very command for the link's peer.
+/// - If the peer kept its session until that delivery, the answer is the reply that this datagram carried.
 pub fn law_round_trip()
     ensures { EveryRoundTripBringsTheAnswer }
 {
     law_written_is_read_back();
 }
 
-/// Law: over every schedule in which a link is asked often enough, each command of it is answered, or the link is lost,
-/// or the command was sent in time so far. A schedule is a list of steps of a device and some links
-/// ([`Step`](crate::Step)). The premises are a span `s` of at least 1, a reply window `w` with `2 * s <= w + 1`, and
-/// that the link's [`due`](oca_control::Link::due) is called at least every `ms` milliseconds from the submit on, each
-/// time until it returns no command. The function does nothing at run time.
+/// Law: over every schedule in which a link is asked often enough, each command of the link is answered, or the link is
+/// lost, or the command still waits and was sent in time. The function does nothing at run time. The words:
+/// - A *schedule* is a list of steps of one device and some links ([`Step`](crate::Step)).
+/// - A link is *asked* if its [`due`](oca_control::Link::due) is called.
+/// - A link is *lost* once a command got no answer to 20 transmissions.
 ///
-/// Then one of three things holds of each command that the link submitted. The link has its answer, or the answer was
-/// taken. Or the link is lost. Or the command still waits, and was sent in time. In time means within `ms` of its
-/// submit, and again less than `250 + ms` after each transmission, with the same bytes. It waits no longer than `ms +
-/// 20 * (250 + ms)` after its submit.
+/// The premises:
+/// - The span `s` is at least 1, and the reply window has `w` commands with `2 * s <= w + 1`.
+/// - The link is asked at least every `ms` milliseconds from the submit of the command on, each time until `due`
+///   returns no command.
 ///
-/// While it waits, one transmission that arrives at the device and the one response that comes back are enough. That is
-/// a round trip of [`law_round_trip`], under its premises. What the device, the other links and the network do is left
-/// open, and so is what is lost, duplicated or reordered.
+/// One of these then holds of each command that the link submitted:
+/// - The link has the command's answer, or the answer was taken from the link.
+/// - The link is lost.
+/// - The command still waits, and was sent in time: within `ms` of its submit, and again less than `250 + ms` after
+///   each transmission, with the same bytes. It waits no longer than `ms + 20 * (250 + ms)` after its submit.
+///
+/// While the command waits, one transmission that arrives at the device and the one response that comes back are
+/// enough, as [`law_round_trip`] says under its premises. What the device, the other links and the network do is left
+/// open: datagrams may be lost, duplicated or reordered.
 pub fn law_getting_through()
     ensures { EveryCommandGetsThrough }
 {
     law_written_is_read_back();
 }
 
-/// Laws: over every schedule, no command of a link is executed twice if the link and the network are in time. That
-/// holds for all sizes, whatever sessions the device forgot meanwhile, and whatever became of the other links. A
-/// schedule is a list of steps of a device and some links ([`Step`](crate::Step)).
+/// Laws: over every schedule, no command of a link is executed twice if the link and the network are in time. The laws
+/// hold for all sizes, whatever sessions the device forgot meanwhile, and whatever happened to the other links. A
+/// *schedule* is a list of steps of one device and some links ([`Step`](crate::Step)). The function does nothing at run
+/// time.
 ///
-/// In time means two things. First, the link is never asked what is due while it is late: a command of it is
-/// unanswered, and was submitted more than 15,000 ms ago. Second, each of the link's datagrams that comes to the device
-/// comes no earlier than it left, and at most 100,000 ms later. This compares the device's clock with the link's. So it
-/// says that these clocks run alike, and that the network holds nothing for longer than 100,000 ms. A datagram that is
-/// lost, or has not arrived at the end, does not matter.
+/// The premises, which are what *in time* means:
+/// - The link is never asked what is due while it is late. It is *asked* if its [`due`](oca_control::Link::due) is
+///   called. It is *late* while a command of it is unanswered that was submitted more than 15,000 ms ago.
+/// - Each of the link's datagrams that comes to the device comes no earlier than it left, and at most 100,000 ms later.
+///   The moment of leaving is by the link's clock, and that of coming is by the device's clock. The premise says that
+///   these clocks run alike, and that the network holds nothing longer than 100,000 ms. A datagram that never comes
+///   does not matter.
 ///
-/// So each answer that the link has or returned is that of the only execution under its handle. And if a transmission
-/// of an executed command comes to the device, the session in which the command was executed is not forgotten.
+/// The conclusions:
+/// - No two executions for the link's peer, which is its address and port, are of one handle.
+/// - Each answer that the link has or returned is the reply of the only execution under its handle.
+/// - If a transmission of a command that was executed comes to the device, the device has not forgotten the session in
+///   which the command was executed.
 ///
-/// A schedule has one device from its beginning to its end. So nothing is proved of a device that is started again. The
-/// function does nothing at run time.
+/// A schedule has one device from its beginning to its end. Nothing is proved of a device that is started again.
 pub fn law_once_in_time()
     ensures once { EveryCommandInTimeIsExecutedOnce }
     ensures answers { EveryAnswerInTimeIsOfOneExecution }
@@ -121,28 +153,29 @@ pub fn law_once_in_time()
 }
 
 /// Laws: over every schedule and for all sizes, the answer to a command is true of the device if the link and the
-/// network are in time. A link submits a command under a handle in a step, and has its answer at the end of the
-/// schedule, or returned it before. The premises are those of [`law_once_in_time`]. The function does nothing at run
+/// network are in time. A *schedule* is a list of steps of one device and some links ([`Step`](crate::Step)). *In time*
+/// is what [`law_once_in_time`] explains, and is the premise of the laws of answers. The function does nothing at run
 /// time.
 ///
-/// Between: the answer is that of the only execution of the command. This happened when one of its transmissions was
-/// delivered to the device, in a step after the submit. The execution began with the objects that the device had then
-/// by [`law_by_events`](oca_device::law_by_events), and afterwards the device had the objects that the execution left.
+/// The laws hold of each answer that a link has at the end, or returned before, to a command that it submitted in a
+/// step. The *execution* is that of this command by the device.
+/// - Between: the answer is the reply of the only execution. This happened in a step after the submit, which delivered
+///   a transmission of the command to the device. The execution began with the objects that the device had then by
+///   [`law_by_events`](oca_device::law_by_events). Afterwards the device had the objects that the execution left.
+/// - Refused: if the status is not OK, the execution changed nothing, and the status is the first that applies.
+/// - OK: if the status is OK, what is read is what the object with the command's number answered. The execution left
+///   this object as the request makes it, and the other objects as they were.
+/// - Reads: what is read of an OK answer to a get method is the object's value, with its limits, at a moment between
+///   the submit and the answer.
+/// - Sets: if a set method is answered OK, the execution set the object to the value, once. The object's value was then
+///   this value, with the limits that the object had.
+/// - Class: the class of the object with a number never changes in a schedule. So the answer to GetClassIdentification
+///   stays true. This law needs no premise of time.
 ///
-/// Refused: if the status is not OK, this execution changed nothing, and the status is the first that applies.
-///
-/// OK: this needs two more premises. The device's objects were a tree at first, with texts and numbers of their types,
-/// which is always true in Rust. The answer is read by the object's class, or is to a method of OcaRoot or OcaWorker
-/// (AES70-2). If the status is OK, what is read is what the object with the command's number answered. This object is
-/// then as the request makes it, and the other objects are as they were.
-///
-/// Reads: what is read of an OK answer to a get method is the object's value, with its limits, at a moment between the
-/// submit and the answer. Sets: if a set method is answered OK, the execution set the object to the value, once. The
-/// object's value is then this value, with the limits that it had. A command without an answer was executed at most
-/// once, by [`law_once_in_time`].
-///
-/// Class: the class of the object with a number never changes in a schedule. So the answer to GetClassIdentification
-/// stays true.
+/// OK, Reads and Sets have two more premises. The device's objects were a tree at first, with texts and numbers of
+/// their types, which is always true in Rust. The answer is read by the object's class, and a value that is set is of
+/// this class. OK also holds of an answer to a method of OcaRoot or OcaWorker (AES70-2), read by any class. A command
+/// without an answer was executed at most once ([`law_once_in_time`]).
 pub fn law_of_what_is_said()
     ensures between { OfEachAnswer IsOfOneExecutionSince }
     ensures refused { OfEachAnswer RefusalsChangeNothing }

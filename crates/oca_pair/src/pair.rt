@@ -32,17 +32,22 @@ pub struct Transcript {
     pub log: Vec<Outcome>,
 }
 
-/// Runs the steps of a schedule (`steps`) over a device and some links, for tests, and returns what each step did, in
-/// the order of the steps. The call is [`run_pair_with_sizes`] with reply windows of `window` commands (1 to 64) and
-/// sessions of at most 16 peers.
+/// Runs the steps of a schedule over a device and some links, for tests, and returns what each step did, in the order
+/// of the steps. A *schedule* is a list of steps: what is submitted, sent, delivered, taken or set ([`Step`]). Nothing
+/// is sent over a network. The call takes memory from `alloc` for the run. The arguments:
+/// - `tree` has the objects of the device, which is at 127.0.0.1:65000 and has sessions of at most 16 peers.
+/// - `window` is the size of the reply window: the device keeps the last 1 to 64 accepted commands of each peer with
+///   their replies.
+/// - `span` is the span of each link, 1 to 32: a new handle is below the lowest handle in flight plus the span.
+/// - `starts` has the address and port of each link, and the handle of its first command. Each link is made at moment
+///   0.
+/// - `steps` are run in order. [`Step`] says which steps have a moment, in milliseconds.
 ///
-/// The device is at 127.0.0.1:65000 and has the objects of `tree`. There is a link with the span `span` (1 to 32) for
-/// each of `starts`, made at moment 0: a start has the link's address and the handle of its first command. The call
-/// takes memory for the run. Nothing is sent over a network.
-///
-/// Refusals, after which nothing of the run is returned. `SamePeer`, checked first, if two starts have the same peer,
-/// or one has the device's. `BadStep` with the number, from 0, of the first step that names a link or a datagram that
-/// is not there, or is an `Other` from a link's peer. `NoMemory` if memory was refused before such a step.
+/// Refusals, after which nothing of the run is returned:
+/// - `SamePeer` if two starts have the same address and port, or a start has the device's. This is checked first.
+/// - `BadStep` with the number, from 0, of the first step that names a link or a datagram that is not there, or that is
+///   an `Other` from a link's peer.
+/// - `NoMemory` if memory was refused before such a step.
 pub fn run_pair(
     alloc: Global,
     tree: Tree,
@@ -60,17 +65,23 @@ pub fn run_pair(
     run_pair_with_sizes(alloc, tree, Sizes { window, peers }, span, starts, steps)
 }
 
-/// Runs the steps of a schedule (`steps`) over a device and some links, for tests, and returns what each step did, in
-/// the order of the steps. The device is at 127.0.0.1:65000, has the objects of `tree`, and has the sizes `sizes`:
-/// reply windows of 1 to 64 commands and sessions of 1 to 64 peers. There is a link with the span `span` (1 to 32) for
-/// each of `starts`, made at moment 0: a start has the link's address and the handle of its first command.
+/// Runs the steps of a schedule over a device and some links, for tests, and returns what each step did, in the order
+/// of the steps. A *schedule* is a list of steps: what is submitted, sent, delivered, taken or set ([`Step`]).
+/// Datagrams go from list to list: nothing is sent over a network. The call takes memory from `alloc` for the run. The
+/// arguments:
+/// - `tree` has the objects of the device, which is at 127.0.0.1:65000.
+/// - `sizes` has the device's sizes. The reply window keeps the last 1 to 64 accepted commands of each peer with their
+///   replies. At most 1 to 64 peers have a session at once.
+/// - `span` is the span of each link, 1 to 32: a new handle is below the lowest handle in flight plus the span.
+/// - `starts` has the address and port of each link, and the handle of its first command. Each link is made at moment
+///   0.
+/// - `steps` are run in order. [`Step`] says which steps have a moment, in milliseconds.
 ///
-/// The steps run in order. [`Step`] says which steps have a moment, in milliseconds. Datagrams go from list to list:
-/// nothing is sent over a network. The call takes memory for the run.
-///
-/// Refusals, after which nothing of the run is returned. `SamePeer`, checked first, if two starts have the same peer,
-/// or one has the device's. `BadStep` with the number, from 0, of the first step that names a link or a datagram that
-/// is not there, or is an `Other` from a link's peer. `NoMemory` if memory was refused before such a step.
+/// Refusals, after which nothing of the run is returned:
+/// - `SamePeer` if two starts have the same address and port, or a start has the device's. This is checked first.
+/// - `BadStep` with the number, from 0, of the first step that names a link or a datagram that is not there, or that is
+///   an `Other` from a link's peer.
+/// - `NoMemory` if memory was refused before such a step.
 pub fn run_pair_with_sizes(
     alloc: Global,
     tree: Tree,

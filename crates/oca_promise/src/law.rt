@@ -10,22 +10,28 @@ ghost use Rattle.oca_promise.specs.Flights.{EverySetInFlightKeeps, EveryReadingI
 use oca_pair::law_of_what_is_said;
 use oca_pdu::law_reading;
 
-/// Laws: what a panel's calls return is true of the device, in every network in which the calls are made. A network is
-/// a schedule of `oca_pair` ([`Step`](oca_pair::Step)) in which the panel's end delivered what the network's device
-/// sent to this link. The premises of [`law_of_what_is_said`](oca_pair::law_of_what_is_said) hold in it: the link and
-/// the network are in time. The laws from "Set" on have one more premise: the device's objects were a tree at first,
-/// with texts and numbers of their types, which is always true in Rust. The function does nothing at run time.
+/// Laws: what a panel's calls return is true of the device, in every network in which the calls are made, if the link
+/// and the network are in time. The function does nothing at run time. The words and the premises:
+/// - A *network* is a schedule of `oca_pair` ([`Step`](oca_pair::Step)), which is a list of steps of one device and
+///   some links. The panel's end delivered what the device of the network sent to the panel's link.
+/// - *In time*: the premises of [`law_of_what_is_said`](oca_pair::law_of_what_is_said) hold. The link is never asked
+///   what is due while a command that was submitted more than 15,000 ms ago has no answer (the link is then *late*).
+///   Each of its datagrams that comes to the device comes no earlier than it left, and at most 100,000 ms later.
+/// - From "Set" on: the device's objects were a tree at first, with texts and numbers of their types. In Rust that is
+///   always true.
 ///
-/// Once: each answer is that of the only execution of the command of the call, and this execution lies between the call
-/// and its return. In time: no call sends while its link is late, if no datagram of another sender was delivered.
-/// Refused: a call that was refused with a status changed no object.
-///
-/// Set: if `set` returns Ok, the object was set to the value, if it is of the value's class. Get: what `get` returns is
-/// the object's value at a moment during the call. Reading: what `reading_of` returns is the object's value with its
-/// limits at a moment during the call, if the object is of the class that was given. Members: the numbers are those of
-/// the block's members, if the object is a block. Lock and unlock: the object was locked for this peer, or its lock was
-/// released. Class, role and label: they are the object's. Describes: what a walk returns of an object, its class and
-/// its role, is the object's.
+/// The conclusions:
+/// - Once: each answer is the reply of the only execution of the call's command. The execution lies between the call
+///   and its return.
+/// - In time: no call sends while its link is late, if no datagram of another sender was delivered.
+/// - Refused: a call that was refused with a status changed no object.
+/// - Set: if `set` returns Ok, the object was set to the value, if it is of the value's class.
+/// - Get: what `get` returns is the object's value at a moment during the call.
+/// - Reading: what `reading_of` returns is the object's value with its limits at a moment during the call, if the
+///   object is of the class that was given.
+/// - Members: the numbers are those of the block's members, if the object is a block.
+/// - Lock and unlock: the object was locked for this peer, or its lock was released.
+/// - Class, role, label, and what a walk returns of an object (its class and its role) are the object's.
 ///
 /// If the end does not record what it delivers, all this holds of some deliveries and an answer that fit the call.
 pub fn law_of_calls()
@@ -49,20 +55,25 @@ pub fn law_of_calls()
 }
 
 /// Laws: what a panel returns of commands in flight is true of the device, in every network in which its calls are
-/// made. One call begins a command and returns its handle, other calls follow, and a later call takes the answer under
-/// that handle. The calls between begin commands, wait for them, look them up, or take turns. What a network is, and
-/// the premises, are as in [`law_of_calls`]. The function does nothing at run time.
+/// made, if the link and the network are in time. A *network*, *in time* and *late* are what [`law_of_calls`] explains,
+/// and its premises are the premises here. The function does nothing at run time.
 ///
-/// Once: each answer is that of the only execution of the command that was begun under this handle. This execution lies
-/// between the begin and the taking of the answer. If no datagram of another sender was delivered, no call between
-/// takes this answer. In time: if no datagram of another sender was delivered, none of these calls sends while the link
-/// is late. Refused: a command that was refused with a status changed no object.
+/// A command is *in flight* from the call that begins it until a call takes its answer. One call begins a command and
+/// returns its handle, which is the command's number. Other calls follow: they begin commands, wait for them, look them
+/// up, or take turns. A later call takes the answer under that handle.
 ///
-/// Set: if the command to set is answered OK, the object was set to the value, if it is of the value's class. Reading:
-/// what was read is the object's value with its limits at a moment between the begin and the taking, if the object is
-/// of the class that was given. Answer: what is read of the answer to any method is what the object answered, and the
-/// object was left as the request makes it. That holds if the object is of the class that was given, or every class
-/// answers the method alike.
+/// The conclusions:
+/// - Once: each answer is the reply of the only execution of the command that was begun under this handle. The
+///   execution lies between the begin and the taking of the answer. If no datagram of another sender was delivered, no
+///   call between takes this answer.
+/// - In time: if no datagram of another sender was delivered, none of these calls sends while the link is late.
+/// - Refused: a command that was refused with a status changed no object.
+/// - Set: if the command to set is answered OK, the object was set to the value, if it is of the value's class.
+/// - Reading: what was read is the object's value with its limits at a moment between the begin and the taking, if the
+///   object is of the class that was given.
+/// - Answer: what is read of the answer to any method is what the object answered, and the execution left the object as
+///   the request makes it. The premise is that the object is of the class that was given, or that every class answers
+///   the method alike.
 pub fn law_of_flights()
     ensures once { EveryAnsweredFlightKeeps IsOfOneExecutionSince }
     ensures in_time { EveryFlightIsInTime }
