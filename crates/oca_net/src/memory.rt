@@ -78,11 +78,13 @@ impl fmt::Debug for MemoryEnd {
 }
 
 impl MemoryEnd {
-    /// Makes an end in memory whose receives return the entries of `script`, in order, and `Closed` after the last.
+    /// Makes an end of a network in memory, for tests. The arguments:
+    /// - `script` has what the receives return, in order. After the last entry each receive returns `Closed`.
+    /// - `room` is the number of sent datagrams that the end can store. The call takes the memory for them from
+    ///   `alloc`. Each send beyond the room fails.
+    /// - `fail_send` is the number of the send that fails, counted from 0. With `None` no send is chosen to fail.
     ///
-    /// The end stores up to `room` datagrams that are sent, and the call takes the memory for them. `fail_send` is the
-    /// number of the send that fails, counted from 0; with `None` no send is chosen to fail. Each send beyond the room
-    /// fails too. Refusal: `NoMemory` if memory was refused; the script is then lost.
+    /// The only refusal is `NoMemory` if memory was refused. The script is then lost.
     pub fn new(
         alloc: Global,
         script: Vec<Scripted>,

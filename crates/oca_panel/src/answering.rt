@@ -39,15 +39,19 @@ pub enum Probed {
 
 /// Finds out whether a device answers commands from the end's port. The call sends a command that reads the class of
 /// the root, again each 250 ms, and up to four keep-alives. After each keep-alive it receives five times, until the
-/// answer comes. At a socket the call takes at most a second. The command changes no object.
+/// answer comes. At a socket the call takes at most a second. The command changes no object. The arguments:
+/// - `end` sends and receives, and stores when its *watched* peer was last heard ([`Watched`]).
+/// - `device` is the device's address, and must be the peer that the end watches.
+/// - `handle` is the handle of the command, 0 to 4294967295. The handle is used afterwards: a link over the same end
+///   must begin above it. A device may leave the command unanswered if it heard this or a higher handle from the end's
+///   address and port before.
 ///
-/// `device` is the device's address, and must be the peer that the end watches. `handle` is the handle of the command,
-/// 0 to 4294967295. A device may leave the command unanswered if it heard this or a higher handle from the end's
-/// address and port before. The handle is then used: a link over the same end must begin above it.
+/// The result is the first that applies:
+/// - `Answering` if the command is answered, whatever the status is.
+/// - `NotAnswering` if the end has heard its peer, even before this call. Then use another port.
+/// - `NotHeard` in all other cases.
 ///
-/// Returns `Answering` if the command is answered, whatever the status. Otherwise `NotAnswering` if the end has heard
-/// its peer, even before this call: then use another port. Otherwise `NotHeard`. A send or receive that fails is not
-/// reported, and the call goes on.
+/// A send or receive that fails is not reported, and the call goes on.
 pub fn probe<E: End>(end: &mut Watched<E>, device: Peer, handle: Handle) -> Probed
     ensures { Probes device handle.0 end.old.end_state end.new result }
 {
@@ -132,9 +136,10 @@ fn submit(link: &mut Link, now: u64) -> Option<Handle>
     }
 }
 
-/// Sends a device one keep-alive with a heartbeat of five seconds (AES70-3), which a device returns. `true` if the end
-/// took the datagram, which does not say that it arrives. `false` if the send failed. The call receives nothing, and
-/// takes no memory.
+/// Sends the device at the address `device` one keep-alive with a heartbeat of five seconds (AES70-3), over `end`. A
+/// device returns each keep-alive. The call receives nothing, and takes no memory. The result is:
+/// - `true` if the end sent the datagram, which does not say that it arrives.
+/// - `false` if the send failed.
 pub fn keep_alive<E: End>(end: &mut E, device: Peer) -> bool
     ensures { SendsKeepAlive device (E.state end.old) (E.state end.new) }
 {

@@ -88,7 +88,8 @@ impl<T: Copy + Default> InFlight<T> {
     ghost use Rattle.oca_panel.specs.InFlight.{BeginsBehind, FinishesFirst, SettlesFirst, is_full};
     ghost use Rattle.oca_panel.specs.PrivateInFlight.{IsFirst, TakesOff};
 
-    /// Makes an empty queue: no command is in flight. The queue takes no memory beside itself, and nothing is refused.
+    /// Makes an empty queue: no command is in flight, which means that none waits for its answer to be taken. The queue
+    /// has room for 32 commands. It takes no memory beside itself, and nothing is refused.
     pub fn new() -> InFlight<T>
         ensures { result ≡ [] }
     {

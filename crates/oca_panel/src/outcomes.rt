@@ -33,12 +33,17 @@ fn parameters_in(outcome: &Outcome) -> Result<&[u8], Trouble>
     }
 }
 
-/// Returns Ok if `outcome` says that a command was answered with the status OK (AES70-2), whatever its parameters are.
-/// Nothing is changed.
+/// Returns Ok if `outcome` says that a command was answered with the status OK (AES70-2), whatever the parameters of
+/// the answer are. Nothing is changed or sent.
 ///
-/// Faults: `Refused` with the status, 1 to 255, if the status of the answer is not OK. `NotSubmitted` with the reason
-/// if the link refused the command. `Lost` or `Unanswered` if that is the outcome: then the device may have carried out
-/// the command, or may still do that.
+/// Faults ([`Trouble`]):
+/// - `Refused` with the status, 1 to 255, if the status of the answer is not OK.
+/// - `NotSubmitted` with the reason if the link refused the command: it was never sent.
+/// - `Lost` if the link was lost or late before an answer came. A link is *lost* once a command got no answer to 20
+///   transmissions. It is *late* while a command that was submitted more than 15,000 ms ago has no answer.
+/// - `Unanswered` if no answer came in the time of the wait.
+///
+/// After `Lost` and `Unanswered` the device may have carried out the command, or may still do that.
 pub fn done_in(outcome: &Outcome) -> Result<(), Trouble>
     ensures { result ≡ done_answered outcome.now }
 {

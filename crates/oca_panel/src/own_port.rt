@@ -93,10 +93,16 @@ fn handles_in(seconds: u64, microseconds: u32) -> u128
     u128::from(seconds) * 100_000 + u128::from(microseconds / 10)
 }
 
-/// Law: take two moments for which [`OwnPort::at`] returns the same port, the later at least 10 microseconds after the
-/// other. The first handle of the later one is higher, or the later one is more than 21,474 seconds after the other. A
-/// device forgets a session after 120 seconds. The rule is this library's, not AES70's. The function does nothing at
-/// run time.
+/// Law: of two times of day with the same port, the later has the higher first handle, or is more than 21,474 seconds
+/// after the other. [`OwnPort::at`] returns the port and the first handle of a time of day: a program that starts then
+/// binds this port and gives its first command this handle. The rule is this library's, not AES70's. The function does
+/// nothing at run time.
+///
+/// The premises are two moments for which [`OwnPort::at`] returns the same port, the later at least 10 microseconds
+/// after the other. One of these then holds:
+/// - The first handle of the later moment is higher.
+/// - The later moment is more than 21,474 seconds after the other. A device forgets what it stored of an address and
+///   port after 120 seconds without a datagram from there.
 pub fn law_of_turns()
     ensures { HandlesRiseOrRest }
 {}

@@ -87,18 +87,18 @@ impl<E: End> Panel<E> {
     ghost use Rattle.oca_panel.specs.Renewals.{IsFoundLost};
 
     /// Makes a panel for the device at the address `device`, over `end`, with a new link. Nothing is sent, no memory is
-    /// taken, and nothing is refused. The link begins at the end's present moment.
+    /// taken, and nothing is refused. The link begins at the end's present moment. The other arguments:
+    /// - `first` is the handle of the first command, 0 to 4294967295. If the device has heard the end's port before,
+    ///   `first` must be above all handles that were used there, or the device may leave commands unanswered. Handles
+    ///   from before a pause of more than two minutes, in which nothing was sent from the port, do not count.
+    ///   [`OwnPort`](crate::OwnPort) chooses a handle.
+    /// - `span` is the span, 1 to 32 with the default 16. At most `span` commands are in flight: each new handle is
+    ///   below the lowest handle in flight plus `span`.
+    /// - `wait` is for how many milliseconds a call waits for an answer at most, 0 to 4294967295, whatever else comes
+    ///   to the end meanwhile ([`wait_while`](oca_control::wait_while)).
     ///
-    /// `first` is the handle of the first command, 0 to 4294967295. If the device has heard the end's port before,
-    /// `first` must be above all handles that were used there, or the device may leave commands unanswered. Handles
-    /// from before a pause of more than two minutes, in which nothing was sent from the port, do not count.
-    /// [`OwnPort`](crate::OwnPort) chooses a handle. At most `span` commands are in flight: each new handle is below
-    /// the lowest handle in flight plus `span`.
-    ///
-    /// A call that waits for an answer waits for at most `wait` milliseconds, 0 to 4294967295
-    /// ([`wait_while`](oca_control::wait_while)), whatever else comes to the end meanwhile. If the device does not
-    /// answer a command, the link is lost 5 to 10.25 seconds after the submit, as long as a call waits or turns are
-    /// taken.
+    /// If the device does not answer a command, the link is lost 5 to 10.25 seconds after the submit, as long as a call
+    /// waits or turns are taken.
     pub fn open(device: Peer, end: E, first: Handle, span: Span, wait: u32) -> Panel<E>
         ensures { IsOpened device first.0 (span_size span) wait (E.state end) result }
     {
@@ -106,10 +106,13 @@ impl<E: End> Panel<E> {
         Panel::new(link, end, wait)
     }
 
-    /// Makes a panel over the link `link`, which exists already, and over `end`. A call that waits for an answer waits
-    /// for at most `wait` milliseconds, 0 to 4294967295. The commands and answers of the link stay, and so do its clock
-    /// and its span. [`unanswered`](Panel::unanswered) is `false` at first. Nothing is sent, no memory is taken, and
-    /// nothing is refused.
+    /// Makes a panel over the link `link`, which exists already, and over `end`. Nothing is sent, no memory is taken,
+    /// and nothing is refused.
+    /// - `link` stays as it is, with its commands, answers, clock and span.
+    /// - `end` sends and receives for the link.
+    /// - `wait` is for how many milliseconds a call waits for an answer at most, 0 to 4294967295.
+    ///
+    /// [`unanswered`](Panel::unanswered) is `false` at first.
     pub fn new(link: Link, end: E, wait: u32) -> Panel<E>
         ensures { result ≡ record { link = link; end_state = E.state end; wait = wait; unanswered = false } }
     {

@@ -105,8 +105,9 @@ impl Walk {
     ghost use Rattle.std.specs.Prelude.{◌≡◌, length, nat_lt, IfOk};
     ghost use Rattle.oca_panel.specs.Walks.{StepsTo, StepsToPlace, begun_walk};
 
-    /// Makes a walk whose first place is the root block (number 100). Nothing is asked of the device. The call takes
-    /// memory for one place. Refusal: `NoMemory` if that memory is refused.
+    /// Makes a walk whose first place is the root block (number 100). A *place* is an object and the block that lists
+    /// it. Nothing is asked of the device. The call takes from `alloc` memory for one place. The only refusal is
+    /// `NoMemory` if that memory is refused.
     pub fn new(alloc: Global) -> Result<Walk, NoMemory>
         ensures { IfOk result (λ walk. walk ≡ begun_walk) }
     {

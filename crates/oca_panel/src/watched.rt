@@ -47,8 +47,10 @@ impl<E: End> fmt::Debug for Watched<E> {
 impl<E: End> Watched<E> {
     ghost use Rattle.std.specs.Prelude.{◌≡◌, None};
 
-    /// Makes an end over the end `end`, which becomes the end inside, and watches `peer`. [`heard`](Watched::heard) is
-    /// `None` at first. Nothing is sent or received, no memory is taken, and nothing is refused.
+    /// Makes an end of a network over the end `end`, which becomes the end inside, and watches the peer `peer`. To
+    /// *watch* a peer is to store the moment of the last datagram from its address and port. [`heard`](Watched::heard)
+    /// returns this moment, and is `None` at first. Nothing is sent or received, no memory is taken, and nothing is
+    /// refused.
     pub fn new(end: E, peer: Peer) -> Watched<E>
         ensures { result ≡ record { end_state = E.state end; peer = peer; heard = None } }
     {

@@ -76,9 +76,11 @@ impl Sessions {
     ghost use Rattle.oca_session.specs.Table.{with_heartbeat, with_entry, with_accepted, Hears, IsKnownAfter, AgreesAt};
     ghost use Rattle.oca_session.specs.Sound.{IsTable};
 
-    /// Returns a table without sessions, at the moment 0, with room for 16 sessions, each with a reply window of
-    /// `window` commands (*profile*). The call takes from `alloc` all the memory that the sessions will need; no later
-    /// call takes any. The only refusal is `NoMemory`, if the allocator refused memory; no table is then returned.
+    /// Returns a table without sessions, at the moment 0, with room for the sessions of 16 peers (*profile*). `window`
+    /// is the size of the reply window of each session: 1 to 64 commands, with the default 32. The reply window
+    /// contains the last accepted commands of the peer with their replies. The call takes from `alloc` all the memory
+    /// that the sessions will need: no later call takes any. The only refusal is `NoMemory` if the allocator refused
+    /// memory. No table is then returned.
     pub fn new(alloc: Global, window: Window) -> Result<Sessions, NoMemory>
         ensures { IfOk result (λ t. t ≡ record {
           sizes = record { window = window_size window; peers = 16 };
@@ -95,10 +97,13 @@ impl Sessions {
         )
     }
 
-    /// Returns a table without sessions, at the moment 0, with room for 1 to 64 sessions, each with a reply window of 1
-    /// to 64 commands (*profile*). `sizes` says both numbers. The call takes from `alloc` all the memory that the
-    /// sessions will need; no later call takes any. The only refusal is `NoMemory`, if the allocator refused memory; no
-    /// table is then returned.
+    /// Returns a table without sessions, at the moment 0, with the sizes in `sizes` (*profile*):
+    /// - The table has room for the sessions of 1 to 64 peers, with the default 16.
+    /// - Each session has a reply window of 1 to 64 commands, with the default 32. The reply window contains the last
+    ///   accepted commands of the peer with their replies.
+    ///
+    /// The call takes from `alloc` all the memory that the sessions will need: no later call takes any. The only
+    /// refusal is `NoMemory` if the allocator refused memory. No table is then returned.
     pub fn with_sizes(alloc: Global, sizes: Sizes) -> Result<Sessions, NoMemory>
         ensures { IfOk result (λ t. t ≡ record { sizes = sizes_of sizes; moment = 0; sessions = [] }) }
     {

@@ -23,13 +23,18 @@ use std::alloc::Global;
 /// For how many objects there is room, the root counted.
 const MOST_OBJECTS: u16 = 4096;
 
-/// Reads the objects of a device from a text, and returns them as a tree (the form of the text is the profile's;
-/// [`crate`] describes it). The root comes first, then the objects of the lines, in the order of the lines. The first
-/// line may begin with `root`, and then has the root's stored label and enabled flag. An empty text gives a tree of the
-/// root alone. The call takes from `alloc` the memory for 4,096 objects. Refusals:
-/// - `Line` with the number of the first line with a fault, counted from 1, and the first fault in the line.
-/// - `NoMemory` if the allocator refused memory. If the first line begins with `root` and has a fault, the refusal is
-///   `Line`, and no memory is taken.
+/// Reads the objects of a device from a text, and returns them as a tree. [`crate`] describes the form of a line, which
+/// is the profile's. The root comes first, then the objects of the lines, in the order of the lines. The first line may
+/// begin with `root`, and then has the root's stored enabled flag and label. An empty text gives a tree of the root
+/// alone.
+///
+/// A tree has at most 4,096 objects, the root counted. A line that lists one object more has the fault `Full` if all
+/// its fields can be read. The call takes from `alloc` the memory for 4,096 objects, whatever the number of lines is.
+/// Refusals, after which no tree is returned:
+/// - `Line` with the number of the first line with a fault, counted from 1, and the first fault in this line. Empty
+///   lines and lines that begin with `#` are counted too.
+/// - `NoMemory` if the allocator refused the memory. If the first line begins with `root` and has a fault, the refusal
+///   is `Line`, and no memory is taken.
 #[tactic(auto, unfolding(crate::specs::Texts::objects_of_text))]
 pub fn tree_from_text(alloc: Global, text: &[u8]) -> Result<Tree, TreeFault>
     ensures ok { IfOk result (λ tree. objects_of_text text.now ≡ ok tree) }

@@ -532,9 +532,13 @@ fn print_line<W: Sink>(
 
 /// Prints a tree as a text that [`tree_from_text`](crate::tree_from_text) reads: one line for each object, in order of
 /// adding (*profile*). The text does not contain the locks of objects, and does not say whose hardware refuses changes.
-/// The tree is unchanged. A part of the text can still wait in the printer when the call returns; [`Printer::flush`]
-/// writes it. The only refusal is `WriteFailed`, if a write failed. Then perhaps only the beginning of the bytes that
-/// waited and of the text was written, and the rest is lost. The call takes no memory.
+/// `tree` is unchanged. The call takes no memory.
+///
+/// `printer` gets the text. It stores up to 8,192 bytes before it writes them to its sink. A part of the text can still
+/// wait in the printer when the call returns. [`Printer::flush`] writes this part.
+///
+/// The only refusal is `WriteFailed` if a write to the sink failed. Then perhaps only the beginning of the bytes that
+/// waited and of the text was written, and the rest is lost.
 #[tactic(auto, unfolding(crate::specs::Written::text_of))]
 pub fn print_tree<W: Sink>(tree: &Tree, printer: &mut Printer<W>) -> Result<(), WriteFailed>
     ensures { Prints result printer.old printer.new (text_of tree.now) }

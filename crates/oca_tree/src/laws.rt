@@ -19,25 +19,29 @@ pub fn law_of_descendants(tree: &Tree)
     let _sound = tree.len();
 }
 
-/// Laws of what is set at the device's local front panel with [`Tree::set`](Tree::set), for all objects and commands
-/// (*profile*). The contract of the function states these laws, and the function does nothing at run time.
+/// Laws: a value that is set at the device's local front panel changes an object as a command of a peer does, for all
+/// objects and commands (*profile*). The *local front panel* is the device's own: [`Tree::set`](Tree::set) sets an
+/// object there. The function states these laws as its contract, and does nothing at run time.
 /// - A value changes an object in the same way, whichever peer sets the value.
-/// - Take a peer's command that sets an object to a value of its class, and that neither a lock nor the object's
-///   hardware refuses. The command changes the tree as `Tree::set` does with this value. `Tree::set` refuses the value
-///   exactly if the status of the command is not OK.
-/// - The value in each command that sets an object is a value of the object's class.
+/// - Each command that sets an object sets it to a value of the object's class.
+///
+/// The third law has these premises: a peer's command sets an object to a value of its class, no lock refuses the
+/// command, and the object's hardware does not refuse changes. The conclusions are:
+/// - The command changes the tree as `Tree::set` does with this value.
+/// - `Tree::set` refuses the value exactly if the status of the command is not OK.
 pub fn law_of_settings()
     ensures any_peer { AnyPeerSetsTheSame }
     ensures as_peers { FrontSetsAsPeersDo }
     ensures each { EachSettingIsAValue }
 {}
 
-/// Laws of the request of [`set_request`](oca_model::set_request) for a value, if the request is sent to an object of
-/// the value's class (AES70-2). The contract of the function states these laws, and the function does nothing at run
-/// time.
+/// Laws: a device carries out the request of [`set_request`](oca_model::set_request) for a value as its local front
+/// panel would set this value (AES70-2). The *local front panel* is the device's own: [`Tree::set`](Tree::set) sets an
+/// object there. The premise is that the request is sent to an object of the value's class. The function states these
+/// laws as its contract, and does nothing at run time.
 /// - The device understands the request as setting the object to exactly this value.
-/// - The device sets the object as its local front panel would, if neither a lock nor the object's hardware refuses the
-///   command. If the value is out of range, the object is unchanged.
+/// - The objects afterwards are those after `Tree::set` with this value, if no lock refuses the command and the
+///   object's hardware does not refuse changes. If the value is out of range, the object is unchanged.
 pub fn law_of_set_requests()
     ensures understood { IsUnderstood }
     ensures carried_out { IsCarriedOut }
@@ -45,18 +49,25 @@ pub fn law_of_set_requests()
     law_of_settings();
 }
 
-/// Law: adding an object with an empty label, enabled and without flags in [`Start`](crate::Start) is the same as
-/// adding the object without a `Start` (*profile*). The added objects are the same, and so are the refusals. The
-/// default of `Start` has these values. The function states this law as its contract, and does nothing at run time.
+/// Law: adding an object with a plain [`Start`](crate::Start) is the same as adding the object without a `Start`
+/// (*profile*). A `Start` has the label and the enabled flags that were stored of an object. It is *plain* if the label
+/// is empty, the object is enabled, and no flags of positions are given. The default of `Start` is plain. The function
+/// states this law as its contract, and does nothing at run time. The same means two things:
+/// - The added objects are the same.
+/// - The refusals are the same.
 pub fn law_of_starts()
     ensures { PlainAddsTheSame }
 {}
 
 /// Law: an object that is added with all that is read of another object is the same object, except for two things
-/// (*profile*). The added object is not locked, and its hardware does not refuse changes. What must be read is its
-/// number, container, role and class ([`Tree::object_at`](Tree::object_at)), [`is_lockable`](Tree::is_lockable),
-/// [`setting_of`](Tree::setting_of), [`position_names_of`](Tree::position_names_of) and [`start_of`](Tree::start_of).
-/// The function states this law as its contract, and does nothing at run time.
+/// (*profile*). The added object is not locked, and its hardware does not refuse changes. The function states this law
+/// as its contract, and does nothing at run time. What must be read is this:
+/// - Its number, container, role and class ([`Tree::object_at`](Tree::object_at)). The container is the block that
+///   contains the object.
+/// - Whether it can be locked ([`is_lockable`](Tree::is_lockable)).
+/// - Its setting with the limits ([`setting_of`](Tree::setting_of)), and the names of a switch's positions
+///   ([`position_names_of`](Tree::position_names_of)).
+/// - Its label and its enabled flags ([`start_of`](Tree::start_of)).
 pub fn law_of_copies()
     ensures { DescriptionMakesAgain }
 {}
