@@ -66,8 +66,9 @@ pub struct FromReader<R> {
 }
 
 impl<R: Read> FromReader<R> {
-    /// Returns a source over this reader, of which no read has failed yet (*profile*). The source assumes that no read
-    /// waits, as is true for files and memory. The call reads nothing and takes no memory.
+    /// Returns a source over the reader `reader`, of which no read has failed yet (*profile*). A source gives a script
+    /// its text. The source assumes that no read waits, as is true for files and memory. The call reads nothing and
+    /// takes no memory.
     pub fn new(reader: R) -> FromReader<R>
         ensures reader { result.reader ≡ reader }
         ensures unfailed { result.failed ≡ false }
@@ -178,8 +179,8 @@ pub struct ToWriter<W> {
 }
 
 impl<W: Write> ToWriter<W> {
-    /// Returns a sink over this writer, to which no write has failed yet (*profile*). The call writes nothing and takes
-    /// no memory.
+    /// Returns a sink over the writer `writer`, to which no write has failed yet (*profile*). A sink gets the text that
+    /// a script prints. The call writes nothing and takes no memory.
     pub fn new(writer: W) -> ToWriter<W>
         ensures writer { result.writer ≡ writer }
         ensures unfailed { result.failed ≡ false }

@@ -36,8 +36,8 @@ impl<W: Sink + Drop> Drop for Printer<W> {
 }
 
 impl<W: Sink> Printer<W> {
-    /// Returns a printer over this sink, in which no bytes wait (*profile*). It has room for 8,192 bytes. The call
-    /// writes nothing and takes no memory from the heap.
+    /// Returns a printer over the sink `sink`, in which no bytes wait (*profile*). A printer stores up to 8,192 bytes
+    /// before it writes them to its sink. The call writes nothing and takes no memory from the heap.
     pub fn new(sink: W) -> Printer<W>
         ensures { result ≡ output (W.contents sink) [] (W.failed sink) }
     {

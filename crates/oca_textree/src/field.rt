@@ -13,11 +13,16 @@ use oca_script::field::{number, split_at_byte};
 use oca_types::Class;
 use std::str::from_utf8;
 
-/// Reads the next field of a line; returns the field and the rest of the line after it (*profile*). `rest` is the rest
-/// of the line before; `None` means that no field is left. A field that begins with a quote (`"`) ends at the next
-/// quote, and is returned without its quotes. Any other field ends at the next space or at the line's end. The returned
-/// rest begins after the space, and is `None` if the field ends the line. An empty `rest` is one empty field. The only
-/// refusal is `Form`, if `rest` is `None`, or a quote is not closed, or is not followed by a space or the line's end.
+/// Reads the next field of a line, and returns the field and the rest of the line after it (*profile*). `rest` is the
+/// rest of the line before the call. `None` means that no field is left. The field is the first of these that applies:
+/// - A field that begins with a quote (`"`) ends at the next quote, and is returned without its quotes.
+/// - Any other field ends at the next space or at the line's end. An empty `rest` is one empty field.
+///
+/// The returned rest begins after the space. It is `None` if the field ends the line. The only refusal is `Form`, in
+/// these cases:
+/// - `rest` is `None`.
+/// - A quote is not closed.
+/// - A closing quote is not followed by a space or the line's end.
 #[tactic(auto, unfolding(crate::specs::Lines::field_at))]
 pub fn field<'a>(rest: Option<&'a [u8]>) -> Result<(&'a [u8], Option<&'a [u8]>), ObjectFault>
     ensures { field_view result ≡ field_at (option_copied rest.entry) }

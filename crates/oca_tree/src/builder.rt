@@ -460,9 +460,9 @@ impl fmt::Debug for TreeBuilder {
 
 impl TreeBuilder {
     /// Returns a builder that contains only the root block, and has room for 128 objects with the root counted
-    /// (*profile*). The root is a lockable OcaBlock (AES70-2) with the number 100 and the role `root`. The call takes
-    /// the memory for all 128 objects from `alloc`. The only refusal is `NoMemory`, if the allocator refused that
-    /// memory.
+    /// (*profile*). The root is a lockable OcaBlock (AES70-2) with the number 100 and the role `root`. Its label is
+    /// empty, and it is enabled. The call takes the memory for all 128 objects from `alloc`. The only refusal is
+    /// `NoMemory` if the allocator refused that memory. No builder is then returned.
     pub fn new(alloc: Global) -> Result<TreeBuilder, AddFault>
         ensures ok { IfOk result (λ builder. builder ≡ record { room = 128; list = root ∷ [] }) }
         ensures err { IfErr result (λ e. e ≡ NoMemory) }
@@ -471,9 +471,9 @@ impl TreeBuilder {
     }
 
     /// Returns a builder that contains only the root block, and has room for `room` objects with the root counted: 1 to
-    /// 4,096 (*profile*). The root is a lockable OcaBlock (AES70-2) with the number 100 and the role `root`. The call
-    /// takes the memory for all `room` objects from `alloc`. The only refusal is `NoMemory`, if the allocator refused
-    /// that memory.
+    /// 4,096, with the default 128 (*profile*). The root is a lockable OcaBlock (AES70-2) with the number 100 and the
+    /// role `root`. Its label is empty, and it is enabled. The call takes the memory for all `room` objects from
+    /// `alloc`. The only refusal is `NoMemory` if the allocator refused that memory. No builder is then returned.
     pub fn with_room(alloc: Global, room: Room) -> Result<TreeBuilder, AddFault>
         ensures ok { IfOk result (λ builder. builder ≡ record { room = room_size room; list = root ∷ [] }) }
         ensures err { IfErr result (λ e. e ≡ NoMemory) }
@@ -481,11 +481,13 @@ impl TreeBuilder {
         TreeBuilder::holding(alloc, room, root_object())
     }
 
-    /// Returns a builder as [`with_room`](TreeBuilder::with_room) does, whose root has the stored label and enabled
-    /// flag in `start` (*profile*). The root is a lockable OcaBlock (AES70-2) with the number 100 and the role `root`.
-    /// The call takes the memory for all `room` objects (1 to 4,096) from `alloc`. Refusals, the first that applies:
-    /// - `BadLabel` if the label has more than 64 bytes; no memory is then taken.
-    /// - `BadFlags` if `start` has at least one flag of a position, since a block has no positions; no memory is then
+    /// Returns a builder that contains only the root block, with the stored label and enabled flag in `start`
+    /// (*profile*). The root is a lockable OcaBlock (AES70-2) with the number 100 and the role `root`. `start` has what
+    /// was stored of the root: its label, and whether it is enabled. The builder has room for `room` objects with the
+    /// root counted: 1 to 4,096. The call takes the memory for all of them from `alloc`. Refusals, the first that
+    /// applies, after which no builder is returned:
+    /// - `BadLabel` if the label has more than 64 bytes. No memory is then taken.
+    /// - `BadFlags` if `start` has at least one flag of a position, since a block has no positions. No memory is then
     ///   taken.
     /// - `Add(NoMemory)` if the allocator refused memory.
     pub fn with_root(

@@ -10,9 +10,9 @@ ghost use Rattle.oca_tree.specs.TypedLaws.{RefusedKeepsTree, SettingsAreRead};
 use crate::tree::Tree;
 
 /// Law: the descendants of a block, which GetMembersRecursive lists (OcaBlock, AES70-2), are exactly the objects from
-/// which a chain of containers leads to this block. The law holds for the tree `tree`, which can be any tree. A chain
-/// goes from an object to its container, from there to the next container, and so on. The function states this law as
-/// its contract, and does nothing at run time.
+/// which a chain of containers leads to this block. The *container* of an object is the block that contains the object.
+/// A *chain* goes from an object to its container, from there to the next container, and so on. The law holds for the
+/// tree `tree`, which can be any tree. The function states this law as its contract, and does nothing at run time.
 pub fn law_of_descendants(tree: &Tree)
     ensures { DescendantsFollowChains tree.now }
 {
@@ -65,23 +65,25 @@ pub fn law_of_starts()
 /// - Its number, container, role and class ([`Tree::object_at`](Tree::object_at)). The container is the block that
 ///   contains the object.
 /// - Whether it can be locked ([`is_lockable`](Tree::is_lockable)).
-/// - Its setting with the limits ([`setting_of`](Tree::setting_of)), and the names of a switch's positions
-///   ([`position_names_of`](Tree::position_names_of)).
-/// - Its label and its enabled flags ([`start_of`](Tree::start_of)).
+/// - Its setting, for an integer with the least and the greatest value ([`setting_of`](Tree::setting_of)). For a switch
+///   the names of its positions too ([`position_names_of`](Tree::position_names_of)).
+/// - Its label, whether it is enabled, and the flags of a switch's positions ([`start_of`](Tree::start_of)).
 pub fn law_of_copies()
     ensures { DescriptionMakesAgain }
 {}
 
-/// Laws of the commands that a tree executes (AES70-2), for each tree, peer and command. The contract of the function
-/// states these laws, and the function does nothing at run time.
+/// Laws: a command that a tree executes with the status OK does what its request says, and a command with another
+/// status changes nothing (AES70-2). The laws hold for each tree, peer and command. A *request* is what a command asks
+/// of one object: a method with its parameters ([`Request`](oca_model::Request)). The function states these laws as its
+/// contract, and does nothing at run time.
 /// - A command with the status OK made one request of one object. The object changed as the request says, and the
-///   parameters are the object's answer.
+///   parameters of the response are the object's answer.
 /// - A command with any other status changed nothing.
 /// - A command that writes to an object whose hardware refuses changes ([`Tree::set_failing`](Tree::set_failing)) does
 ///   not get the status OK, and changed nothing.
 /// - After a value of the object's class was set, reading returns this value, with the limits that the object had.
-/// - An answer that fits into a response is an answer of the object's class and of the kind of its method. Its premise
-///   is that texts and numbers are of their types, since a contract has them of any size; in Rust that is always true.
+/// - An answer that fits into a response is an answer of the object's class and of the kind of its method. The premise
+///   is that texts and numbers are of their types, since a contract has them of any size. In Rust that is always true.
 pub fn law_of_typed_requests()
     ensures did { CommandsAreTyped }
     ensures refused { RefusedKeepsTree }
