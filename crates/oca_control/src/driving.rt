@@ -19,7 +19,7 @@ use oca_types::{Packet, Peer};
 /// is due if no command is due and nothing was sent for 2,500 ms.
 ///
 /// Each turn is one of these:
-/// - A datagram came: the link stores its answers, and everything that is due is sent.
+/// - A datagram came: the link stores the answers in it ([`Link::datagram`]). Then everything that is due is sent.
 /// - An oversize datagram (more than 1,472 bytes) or none came: everything that is due is sent.
 /// - The receive failed: nothing is sent, the failure is counted, and the loop goes on.
 ///

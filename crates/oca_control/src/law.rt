@@ -17,8 +17,8 @@ use oca_pdu::law_one_list_of_messages;
 ///
 /// - Handles: each accepted command gets its own handle. The handles rise by one from the first. The next handle is
 ///   above each handle in flight by at most the span.
-/// - Refusals: a submit is refused exactly if the link is lost, no handle of 32 bits is left, the next handle is not
-///   below each handle in flight plus the span, or the parameters have more than 1,445 bytes.
+/// - Refusals: a submit is refused in exactly four cases. The link is lost. No handle of 32 bits is left. The next
+///   handle is not below each handle in flight plus the span. The parameters have more than 1,445 bytes.
 /// - Transmissions: what is sent for a handle has the same bytes each time, a PDU of type 1 with its command alone
 ///   (AES70-3). It is sent at most 20 times, at least 250 ms apart by the link's clock.
 /// - [`due`](crate::Link::due) returns the lowest handle that is unanswered and was not sent for 250 ms. If no handle

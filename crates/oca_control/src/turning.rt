@@ -57,7 +57,8 @@ pub fn send_in_time<E: End>(link: &mut Link, end: &mut E, now: u64) -> DriveRepo
 /// Takes one turn of a link over an end: it receives once, and then sends what is due in time. An end that keeps time
 /// ([`End`]) receives until something is due ([`Link::next_due`]), and for at most 50 ms. [`Link`] explains the words
 /// *due*, *lost* and *late*. The turn is one of these:
-/// - A datagram came: the link stores its answers, even if the link is late. Then [`send_in_time`] sends what is due.
+/// - A datagram came: the link stores the answers in it ([`Link::datagram`]), even if the link is late. Then
+///   [`send_in_time`] sends what is due.
 /// - An oversize datagram (more than 1,472 bytes) or none came: [`send_in_time`] sends what is due.
 /// - The receive failed: nothing is sent, `failed_receives` is 1, and `lost` is `false`.
 /// - The end is closed: the link is unchanged, nothing is sent, and `turns` is 0. In all other cases `turns` is 1.

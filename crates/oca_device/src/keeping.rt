@@ -180,7 +180,8 @@ impl fmt::Debug for Keeping {
 /// - `keeping` has memory for answers that wait for the store, and whether something written is not stored
 ///   ([`Keeping::is_behind`]). No answer waits in it at the end.
 /// - `store` gets the objects ([`Store::store`](crate::Store::store)).
-/// - `electronics` get the objects after each datagram, before they are stored ([`Electronics::follow`]).
+/// - `electronics` get the objects after each datagram, before they are stored, so that the hardware does what the
+///   objects say ([`Electronics::follow`]).
 ///
 /// What becomes of the answers:
 /// - The answers to a datagram that wrote to an object wait. Meanwhile further datagrams that have come already are

@@ -17,8 +17,8 @@ use oca_pdu::{law_one_list_of_messages, law_reading};
 /// - The *heartbeat* of a peer is the interval at which the peer said that it sends (AES70-3).
 ///
 /// The conclusions:
-/// - A well-formed datagram is *admitted*, which means that the device serves its messages, if its peer was last heard
-///   at most 120,000 ms ago, or if there is room for another session.
+/// - A well-formed datagram is *admitted* if its peer was last heard at most 120,000 ms ago, or if there is room for
+///   another session. The device serves the messages of admitted datagrams only.
 /// - The objects are those after executing each accepted command once, in order of arrival, with the local front
 ///   panel's changes between them.
 /// - The locks of each peer that is silent for more than three heartbeats are released.

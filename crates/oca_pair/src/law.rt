@@ -18,8 +18,9 @@ use oca_pdu::{law_reading, law_written_is_read_back};
 use oca_tree::law_of_typed_requests;
 
 /// Law: over every schedule, each answer that a link gets is the answer to its own command. The device executed this
-/// command exactly once for the link's peer if the peer kept its session. The law holds for all sizes of reply windows,
-/// all numbers of peers, and all spans. The function does nothing at run time. The words:
+/// command exactly once for the link's peer if the peer kept its session. The law holds for all sizes of a device
+/// ([`Sizes`](oca_types::Sizes)) and all spans of links ([`Span`](oca_types::Span)). The function does nothing at run
+/// time. The words:
 /// - A *schedule* is a list of steps of one device and some links ([`Step`](crate::Step)). No two links have the same
 ///   address and port, and no link has the device's.
 /// - The *peer* of a link is its address and port.
@@ -43,8 +44,8 @@ pub fn law_answers()
     law_reading();
 }
 
-/// Laws: over every schedule, a datagram with a command in flight is answered, and no command is executed twice. Each
-/// law has its premises below. The function does nothing at run time. The words:
+/// Laws: over every schedule and under the premises below, a datagram with a command in flight is answered, and no
+/// command is executed twice. The function does nothing at run time. The words:
 /// - A *schedule* is a list of steps of one device and some links ([`Step`](crate::Step)). The *peer* of a link is its
 ///   address and port: no two links have the same, and no link has the device's.
 /// - A command is *in flight* from its submit until its answer is taken from the link.
@@ -54,7 +55,8 @@ pub fn law_answers()
 /// - A peer *keeps its session* if each of its admitted datagrams came at most 120,000 ms after the one before it.
 ///
 /// The first law has these premises:
-/// - The span `s` is at least 1, and the reply window has `w` commands with `2 * s <= w + 1`.
+/// - The span `s` ([`Span`](oca_types::Span)) is at least 1. The reply window has `w` commands
+///   ([`Window`](oca_types::Window)), with `2 * s <= w + 1`.
 /// - A datagram with a command that is still in flight at its link is delivered to the device.
 /// - The datagram finds room, and the link's peer kept its session, this datagram counted.
 ///
@@ -75,14 +77,16 @@ pub fn law_never_old()
 
 /// Law: over every schedule, one delivered command and the delivered response bring the answer to the link. The
 /// function does nothing at run time. The words:
-/// - A *schedule* is a list of steps of one device and some links ([`Step`](crate::Step)).
+/// - A *schedule* is a list of steps of one device and some links with different addresses and ports
+///   ([`Step`](crate::Step)). The *peer* of a link is its address and port.
 /// - A command is *in flight* from its submit until its answer is taken from the link.
 /// - A peer *kept its session* if each of its admitted datagrams came at most 120,000 ms after the one before it. A
 ///   datagram *finds room* if the device has a session for its peer, or room for one more. [`law_never_old`] has these
 ///   words too.
 ///
 /// The premises:
-/// - The span `s` is at least 1, and the reply window has `w` commands with `2 * s <= w + 1`.
+/// - The span `s` ([`Span`](oca_types::Span)) is at least 1. The reply window has `w` commands
+///   ([`Window`](oca_types::Window)), with `2 * s <= w + 1`.
 /// - A datagram with a command that is still in flight at its link is delivered to the device.
 /// - The datagram finds room, and the link's peer kept its session, this datagram counted.
 ///
@@ -98,14 +102,16 @@ pub fn law_round_trip()
     law_written_is_read_back();
 }
 
-/// Law: over every schedule in which a link is asked often enough, each command of the link is answered, or the link is
-/// lost, or the command still waits and was sent in time. The function does nothing at run time. The words:
-/// - A *schedule* is a list of steps of one device and some links ([`Step`](crate::Step)).
+/// Law: over every schedule, a command of a link that is asked often enough is answered, or the link is lost, or the
+/// command still waits and was sent in time. The function does nothing at run time. The words:
+/// - A *schedule* is a list of steps of one device and some links with different addresses and ports
+///   ([`Step`](crate::Step)).
 /// - A link is *asked* if its [`due`](oca_control::Link::due) is called.
 /// - A link is *lost* once a command got no answer to 20 transmissions.
 ///
 /// The premises:
-/// - The span `s` is at least 1, and the reply window has `w` commands with `2 * s <= w + 1`.
+/// - The span `s` ([`Span`](oca_types::Span)) is at least 1. The reply window has `w` commands
+///   ([`Window`](oca_types::Window)), with `2 * s <= w + 1`.
 /// - The link is asked at least every `ms` milliseconds from the submit of the command on, each time until `due`
 ///   returns no command.
 ///
@@ -126,8 +132,8 @@ pub fn law_getting_through()
 
 /// Laws: over every schedule, no command of a link is executed twice if the link and the network are in time. The laws
 /// hold for all sizes, whatever sessions the device forgot meanwhile, and whatever happened to the other links. A
-/// *schedule* is a list of steps of one device and some links ([`Step`](crate::Step)). The function does nothing at run
-/// time.
+/// *schedule* is a list of steps of one device and some links with different addresses and ports
+/// ([`Step`](crate::Step)). The function does nothing at run time.
 ///
 /// The premises, which are what *in time* means:
 /// - The link is never asked what is due while it is late. It is *asked* if its [`due`](oca_control::Link::due) is
@@ -153,9 +159,9 @@ pub fn law_once_in_time()
 }
 
 /// Laws: over every schedule and for all sizes, the answer to a command is true of the device if the link and the
-/// network are in time. A *schedule* is a list of steps of one device and some links ([`Step`](crate::Step)). *In time*
-/// is what [`law_once_in_time`] explains, and is the premise of the laws of answers. The function does nothing at run
-/// time.
+/// network are in time. A *schedule* is a list of steps of one device and some links with different addresses and ports
+/// ([`Step`](crate::Step)). *In time* is what [`law_once_in_time`] explains, and is the premise of the laws of answers.
+/// The function does nothing at run time.
 ///
 /// The laws hold of each answer that a link has at the end, or returned before, to a command that it submitted in a
 /// step. The *execution* is that of this command by the device.

@@ -45,8 +45,8 @@ pub struct Transcript {
 ///
 /// Refusals, after which nothing of the run is returned:
 /// - `SamePeer` if two starts have the same address and port, or a start has the device's. This is checked first.
-/// - `BadStep` with the number, from 0, of the first step that names a link or a datagram that is not there, or that is
-///   an `Other` from a link's peer.
+/// - `BadStep` with the number, from 0, of the first step that can't be run. The step names a link or a datagram that
+///   is not there, or is an `Other` from a link's peer.
 /// - `NoMemory` if memory was refused before such a step.
 pub fn run_pair(
     alloc: Global,
@@ -79,8 +79,8 @@ pub fn run_pair(
 ///
 /// Refusals, after which nothing of the run is returned:
 /// - `SamePeer` if two starts have the same address and port, or a start has the device's. This is checked first.
-/// - `BadStep` with the number, from 0, of the first step that names a link or a datagram that is not there, or that is
-///   an `Other` from a link's peer.
+/// - `BadStep` with the number, from 0, of the first step that can't be run. The step names a link or a datagram that
+///   is not there, or is an `Other` from a link's peer.
 /// - `NoMemory` if memory was refused before such a step.
 pub fn run_pair_with_sizes(
     alloc: Global,

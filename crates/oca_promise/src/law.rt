@@ -10,8 +10,8 @@ ghost use Rattle.oca_promise.specs.Flights.{EverySetInFlightKeeps, EveryReadingI
 use oca_pair::law_of_what_is_said;
 use oca_pdu::law_reading;
 
-/// Laws: what a panel's calls return is true of the device, in every network in which the calls are made, if the link
-/// and the network are in time. The function does nothing at run time. The words and the premises:
+/// Laws: what a panel's calls return is true of the device if the link and the network are in time. The laws hold in
+/// every network in which the calls are made. The function does nothing at run time. The words and the premises:
 /// - A *network* is a schedule of `oca_pair` ([`Step`](oca_pair::Step)), which is a list of steps of one device and
 ///   some links. The panel's end delivered what the device of the network sent to the panel's link.
 /// - *In time*: the premises of [`law_of_what_is_said`](oca_pair::law_of_what_is_said) hold. The link is never asked
@@ -54,9 +54,9 @@ pub fn law_of_calls()
     law_reading();
 }
 
-/// Laws: what a panel returns of commands in flight is true of the device, in every network in which its calls are
-/// made, if the link and the network are in time. A *network*, *in time* and *late* are what [`law_of_calls`] explains,
-/// and its premises are the premises here. The function does nothing at run time.
+/// Laws: what a panel returns of commands in flight is true of the device if the link and the network are in time. The
+/// laws hold in every network in which the panel's calls are made. A *network*, *in time* and *late* are what
+/// [`law_of_calls`] explains, and its premises are the premises here. The function does nothing at run time.
 ///
 /// A command is *in flight* from the call that begins it until a call takes its answer. One call begins a command and
 /// returns its handle, which is the command's number. Other calls follow: they begin commands, wait for them, look them
