@@ -18,7 +18,7 @@ use oca_types::{Handle, Request};
 /// for at most 50 ms, and sends what is due ([`turn`]). `request` has the object, the method, ParamCount and the
 /// encoded parameters, which the call does not check (AES70-3). [`Link`] explains the words *lost* and *late*.
 ///
-/// The link refuses the command in two cases, and nothing is changed or sent:
+/// The link refuses the command in these cases, and nothing is changed or sent:
 /// - `Lost` if the link is lost or late at the start of the call.
 /// - `Refused` with `HandlesSpent`, `SpanFull` or `TooLong`, in the cases of [`Link::submit`].
 ///

@@ -63,7 +63,7 @@ pub fn law_of_answering()
 ///   lost.
 ///
 /// The other conclusions have one premise. From the submit of a command on, `due` is called at least every `ms`
-/// milliseconds, and each time until it returns something else than `Send`:
+/// milliseconds, and each time again as long as it returns `Send`:
 /// - The link sends the command within `ms` of its submit, and again less than `250 + ms` after each transmission.
 /// - The link does so until an answer came, the command was taken from the link, or the link is lost. One of these
 ///   comes within `ms + 20 * (250 + ms)` of the submit.
@@ -82,8 +82,8 @@ pub fn law_of_sending()
 ///   the waits do with a link. Its *moments* are those of what the end delivered, and those at which commands were
 ///   begun.
 /// - *Nothing is left to send* if `due` returns `Nothing` at the moment of the link's clock.
-/// - A command *has time left* if it is answered, or if the transmissions that are left to it, `250 + ms` apart, end
-///   before it is late.
+/// - A command *has time left* if it is answered, or if the transmissions that are left to it, `250 + ms` apart, end at
+///   most 15,000 ms after its submit.
 ///
 /// The premises of the first conclusion:
 /// - Each moment is at most `ms` milliseconds after the latest one before it, and `ms` is at most 500.
@@ -115,8 +115,7 @@ pub fn law_of_running()
 /// submitted more than 15,000 ms ago has no answer ([`is_late`](crate::is_late)). The function does nothing at run
 /// time.
 ///
-/// - The premise: no call of `due` is made at a moment at which the link is late. The law holds for every list of such
-///   calls and of other calls of a link.
+/// - The premise: `due` is never called at a moment at which the link is late. The other calls of the link can be any.
 /// - The conclusion: each transmission of a command leaves at most 15,000 ms after the submit of the command, by the
 ///   link's clock. This clock is the latest moment that the link was given.
 /// - [`send_in_time`](crate::send_in_time), [`turn`](crate::turn), [`begin`](crate::begin), [`ask`](crate::ask) and the
