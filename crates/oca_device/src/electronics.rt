@@ -6,9 +6,10 @@ use oca_tree::Tree;
 use oca_types::Ono;
 
 /// The electronics of a device, which do what its objects say: a program implements this trait for its hardware.
+/// [`follow`](Electronics::follow) gets the objects after each datagram.
 ///
-/// Electronics that tell say in the contract what they were given (`followed` of their state). Of electronics that do
-/// not tell, the contracts say nothing.
+/// Electronics that *record* have a state that only contracts see: it lists what they were given (`followed`). Of other
+/// electronics the contracts say nothing.
 pub trait Electronics {
     /// What the electronics say of themselves.
     ghost state: { Self → ElectronicsState };

@@ -9,9 +9,10 @@ use oca_net::Heard;
 use oca_tree::Tree;
 
 /// Where the objects of a device are kept over a stop of the program: a program implements this trait for its memory.
+/// [`store`](Store::store) stores the objects and returns whether that succeeded.
 ///
-/// A store that tells says in the contract what it was given and whether it said that it has that (`storings` of its
-/// state). Of a store that does not tell, the contracts say nothing.
+/// A store that *records* has a state that only contracts see: it lists what the store was given, and whether the store
+/// said that it has that (`storings`). Of other stores the contracts say nothing.
 pub trait Store {
     /// What the store says of itself.
     ghost state: { Self → StoreState };

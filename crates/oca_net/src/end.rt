@@ -20,14 +20,18 @@ pub enum Heard {
     Closed,
 }
 
-/// An end of a network: it receives and sends datagrams. The loops of the device and of the controller run over it.
+/// An end of a network: it receives and sends datagrams, such as a socket does. The loops of the device and of the
+/// controller run over it. A program may implement this trait for a network of its own. The kinds of ends:
+/// - An end that *keeps time* has a clock of its own, in milliseconds: [`now`](End::now) reads it. An end that keeps no
+///   time returns 0 there.
+/// - A *closed* end returns `Closed` from a receive: nothing more will come.
+/// - A *recording end* has a state that only contracts see. It lists what the receives delivered (`delivered`), and the
+///   datagrams that the end accepted for sending (`taken`). The field `tells` of its state is true. Of other ends the
+///   contracts say nothing about these two lists.
 ///
-/// An end that *keeps time* has a clock of its own. A program may implement this trait for a network of its own.
-///
-/// An end that tells says in the contract what it delivered and took (`delivered` and `taken` of its state). Of an end
-/// that does not tell, these two say nothing; whether it has returned Closed, and its counts, are said of every end. An
-/// end that keeps time says the latest moment that it has returned. Each end says the earliest and the latest moment
-/// that it may return as its present one.
+/// The contracts say of every end whether it has returned `Closed`, how often it received and sent, and how many of
+/// these calls failed. They say the earliest and the latest moment that it may return as its present one. Of an end
+/// that keeps time they also say the latest moment that it has returned.
 pub trait End {
     /// What the end says of itself.
     ghost state: { Self → EndState };
