@@ -38,11 +38,11 @@ struct Answer {
     packet: Packet,
 }
 
-/// What [`serve_keeping`] needs between its calls:
-/// - Memory for 366 packets of answers. The answers to a datagram that wrote to an object wait there until the objects
-///   are stored.
-/// - Whether the device *is behind*: something that a datagram wrote is not stored, since the last store failed
-///   ([`is_behind`](Keeping::is_behind)).
+/// What [`serve_keeping`] needs between its calls: memory for answers that wait, and whether something that a datagram
+/// wrote is not stored.
+///
+/// The memory has room for 366 packets. The answers to a datagram that wrote to an object wait there until the objects
+/// are stored. Something is not stored if the last store failed: [`is_behind`](Keeping::is_behind) is then `true`.
 #[derive(Drop)]
 pub struct Keeping {
     is_behind: bool,
