@@ -3,7 +3,8 @@ use crate::answer::Answer;
 use crate::fault::ControlFault;
 use std::fmt;
 
-/// How a command ended that was sent over an end of a network.
+/// How a command ended that was sent over an end of a network. After `Lost` and `Unanswered` the command may still be
+/// in the link ([`ask`](crate::ask) says when), and the device may have carried out the command, or not.
 #[derive(Debug, Drop)]
 pub enum Outcome {
     /// The device answered it, with any status.

@@ -1,8 +1,11 @@
 //! What a loop did with a link.
 use std::ops::Add;
 
-/// How often a turn, a loop or a sending did each thing. All numbers are 0 by default. Two reports are added number by
-/// number: a sum above 2^64 - 1 stays at 2^64 - 1, and `lost` is `true` if it is in one of the two.
+/// How often a turn, a loop or a sending did each thing, and whether it found the link lost. A *turn* receives once and
+/// sends what is due. All numbers are 0 by default, and `lost` is `false`.
+///
+/// Two reports are added number by number: a sum above 2^64 - 1 stays at 2^64 - 1, and `lost` is `true` if it is in one
+/// of the two.
 #[derive(Clone, Copy, Debug, PartialEq, Eq)]
 pub struct DriveReport {
     /// The turns: receives that returned a datagram, an oversize one, silence or a failure. A closed end is no turn.

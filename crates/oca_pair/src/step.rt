@@ -2,9 +2,13 @@
 use oca_tree::Value;
 use oca_types::{Handle, MethodId, Ono, Peer};
 
-/// A step of a schedule. Links and datagrams are named by their number, from 0: links in the order of the starts,
-/// datagrams in the order in which they were sent. Datagrams to the device and datagrams to links are counted apart.
-/// `now` is a moment in milliseconds.
+/// A step of a *schedule*, which is a list of steps of one device and some links. A step submits a command, asks a link
+/// what is due, delivers a datagram, takes an answer, moves the device's clock, or changes an object at the device's
+/// local front panel.
+///
+/// Links and datagrams are named by their number, from 0: links in the order of the starts, datagrams in the order in
+/// which they were sent. Datagrams to the device and datagrams to links are counted apart. A datagram can be delivered
+/// any number of times, in any order, or never. `now` is a moment in milliseconds.
 #[derive(Clone, Copy, Debug)]
 pub enum Step<'a> {
     /// A command is submitted to a link. `count` is ParamCount, and `params` are the bytes of the parameters (AES70-3).
