@@ -23,16 +23,22 @@ use std::alloc::Global;
 /// For how many objects there is room, the root counted.
 const MOST_OBJECTS: u16 = 4096;
 
-/// Reads the objects of a device from a text, and returns them as a tree. [`crate`] describes the form of a line, which
-/// is the profile's. The root comes first, then the objects of the lines, in the order of the lines. The first line may
-/// begin with `root`, and then has the root's stored enabled flag and label. An empty text gives a tree of the root
-/// alone.
+/// Reads the objects of a device from a text, and returns them as a tree. The root comes first, then the objects of the
+/// lines, in the order of the lines. The call takes from `alloc` the memory for 4,096 objects, whatever the number of
+/// lines is. The form of a line is the profile's, and [`crate`] describes its fields:
+/// - `NUMBER CONTAINER CLASS .. LOCKABLE ROLE` lists an object.
+/// - `object NUMBER CONTAINER CLASS .. LOCKABLE ROLE ENABLED LABEL` lists an object with its enabled flag and label, as
+///   [`print_tree`](crate::print_tree) prints it.
+/// - `root ENABLED LABEL` can be the first line only, and has the root's enabled flag and label. The root needs no
+///   line: an empty text gives a tree of the root alone.
+/// - Empty lines and lines that begin with `#` are skipped.
 ///
 /// A tree has at most 4,096 objects, the root counted. A line that lists one object more has the fault `Full` if all
-/// its fields can be read. The call takes from `alloc` the memory for 4,096 objects, whatever the number of lines is.
+/// its fields can be read.
+///
 /// Refusals, after which no tree is returned:
-/// - `Line` with the number of the first line with a fault, counted from 1, and the first fault in this line. Empty
-///   lines and lines that begin with `#` are counted too.
+/// - `Line` with the number of the first line with a fault, counted from 1 with the skipped lines, and the first fault
+///   in this line.
 /// - `NoMemory` if the allocator refused the memory. If the first line begins with `root` and has a fault, the refusal
 ///   is `Line`, and no memory is taken.
 #[tactic(auto, unfolding(crate::specs::Texts::objects_of_text))]
