@@ -137,7 +137,7 @@ pub fn law_getting_through()
 ///
 /// The premises, which are what *in time* means:
 /// - The link is never asked what is due while it is late. It is *asked* if its [`due`](oca_control::Link::due) is
-///   called. It is *late* while a command of it is unanswered that was submitted more than 15,000 ms ago.
+///   called. It is *late* while a command that was submitted more than 15,000 ms ago has no answer.
 /// - Each of the link's datagrams that comes to the device comes no earlier than it left, and at most 100,000 ms later.
 ///   The moment of leaving is by the link's clock, and that of coming is by the device's clock. The premise says that
 ///   these clocks run alike, and that the network holds nothing longer than 100,000 ms. A datagram that never comes
@@ -160,7 +160,7 @@ pub fn law_once_in_time()
 
 /// Laws: over every schedule and for all sizes, the answer to a command is true of the device if the link and the
 /// network are in time. A *schedule* is a list of steps of one device and some links with different addresses and ports
-/// ([`Step`](crate::Step)). *In time* is what [`law_once_in_time`] explains, and is the premise of the laws of answers.
+/// ([`Step`](crate::Step)). [`law_once_in_time`] explains *in time*, which is a premise of all laws below except Class.
 /// The function does nothing at run time.
 ///
 /// The laws hold of each answer that a link has at the end, or returned before, to a command that it submitted in a
@@ -176,7 +176,7 @@ pub fn law_once_in_time()
 /// - Sets: if a set method is answered OK, the execution set the object to the value, once. The object's value was then
 ///   this value, with the limits that the object had.
 /// - Class: the class of the object with a number never changes in a schedule. So the answer to GetClassIdentification
-///   stays true. This law needs no premise of time.
+///   stays true.
 ///
 /// OK, Reads and Sets have two more premises. The device's objects were a tree at first, with texts and numbers of
 /// their types, which is always true in Rust. The answer is read by the object's class, and a value that is set is of

@@ -11,7 +11,8 @@ use oca_pair::law_of_what_is_said;
 use oca_pdu::law_reading;
 
 /// Laws: what a panel's calls return is true of the device if the link and the network are in time. The laws hold in
-/// every network in which the calls are made. The function does nothing at run time. The words and the premises:
+/// every network in which the calls are made. The calls are those of [`Panel`](oca_panel::Panel). The function does
+/// nothing at run time. The words and the premises:
 /// - A *network* is a schedule of `oca_pair` ([`Step`](oca_pair::Step)), which is a list of steps of one device and
 ///   some links. The panel's end delivered what the device of the network sent to the panel's link.
 /// - *In time*: the premises of [`law_of_what_is_said`](oca_pair::law_of_what_is_said) hold. The link is never asked
