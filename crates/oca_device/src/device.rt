@@ -27,7 +27,7 @@ ghost use Rattle.oca_device.specs.Effects.{effect_with, effects};
 
 use crate::bounded::BoundedOutbox;
 use crate::counts::{Counts, NONE};
-use crate::effect::{CommandOutcome, Effect};
+use crate::effect::{CommandOutcome, Effect, Effects, MOST_COMMANDS};
 use crate::lapse::released_from;
 use crate::outbox::Outbox;
 use crate::verdict::Verdict;
@@ -41,9 +41,6 @@ use oca_types::{
 use std::alloc::Global;
 use std::fmt;
 use std::marker::Model;
-
-/// The most commands of one datagram: a command has 17 bytes, so a datagram of 1,472 bytes has at most 86.
-const MOST_COMMANDS: usize = 86;
 
 /// A device: a tree of objects, and the sessions of its peers.
 ///
@@ -87,7 +84,7 @@ pub struct Device {
     /// The objects that the last datagram wrote to.
     written: ArrayVec<Ono, MOST_COMMANDS>,
     /// What became of each command of the last datagram.
-    effects: ArrayVec<Effect, MOST_COMMANDS>,
+    effects: Effects,
 }
 
 impl Model for Device {
@@ -100,7 +97,7 @@ impl Model for Device {
       tree = d.tree;
       sessions = d.sessions;
       written = numbers_of d.written.items;
-      effects = d.effects.items;
+      effects = d.effects;
     } };
 }
 
@@ -151,7 +148,7 @@ impl Device {
                 params: Params::new(),
             },
             written: ArrayVec::new(),
-            effects: ArrayVec::new(),
+            effects: Effects::new(),
         })
     }
 
@@ -413,7 +410,7 @@ impl Device {
         ensures unserved { self.new.effects ≡ [] }
     {
         empty(&mut self.written);
-        empty(&mut self.effects);
+        self.effects.clear();
     }
 
     /// Moves the clock.
@@ -624,30 +621,26 @@ fn release_all(tree: &mut Tree, peers: &[Peer])
     }
 }
 
-/// Removes all items. Clearing is a call that overwrites the cells, so none and a single one, the common cases here,
+/// Forgets the objects. Clearing is a call that overwrites the cells, so none and a single one, the common cases here,
 /// are taken out without it. Each `empty` of the core spares itself the call in the cases that are common where it
 /// stands.
-fn empty<T: Default + Drop>(items: &mut ArrayVec<T, MOST_COMMANDS>)
-    ensures { items.new.items ≡ [] }
+fn empty(written: &mut ArrayVec<Ono, MOST_COMMANDS>)
+    ensures { written.new.items ≡ [] }
 {
-    match items.len() {
+    match written.len() {
         0 => {}
         1 => {
-            let _ = items.pop();
+            let _ = written.pop();
         }
-        _ => items.clear(),
+        _ => written.clear(),
     }
 }
 
 /// Adds what became of a command.
-fn note(
-    effects: &mut ArrayVec<Effect, MOST_COMMANDS>,
-    command: &Command,
-    respond: bool,
-    outcome: CommandOutcome,
-)
-    requires { length effects.old.items < most_commands }
-    ensures { effects.new.items ≡ effects.old.items ++ effect_with outcome respond (fields_of command.now) ∷ [] }
+#[inline(always)]
+fn note(effects: &mut Effects, command: &Command, respond: bool, outcome: CommandOutcome)
+    requires { length effects.old < most_commands }
+    ensures { effects.new ≡ effects.old ++ effect_with outcome respond (fields_of command.now) ∷ [] }
 {
     effects.push(Effect {
         target: command.target,

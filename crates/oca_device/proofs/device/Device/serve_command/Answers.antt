@@ -116,11 +116,11 @@ returns-then-respond-clause-serves c = λ w s h now.
     let A = accepted (run p s.notes) in
     let agreed = agrees_there w s p old was.sessions known in
     let reply : c.execute.new.reply ≡ reply_of s.tree p command = c.execute.ensures.reply ∙ ap (λ t. reply_of t p command) was.tree in
-    by_judgement w s p command c.args.respond c.args.self.now (device_with c.execute.new.tree c.keep.new.self (numbers_of c.execute.new.written.items) c.note.new.effects.items) c.args.outbox.now c.respond.new.self c.args.counts.now _ Fresh
+    by_judgement w s p command c.args.respond c.args.self.now (device_with c.execute.new.tree c.keep.new.self (numbers_of c.execute.new.written.items) c.note.new.effects) c.args.outbox.now c.respond.new.self c.args.counts.now _ Fresh
     (c.in-Fresh.ensures.accepted w.window A agreed)
     (fresh_served w s p command tree old c.execute.new.tree c.keep.new.self c.execute.new.reply was known now c.execute.ensures.tree reply (c.keep.ensures.accepted w.window A agreed))
     (more_written p command s (numbers_of c.self.inside.written.items) (numbers_of c.execute.new.written.items) c.self.view_is was.tree c.execute.ensures.written)
-    (one_more c.note.new.effects.items (outcome.Executed c.execute.new.reply.status) c.args.respond command c.self.view_is c.note.ensures
+    (one_more c.note.new.effects (outcome.Executed c.execute.new.reply.status) c.args.respond command c.self.view_is c.note.ensures
     ∙ ap (λ (r : Reply). c.args.self.now.effects ++ effect_with (outcome.Executed r.status) c.args.respond command ∷ []) reply)
     (λ _ room groups is. c.respond.ensures.groups room groups is ∙ ap (λ (r : Reply). first_packets room (encodings (with_answer groups (response command.handle r)))) reply)
     (λ q. cc)
@@ -138,11 +138,11 @@ returns-else-respond-clause-serves c = λ w s h now.
     let A = accepted (run p s.notes) in
     let agreed = agrees_there w s p old was.sessions known in
     let reply : c.execute.new.reply ≡ reply_of s.tree p command = c.execute.ensures.reply ∙ ap (λ t. reply_of t p command) was.tree in
-    by_judgement w s p command c.args.respond c.args.self.now (device_with c.execute.new.tree c.keep.new.self (numbers_of c.execute.new.written.items) c.note.new.effects.items) c.args.outbox.now c.args.outbox.now c.args.counts.now _ Fresh
+    by_judgement w s p command c.args.respond c.args.self.now (device_with c.execute.new.tree c.keep.new.self (numbers_of c.execute.new.written.items) c.note.new.effects) c.args.outbox.now c.args.outbox.now c.args.counts.now _ Fresh
     (c.in-Fresh.ensures.accepted w.window A agreed)
     (fresh_served w s p command tree old c.execute.new.tree c.keep.new.self c.execute.new.reply was known now c.execute.ensures.tree reply (c.keep.ensures.accepted w.window A agreed))
     (more_written p command s (numbers_of c.self.inside.written.items) (numbers_of c.execute.new.written.items) c.self.view_is was.tree c.execute.ensures.written)
-    (one_more c.note.new.effects.items (outcome.Executed c.execute.new.reply.status) c.args.respond command c.self.view_is c.note.ensures
+    (one_more c.note.new.effects (outcome.Executed c.execute.new.reply.status) c.args.respond command c.self.view_is c.note.ensures
     ∙ ap (λ (r : Reply). c.args.self.now.effects ++ effect_with (outcome.Executed r.status) c.args.respond command ∷ []) reply)
     (λ q. cc)
     (λ _. refl)
@@ -152,11 +152,11 @@ pub returns-then-respond-2-clause-serves : goal.returns-then-respond-2-clause-se
 returns-then-respond-2-clause-serves c = λ w s h now.
     let p = c.args.from in
     let command = fields_of c.args.command.now in
-    by_judgement w s p command c.args.respond c.args.self.now (device_with c.self.inside.tree c.self.inside.sessions (numbers_of c.self.inside.written.items) c.note-in-Kept.new.effects.items) c.args.outbox.now c.respond-then-respond-2.new.self c.args.counts.now _ (Duplicate c.in-Kept.reply.now)
+    by_judgement w s p command c.args.respond c.args.self.now (device_with c.self.inside.tree c.self.inside.sessions (numbers_of c.self.inside.written.items) c.note-in-Kept.new.effects) c.args.outbox.now c.respond-then-respond-2.new.self c.args.counts.now _ (Duplicate c.in-Kept.reply.now)
     (c.in-Kept.ensures.accepted w.window (accepted (run p s.notes)) (agreed_in w s p c.self.inside.tree c.self.inside.sessions c.args.self.now c.self.view_is h c.requires.known))
     (still_in c.self.view_is h)
     (written_in c.self.view_is ∙ sym (append-nil c.args.self.now.written))
-    (one_more c.note-in-Kept.new.effects.items outcome.Duplicate c.args.respond command c.self.view_is c.note-in-Kept.ensures)
+    (one_more c.note-in-Kept.new.effects outcome.Duplicate c.args.respond command c.self.view_is c.note-in-Kept.ensures)
     (λ _ room groups is. c.respond-then-respond-2.ensures.groups room groups is)
     (λ q. cc)
     (one_kept c.args.counts.now)
@@ -165,11 +165,11 @@ pub returns-else-respond-2-clause-serves : goal.returns-else-respond-2-clause-se
 returns-else-respond-2-clause-serves c = λ w s h now.
     let p = c.args.from in
     let command = fields_of c.args.command.now in
-    by_judgement w s p command c.args.respond c.args.self.now (device_with c.self.inside.tree c.self.inside.sessions (numbers_of c.self.inside.written.items) c.note-in-Kept.new.effects.items) c.args.outbox.now c.args.outbox.now c.args.counts.now _ (Duplicate c.in-Kept.reply.now)
+    by_judgement w s p command c.args.respond c.args.self.now (device_with c.self.inside.tree c.self.inside.sessions (numbers_of c.self.inside.written.items) c.note-in-Kept.new.effects) c.args.outbox.now c.args.outbox.now c.args.counts.now _ (Duplicate c.in-Kept.reply.now)
     (c.in-Kept.ensures.accepted w.window (accepted (run p s.notes)) (agreed_in w s p c.self.inside.tree c.self.inside.sessions c.args.self.now c.self.view_is h c.requires.known))
     (still_in c.self.view_is h)
     (written_in c.self.view_is ∙ sym (append-nil c.args.self.now.written))
-    (one_more c.note-in-Kept.new.effects.items outcome.Duplicate c.args.respond command c.self.view_is c.note-in-Kept.ensures)
+    (one_more c.note-in-Kept.new.effects outcome.Duplicate c.args.respond command c.self.view_is c.note-in-Kept.ensures)
     (λ q. cc)
     (λ _. refl)
     (one_kept c.args.counts.now)
@@ -178,11 +178,11 @@ pub returns-in-Reused-clause-serves : goal.returns-in-Reused-clause-serves
 returns-in-Reused-clause-serves c = λ w s h now.
     let p = c.args.from in
     let command = fields_of c.args.command.now in
-    by_judgement w s p command c.args.respond c.args.self.now (device_with c.self.inside.tree c.self.inside.sessions (numbers_of c.self.inside.written.items) c.note-in-Reused.new.effects.items) c.args.outbox.now c.args.outbox.now c.args.counts.now _ Reused
+    by_judgement w s p command c.args.respond c.args.self.now (device_with c.self.inside.tree c.self.inside.sessions (numbers_of c.self.inside.written.items) c.note-in-Reused.new.effects) c.args.outbox.now c.args.outbox.now c.args.counts.now _ Reused
     (c.in-Reused.ensures.accepted w.window (accepted (run p s.notes)) (agreed_in w s p c.self.inside.tree c.self.inside.sessions c.args.self.now c.self.view_is h c.requires.known))
     (still_in c.self.view_is h)
     (written_in c.self.view_is ∙ sym (append-nil c.args.self.now.written))
-    (one_more c.note-in-Reused.new.effects.items outcome.Reused c.args.respond command c.self.view_is c.note-in-Reused.ensures)
+    (one_more c.note-in-Reused.new.effects outcome.Reused c.args.respond command c.self.view_is c.note-in-Reused.ensures)
     (λ _ room groups is. is)
     (λ _. refl)
     (one_reused c.args.counts.now)
@@ -191,11 +191,11 @@ pub returns-in-Old-clause-serves : goal.returns-in-Old-clause-serves
 returns-in-Old-clause-serves c = λ w s h now.
     let p = c.args.from in
     let command = fields_of c.args.command.now in
-    by_judgement w s p command c.args.respond c.args.self.now (device_with c.self.inside.tree c.self.inside.sessions (numbers_of c.self.inside.written.items) c.note-in-Old.new.effects.items) c.args.outbox.now c.args.outbox.now c.args.counts.now _ Old
+    by_judgement w s p command c.args.respond c.args.self.now (device_with c.self.inside.tree c.self.inside.sessions (numbers_of c.self.inside.written.items) c.note-in-Old.new.effects) c.args.outbox.now c.args.outbox.now c.args.counts.now _ Old
     (c.in-Old.ensures.accepted w.window (accepted (run p s.notes)) (agreed_in w s p c.self.inside.tree c.self.inside.sessions c.args.self.now c.self.view_is h c.requires.known))
     (still_in c.self.view_is h)
     (written_in c.self.view_is ∙ sym (append-nil c.args.self.now.written))
-    (one_more c.note-in-Old.new.effects.items outcome.Old c.args.respond command c.self.view_is c.note-in-Old.ensures)
+    (one_more c.note-in-Old.new.effects outcome.Old c.args.respond command c.self.view_is c.note-in-Old.ensures)
     (λ _ room groups is. is)
     (λ _. refl)
     (one_old c.args.counts.now)
