@@ -21,6 +21,8 @@ use Rattle.oca_tree.specs.declared.object.Object.{Object}
 use Rattle.oca_device.specs.Events.{Event}
 use Rattle.oca_device.specs.Outboxes.{KeptPackets, first_packets}
 use Rattle.oca_device.specs.Written.{written_by_message, written_by_messages, written_by_reading}
+use Rattle.oca_device.specs.declared.effect.Effect.{Effect}
+use Rattle.oca_device.specs.Effects.{effects_of_message, effects_of_messages, effects_of_reading}
 use Rattle.oca_device.specs.Devices.{DeviceState, session_for, table_of, IsIn, Represents}
 use Rattle.oca_device.specs.PrivateServing.{ServesMessage, ServesMessages, TakesDatagram}
 use Rattle.oca_device.proofs.Grouping.{answers_both}
@@ -226,14 +228,15 @@ pub record IsHalfway (w : DeviceSizes) (p : Peer) (d : DeviceState) (rest ms : L
       (so_far : List Pdu) × (out ≡ first_packets room (encodings so_far)) × (with_answers so_far (answers_to_messages w p rest mid) ≡ with_answers groups (answers_to_messages w p ms s))
   pub counts_are : plus n (counts_of_messages w p rest mid) ≡ counts_of_messages w p ms s
   pub written_are : d.written ++ written_by_messages w p rest mid ≡ written_by_messages w p ms s
+  pub effects_are : d.effects ++ effects_of_messages w p rest mid ≡ effects_of_messages w p ms s
 
 no_counts : (n : Counts) → plus (counts 0 0 0 0) n ≡ n
 no_counts n = sums _ _ _ _ _ _ _ _ (omega arith) (omega arith) (omega arith) (omega arith)
 
 -- before the first message
-pub none_served : (w : DeviceSizes) (p : Peer) (d : DeviceState) (ms : List Msg) (s : State) (before : KeptPackets) → IsIn w d s → last_noted (run p s.notes) ≡ s.moment → d.written ≡ [] →
+pub none_served : (w : DeviceSizes) (p : Peer) (d : DeviceState) (ms : List Msg) (s : State) (before : KeptPackets) → IsIn w d s → last_noted (run p s.notes) ≡ s.moment → d.written ≡ [] → d.effects ≡ [] →
     IsHalfway w p d ms ms s before before (counts 0 0 0 0)
-none_served w p d ms s before h now none = record {
+none_served w p d ms s before h now none unserved = record {
   mid = s;
   device = h;
   now = now;
@@ -241,6 +244,7 @@ none_served w p d ms s before h now none = record {
   packets_are = λ room groups is. (groups, is, refl);
   counts_are = no_counts (counts_of_messages w p ms s);
   written_are = ap (λ (xs : List ℕ). xs ++ written_by_messages w p ms s) none;
+  effects_are = ap (λ (xs : List Effect). xs ++ effects_of_messages w p ms s) unserved;
 }
 
 -- after the last
@@ -249,6 +253,7 @@ pub all_served : (w : DeviceSizes) (p : Peer) (d : DeviceState) (rest ms : List 
 all_served w p d rest ms s before out n over h = record {
   device = subst (λ (x : State). IsIn w d x) (sym (ap (λ xs. after_messages w p xs h.mid) over) ∙ h.state_is) h.device;
   written = sym (append-nil d.written) ∙ sym (ap (λ xs. d.written ++ written_by_messages w p xs h.mid) over) ∙ h.written_are;
+  effects = sym (append-nil d.effects) ∙ sym (ap (λ xs. d.effects ++ effects_of_messages w p xs h.mid) over) ∙ h.effects_are;
   packets = λ room groups is.
       let x = h.packets_are room groups is in
       x.1 ∙ ap (λ (ps : List Pdu). first_packets room (encodings ps)) (sym (ap (λ xs. with_answers x.0 (answers_to_messages w p xs h.mid)) over) ∙ x.2);
@@ -286,6 +291,11 @@ one_further w p d d' m rest rest' ms s before out out' n n' h step has t =
           ∙ append_assoc d.written (written_by_message w p m h.mid) (written_by_messages w p rest' next)
           ∙ sym (ap (λ xs. d.written ++ written_by_messages w p xs h.mid) step)
           ∙ h.written_are;
+      effects_are =
+          ap (λ xs. xs ++ effects_of_messages w p rest' next) t.effects
+          ∙ append_assoc d.effects (effects_of_message w p m h.mid) (effects_of_messages w p rest' next)
+          ∙ sym (ap (λ xs. d.effects ++ effects_of_messages w p xs h.mid) step)
+          ∙ h.effects_are;
     }
 
 -- ---- a datagram is taken
@@ -294,11 +304,13 @@ abbrev admitted_state : Peer → List Msg → State → State
 admitted_state p ms s = noted p (Admitted ms) s
 
 pub refused_whole : (w : DeviceSizes) (d : DeviceState) (p : Peer) (bytes : List ℕ) (ms : List Msg) (s : State) (room : ℕ) (after : KeptPackets) →
-    read_datagram bytes ≡ Ok ms → admits w s p ≡ false → IsIn w d s → d.written ≡ [] → after ≡ first_packets room [] → TakesDatagram w d p bytes s room after verdicts.NoRoom
-refused_whole w d p bytes ms s room after reads out h unwritten none =
+    read_datagram bytes ≡ Ok ms → admits w s p ≡ false → IsIn w d s → d.written ≡ [] → d.effects ≡ [] → after ≡ first_packets room [] → TakesDatagram w d p bytes s room after verdicts.NoRoom
+refused_whole w d p bytes ms s room after reads out h unwritten unserved none =
     record {
       written = unwritten ∙ sym (ap (λ (r : Result (List Msg) PduFault). written_by_reading w p r s) reads
           ∙ ap (λ (b : Bool). cond b (written_by_messages w p ms (admitted_state p ms s)) []) out);
+      effects = unserved ∙ sym (ap (λ (r : Result (List Msg) PduFault). effects_of_reading w p r s) reads
+          ∙ ap (λ (b : Bool). cond b (effects_of_messages w p ms (admitted_state p ms s)) []) out);
       device = subst (λ (r : Result (List Msg) PduFault). IsIn w d (after_reading w p r s)) (sym reads)
           (subst (λ (b : Bool). IsIn w d (cond b (after_messages w p ms (admitted_state p ms s)) s)) (sym out) h);
       packets = none ∙ sym (ap (λ (xs : List Msg). first_packets room (packets_of xs)) (ap (λ (r : Result (List Msg) PduFault). answers_to_reading w p r s) reads
@@ -315,6 +327,8 @@ taken_whole w d p bytes ms s room before after n reads let_in none t =
     record {
       written = t.written ∙ sym (ap (λ (r : Result (List Msg) PduFault). written_by_reading w p r s) reads
           ∙ ap (λ (b : Bool). cond b (written_by_messages w p ms all) []) let_in);
+      effects = t.effects ∙ sym (ap (λ (r : Result (List Msg) PduFault). effects_of_reading w p r s) reads
+          ∙ ap (λ (b : Bool). cond b (effects_of_messages w p ms all) []) let_in);
       device = subst (λ (r : Result (List Msg) PduFault). IsIn w d (after_reading w p r s)) (sym reads)
           (subst (λ (b : Bool). IsIn w d (cond b (after_messages w p ms all) s)) (sym let_in) t.device);
       packets = t.packets room [] none

@@ -5,17 +5,20 @@ use Rattle.oca_types.specs.Sizes.{DeviceSizes}
 use Rattle.oca_tree.specs.declared.object.Object.{Object}
 use Rattle.oca_session.specs.Accepted.{retained_of}
 use Rattle.oca_session.specs.Table.{Session, Table}
+use Rattle.oca_device.specs.declared.effect.Effect.{Effect}
 use Rattle.oca_device.specs.Events.{Event}
 use Rattle.oca_device.specs.Notes.{Note, run, noted_peers, last_noted, heartbeat_noted, accepted}
 use Rattle.oca_device.specs.States.{State, state_after}
 use Rattle.oca_device.specs.Written.{written}
+use Rattle.oca_device.specs.Effects.{effects}
 
--- What a device is: its objects, its clock and sessions, and the numbers of the objects that the last datagram wrote
--- to.
+-- What a device is: its objects, its clock and sessions, the numbers of the objects that the last datagram wrote to, and
+-- what became of each command of this datagram.
 pub record DeviceState : Type 0 where
   pub tree : List Object
   pub sessions : Table
   pub written : List ℕ
+  pub effects : List Effect
 
 -- The session of a peer: the moment of its last datagram, its heartbeat, and what a reply window of its size retains of
 -- its accepted commands: the last of them with their replies, and the greatest handle outside these.
@@ -43,3 +46,4 @@ pub record IsIn (w : DeviceSizes) (d : DeviceState) (s : State) : Type 0 where
 pub record Represents (w : DeviceSizes) (d : DeviceState) (tree : List Object) (events : List Event) : Type 0 where
   pub state : IsIn w d (state_after w tree events)
   pub written : d.written ≡ written w tree events
+  pub effects : d.effects ≡ effects w tree events

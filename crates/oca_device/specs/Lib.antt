@@ -4,6 +4,7 @@ pub mod States
 pub mod Groups
 pub mod Answers
 pub mod Written
+pub mod Effects
 pub mod Devices
 pub mod Lapses
 pub mod Outboxes

@@ -14,6 +14,7 @@ use Rattle.oca_device.specs.Answers.{answer_to, answers_to_messages, answers_to_
 use Rattle.oca_device.specs.Answers.{count_of_message, counts_of_messages, verdict_of_reading}
 use Rattle.oca_device.specs.Outboxes.{KeptPackets, first_packets}
 use Rattle.oca_device.specs.Written.{written_by_message, written_by_messages, written_by_reading}
+use Rattle.oca_device.specs.Effects.{effects_of_message, effects_of_messages, effects_of_reading}
 use Rattle.oca_device.specs.Devices.{DeviceState, IsIn}
 
 -- the packets are those of some groups
@@ -68,24 +69,27 @@ pub record ServesMessage (w : DeviceSizes) (old new : DeviceState) (p : Peer) (m
     (before after : KeptPackets) (so_far n : Counts) : Type 0 where
   pub device : IsIn w new (after_message w p m s)
   pub written : new.written ≡ old.written ++ written_by_message w p m s
+  pub effects : new.effects ≡ old.effects ++ effects_of_message w p m s
   pub packets : (room : ℕ) (groups : List Pdu) → before ≡ first_packets room (encodings groups) →
       after ≡ first_packets room (encodings (with_answers groups (answer_to w p m s)))
   pub counts : n ≡ plus so_far (count_of_message w p m s)
 
--- several messages, where nothing was written before
+-- several messages, where nothing was written and no command was served before
 pub record ServesMessages (w : DeviceSizes) (new : DeviceState) (p : Peer) (ms : List Msg) (s : State)
     (before after : KeptPackets) (n : Counts) : Type 0 where
   pub device : IsIn w new (after_messages w p ms s)
   pub written : new.written ≡ written_by_messages w p ms s
+  pub effects : new.effects ≡ effects_of_messages w p ms s
   pub packets : (room : ℕ) (groups : List Pdu) → before ≡ first_packets room (encodings groups) →
       after ≡ first_packets room (encodings (with_answers groups (answers_to_messages w p ms s)))
   pub counts : n ≡ counts_of_messages w p ms s
 
--- a datagram, when the clock has moved, nothing is written and there is room for so many packets
+-- a datagram, when the clock has moved, nothing is written, no command is served and there is room for so many packets
 pub record TakesDatagram (w : DeviceSizes) (new : DeviceState) (p : Peer) (bytes : List ℕ) (s : State)
     (room : ℕ) (after : KeptPackets) (verdict : Verdict) : Type 0 where
   pub device : IsIn w new (after_reading w p (read_datagram bytes) s)
   pub written : new.written ≡ written_by_reading w p (read_datagram bytes) s
+  pub effects : new.effects ≡ effects_of_reading w p (read_datagram bytes) s
   pub packets : after ≡ first_packets room (packets_of (answers_to_reading w p (read_datagram bytes) s))
   pub verdict_is : verdict ≡ verdict_of_reading w p (read_datagram bytes) s
 

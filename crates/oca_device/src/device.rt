@@ -23,9 +23,11 @@ ghost use Rattle.oca_device.specs.Answers.{packets, packets_of, verdict, answers
 ghost use Rattle.oca_device.specs.Outboxes.{first_packets, may_be_answered};
 ghost use Rattle.oca_pdu.specs.Reading.{read_datagram};
 ghost use Rattle.oca_device.specs.Written.{numbers_of, written, written_by_execution};
+ghost use Rattle.oca_device.specs.Effects.{effect_with, effects};
 
 use crate::bounded::BoundedOutbox;
 use crate::counts::{Counts, NONE};
+use crate::effect::{CommandOutcome, Effect, Effects, MOST_COMMANDS};
 use crate::lapse::released_from;
 use crate::outbox::Outbox;
 use crate::verdict::Verdict;
@@ -39,9 +41,6 @@ use oca_types::{
 use std::alloc::Global;
 use std::fmt;
 use std::marker::Model;
-
-/// The most objects that one datagram writes to: a command has 17 bytes, so a datagram of 1,472 bytes has at most 86.
-const MOST_WRITTEN: usize = 86;
 
 /// A device: a tree of objects, and the sessions of its peers.
 ///
@@ -83,7 +82,9 @@ pub struct Device {
     /// The room in which a command is executed: its reply is made here once, and read where it is needed.
     reply: Reply,
     /// The objects that the last datagram wrote to.
-    written: ArrayVec<Ono, MOST_WRITTEN>,
+    written: ArrayVec<Ono, MOST_COMMANDS>,
+    /// What became of each command of the last datagram.
+    effects: Effects,
 }
 
 impl Model for Device {
@@ -92,7 +93,12 @@ impl Model for Device {
 
     ghost Value = { DeviceState };
 
-    ghost view = { λ d. record { tree = d.tree; sessions = d.sessions; written = numbers_of d.written.items } };
+    ghost view = { λ d. record {
+      tree = d.tree;
+      sessions = d.sessions;
+      written = numbers_of d.written.items;
+      effects = d.effects;
+    } };
 }
 
 impl Device {
@@ -142,6 +148,7 @@ impl Device {
                 params: Params::new(),
             },
             written: ArrayVec::new(),
+            effects: Effects::new(),
         })
     }
 
@@ -158,7 +165,8 @@ impl Device {
     ///   ignored. A keep-alive sets the heartbeat and is returned (AES70-3). A response is ignored.
     ///
     /// After `Malformed` and `NoRoom` no object and no session is changed further, nothing is answered, and
-    /// [`Device::written`] is empty. Neighbouring responses share a PDU of at most 1,472 bytes (*profile*).
+    /// [`Device::written`] and [`Device::effects`] are empty. Neighbouring responses share a PDU of at most 1,472 bytes
+    /// (*profile*).
     pub fn datagram(&mut self, from: Peer, bytes: &[u8], now: u64, outbox: &mut Outbox) -> Verdict
         ensures represents { (w : DeviceSizes) (T : List Object) (E : List Event) → Represents w self.old T E →
             Represents w self.new T (DatagramEvent from bytes.now now ∷ E) }
@@ -206,8 +214,8 @@ impl Device {
     }
 
     /// Moves the device's clock on to `now`, in milliseconds of the caller's clock. A moment earlier than the latest
-    /// one so far is taken as that latest one. [`Device::written`] stays as it is, nothing is answered, and no memory
-    /// is taken.
+    /// one so far is taken as that latest one. [`Device::written`] and [`Device::effects`] stay as they are, nothing is
+    /// answered, and no memory is taken.
     ///
     /// All locks of a peer are released if the device heard nothing from the peer for more than three of its heartbeats
     /// (AES70-3 has the heartbeat). A session is forgotten if its peer was silent for more than 120,000 ms (*profile*).
@@ -366,6 +374,18 @@ impl Device {
         self.written.as_slice()
     }
 
+    /// What the device did with each command of the last datagram: 0 to 86 effects, in the order of the commands.
+    ///
+    /// The list is empty before the first datagram, and after a datagram that is malformed or finds no room. So read it
+    /// after each datagram. Clock readings and changes at the local front panel leave the list as it is.
+    pub fn effects(&self) -> &[Effect]
+        ensures effects { result.now ≡ self.now.effects }
+        ensures represented { (w : DeviceSizes) (T : List Object) (E : List Event) → Represents w self.now T E →
+            result.now ≡ effects w T E }
+    {
+        self.effects.as_slice()
+    }
+
     /// The earliest moment at which [`Device::tick`] would release a lock of a silent peer or forget a session. A loop
     /// may wait until then, if no datagram comes. The moment is in milliseconds of the caller's clock, and not before
     /// the device's present moment. `None` if there is no such moment within 64 bits, as without sessions. Nothing is
@@ -383,12 +403,14 @@ impl Device {
         }
     }
 
-    /// Forgets what the last datagram wrote to.
+    /// Forgets what the last datagram wrote to, and what became of its commands.
     fn begin_datagram(&mut self)
         ensures same { (w : DeviceSizes) (s : State) → IsIn w self.old s → IsIn w self.new s }
         ensures none { self.new.written ≡ [] }
+        ensures unserved { self.new.effects ≡ [] }
     {
         empty(&mut self.written);
+        self.effects.clear();
     }
 
     /// Moves the clock.
@@ -396,6 +418,7 @@ impl Device {
         ensures moved { (w : DeviceSizes) (s : State) → IsIn w self.old s →
             IsIn w self.new (moved_to (max s.moment now) s) }
         ensures written { self.new.written ≡ self.old.written }
+        ensures effects { self.new.effects ≡ self.old.effects }
         ensures moment { now ≤ self.new.sessions.moment }
     {
         self.sessions.advance_into(now, &mut self.lapsed);
@@ -408,6 +431,7 @@ impl Device {
         requires moment { now ≤ self.old.sessions.moment }
         requires empty { outbox.old ≡ first_packets outbox.old.room [] }
         requires none { self.old.written ≡ [] }
+        requires unserved { self.old.effects ≡ [] }
         ensures takes { (w : DeviceSizes) (s : State) → IsIn w self.old s →
             TakesDatagram w self.new from bytes.now s outbox.old.room outbox.new result }
         ensures few { (w : DeviceSizes) (s : State) → IsIn w self.old s →
@@ -441,6 +465,7 @@ impl Device {
         ensures noted { (w : DeviceSizes) (s : State) (messages : List Msg) → IsIn w self.old s →
             IsIn w self.new (if result then noted from (Admitted messages) s else s) }
         ensures written { self.new.written ≡ self.old.written }
+        ensures effects { self.new.effects ≡ self.old.effects }
         ensures known { IsTrue result → IsSome (session_of from self.new.sessions.sessions) }
     {
         match self.sessions.hear(from, now) {
@@ -462,6 +487,7 @@ impl Device {
         requires short { AllByRecursion IsShort (messages_left messages) }
         requires few { all_commands (messages_left messages) ≤ most_commands }
         requires none { self.old.written ≡ [] }
+        requires unserved { self.old.effects ≡ [] }
         ensures serves { (w : DeviceSizes) (s : State) → IsIn w self.old s → last_noted (run from s.notes) ≡ s.moment →
             ServesMessages w self.new from (messages_left messages.entry) s outbox.old outbox.new result }
         ensures room { outbox.new.room ≡ outbox.old.room }
@@ -486,6 +512,7 @@ impl Device {
         requires short { IsShort (msg_of message) }
         requires few { commands_in counts.now + commands_of (msg_of message) ≤ most_commands }
         requires within { length self.old.written ≤ commands_in counts.now }
+        requires counted { length self.old.effects ≤ commands_in counts.now }
         ensures serves { (w : DeviceSizes) (s : State) → IsIn w self.old s → last_noted (run from s.notes) ≡ s.moment →
             ServesMessage w self.old self.new from (msg_of message.entry) s outbox.old outbox.new
             counts.entry.now counts.exit.now }
@@ -494,6 +521,7 @@ impl Device {
         ensures groups { AreGrouped outbox.new }
         ensures few { commands_in counts.exit.now ≤ commands_in counts.entry.now + commands_of (msg_of message.entry) }
         ensures within { length self.new.written ≤ commands_in counts.exit.now }
+        ensures counted { length self.new.effects ≤ commands_in counts.exit.now }
     {
         match message {
             Message::Command { respond, command } => {
@@ -521,6 +549,7 @@ impl Device {
         requires short { length command.now.params.now ≤ most_command_parameter_bytes }
         requires few { commands_in counts.now < most_commands }
         requires within { length self.old.written ≤ commands_in counts.now }
+        requires counted { length self.old.effects ≤ commands_in counts.now }
         ensures serves { (w : DeviceSizes) (s : State) → IsIn w self.old s → last_noted (run from s.notes) ≡ s.moment →
             ServesMessage w self.old self.new from (Commands respond (fields_of command.now)) s outbox.old outbox.new
             counts.entry.now counts.exit.now }
@@ -529,6 +558,7 @@ impl Device {
         ensures groups { AreGrouped outbox.new }
         ensures few { commands_in counts.exit.now ≡ commands_in counts.entry.now + 1 }
         ensures within { length self.new.written ≤ commands_in counts.exit.now }
+        ensures counted { length self.new.effects ≤ commands_in counts.exit.now }
     {
         match self.sessions.judge(from, command) {
             Judged::Fresh => {
@@ -540,6 +570,8 @@ impl Device {
                     &mut self.reply,
                     &mut self.written,
                 );
+                let outcome = CommandOutcome::Executed(self.reply.status);
+                note(&mut self.effects, command, respond, outcome);
                 self.sessions.keep(from, command, &self.reply);
                 if respond {
                     outbox.respond(command.handle, &self.reply);
@@ -547,12 +579,24 @@ impl Device {
             }
             Judged::Kept(reply) => {
                 counts.kept += 1;
+                note(
+                    &mut self.effects,
+                    command,
+                    respond,
+                    CommandOutcome::Duplicate,
+                );
                 if respond {
                     outbox.respond(command.handle, reply);
                 }
             }
-            Judged::Reused => counts.reused += 1,
-            Judged::Old => counts.old += 1,
+            Judged::Reused => {
+                counts.reused += 1;
+                note(&mut self.effects, command, respond, CommandOutcome::Reused);
+            }
+            Judged::Old => {
+                counts.old += 1;
+                note(&mut self.effects, command, respond, CommandOutcome::Old);
+            }
         }
     }
 }
@@ -580,7 +624,7 @@ fn release_all(tree: &mut Tree, peers: &[Peer])
 /// Forgets the objects. Clearing is a call that overwrites the cells, so none and a single one, the common cases here,
 /// are taken out without it. Each `empty` of the core spares itself the call in the cases that are common where it
 /// stands.
-fn empty(written: &mut ArrayVec<Ono, MOST_WRITTEN>)
+fn empty(written: &mut ArrayVec<Ono, MOST_COMMANDS>)
     ensures { written.new.items ≡ [] }
 {
     match written.len() {
@@ -592,6 +636,20 @@ fn empty(written: &mut ArrayVec<Ono, MOST_WRITTEN>)
     }
 }
 
+/// Adds what became of a command.
+#[inline(always)]
+fn note(effects: &mut Effects, command: &Command, respond: bool, outcome: CommandOutcome)
+    requires { length effects.old < most_commands }
+    ensures { effects.new ≡ effects.old ++ effect_with outcome respond (fields_of command.now) ∷ [] }
+{
+    effects.push(Effect {
+        target: command.target,
+        method: command.method,
+        respond,
+        outcome,
+    });
+}
+
 /// Executes a command of a peer, puts its reply in the place of another, and adds its object to those written where it
 /// wrote.
 fn execute(
@@ -599,7 +657,7 @@ fn execute(
     peer: Peer,
     command: &Command,
     reply: &mut Reply,
-    written: &mut ArrayVec<Ono, MOST_WRITTEN>,
+    written: &mut ArrayVec<Ono, MOST_COMMANDS>,
 )
     requires { length written.old.items < most_commands }
     ensures tree { tree.new ≡ (execution tree.old peer (fields_of command.now)).tree }

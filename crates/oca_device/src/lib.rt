@@ -11,6 +11,7 @@
 mod bounded;
 mod counts;
 mod device;
+mod effect;
 mod electronics;
 mod keeping;
 mod lapse;
@@ -23,6 +24,7 @@ mod verdict;
 
 pub use bounded::BoundedOutbox;
 pub use device::Device;
+pub use effect::{CommandOutcome, Effect};
 pub use electronics::{Electronics, NoElectronics};
 pub use keeping::{Keeping, serve_keeping};
 pub use law::{law_by_events, law_of_groups};

@@ -6,4 +6,3 @@ pub mod TreeLemmas
 pub mod RunLemmas
 pub mod TraceLemmas
 pub mod EffectLemmas
-pub mod KeepLemmas

@@ -4,7 +4,6 @@ use denote.Ref.{Bor}
 use Rattle.std.specs.Prelude.{IfSome, is_some, nat_lt, slice_get}
 use Rattle.std.proofs.lemmas.Bool.Decides.{nat_tests}
 use Rattle.std.proofs.lemmas.Option.{slice_get_read}
-use Rattle.oca_types.specs.declared.words.Ono.{Ono}
 use Rattle.std.specs.Io.KnownBytes.{Appends}
 use Rattle.std.proofs.KnownBytes.{Appends-trans}
 use Rattle.oca_script.specs.declared.fault.WriteFailed.{WriteFailed}
@@ -56,8 +55,8 @@ within : (i n : ℕ) → nat_lt i n ≡ true → i < n
 within i n h = grind (arith, nat_tests)
 
 -- what a slice has at a place, by what `get` says
-pub found-at : (xs : List Ono) (i : ℕ) (r : Option (Bor Ono)) (x : Bor Ono) → r ≡ Some x → is_some r ≡ nat_lt i (length xs)
+pub found-at : {X : Type 0} (xs : List X) (i : ℕ) (r : Option (Bor X)) (x : Bor X) → r ≡ Some x → is_some r ≡ nat_lt i (length xs)
     → IfSome r (λ y. y.now ≡ get_or xs i y.now) → slice_get xs i ≡ Some x.now
-found-at xs i r x is there read =
+found-at {X} xs i r x is there read =
     slice_get_read xs (length xs) i x.now refl (within i (length xs) (sym there ∙ ap is_some is))
-    (subst (λ (o : Option (Bor Ono)). IfSome o (λ y. y.now ≡ get_or xs i y.now)) is read)
+    (subst (λ (o : Option (Bor X)). IfSome o (λ y. y.now ≡ get_or xs i y.now)) is read)

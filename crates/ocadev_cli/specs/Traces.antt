@@ -15,7 +15,8 @@ use Rattle.oca_script.specs.declared.fault.WriteFailed.{WriteFailed}
 use Rattle.oca_script.specs.Ends.{Output}
 use Rattle.oca_script.specs.Printing.{WritesOut}
 use Rattle.oca_device.specs.declared.report.Report.{Report}
-use Rattle.ocadev_cli.specs.Effects.{commands_effects}
+use Rattle.oca_device.specs.declared.effect.Effect.{Effect}
+use Rattle.ocadev_cli.specs.Effects.{effects_text}
 
 -- where a device listens
 abbrev pub listening_text : Peer → List ℕ
@@ -51,15 +52,16 @@ failed_sends_text count = if count == 0 then [] else codes " failed-sends " ++ d
 
 -- THE LINE OF A DATAGRAM: its sender, what became of it, the objects that it wrote to, how many answers could not be
 -- sent, and what its commands did.
-abbrev pub datagram_line : Peer → Report → List ℕ → List ℕ → List Ono → List ℕ
-datagram_line from turn bytes statuses written =
+abbrev pub datagram_line : Peer → Report → List ℕ → List Effect → List Ono → List ℕ
+datagram_line from turn bytes effects written =
     (peer_text from ++ outcome_text turn bytes)
     ++ (written_text written
-    ++ (failed_sends_text turn.failed_sends ++ (commands_effects turn bytes statuses ++ codes "\n")))
+    ++ (failed_sends_text turn.failed_sends ++ (effects_text effects ++ codes "\n")))
 
 -- what is printed of what was heard in a turn: a line where that is a datagram, as far as the writes went; else nothing
-abbrev pub PrintsTurn : Heard → Report → List ℕ → List ℕ → List Ono → Result Unit WriteFailed → Output → Output → Type 0
-PrintsTurn (heard.Datagram from now) turn bytes statuses written result was is =
-    WritesOut result was is (datagram_line from turn bytes statuses written)
-PrintsTurn (heard.Oversize now) turn bytes statuses written result was is = WritesOut result was is (codes "oversize\n")
-PrintsTurn other turn bytes statuses written result was is = is ≡ was
+abbrev pub PrintsTurn : Heard → Report → List ℕ → List Effect → List Ono → Result Unit WriteFailed → Output → Output
+    → Type 0
+PrintsTurn (heard.Datagram from now) turn bytes effects written result was is =
+    WritesOut result was is (datagram_line from turn bytes effects written)
+PrintsTurn (heard.Oversize now) turn bytes effects written result was is = WritesOut result was is (codes "oversize\n")
+PrintsTurn other turn bytes effects written result was is = is ≡ was

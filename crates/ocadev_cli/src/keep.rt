@@ -14,7 +14,7 @@ ghost use Rattle.ocadev_cli.specs.Totals.{StoresOn};
 use super::disk::{Attributes, Disk, end_line, plain_attributes, write_over};
 use super::making::objects;
 use super::serving::{Tracing, print_progress_report, serve_kept, sum};
-use super::trace::{print_heard, statuses_of};
+use super::trace::print_heard;
 use super::words::Objects;
 use oca_device::{Device, Keeping as Waiting, Outbox, Report, Store};
 use oca_net::{End, Heard};
@@ -430,18 +430,17 @@ impl<'d, 'p, 'f, D: Disk, F: Sink> Store for FileStore<'d, 'p, 'f, D, F> {
         &mut self,
         heard: Heard,
         bytes: &[u8],
-        answers: &Outbox,
+        _answers: &Outbox,
         turn: &Report,
         device: &Device,
     ) {
         self.report = sum(self.report, *turn);
         if self.tracing.verbose {
-            let statuses = statuses_of(answers);
             let _ = print_heard(
                 heard,
                 bytes,
-                statuses.as_slice(),
                 turn,
+                device.effects(),
                 device.written(),
                 self.faults,
             );

@@ -203,7 +203,7 @@ fn print_progress<E: End, F: Sink>(
     faults: &mut Printer<F>,
 ) {
     if tracing.verbose {
-        let _ = print_turn(end, turn, device.written(), faults);
+        let _ = print_turn(end, turn, device.effects(), device.written(), faults);
     }
     let now = end.now();
     if tracing.next <= now {

@@ -1,17 +1,17 @@
 //! What is printed of each datagram.
-ghost use Rattle.std.specs.Prelude.{◌≡◌, ◌+◌, ◌++◌, ◌≤◌, [], codes, decimal, length, Err};
+ghost use Rattle.std.specs.Prelude.{◌≡◌, ◌+◌, ◌++◌, ◌≤◌, codes, decimal, length, Err};
 ghost use Rattle.std.specs.List.{flat_map};
 ghost use Rattle.oca_types.specs.Addresses.{peer_text};
 ghost use Rattle.oca_script.specs.Ends.{output};
 ghost use Rattle.oca_script.specs.Printing.{Prints, WritesOut};
-ghost use Rattle.ocadev_cli.specs.Effects.{KeepsStatuses, commands_effects, messages_of_packets};
+ghost use Rattle.ocadev_cli.specs.Effects.{effects_text};
 ghost use Rattle.ocadev_cli.specs.Traces.{PrintsTurn, datagram_line, failed_sends_text, malformed_text, outcome_text};
 ghost use Rattle.ocadev_cli.specs.Traces.{reused_count_text, served_text, written_text};
 ghost use Rattle.oca_pdu.specs.Reading.{read_datagram};
 
-use super::effects::{keep_statuses, print_effects};
+use super::effects::print_effects;
 use super::report::{print_count, put_count, put_peer};
-use oca_device::{Outbox, Report};
+use oca_device::{Effect, Report};
 use oca_net::{End, Heard};
 use oca_pdu::{PduFault, check};
 use oca_script::{Printer, Sink, WriteFailed};
@@ -23,12 +23,11 @@ const OUTCOME_ROOM: usize = 300;
 /// Room for how many answers could not be sent.
 const FAILURES_ROOM: usize = 40;
 
-/// An end that remembers what it heard last, and the statuses of the responses that it was handed behind it.
+/// An end that remembers what it heard last, by which the line of a datagram names its sender and its first fault.
 pub struct Watched<E> {
     pub end: E,
     heard: Heard,
     packet: Packet,
-    statuses: Packet,
 }
 
 impl<E: Drop> Drop for Watched<E> {
@@ -38,16 +37,14 @@ impl<E: Drop> Drop for Watched<E> {
             end: _,
             heard: _,
             packet: _,
-            statuses: _,
         } = self;
     }
 }
 
 impl<E: End> Watched<E> {
-    ghost use Rattle.std.specs.Prelude.{◌≡◌, []};
+    ghost use Rattle.std.specs.Prelude.{◌≡◌};
 
-    /// An end over another end, which remembers what it heard last and what was sent since. It has heard nothing so
-    /// far.
+    /// An end over another end, which remembers what it heard last. It has heard nothing so far.
     pub fn new(end: E) -> Watched<E>
         ensures { result.end ≡ end }
     {
@@ -55,40 +52,33 @@ impl<E: End> Watched<E> {
             end,
             heard: Heard::Closed,
             packet: Packet::new(),
-            statuses: Packet::new(),
         }
     }
 
-    /// Remembers what was heard: no response is sent behind it yet.
+    /// Remembers what was heard.
     fn remember(&mut self, heard: Heard, packet: &Packet)
         ensures end { self.new.end ≡ self.old.end }
         ensures heard { self.new.heard ≡ heard }
         ensures packet { self.new.packet.items ≡ packet.now.items }
-        ensures statuses { self.new.statuses.items ≡ [] }
     {
         self.heard = heard;
         self.packet.clear();
-        self.statuses.clear();
         let _ = self.packet.try_extend_from_slice(packet.as_slice());
     }
 }
 
 impl<E: End> End for Watched<E> {
-    ghost use Rattle.std.specs.Prelude.{◌≡◌, ◌≤◌, [], length};
+    ghost use Rattle.std.specs.Prelude.{◌≡◌, ◌≤◌, length};
     ghost use Rattle.oca_net.specs.EndStates.{Receives, Sends};
     ghost use Rattle.oca_net.specs.Ends.{largest_datagram};
-    ghost use Rattle.oca_pdu.specs.Datagrams.{read_or_none};
-    ghost use Rattle.oca_pdu.specs.Reading.{read_datagram};
-    ghost use Rattle.ocadev_cli.specs.Effects.{KeepsStatuses};
 
     ghost state = { λ w. E.state w.end };
 
-    /// Receives as the end does, and remembers what was heard: no response is sent behind it yet.
+    /// Receives as the end does, and remembers what was heard.
     fn receive(&mut self, packet: &mut Packet) -> Heard
         ensures receives { Receives result packet.new.items (E.state self.old.end) (E.state self.new.end) }
         ensures heard { self.new.heard ≡ result }
         ensures packet { self.new.packet.items ≡ packet.new.items }
-        ensures statuses { self.new.statuses.items ≡ [] }
     {
         let heard = self.end.receive(packet);
         self.remember(heard, packet);
@@ -100,7 +90,6 @@ impl<E: End> End for Watched<E> {
         ensures receives { Receives result packet.new.items (E.state self.old.end) (E.state self.new.end) }
         ensures heard { self.new.heard ≡ result }
         ensures packet { self.new.packet.items ≡ packet.new.items }
-        ensures statuses { self.new.statuses.items ≡ [] }
     {
         let heard = self.end.receive_by(packet, moment);
         self.remember(heard, packet);
@@ -112,76 +101,62 @@ impl<E: End> End for Watched<E> {
         self.end.now()
     }
 
-    /// Sends as the end does, and remembers the statuses of the responses.
+    /// Sends as the end does.
     fn send(&mut self, to: Peer, bytes: &[u8]) -> bool
         requires { length bytes.now ≤ largest_datagram }
         ensures sends { Sends result to bytes.now (E.state self.old.end) (E.state self.new.end) }
         ensures heard { self.new.heard ≡ self.old.heard }
         ensures packet { self.new.packet ≡ self.old.packet }
-        ensures statuses { KeepsStatuses (read_or_none (read_datagram bytes.now)) self.old.statuses.items
-            self.new.statuses.items }
     {
-        keep_statuses(&mut self.statuses, bytes);
         self.end.send(to, bytes)
     }
 }
 
 /// Prints to `faults` a line for the datagram of a turn, and writes all that the printer holds. `watched` has the
-/// datagram, `turn` is the report of the turn, and `written` are the objects that the datagram wrote to. The line has
-/// the sender, what became of the datagram, the objects that it wrote to, and how many answers could not be sent. It
-/// also has what its commands locked and unlocked, and which were refused. For a datagram of more than 1,472 bytes the
-/// line is `oversize`. Nothing is printed if no datagram came. Refusal: `WriteFailed` if a write failed; then only the
-/// beginning of the text may have been written.
+/// datagram, and `turn` is the report of the turn. `effects` are the effects of the datagram's commands, and `written`
+/// are the objects that the datagram wrote to. The line has the sender, what became of the datagram, the objects that it
+/// wrote to, and how many answers could not be sent. It also has what its commands locked and unlocked, and which were
+/// refused. For a datagram of more than 1,472 bytes the line is `oversize`. Nothing is printed if no datagram came.
+/// Refusal: `WriteFailed` if a write failed; then only the beginning of the text may have been written.
 pub fn print_turn<E: End, F: Sink>(
     watched: &Watched<E>,
     turn: &Report,
+    effects: &[Effect],
     written: &[Ono],
     faults: &mut Printer<F>,
 ) -> Result<(), WriteFailed>
-    ensures { PrintsTurn watched.now.heard turn.now watched.now.packet.items watched.now.statuses.items written.now
-        result faults.old faults.new }
+    ensures { PrintsTurn watched.now.heard turn.now watched.now.packet.items effects.now written.now result faults.old
+        faults.new }
 {
     print_heard(
         watched.heard,
         watched.packet.as_slice(),
-        watched.statuses.as_slice(),
         turn,
+        effects,
         written,
         faults,
     )
 }
 
-/// Prints to `faults` the line of [`print_turn`] for what was heard in a turn. `turn` is the report of the turn, and
-/// `written` are the objects that its datagram wrote to. If that is a datagram, `bytes` are its bytes and `statuses`
-/// the statuses of its responses. Nothing is printed if no datagram came. Refusal: `WriteFailed` if a write failed;
-/// then only the beginning of the text may have been written.
+/// Prints to `faults` the line of [`print_turn`] for what was heard in a turn. `turn` is the report of the turn. If a
+/// datagram was heard, `bytes` are its bytes, `effects` are the effects of its commands, and `written` are the objects
+/// that it wrote to. Nothing is printed if no datagram came. Refusal: `WriteFailed` if a write failed; then only the
+/// beginning of the text may have been written.
 pub fn print_heard<F: Sink>(
     heard: Heard,
     bytes: &[u8],
-    statuses: &[u8],
     turn: &Report,
+    effects: &[Effect],
     written: &[Ono],
     faults: &mut Printer<F>,
 ) -> Result<(), WriteFailed>
-    ensures { PrintsTurn heard turn.now bytes.now statuses.now written.now result faults.old faults.new }
+    ensures { PrintsTurn heard turn.now bytes.now effects.now written.now result faults.old faults.new }
 {
     match heard {
-        Heard::Datagram { from, .. } => print_line(from, turn, bytes, statuses, written, faults),
+        Heard::Datagram { from, .. } => print_line(from, turn, bytes, effects, written, faults),
         Heard::Oversize { .. } => end_line(b"oversize\n", faults),
         _ => Ok(()),
     }
-}
-
-/// The statuses of the responses among the answers to a datagram, in order, one byte each; only the first 1,472 of
-/// them. A packet that is not well-formed is left out.
-pub fn statuses_of(answers: &Outbox) -> Packet
-    ensures { KeepsStatuses (messages_of_packets answers.now) [] result.items }
-{
-    let mut statuses = Packet::new();
-    for packet in answers.packets() {
-        keep_statuses(&mut statuses, packet.as_slice());
-    }
-    statuses
 }
 
 /// Prints the line of a datagram, and hands it on.
@@ -189,56 +164,52 @@ fn print_line<F: Sink>(
     from: Peer,
     turn: &Report,
     bytes: &[u8],
-    statuses: &[u8],
+    effects: &[Effect],
     written: &[Ono],
     faults: &mut Printer<F>,
 ) -> Result<(), WriteFailed>
-    ensures { WritesOut result faults.old faults.new (datagram_line from turn.now bytes.now statuses.now written.now) }
+    ensures { WritesOut result faults.old faults.new (datagram_line from turn.now bytes.now effects.now written.now) }
 {
     print_outcome(from, turn, bytes, faults)?;
-    print_behind_outcome(turn, bytes, statuses, written, faults)
+    print_behind_outcome(turn, effects, written, faults)
 }
 
 /// Prints what follows in the line on what became of the datagram.
 fn print_behind_outcome<F: Sink>(
     turn: &Report,
-    bytes: &[u8],
-    statuses: &[u8],
+    effects: &[Effect],
     written: &[Ono],
     faults: &mut Printer<F>,
 ) -> Result<(), WriteFailed>
     ensures { WritesOut result faults.old faults.new
         (written_text written.now ++ (failed_sends_text turn.now.failed_sends
-        ++ (commands_effects turn.now bytes.now statuses.now ++ codes "\n"))) }
+        ++ (effects_text effects.now ++ codes "\n"))) }
 {
     print_written(written, faults)?;
-    print_behind_written(turn, bytes, statuses, faults)
+    print_behind_written(turn, effects, faults)
 }
 
 /// Prints what follows in the line on the objects that were written to.
 fn print_behind_written<F: Sink>(
     turn: &Report,
-    bytes: &[u8],
-    statuses: &[u8],
+    effects: &[Effect],
     faults: &mut Printer<F>,
 ) -> Result<(), WriteFailed>
     ensures { WritesOut result faults.old faults.new
-        (failed_sends_text turn.now.failed_sends ++ (commands_effects turn.now bytes.now statuses.now ++ codes "\n")) }
+        (failed_sends_text turn.now.failed_sends ++ (effects_text effects.now ++ codes "\n")) }
 {
     print_failed_sends(turn.failed_sends, faults)?;
-    print_behind_failures(turn, bytes, statuses, faults)
+    print_behind_failures(effects, faults)
 }
 
 /// Prints what follows in the line on the answers that could not be sent.
 fn print_behind_failures<F: Sink>(
-    turn: &Report,
-    bytes: &[u8],
-    statuses: &[u8],
+    effects: &[Effect],
     faults: &mut Printer<F>,
 ) -> Result<(), WriteFailed>
-    ensures { WritesOut result faults.old faults.new (commands_effects turn.now bytes.now statuses.now ++ codes "\n") }
+    ensures { WritesOut result faults.old faults.new (effects_text effects.now ++ codes "\n") }
 {
-    print_effects(turn, bytes, statuses, faults)?;
+    print_effects(effects, faults)?;
     end_line(b"\n", faults)
 }
 

@@ -4,7 +4,9 @@ use super::play::Script;
 use super::*;
 use Part::*;
 use Step::*;
+use oca_device::{CommandOutcome, Effect};
 use oca_tree::FrontFault;
+use oca_types::{MethodId, Ono, Status};
 
 /// SetState of 4097 to Muted under handle 2.
 const MUTE: Part = Bytes(&[
@@ -68,6 +70,80 @@ const MALFORMED: &[Step] = &[
     Answers(A, 100, GET, KEPT, MUTED),
 ];
 
+/// Commands in a window of one command: a reading and a lock are executed, then a duplicate, a command under the handle
+/// of the lock, and one with a handle below the window. The last one asks for no response, of an object that is not
+/// there.
+const EACH_WAY: &[Part] = &[
+    GetState(5),
+    Lock(6),
+    Lock(6),
+    GetState(6),
+    SetState(4, 2),
+    Part::Command(0, 7, 9, (2, 10), &[]),
+];
+
+/// What becomes of them.
+const EACH_EFFECT: &[Effect] = &[
+    Effect {
+        target: Ono(4097),
+        method: MethodId { level: 4, index: 1 },
+        respond: true,
+        outcome: CommandOutcome::Executed(Status::Ok),
+    },
+    Effect {
+        target: Ono(4097),
+        method: MethodId { level: 1, index: 3 },
+        respond: true,
+        outcome: CommandOutcome::Executed(Status::Ok),
+    },
+    Effect {
+        target: Ono(4097),
+        method: MethodId { level: 1, index: 3 },
+        respond: true,
+        outcome: CommandOutcome::Duplicate,
+    },
+    Effect {
+        target: Ono(4097),
+        method: MethodId { level: 4, index: 1 },
+        respond: true,
+        outcome: CommandOutcome::Reused,
+    },
+    Effect {
+        target: Ono(4097),
+        method: MethodId { level: 4, index: 2 },
+        respond: true,
+        outcome: CommandOutcome::Old,
+    },
+    Effect {
+        target: Ono(9),
+        method: MethodId {
+            level: 2,
+            index: 10,
+        },
+        respond: false,
+        outcome: CommandOutcome::Executed(Status::BadOno),
+    },
+];
+
+/// The verdict on these commands.
+const EACH: Verdict = Verdict::Served {
+    executed: 3,
+    kept: 1,
+    old: 1,
+    reused: 1,
+};
+
+/// The device says what became of each command of the last datagram. A clock reading and the front leave that, and a
+/// malformed datagram ends it.
+const EFFECTS: &[Step] = &[
+    Effects(&[]),
+    Becomes(A, 0, EACH_WAY, EACH, EACH_EFFECT),
+    Tick(10),
+    Fails(4097, true, Ok(())),
+    Effects(EACH_EFFECT),
+    Becomes(A, 20, &[GET, CUT_KEEP_ALIVE], CUT_AT_30, &[]),
+];
+
 /// GetState of 4097 under handle 1 but its ParamCount.
 const GET_CUT: Part = Bytes(&[
     0x3b, 0, 1, 0, 0, 0, 0x1a, 1, 0, 1, 0, 0, 0, 0x11, 0, 0, 0, 1, 0, 0, 0x10, 1, 0, 4, 0, 1,
@@ -106,6 +182,11 @@ const SCRIPTS: &[Script] = &[
         name: "hardware_refuses_a_set",
         setup: Setup::Window(32),
         steps: HARDWARE,
+    },
+    Script {
+        name: "says_what_became_of_each_command",
+        setup: Setup::Window(1),
+        steps: EFFECTS,
     },
     Script {
         name: "ignores_malformed_datagrams",

@@ -2,7 +2,7 @@
 use super::super::peer;
 use super::benches::{Played, Setup};
 use super::parts::{Part, bytes_of, is_of};
-use oca_device::{Device, Outbox, Verdict, law_by_events, law_of_groups};
+use oca_device::{Device, Effect, Outbox, Verdict, law_by_events, law_of_groups};
 use oca_tree::FrontFault;
 use oca_types::Ono;
 use std::alloc::Global;
@@ -18,6 +18,8 @@ pub enum Step {
     Groups(u16, u64, &'static [Part], Verdict, &'static [&'static [Part]]),
     /// Each peer from the first on and before the second sends this at a moment, and gets the packet.
     EachAnswers(u16, u16, u64, Part, Verdict, Part),
+    /// A peer sends a datagram at a moment, and this becomes of its commands.
+    Becomes(u16, u64, &'static [Part], Verdict, &'static [Effect]),
     /// The clock is read at a moment.
     Tick(u64),
     /// The front says whether the hardware of an object refuses to be changed.
@@ -34,6 +36,8 @@ pub enum Step {
     Locked(bool),
     /// The next moment at which a clock reading changes something.
     NextLapse(Option<u64>),
+    /// This became of the commands of the last datagram.
+    Effects(&'static [Effect]),
     /// The outbox is empty, or not.
     NoPackets(bool),
     /// The packet of this number is of these parts.
@@ -143,6 +147,9 @@ fn comes(device: &mut Device, outbox: &mut Outbox, step: Step) -> bool {
         Step::EachAnswers(first, after, now, part, verdict, reply) => {
             each_answers(device, outbox, (first, after), now, part, verdict, reply)
         }
+        Step::Becomes(port, now, parts, verdict, effects) => {
+            hears(device, outbox, port, now, parts, verdict) && device.effects() == effects
+        }
         Step::Tick(now) => {
             device.tick(now);
             true
@@ -160,6 +167,7 @@ fn stands(device: &Device, step: Step) -> bool {
         Step::Locked(locked) => device.tree().lock_of(Ono(4097)).is_some() == locked,
         Step::NextLapse(moment) => device.next_lapse() == moment,
         Step::Failing(ono, failing) => device.is_failing(Ono(ono)) == failing,
+        Step::Effects(effects) => device.effects() == effects,
         _ => false,
     }
 }

@@ -28,7 +28,7 @@ returns-clause-noted c = λ w s ms h.
     let was = parts_in c.self.inside.tree old c.args.self.now w s c.self.view_is h in
     let le = subst (λ (d : DeviceState). c.args.now ≤ d.sessions.moment) (sym c.self.view_is) c.requires in
     let now = present_is w s old c.args.now was.sessions le in
-    let After : Bool → Type 0 = λ b. IsIn w (device_with c.self.inside.tree c.hear.new.self (numbers_of c.self.inside.written.items)) (cond b (noted p (Admitted ms) s) s) in
+    let After : Bool → Type 0 = λ b. IsIn w (device_with c.self.inside.tree c.hear.new.self (numbers_of c.self.inside.written.items) c.self.inside.effects) (cond b (noted p (Admitted ms) s) s) in
     elim c.match-hear.branch [
       | in-NoRoom b ↦ subst After (sym b.result-is) (record { tree = was.tree; sessions = (hears_no_room w s p (present old c.args.now) old c.hear.new.self was.sessions now b.in-NoRoom.ensures.hears).1 })
       | in-Known b ↦ subst After (sym b.result-is) (record { tree = was.tree; sessions = (hears_known w s p (present old c.args.now) old c.hear.new.self was.sessions now b.in-Known.ensures.hears).1 ms })

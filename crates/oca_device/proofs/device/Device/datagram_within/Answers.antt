@@ -7,10 +7,13 @@ use Rattle.oca_device.proofs.device.Device.datagram_within.Goals as goal
 pub receive-requires-clause-none : goal.receive-requires-clause-none
 receive-requires-clause-none c = c.move_clock.ensures.written ∙ c.begin_datagram.ensures.none
 
+pub receive-requires-clause-unserved : goal.receive-requires-clause-unserved
+receive-requires-clause-unserved c = c.move_clock.ensures.effects ∙ c.begin_datagram.ensures.unserved
+
 pub returns-clause-represents : goal.returns-clause-represents
 returns-clause-represents c = λ w T E h.
     let r = c.receive.ensures.takes w _ (c.move_clock.ensures.moved w _ (c.begin_datagram.ensures.same w _ h.state)) in
-    record { state = r.device; written = r.written }
+    record { state = r.device; written = r.written; effects = r.effects }
 
 pub returns-clause-packets : goal.returns-clause-packets
 returns-clause-packets c = λ w T E h.

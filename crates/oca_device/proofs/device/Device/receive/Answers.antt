@@ -24,6 +24,9 @@ serve_messages-counts-requires-clause-few c = omega (arith, commands_counted (me
 pub serve_messages-counts-requires-clause-none : goal.serve_messages-counts-requires-clause-none
 serve_messages-counts-requires-clause-none c = c.admit.ensures.written ∙ c.requires.none
 
+pub serve_messages-counts-requires-clause-unserved : goal.serve_messages-counts-requires-clause-unserved
+serve_messages-counts-requires-clause-unserved c = c.admit.ensures.effects ∙ c.requires.unserved
+
 pub serve_messages-counts-requires-clause-short : goal.serve_messages-counts-requires-clause-short
 serve_messages-counts-requires-clause-short c =
     let found = c.in-Ok.ensures.found in
@@ -34,7 +37,7 @@ returns-else-admit-clause-takes c = λ w s h.
     let ms = datagram_messages c.in-Ok.datagram in
     let out = sym (c.admit.ensures.admits w s h) ∙ c.if-admit.false in
     let same = subst (λ (b : Bool). IsIn w c.admit.new.self (cond b (noted c.args.from (Admitted ms) s) s)) c.if-admit.false (c.admit.ensures.noted w s ms h) in
-    refused_whole w c.admit.new.self c.args.from c.args.bytes.now ms s c.args.outbox.now.room c.args.outbox.now c.in-Ok.ensures.reads out same (c.admit.ensures.written ∙ c.requires.none) c.requires.empty
+    refused_whole w c.admit.new.self c.args.from c.args.bytes.now ms s c.args.outbox.now.room c.args.outbox.now c.in-Ok.ensures.reads out same (c.admit.ensures.written ∙ c.requires.none) (c.admit.ensures.effects ∙ c.requires.unserved) c.requires.empty
 
 pub returns-then-admit-clause-takes : goal.returns-then-admit-clause-takes
 returns-then-admit-clause-takes c = λ w s h.

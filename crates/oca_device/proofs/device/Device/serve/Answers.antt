@@ -4,7 +4,7 @@ use Rattle.oca_session.specs.Table.{session_of, with_sessions, with_changed, wit
 use Rattle.oca_device.specs.Devices.{DeviceState}
 use Rattle.oca_device.specs.States.{time_of}
 use Rattle.std.proofs.lemmas.List.{append-nil}
-use Rattle.oca_device.proofs.Opened.{parts_in, written_in}
+use Rattle.oca_device.proofs.Opened.{parts_in, written_in, effects_in}
 use Rattle.oca_device.proofs.Peers.{still_has_session}
 use Rattle.oca_device.proofs.Steps.{heartbeat_there, known_there, none_more}
 use Rattle.oca_device.proofs.device.Device.serve.Goals as goal
@@ -25,6 +25,7 @@ returns-in-KeepAlive-clause-serves c = λ w s h now.
       packets = c.return_keepalive.ensures.groups;
       counts = none_more c.args.counts.now;
       written = written_in c.self.view_is ∙ sym (append-nil c.args.self.now.written);
+      effects = effects_in c.self.view_is ∙ sym (append-nil c.args.self.now.effects);
     })
 
 pub returns-in-KeepAlive-clause-known : goal.returns-in-KeepAlive-clause-known
@@ -35,3 +36,6 @@ returns-in-KeepAlive-clause-known c =
 
 pub returns-in-KeepAlive-clause-within : goal.returns-in-KeepAlive-clause-within
 returns-in-KeepAlive-clause-within c = omega (arith, c.requires.within, ap length (written_in c.self.view_is))
+
+pub returns-in-KeepAlive-clause-counted : goal.returns-in-KeepAlive-clause-counted
+returns-in-KeepAlive-clause-counted c = omega (arith, c.requires.counted, ap length (effects_in c.self.view_is))

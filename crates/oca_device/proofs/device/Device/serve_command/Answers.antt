@@ -18,9 +18,13 @@ use Rattle.oca_device.specs.States.{State, judged_in, after_command, reply_of}
 use Rattle.oca_device.specs.Answers.{response, answer_to_command, plus, count_of_command}
 use Rattle.oca_device.specs.Outboxes.{KeptPackets, first_packets}
 use Rattle.oca_device.specs.Written.{numbers_of, written_by_execution, written_by_command}
+use Rattle.oca_device.specs.declared.effect.Effect.{Effect}
+use Rattle.oca_device.specs.declared.effect.CommandOutcome.{CommandOutcome}
+use Rattle.oca_device.specs.declared.effect.CommandOutcome.TheVariants as outcome
+use Rattle.oca_device.specs.Effects.{effect_with, outcome_of}
 use Rattle.oca_device.specs.Devices.{DeviceState, IsIn}
 use Rattle.oca_device.specs.PrivateServing.{ServesMessage}
-use Rattle.oca_device.proofs.Opened.{device_with, parts_in, written_in}
+use Rattle.oca_device.proofs.Opened.{device_with, parts_in, written_in, effects_in}
 use Rattle.oca_device.proofs.Steps.{executed_there, agrees_there, known_there, one_executed, one_kept, one_old, one_reused}
 use Rattle.oca_device.proofs.device.Device.serve_command.Goals as goal
 
@@ -37,10 +41,12 @@ answered false before after ms h k = λ room groups is. k refl ∙ is
 -- a command is served as it is judged
 by_judgement : (w : DeviceSizes) (s : State) (p : Peer) (command : CommandFields) (respond : Bool) (old new : DeviceState) (before after : KeptPackets) (n m : Counts)
     (j : Judgement) → j ≡ judged_in w s p command → IsIn w new (after_command j p command s) → new.written ≡ old.written ++ written_by_command j p command s →
+    new.effects ≡ old.effects ++ effect_with (outcome_of j p command s) respond command ∷ [] →
     (respond ≡ true → Answered before after (answer_to_command j p command s)) → (respond ≡ false → after ≡ before) →
     m ≡ plus n (count_of_command j) → ServesMessage w old new p (Command respond command) s before after n m
-by_judgement w s p command respond old new before after n m j is device written with_response without counted = record {
+by_judgement w s p command respond old new before after n m j is device written effects with_response without counted = record {
   written = written ∙ ap (λ (x : Judgement). old.written ++ written_by_command x p command s) is;
+  effects = effects ∙ ap (λ (x : Judgement). old.effects ++ effect_with (outcome_of x p command s) respond command ∷ []) is;
   device = subst (λ (x : Judgement). IsIn w new (after_command x p command s)) is device;
   packets = subst (λ (x : Judgement). Answered before after (cond respond (answer_to_command x p command s) [])) is
       (answered respond before after (answer_to_command j p command s) with_response without);
@@ -48,18 +54,18 @@ by_judgement w s p command respond old new before after n m j is device written 
 }
 
 -- the session of the peer retains what is that of its accepted commands
-agreed_in : {written : List ℕ} (w : DeviceSizes) (s : State) (p : Peer) (tree : List Object) (old : Table) (self : DeviceState) → device_with tree old written ≡ self → IsIn w self s →
+agreed_in : {written : List ℕ} {effects : List Effect} (w : DeviceSizes) (s : State) (p : Peer) (tree : List Object) (old : Table) (self : DeviceState) → device_with tree old written effects ≡ self → IsIn w self s →
     IsSome (session_of p self.sessions.sessions) → AgreesAt p w.window (accepted (run p s.notes)) old.sessions
 agreed_in w s p tree old self e h known =
     let was = parts_in tree old self w s e h in
     agrees_there w s p old was.sessions (known_there w s p old was.sessions (subst (λ (d : DeviceState). IsSome (session_of p d.sessions.sessions)) (sym e) known))
 
 -- a fresh command was executed, and retained with its reply
-fresh_served : {written now_written : List ℕ} (w : DeviceSizes) (s : State) (p : Peer) (command : CommandFields) (tree : List Object) (old : Table) (new_tree : List Object) (new : Table) (reply : Reply) →
-    IsIn w (device_with tree old written) s → is_noted s.moment s.notes p ≡ true → last_noted (run p s.notes) ≡ s.moment →
+fresh_served : {written now_written : List ℕ} {effects now_effects : List Effect} (w : DeviceSizes) (s : State) (p : Peer) (command : CommandFields) (tree : List Object) (old : Table) (new_tree : List Object) (new : Table) (reply : Reply) →
+    IsIn w (device_with tree old written effects) s → is_noted s.moment s.notes p ≡ true → last_noted (run p s.notes) ≡ s.moment →
     new_tree ≡ (execution tree p command).tree → reply ≡ reply_of s.tree p command →
     new ≡ with_sessions old (with_changed p (with_accepted w.window (accepted (run p s.notes) ++ (record { command = command; reply = reply }) ∷ [])) old.sessions) →
-    IsIn w (device_with new_tree new now_written) (after_command Fresh p command s)
+    IsIn w (device_with new_tree new now_written now_effects) (after_command Fresh p command s)
 fresh_served w s p command tree old new_tree new reply was known now executed replied kept =
     let made : Entry = record { command = command; reply = reply_of s.tree p command } in
     let A = accepted (run p s.notes) in
@@ -70,11 +76,21 @@ fresh_served w s p command tree old new_tree new reply was known now executed re
     }
 
 -- what was written, and then what an execution wrote
-more_written : {tree : List Object} {old : Table} {self : DeviceState} (p : Peer) (command : CommandFields) (s : State) (xs ys : List ℕ) → device_with tree old xs ≡ self → tree ≡ s.tree →
+more_written : {tree : List Object} {old : Table} {effects : List Effect} {self : DeviceState} (p : Peer) (command : CommandFields) (s : State) (xs ys : List ℕ) → device_with tree old xs effects ≡ self → tree ≡ s.tree →
     ys ≡ xs ++ written_by_execution tree p command → ys ≡ self.written ++ written_by_command Fresh p command s
 more_written {tree} {self = self} p command s xs ys view same h =
     h ∙ ap (λ (zs : List ℕ). zs ++ written_by_execution tree p command) (written_in view)
     ∙ ap (λ (t : List Object). self.written ++ written_by_execution t p command) same
+
+-- where no command is executed, the device is as it was but for the effects
+still_in : {w : DeviceSizes} {s : State} {tree : List Object} {old : Table} {written : List ℕ} {effects now_effects : List Effect} {self : DeviceState} → device_with tree old written effects ≡ self → IsIn w self s →
+    IsIn w (device_with tree old written now_effects) s
+still_in {w} {s} {tree} {old} {self = self} e h = let was = parts_in tree old self w s e h in record { tree = was.tree; sessions = was.sessions }
+
+-- the effects so far, and then one more
+one_more : {tree : List Object} {old : Table} {written : List ℕ} {xs : List Effect} {self : DeviceState} (ys : List Effect) (became : CommandOutcome) (respond : Bool) (command : CommandFields) →
+    device_with tree old written xs ≡ self → ys ≡ xs ++ effect_with became respond command ∷ [] → ys ≡ self.effects ++ effect_with became respond command ∷ []
+one_more ys became respond command view h = h ∙ ap (λ (zs : List Effect). zs ++ effect_with became respond command ∷ []) (effects_in view)
 
 pub execute-requires : goal.execute-requires
 execute-requires c =
@@ -100,10 +116,12 @@ returns-then-respond-clause-serves c = λ w s h now.
     let A = accepted (run p s.notes) in
     let agreed = agrees_there w s p old was.sessions known in
     let reply : c.execute.new.reply ≡ reply_of s.tree p command = c.execute.ensures.reply ∙ ap (λ t. reply_of t p command) was.tree in
-    by_judgement w s p command c.args.respond c.args.self.now (device_with c.execute.new.tree c.keep.new.self (numbers_of c.execute.new.written.items)) c.args.outbox.now c.respond.new.self c.args.counts.now _ Fresh
+    by_judgement w s p command c.args.respond c.args.self.now (device_with c.execute.new.tree c.keep.new.self (numbers_of c.execute.new.written.items) c.note.new.effects) c.args.outbox.now c.respond.new.self c.args.counts.now _ Fresh
     (c.in-Fresh.ensures.accepted w.window A agreed)
     (fresh_served w s p command tree old c.execute.new.tree c.keep.new.self c.execute.new.reply was known now c.execute.ensures.tree reply (c.keep.ensures.accepted w.window A agreed))
     (more_written p command s (numbers_of c.self.inside.written.items) (numbers_of c.execute.new.written.items) c.self.view_is was.tree c.execute.ensures.written)
+    (one_more c.note.new.effects (outcome.Executed c.execute.new.reply.status) c.args.respond command c.self.view_is c.note.ensures
+    ∙ ap (λ (r : Reply). c.args.self.now.effects ++ effect_with (outcome.Executed r.status) c.args.respond command ∷ []) reply)
     (λ _ room groups is. c.respond.ensures.groups room groups is ∙ ap (λ (r : Reply). first_packets room (encodings (with_answer groups (response command.handle r)))) reply)
     (λ q. cc)
     (one_executed c.args.counts.now)
@@ -120,10 +138,12 @@ returns-else-respond-clause-serves c = λ w s h now.
     let A = accepted (run p s.notes) in
     let agreed = agrees_there w s p old was.sessions known in
     let reply : c.execute.new.reply ≡ reply_of s.tree p command = c.execute.ensures.reply ∙ ap (λ t. reply_of t p command) was.tree in
-    by_judgement w s p command c.args.respond c.args.self.now (device_with c.execute.new.tree c.keep.new.self (numbers_of c.execute.new.written.items)) c.args.outbox.now c.args.outbox.now c.args.counts.now _ Fresh
+    by_judgement w s p command c.args.respond c.args.self.now (device_with c.execute.new.tree c.keep.new.self (numbers_of c.execute.new.written.items) c.note.new.effects) c.args.outbox.now c.args.outbox.now c.args.counts.now _ Fresh
     (c.in-Fresh.ensures.accepted w.window A agreed)
     (fresh_served w s p command tree old c.execute.new.tree c.keep.new.self c.execute.new.reply was known now c.execute.ensures.tree reply (c.keep.ensures.accepted w.window A agreed))
     (more_written p command s (numbers_of c.self.inside.written.items) (numbers_of c.execute.new.written.items) c.self.view_is was.tree c.execute.ensures.written)
+    (one_more c.note.new.effects (outcome.Executed c.execute.new.reply.status) c.args.respond command c.self.view_is c.note.ensures
+    ∙ ap (λ (r : Reply). c.args.self.now.effects ++ effect_with (outcome.Executed r.status) c.args.respond command ∷ []) reply)
     (λ q. cc)
     (λ _. refl)
     (one_executed c.args.counts.now)
@@ -132,10 +152,11 @@ pub returns-then-respond-2-clause-serves : goal.returns-then-respond-2-clause-se
 returns-then-respond-2-clause-serves c = λ w s h now.
     let p = c.args.from in
     let command = fields_of c.args.command.now in
-    by_judgement w s p command c.args.respond c.args.self.now c.args.self.now c.args.outbox.now c.respond-then-respond-2.new.self c.args.counts.now _ (Duplicate c.in-Kept.reply.now)
+    by_judgement w s p command c.args.respond c.args.self.now (device_with c.self.inside.tree c.self.inside.sessions (numbers_of c.self.inside.written.items) c.note-in-Kept.new.effects) c.args.outbox.now c.respond-then-respond-2.new.self c.args.counts.now _ (Duplicate c.in-Kept.reply.now)
     (c.in-Kept.ensures.accepted w.window (accepted (run p s.notes)) (agreed_in w s p c.self.inside.tree c.self.inside.sessions c.args.self.now c.self.view_is h c.requires.known))
-    h
-    (sym (append-nil c.args.self.now.written))
+    (still_in c.self.view_is h)
+    (written_in c.self.view_is ∙ sym (append-nil c.args.self.now.written))
+    (one_more c.note-in-Kept.new.effects outcome.Duplicate c.args.respond command c.self.view_is c.note-in-Kept.ensures)
     (λ _ room groups is. c.respond-then-respond-2.ensures.groups room groups is)
     (λ q. cc)
     (one_kept c.args.counts.now)
@@ -144,10 +165,11 @@ pub returns-else-respond-2-clause-serves : goal.returns-else-respond-2-clause-se
 returns-else-respond-2-clause-serves c = λ w s h now.
     let p = c.args.from in
     let command = fields_of c.args.command.now in
-    by_judgement w s p command c.args.respond c.args.self.now c.args.self.now c.args.outbox.now c.args.outbox.now c.args.counts.now _ (Duplicate c.in-Kept.reply.now)
+    by_judgement w s p command c.args.respond c.args.self.now (device_with c.self.inside.tree c.self.inside.sessions (numbers_of c.self.inside.written.items) c.note-in-Kept.new.effects) c.args.outbox.now c.args.outbox.now c.args.counts.now _ (Duplicate c.in-Kept.reply.now)
     (c.in-Kept.ensures.accepted w.window (accepted (run p s.notes)) (agreed_in w s p c.self.inside.tree c.self.inside.sessions c.args.self.now c.self.view_is h c.requires.known))
-    h
-    (sym (append-nil c.args.self.now.written))
+    (still_in c.self.view_is h)
+    (written_in c.self.view_is ∙ sym (append-nil c.args.self.now.written))
+    (one_more c.note-in-Kept.new.effects outcome.Duplicate c.args.respond command c.self.view_is c.note-in-Kept.ensures)
     (λ q. cc)
     (λ _. refl)
     (one_kept c.args.counts.now)
@@ -156,10 +178,11 @@ pub returns-in-Reused-clause-serves : goal.returns-in-Reused-clause-serves
 returns-in-Reused-clause-serves c = λ w s h now.
     let p = c.args.from in
     let command = fields_of c.args.command.now in
-    by_judgement w s p command c.args.respond c.args.self.now c.args.self.now c.args.outbox.now c.args.outbox.now c.args.counts.now _ Reused
+    by_judgement w s p command c.args.respond c.args.self.now (device_with c.self.inside.tree c.self.inside.sessions (numbers_of c.self.inside.written.items) c.note-in-Reused.new.effects) c.args.outbox.now c.args.outbox.now c.args.counts.now _ Reused
     (c.in-Reused.ensures.accepted w.window (accepted (run p s.notes)) (agreed_in w s p c.self.inside.tree c.self.inside.sessions c.args.self.now c.self.view_is h c.requires.known))
-    h
-    (sym (append-nil c.args.self.now.written))
+    (still_in c.self.view_is h)
+    (written_in c.self.view_is ∙ sym (append-nil c.args.self.now.written))
+    (one_more c.note-in-Reused.new.effects outcome.Reused c.args.respond command c.self.view_is c.note-in-Reused.ensures)
     (λ _ room groups is. is)
     (λ _. refl)
     (one_reused c.args.counts.now)
@@ -168,10 +191,11 @@ pub returns-in-Old-clause-serves : goal.returns-in-Old-clause-serves
 returns-in-Old-clause-serves c = λ w s h now.
     let p = c.args.from in
     let command = fields_of c.args.command.now in
-    by_judgement w s p command c.args.respond c.args.self.now c.args.self.now c.args.outbox.now c.args.outbox.now c.args.counts.now _ Old
+    by_judgement w s p command c.args.respond c.args.self.now (device_with c.self.inside.tree c.self.inside.sessions (numbers_of c.self.inside.written.items) c.note-in-Old.new.effects) c.args.outbox.now c.args.outbox.now c.args.counts.now _ Old
     (c.in-Old.ensures.accepted w.window (accepted (run p s.notes)) (agreed_in w s p c.self.inside.tree c.self.inside.sessions c.args.self.now c.self.view_is h c.requires.known))
-    h
-    (sym (append-nil c.args.self.now.written))
+    (still_in c.self.view_is h)
+    (written_in c.self.view_is ∙ sym (append-nil c.args.self.now.written))
+    (one_more c.note-in-Old.new.effects outcome.Old c.args.respond command c.self.view_is c.note-in-Old.ensures)
     (λ _ room groups is. is)
     (λ _. refl)
     (one_old c.args.counts.now)

@@ -21,9 +21,10 @@ loop-message-init c =
       short = subst (λ (xs : List Msg). AllByRecursion IsShort xs) (sym left) c.requires.short;
       few = omega (arith, c.requires.few, ap all_commands left);
       within = omega (arith, ap length c.requires.none);
+      counted = omega (arith, ap length c.requires.unserved);
       served = λ w s h now.
           subst (λ (xs : List Msg). IsHalfway w c.args.from c.args.self.now xs (messages_left c.args.messages) s c.args.outbox.now c.args.outbox.now (counts 0 0 0 0)) (sym left)
-          (none_served w c.args.from c.args.self.now (messages_left c.args.messages) s c.args.outbox.now h now c.requires.none);
+          (none_served w c.args.from c.args.self.now (messages_left c.args.messages) s c.args.outbox.now h now c.requires.none c.requires.unserved);
     }
 
 pub serve-requires-clause-few : goal.serve-requires-clause-few
@@ -47,6 +48,7 @@ loop-message-preserved c =
       short = (first_short _ _ _ step inv.short).1;
       few = omega (arith, inv.few, c.serve.ensures.few, commands);
       within = c.serve.ensures.within;
+      counted = c.serve.ensures.counted;
       served = λ w s h now.
           let before = inv.served w s h now in
           one_further w c.args.from c.loop-message.self c.serve.new.self _ _ _ _ s _ _ _ _ _ before step inv.known

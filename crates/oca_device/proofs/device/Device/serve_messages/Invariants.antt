@@ -21,6 +21,7 @@ invariant-loop-message l =
       short : AllByRecursion IsShort rest;
       few : l.counts.executed + l.counts.kept + l.counts.old + l.counts.reused + all_commands rest ≤ 86;
       within : length l.self.written ≤ l.counts.executed + l.counts.kept + l.counts.old + l.counts.reused;
+      counted : length l.self.effects ≤ l.counts.executed + l.counts.kept + l.counts.old + l.counts.reused;
       served : (w : DeviceSizes) (s : State) → IsIn w l.fn.self s → last_noted (run l.from s.notes) ≡ s.moment →
           IsHalfway w l.from l.self rest (messages_left l.fn.messages) s l.fn.outbox l.outbox l.counts;
     }
