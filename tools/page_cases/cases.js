@@ -1018,7 +1018,10 @@ const CASES = [
       click(strip.menu);
       click(answerNamed(words));
     }
-    await until(() => sent().length > 3);
+    await until(() => awaited.size > 1);
+    for (const ticket of [3, 4]) tell(ticket);
+    await until(() => !awaited.size);
+    await pause(50);
     return [...came, pairs(sent().slice(2))];
   }],
   ["a lock is not ordered while the panel lock is on", [[], "mute: not sent: the panel lock is on"], async () => {
@@ -1186,6 +1189,13 @@ const CASES = [
       came.push(go.disabled);
     }
     return [came];
+  }],
+  ["what is selected is pressed, and nothing is behind \"none\"", ["true", "false", true], async () => {
+    const button = rows.get(11).strip.select;
+    click(button);
+    const came = [button.getAttribute("aria-pressed")];
+    click($("choose-none"));
+    return [...came, button.getAttribute("aria-pressed"), $("chosen").hidden];
   }],
   ["a group that is folded stays so", [true, "▸", "1 strip · 1 muted"], async () => {
     await startedWith([fakeObjects[0], { ono: 50, in: 100, class: "block", role: "inputs", lockable: false, names: [] }, { ...fakeObjects[2], in: 50 }, fakeObjects[3]], "muted");
