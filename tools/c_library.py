@@ -171,6 +171,54 @@ def random_calls(checks, made, prefix):
             checks.same(f"what {name} answered and its page does not say", unsaid, set())
 
 
+# A program that is told of its socket: whether it is closed where another program is started, a send to a port at which there is no room, how far
+# the clock goes on behind a send while the machine sleeps, a receive that a signal interrupts, and a wait.
+OF_A_SOCKET = """#define _POSIX_C_SOURCE 200809L
+#include <oca.h>
+#include <fcntl.h>
+#include <signal.h>
+#include <stdio.h>
+#include <unistd.h>
+static void on_alarm(int number) { (void)number; }
+int main(int count, char **words) {
+    struct oca_socket own = OCA_SOCKET_INIT;
+    struct sigaction action = {.sa_handler = on_alarm};
+    uint8_t bytes[9] = {0};
+    size_t len = 0;
+    uint32_t ip = 0;
+    uint16_t port = 0;
+    if (count < 1 || !words || oca_socket_open(&own, 0x7F000001, 0) != OCA_SOCKET_DONE) return 2;
+    printf("%d", (fcntl(own.file, F_GETFD) & FD_CLOEXEC) != 0);
+    printf(" %u", (unsigned)oca_socket_receive(&own, bytes, sizeof bytes, &len, &ip, &port));
+    printf(" %u", (unsigned)oca_socket_send(&own, bytes, 1, 0x7F000001, 9));
+    const uint64_t before = oca_socket_now();
+    (void)oca_socket_send(&own, bytes, 1, 0x7F000001, own.port);
+    const uint64_t slept = (oca_socket_now() - before) / 1000;
+    printf(" %u", (unsigned)oca_socket_receive(&own, bytes, sizeof bytes, &len, &ip, &port));
+    (void)sigaction(SIGALRM, &action, NULL);
+    (void)alarm(1);
+    printf(" %u %u\\n", (unsigned)oca_socket_wait(&own, oca_socket_now() + 20000), (unsigned)slept);
+    oca_socket_close(&own);
+    return 0;
+}
+"""
+
+
+def of_a_socket(checks, made):
+    """A socket asks for a send buffer of 4,000,000 bytes and is closed where another program is started; a send that finds no room does not wait; its
+    clock counts sleep; and nothing has come where a signal interrupts a receive or a wait."""
+    source, program, asked = made / "socket.c", made / "of_a_socket", made / "asked"
+    source.write_text(OF_A_SOCKET)
+    asked.touch()
+    subprocess.run(["cc", "-std=c11", *STRICT, f"-I{TOP}/include", "-o", program, source, TOP / "c/socket.c"], check=True)
+    done, nothing, system = (RESULTS[f"OCA_SOCKET_{name}"] for name in ("DONE", "NOTHING", "SYSTEM"))
+    for settings, wanted in (({"STALL": 9, "SLEPT": 100}, f"1 {nothing} {system} {done} {nothing} 100\n"),
+                             ({"INTERRUPT": 1, "STALL": 9}, f"1 {nothing} {system} {nothing} {nothing} 0\n")):
+        words = {"LD_PRELOAD": layer("unreliable"), "ASKED": str(asked)} | {name: str(it) for name, it in settings.items()}
+        checks.same(f"a socket, {settings}", said_by([program], **words), (wanted, 0))
+    checks.same("the send buffers that are asked for", asked.read_text(), 2 * "4000000\n")
+
+
 def full_datagram(checks, made):
     """A datagram of 1,472 bytes, 86 commands, is answered by the device of the example as any other is."""
     run, port = serving([made / "device-c11", 0, 2])
@@ -773,7 +821,7 @@ def main():
             part(checks, made, archive)
         for part in (warnings, by_cmake, each_call_sanitized, random_calls, mixers, from_python):
             part(checks, made, prefix)
-        for part in (arenas, on_arm, on_the_first_kind, against_each_other, full_datagram, oversize, examples_alone, refused_memory):
+        for part in (arenas, on_arm, on_the_first_kind, against_each_other, full_datagram, of_a_socket, oversize, examples_alone, refused_memory):
             part(checks, made)
         if shutil.which("valgrind"):
             checks.same("each call under valgrind", said_by([*CAREFUL, made / "calls-c11"])[1], 0)

@@ -178,8 +178,9 @@ def runs_under_signals(checks):
 
 def refused_sends(checks):
     """Sends that the system refuses are counted, each, and the command is answered when it comes again; a note says how many and why."""
+    place = tempfile.TemporaryDirectory()
     for number, count, words in ((errno.ENETUNREACH, 1, ()), (errno.ENOBUFS, 2, ()), (errno.EPERM, 3, ()), (errno.EPERM, 2, ("--verbose",)),
-                                 (errno.EPERM, 2, ("--stats", 86400))):
+                                 (errno.EPERM, 2, ("--stats", 86400)), (errno.EPERM, 2, ("--keep", f"{place.name}/state"))):
         run, port = checks.serve("--turns", TURNS_OF_A_COPY, *words, FAIL_SEND=count, ERRNO=number)
         with bound() as peer:
             checks.same(f"error {number}: the answer to a copy", answer(peer, 5, ("127.0.0.1", port))[0], response(5))

@@ -727,6 +727,476 @@ const CASES = [
     await until(() => words(11));
     return [words(11)];
   }],
+  ["orders of many are good for 5 s behind the last result, and at most 64 are out", [64, 128, 140, 0, true], async () => {
+    await startedWith(manyMutes(140), "unmuted");
+    const came = [], tellAll = count => {
+      for (let ticket = fake.told.length + 1; ticket <= count; ticket++) tell(ticket);
+    };
+    changeMany([...rows.values()].filter(row => row.kind === "mute"), () => "muted", "mute all");
+    for (const count of [64, 128, 140]) {
+      await until(() => sent().length >= count && !posting);
+      came.push(sent().length);
+      skipped += 4000;
+      program.heardAt = now();
+      tellAll(count);
+    }
+    await until(() => !awaited.size);
+    return [...came, notes.size, $("log").textContent.includes("all 140 done")];
+  }],
+  ["an order of one object goes before those of many that wait", [[{ ono: 1149, set: "muted" }]], async () => {
+    await startedWith(manyMutes(150), "unmuted");
+    changeMany([...rows.values()].filter(row => row.kind === "mute" && row.ono < 1149), () => "muted", "many");
+    await until(() => awaited.size === 64);
+    click(part(1149));
+    tell(1);
+    await until(() => fake.bodies.length > 1);
+    return [fake.bodies[1].orders];
+  }],
+  ["a body is good as long as the earliest of its orders", [[11, 21], true], async () => {
+    fake.answer = () => [503, {}];
+    click(part(11));
+    await until(() => fake.bodies.length > 0 && retryTimer);
+    const first = fake.bodies[0].before;
+    skipped += 2000;
+    program.heardAt = now();
+    fake.answer = null;
+    bodyMost = 64;
+    click(part(21));
+    await until(() => awaited.size > 1);
+    const last = fake.bodies.at(-1);
+    return [last.orders.map(one => one.ono).sort(), Math.abs(last.before - first) < 300];
+  }],
+  ["bodies are half as large where there is no room, and as large again where there is", [[64, 32, 32, 64]], async () => {
+    await startedWith(manyMutes(64), "unmuted");
+    let isFull = true;
+    fake.answer = orders => {
+      if (isFull) return isFull = false, [503, {}];
+      const first = fake.tickets + 1;
+      setTimeout(() => orders.forEach((_, at) => tell(first + at)), 5);
+      return null;
+    };
+    const mutes = [...rows.values()].filter(row => row.kind === "mute");
+    changeMany(mutes, () => "muted", "mute all");
+    await until(() => times.length === 64);
+    changeMany(mutes, row => row.value === "muted" ? "unmuted" : "muted", "again");
+    await until(() => times.length === 128);
+    return [fake.bodies.map(body => body.orders.length)];
+  }],
+  ["each refusal of a body", ["not sent: not let in", "not sent: read only", "not sent: no such object", "not sent: the panel program answered 500"], async () => {
+    const came = [];
+    for (const status of [401, 403, 404, 500]) {
+      fake.answer = () => [status, {}];
+      await until(isOpen);
+      click(part(11));
+      await until(() => notes.has(11));
+      came.push(notes.get(11).words);
+      await answered();
+    }
+    return came;
+  }],
+  ["an order without room gives way to a later one of its control, and goes before others of its object", [["1", "2", "3", "3", true]], async () => {
+    let isFull = true;
+    fake.answer = () => isFull ? (isFull = false, [503, {}]) : null;
+    change(rows.get(13), "1");
+    change(rows.get(13), "2");
+    await until(() => awaited.size > 0);
+    tell(1);
+    await until(() => !awaited.size);
+    isFull = true;
+    change(rows.get(13), "3");
+    order(rows.get(13), "lock");
+    await until(() => awaited.size > 0);
+    tell(2);
+    await until(() => fake.bodies.length > 4);
+    return [sent().map(one => one.set || one.lock)];
+  }],
+  ["a fader that is held stays at the hand behind the result of an order", ["200", "device 150"], async () => {
+    const hand = drag(13);
+    hand.down();
+    hand.to(250);
+    await flying();
+    tell(1);
+    await until(() => !awaited.size);
+    says(13, { value: "150" });
+    await answered();
+    return [hand.at(), hand.mark()];
+  }],
+  ["a refusal is not said where a later order of the control waits", ["", "2"], async () => {
+    change(rows.get(13), "1");
+    await flying();
+    change(rows.get(13), "2");
+    tell(1, "ParameterOutOfRange");
+    await until(() => fake.bodies.length > 1);
+    return [words(13), sent()[1].set];
+  }],
+  ["of another run nothing is taken back", [false, true], async () => {
+    click(part(11));
+    await flying();
+    tell(1);
+    await until(() => !awaited.size);
+    const before = $("undo").disabled;
+    fake.run = "72";
+    await until(() => program.run === "72");
+    return [before, $("undo").disabled];
+  }],
+  ["changes within a second are one, and later ones are not", [" back to 0", " back to 2"], async () => {
+    const came = [], doneWith = async (word, ticket) => {
+      change(rows.get(13), word);
+      await flying(ticket);
+      says(13, { value: word });
+      tell(ticket);
+      await until(() => !awaited.size && rows.get(13).value === word);
+    };
+    await doneWith("1", 1);
+    changes.at(-1).at = now();
+    await doneWith("2", 2);
+    came.push($("undo").textContent.split(":")[1]);
+    changes.at(-1).at = now() - 1500;
+    await doneWith("3", 3);
+    return [...came, $("undo").textContent.split(":")[1]];
+  }],
+  ["two drags are two changes", [2, " back to 200"], async () => {
+    for (const [ticket, word] of [[1, "200"], [2, "400"]]) {
+      const hand = drag(13);
+      hand.down();
+      hand.to(250);
+      await flying(ticket);
+      hand.up();
+      says(13, { value: word });
+      tell(ticket);
+      await until(() => !awaited.size && rows.get(13).value === word);
+    }
+    return [changes.length, $("undo").textContent.split(":")[1]];
+  }],
+  ["of many those are set that are enabled, are read and are not so yet", [[{ ono: 1003, set: "muted" }]], async () => {
+    await startedWith(manyMutes(4), "unmuted");
+    says(1000, { enabled: false });
+    says(1001, { value: null });
+    says(1002, { value: "muted" });
+    await answered();
+    changeMany([...rows.values()].filter(row => row.kind === "mute"), () => "muted", "mute all");
+    await flying();
+    return [sent()];
+  }],
+  ["of many those that were lost are not done", ["2 of 3 not done: "], async () => {
+    changeMany([rows.get(11), rows.get(13), rows.get(21)], row => row.ono === 13 ? "5" : row.ono === 11 ? "unmuted" : "muted", "three");
+    await flying();
+    tell(1, "lost");
+    tell(2);
+    tell(3, "not sent: too late");
+    await until(() => $("log").textContent.includes("not done"));
+    return [/\d of \d not done: /.exec($("log").textContent)[0]];
+  }],
+  ["what is so already is not ordered", [[]], async () => {
+    await typeIn(13, "0");
+    change(rows.get(11), "muted");
+    await pause(30);
+    return [sent()];
+  }],
+  ["what is said of some objects of a strip names them", ["polarity, trim: not read: no answer"], async () => {
+    says(12, { trouble: "no answer" });
+    says(13, { trouble: "no answer" });
+    await answered();
+    return [words(11)];
+  }],
+  ["what is said of all objects of a strip is said once", ["not read: no answer"], async () => {
+    for (const ono of [11, 12, 13, 14]) says(ono, { trouble: "no answer" });
+    await answered();
+    return [words(11)];
+  }],
+  ["changes are taken back one by one, the last one first", [["5", "unmuted", "muted", "0"], true], async () => {
+    for (const [ono, word, ticket] of [[13, "5", 1], [11, "unmuted", 2]]) {
+      change(rows.get(ono), word);
+      await flying(ticket);
+      says(ono, { value: word });
+      tell(ticket);
+      await until(() => !awaited.size && rows.get(ono).value === word);
+    }
+    for (const [ono, word, ticket] of [[11, "muted", 3], [13, "0", 4]]) {
+      click($("undo"));
+      await flying(ticket);
+      says(ono, { value: word });
+      tell(ticket);
+      await until(() => !awaited.size && rows.get(ono).value === word);
+    }
+    return [sent().map(one => one.set), $("undo").disabled];
+  }],
+  ["read only: nothing is muted", [[], "Not done: read only"], async () => {
+    Object.assign(fake, { run: "72", read_only: true });
+    await until(() => program.readOnly);
+    await started();
+    click($("mute-all"));
+    await pause(30);
+    return [sent(), $("dialog").firstElementChild.textContent];
+  }],
+  ["while the objects are read again nothing is sent", ["read", [], "live", ["unmuted"]], async () => {
+    fake.walked = false;
+    await until(() => program.state === "read");
+    click(part(11));
+    await answered();
+    const came = [program.state, sent()];
+    fake.walked = true;
+    await until(() => program.state === "live");
+    click(part(11));
+    await flying();
+    return [...came, program.state, sent().map(one => one.set)];
+  }],
+  ["a page that is let in again goes on", ["shut", "live"], async () => {
+    fake.refuses = 401;
+    await until(() => program.state === "shut");
+    const came = [program.state];
+    fake.refuses = 0;
+    await until(() => isOpen());
+    return [...came, program.state];
+  }],
+  ["a program that fails is one that gives no answer", ["stale"], async () => {
+    fake.refuses = 503;
+    await until(() => program.state === "stale");
+    return [program.state];
+  }],
+  ["a tree of another run, of another walk or of none that is over is not shown", [3, 11], async () => {
+    const real = fetch, wrong = [{ run: "70" }, { epoch: 9 }, { walked: false }], sizes = new Set();
+    globalThis.fetch = async (path, how) => {
+      const answer = await real(path, how), more = path === "/tree" && wrong.shift();
+      return more ? { ...answer, json: async () => ({ ...await answer.json(), objects: [], ...more }) } : answer;
+    };
+    fake.epoch = 2;
+    await until(() => sizes.add(rows.size) && !wrong.length && program.epoch === 2 && isOpen());
+    return [3 - wrong.length, ...sizes];
+  }],
+  ["what waits is not sent to objects that were read anew, and a dialog of the old ones is closed", [["1"], false], async () => {
+    click(part(14));
+    change(rows.get(13), "1");
+    change(rows.get(13), "2");
+    await flying();
+    fake.epoch++;
+    await until(() => program.epoch === fake.epoch && isOpen());
+    await answered();
+    tell(1);
+    await until(() => !awaited.size);
+    await answered();
+    return [sent().map(one => one.set), $("dialog").open];
+  }],
+  ["a reading of which no age is told may be a second old", [false, true], async () => {
+    fake.silent = true;
+    await pause(30);
+    const came = [isSure(rows.get(11))];
+    skipped += 1500;
+    return [!came[0], !isSure(rows.get(11))];
+  }],
+  ["all objects are waited for longer than what changed", [2], async () => {
+    const real = fetch;
+    let isFirst = true;
+    globalThis.fetch = async (path, how) => {
+      if (isFirst && path.startsWith("/values?since=0&")) {
+        isFirst = false;
+        await new Promise((done, refused) => {
+          setTimeout(done, 2300);
+          how.signal.addEventListener("abort", () => refused(how.signal.reason));
+        });
+        fake.change++;
+        isFirst = null;
+      }
+      return real(path, how);
+    };
+    fake.epoch = 2;
+    await until(() => isFirst === null, 6000);
+    await answered();
+    return [isFirst === null ? fake.change : "it was given up"];
+  }],
+  ["all that can be locked and is not is locked, and all own locks are taken off", [["20 lock", "21 lock"], ["20 unlock", "21 lock"]], async () => {
+    const strip = rows.get(21).strip, pairs = list => list.map(one => one.ono + (one.lock ? " lock" : " unlock")).sort();
+    click(strip.menu);
+    click(answerNamed("Lock all"));
+    await flying();
+    await until(() => awaited.size > 1 || fake.bodies.length > 1);
+    const came = [pairs(sent())];
+    says(20, { lock: "own" });
+    for (const ticket of [1, 2]) tell(ticket);
+    await until(() => !awaited.size && rows.get(20).lock === "own");
+    for (const words of ["Unlock all", "Lock all"]) {
+      click(strip.menu);
+      click(answerNamed(words));
+    }
+    await until(() => awaited.size > 1);
+    for (const ticket of [3, 4]) tell(ticket);
+    await until(() => !awaited.size);
+    await pause(50);
+    return [...came, pairs(sent().slice(2))];
+  }],
+  ["a lock is not ordered while the panel lock is on", [[], "mute: not sent: the panel lock is on"], async () => {
+    click(rows.get(11).strip.menu);
+    const button = options()[1].children[1];
+    setGuard(true);
+    click(button);
+    await pause(30);
+    return [sent(), words(11)];
+  }],
+  ["a name that stays the same is not ordered", [[]], async () => {
+    says(10, { label: "Lead" });
+    await answered();
+    click(rows.get(11).strip.menu);
+    click(options()[0].lastElementChild);
+    const before = options()[0].value;
+    click(answerNamed("Rename"));
+    await pause(30);
+    return before === "Lead" ? [sent()] : before;
+  }],
+  ["locked only: by this panel too", [["channel 2"]], async () => {
+    says(21, { lock: "own" });
+    await answered();
+    click($("only-locked"));
+    return [strips.filter(strip => !strip.element.hidden).map(strip => strip.title)];
+  }],
+  ["a jump opens the groups above", [true, false, "▾"], async () => {
+    await startedWith([fakeObjects[0], { ono: 50, in: 100, class: "block", role: "inputs", lockable: false, names: [] }, { ...fakeObjects[2], in: 50 }, fakeObjects[3]], "muted");
+    click(groups[0].head);
+    const came = [groups[0].body.hidden];
+    strips[0].element.scrollIntoView = () => {};
+    jumpTo("s0");
+    return [...came, groups[0].body.hidden, groups[0].sign.textContent];
+  }],
+  ["by touch the cap alone drags, and only the first button", [[], [{ ono: 13, set: "200" }]], async () => {
+    const fader = rows.get(13).view.second, cap = {}, at = (clientY, more) => ({ button: 0, pointerType: "touch", pointerId: 1, clientX: 0, clientY, shiftKey: false, target: fader, ...more });
+    fader.setPointerCapture = () => {};
+    fader.getBoundingClientRect = () => ({ width: 60, height: 348 });
+    for (const more of [{}, { pointerType: "mouse", button: 2 }]) {
+      fader.onpointerdown(at(300, more));
+      fader.onpointermove(at(250, more));
+      fader.onpointerup(at(250, more));
+    }
+    await pause(30);
+    const came = [sent()], target = [...fader.children].find(one => one.className === "cap");
+    fader.onpointerdown(at(300, { target }));
+    fader.onpointermove(at(250, { target }));
+    await flying();
+    return [...came, sent()];
+  }],
+  ["two taps set a fader to 0, and two slow ones do not", [[], [{ ono: 13, set: "0" }]], async () => {
+    says(13, { value: "7" });
+    await answered();
+    const hand = drag(13), tap = () => {
+      hand.down();
+      hand.up();
+    };
+    tap();
+    skipped += 400;
+    tap();
+    await pause(30);
+    const came = [sent()];
+    skipped += 400;
+    tap();
+    tap();
+    await flying();
+    return [...came, sent()];
+  }],
+  ["0 out of the limits is not sent", [[], "trim: not set to 0: that is out of the limits"], async () => {
+    says(13, { value: "7", limits: ["5", "600"] });
+    await answered();
+    key(rows.get(13).view.second, "Delete");
+    await pause(30);
+    return [sent(), words(13)];
+  }],
+  ["no key of a fader acts where its object takes no order", [[], []], async () => {
+    const fader = rows.get(13).view.second, came = [];
+    for (const more of [{ enabled: false }, { enabled: true, value: null }]) {
+      says(13, more);
+      await answered();
+      for (const name of ["ArrowUp", "Delete"]) key(fader, name);
+      await pause(30);
+      came.push(sent());
+    }
+    return came;
+  }],
+  ["a field that is left by Escape has the device's value, and sends nothing", ["0", []], async () => {
+    const input = part(13);
+    input.focus();
+    input.value = "123";
+    input.oninput({});
+    input.onkeydown({ key: "Escape" });
+    input.onchange();
+    await pause(30);
+    return [input.value, sent()];
+  }],
+  ["a press that leaves the button, or of another button, does not act", [[], []], async () => {
+    const button = part(5), came = [];
+    for (const ends of ["onpointerleave", "onpointercancel", "onblur", null]) {
+      button.onpointerdown({ button: ends ? 0 : 2 });
+      if (ends) button[ends]({});
+    }
+    await pause(900);
+    came.push(sent());
+    key(button, "Enter");
+    await pause(400);
+    button.onkeyup({ key: "Enter", preventDefault() {} });
+    await pause(600);
+    return [...came, sent()];
+  }],
+  ["a click without a pointer is asked about", [[], "Switch phantom power on", [{ ono: 5, set: "on" }]], async () => {
+    part(5).onclick({ detail: 0, target: part(5), preventDefault() {} });
+    await pause(30);
+    const came = [sent(), $("dialog").firstElementChild.textContent.replace("device · ", "")];
+    click(answerNamed("Switch"));
+    await flying();
+    return [...came, sent()];
+  }],
+  ["positions from the least on: their names, and which can be selected", [["Mic", "Line", "Off"], [false, true, false], true, "Line"], async () => {
+    says(14, { value: "6", limits: ["5", "7"], flags: [true, false, true] });
+    await answered();
+    click(part(14));
+    return [options().map(option => option.textContent), options().map(option => option.disabled), answerNamed("Switch").disabled, shown(rows.get(14), "6")];
+  }],
+  ["a unit of the object goes before that of its class, one of another object is none, and none is of factor 0", ["dB", "mV", null, null], async () => {
+    const units = [{ class: "int8", ono: 7, factor: "1", unit: "V" }, { class: "int16", ono: null, factor: "0.1", unit: "dB" }, { class: null, ono: 4, factor: "10", unit: "mV" }, { class: "int32", ono: null, factor: "0.0", unit: "s" }];
+    const name = (ono, kind) => unitOf(units, { ono, class: kind })?.name ?? null;
+    return [name(3, "int16"), name(4, "int16"), name(3, "int8"), name(3, "int32")];
+  }],
+  ["a value in a unit, as it is shown and typed", ["+0.05", "−12.00", "0.00", "5", "-1200", "1", null, null, "600"], async () => {
+    const row = { ...rows.get(13), unit: { name: "dB", times: 1n, places: 2 }, limits: ["-1200", "600"] };
+    return [...["5", "-1200", "0"].map(word => shown(row, word)), ...["0,05", "−12", "0.006", "-12.01", "6.01", "+6.00 dB"].map(text => typed(row, text))];
+  }],
+  ["a number that is out of the limits below is not sent", [[], "0"], async () => {
+    await typeIn(13, "-601");
+    return [sent(), part(13).value];
+  }],
+  ["a press that is held and repeated acts once, and a click behind it is none", [{ ono: 5, set: "on" }, false], async () => {
+    const button = part(5);
+    for (const repeat of [false, true]) button.onkeydown({ key: "Enter", repeat, preventDefault() {} });
+    button.onpointerdown({ button: 0 });
+    await flying();
+    await pause(900);
+    click(button);
+    return [...sent(), $("dialog").open];
+  }],
+  ["a click by a pointer on what is to be held asks nothing", [[], false], async () => {
+    click(part(5));
+    await pause(30);
+    return [sent(), !!$("dialog").open];
+  }],
+  ["two clicks on a mute are there and back", [["unmuted", "muted"]], async () => {
+    click(part(11));
+    await flying();
+    click(part(11));
+    tell(1);
+    await until(() => sent().length > 1);
+    return [sent().map(one => one.set)];
+  }],
+  ["the position that is so can't be switched to", [[true, false, true]], async () => {
+    click(part(14));
+    const go = answerNamed("Switch"), came = [go.disabled];
+    for (const at of [1, 0]) {
+      click(options()[at]);
+      came.push(go.disabled);
+    }
+    return [came];
+  }],
+  ["what is selected is pressed, and nothing is behind \"none\"", ["true", "false", true], async () => {
+    const button = rows.get(11).strip.select;
+    click(button);
+    const came = [button.getAttribute("aria-pressed")];
+    click($("choose-none"));
+    return [...came, button.getAttribute("aria-pressed"), $("chosen").hidden];
+  }],
   ["a group that is folded stays so", [true, "▸", "1 strip · 1 muted"], async () => {
     await startedWith([fakeObjects[0], { ono: 50, in: 100, class: "block", role: "inputs", lockable: false, names: [] }, { ...fakeObjects[2], in: 50 }, fakeObjects[3]], "muted");
     click(groups[0].head);

@@ -106,9 +106,10 @@ impl Client {
 
     /// Reads, answers by `site` and writes on each connection that is ready, and closes those that ended or are late at
     /// the moment `now`, in milliseconds of the program's clock. A connection is late if nothing moved on it for more
-    /// than 30,000 ms. It is also late if a request is not whole, or an answer is not taken, for more than 5,000 ms. A
-    /// new connection counts as one whose request is begun: it is late 5,000 ms after its beginning even if no byte
-    /// came.
+    /// than 30,000 ms. It is also late if a request is not whole, or an answer is not taken, for more than 5,000 ms. The
+    /// beginning of a request that was read together with the end of the request before does not count: 5,000 ms begin
+    /// with the next byte. A new connection counts as one whose request is begun: it is late 5,000 ms after its
+    /// beginning even if no byte came.
     fn serve(&mut self, site: &mut Site, now: u64) -> Stands {
         let ticket = site.view().next_ticket();
         site.doubt(self.doubts);
@@ -336,7 +337,9 @@ impl Clients {
 
     /// Reads, answers by `site` and writes on each connection that is ready, and closes those that ended or are late at
     /// the moment `now`, in milliseconds of the program's clock. A connection is late if nothing moved on it for more
-    /// than 30,000 ms. It is also late if a request is not whole, or an answer is not taken, for more than 5,000 ms.
+    /// than 30,000 ms. It is also late if a request is not whole, or an answer is not taken, for more than 5,000 ms. The
+    /// beginning of a request that was read together with the end of the request before does not count: 5,000 ms begin
+    /// with the next byte.
     pub fn serve(&mut self, site: &mut Site, now: u64) {
         self.more = false;
         let mut place = 0usize;
