@@ -92,14 +92,14 @@ takes_nothing at o asked outcome old new p q e s h n same = rw (sym e, s) (None,
 pub takes_this : (at : ℕ) (o : Option Asked) (asked : Asked) (outcome : Option Outcome) (x : Outcome) (old settled new : Inventory) (p q : PanelState)
     → o ≡ slice_get old.asked.items at → o ≡ Some asked → MaySettle outcome asked.handle.0 p q → outcome ≡ Some x
     → OnSome (slice_get old.asked.items at) (settled.asked.items ≡ remove old.asked.items at) → settled ≡ record old { asked = settled.asked }
-    → (asked.question.epoch ≢ settled.epoch → new ≡ settled) → TakesAnswer at old p new q
-takes_this at o asked outcome x old settled new p q e s h n r rest earlier =
+    → (asked.question.epoch ≢ settled.epoch → new ≡ settled) → new.asked ≡ settled.asked → TakesAnswer at old p new q
+takes_this at o asked outcome x old settled new p q e s h n r rest earlier same =
     let there : slice_get old.asked.items at ≡ Some asked = sym e ∙ s in
     let removed : settled.asked.items ≡ remove old.asked.items at = rw there at r in
     rw there (
       Some x,
       rw n at h,
-      record { settled = settled; asked_left = removed; rest = rest; earlier = earlier },
+      record { settled = settled; asked_left = removed; rest = rest; alone = rw (sym same) at removed; earlier = earlier },
     )
 
 pub ruleset take_rules = (takes_nowhere, takes_nothing, takes_this)

@@ -104,8 +104,11 @@ impl Inventory {
 
     /// Adds the object at the next place of the walk, unless it was visited before, with what is asked to know it.
     fn add_next(&mut self, class: Option<Class>) -> Result<(), NoMemory>
-        ensures walk { KeepsWalk self.old self.new }
-        ensures lists { self.new.lists ≡ self.old.lists }
+        ensures rest { self.new ≡ record self.old {
+          objects = self.new.objects;
+          walk = self.new.walk;
+          waiting = self.new.waiting;
+        } }
     {
         match self.walk.take_place()? {
             Some((place, false)) => self.add(place, class),
@@ -115,8 +118,11 @@ impl Inventory {
 
     /// Adds an object, with what is asked to know it.
     fn add(&mut self, at: Place, class: Option<Class>) -> Result<(), NoMemory>
-        ensures walk { KeepsWalk self.old self.new }
-        ensures lists { self.new.lists ≡ self.old.lists }
+        ensures rest { self.new ≡ record self.old {
+          objects = self.new.objects;
+          walk = self.new.walk;
+          waiting = self.new.waiting;
+        } }
     {
         let place = self.objects.as_slice().len();
         self.objects.add(Object::new(at.ono, at.container, class))?;
@@ -128,8 +134,7 @@ impl Inventory {
 
     /// A question that is asked behind all that wait.
     fn ask_later(&mut self, place: usize, ask: Ask) -> Result<(), NoMemory>
-        ensures walk { KeepsWalk self.old self.new }
-        ensures lists { self.new.lists ≡ self.old.lists }
+        ensures rest { self.new ≡ record self.old { waiting = self.new.waiting } }
     {
         let epoch = self.epoch;
         match self.waiting.push_back(Question { place, ask, epoch }) {
@@ -332,6 +337,7 @@ impl Inventory {
     ) -> Result<(), NoMemory>
         ensures walk { KeepsWalk self.old self.new }
         ensures earlier { question.epoch ≢ self.old.epoch → self.new ≡ self.old }
+        ensures asked { self.new.asked ≡ self.old.asked }
         ensures moment { question.ask ≡ asks.Value → ConfirmsBy question.place moment self.old self.new }
     {
         if question.epoch != self.epoch {
@@ -355,7 +361,7 @@ impl Inventory {
     /// Learns what an answer says of an object.
     #[tactic(auto, using(crate::proofs::AgeLemmas::moment_rules))]
     fn learn_fact(&mut self, place: usize, ask: Ask, moment: u64, answer: Answer)
-        ensures walk { KeepsWalk self.old self.new }
+        ensures rest { self.new ≡ record self.old { objects = self.new.objects } }
         ensures moment { ask ≡ asks.Value → ConfirmsBy place moment self.old self.new }
     {
         match (ask, answer) {
@@ -395,6 +401,7 @@ impl Inventory {
     /// be listed, or a device whose objects are others by now.
     fn learn_trouble(&mut self, place: usize, ask: Ask, trouble: Trouble)
         ensures walk { KeepsWalk self.old self.new }
+        ensures asked { self.new.asked ≡ self.old.asked }
         ensures learns { LearnsTrouble place ask trouble self.old self.new }
         ensures moment { KeepsMoment place self.old self.new }
     {
@@ -411,6 +418,7 @@ impl Inventory {
     /// Learns the members of a block: in a walk they are visited, else they are compared with what it listed in the walk.
     fn learn_members(&mut self, place: usize, members: &Members) -> Result<(), NoMemory>
         ensures walk { KeepsWalk self.old self.new }
+        ensures asked { self.new.asked ≡ self.old.asked }
         ensures compares { self.old.walked ≡ true → ComparesAt place members.now.items self.old self.new }
     {
         let Some(object) = self.objects.as_slice().get(place) else {
@@ -432,8 +440,13 @@ impl Inventory {
         container: Ono,
         members: &Members,
     ) -> Result<(), NoMemory>
-        ensures walk { KeepsWalk self.old self.new }
         ensures lists { IfOk result (λ u. KeepsList place members.now.items self.old.lists.items self.new.lists.items) }
+        ensures rest { self.new ≡ record self.old {
+          objects = self.new.objects;
+          walk = self.new.walk;
+          waiting = self.new.waiting;
+          lists = self.new.lists;
+        } }
     {
         self.keep_list(place, members)?;
         self.walk
@@ -443,8 +456,11 @@ impl Inventory {
 
     /// Adds the members of a block.
     fn add_all(&mut self, members: &[Member]) -> Result<(), NoMemory>
-        ensures walk { KeepsWalk self.old self.new }
-        ensures lists { self.new.lists ≡ self.old.lists }
+        ensures rest { self.new ≡ record self.old {
+          objects = self.new.objects;
+          walk = self.new.walk;
+          waiting = self.new.waiting;
+        } }
     {
         for member in members {
             self.add_next(member.class)?;
