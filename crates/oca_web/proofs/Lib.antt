@@ -7,3 +7,4 @@ pub mod ManyLemmas
 pub mod TicketLemmas
 pub mod AgeLemmas
 pub mod ListingLemmas
+pub mod ChangeLemmas

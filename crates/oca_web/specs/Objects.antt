@@ -10,39 +10,46 @@ pub record ObjectsState : Type 0 where
   pub list : List Object
   pub changes : ℕ
 
--- AN OBJECT CHANGED: a change was counted, the object at the place has its number, and was read again when it was before;
--- all others are as they were.
-pub record ChangesOne (place : ℕ) (old new : ObjectsState) : Type 0 where
+-- AN OBJECT BECAME ANOTHER ONE, which is made of what it was: a change was counted, and the object has its number. All others
+-- are as they were.
+pub record ChangesOne (place : ℕ) (made : Object → Object) (old new : ObjectsState) : Type 0 where
   pub counted : new.changes ≡ one_more old.changes
   pub length : length new.list ≡ length old.list
-  pub marked : IfSome (slice_get new.list place) (λ o. o.changed ≡ new.changes)
-  pub asked : option_map (λ o. o.asked) (slice_get new.list place) ≡ option_map (λ o. o.asked) (slice_get old.list place)
+  pub changed : slice_get new.list place
+      ≡ option_map (λ o. record (made o) { changed = one_more old.changes }) (slice_get old.list place)
   pub others : (k : ℕ) → k ≢ place → slice_get new.list k ≡ slice_get old.list k
 
--- no change was counted, and the object at the place is as it was, but for this moment
+-- nothing changed: the object at the place was so before, or no object stands there
+pub record IsSo (place : ℕ) (made : Object → Object) (old new : ObjectsState) : Type 0 where
+  pub same : new ≡ old
+  pub was : option_map made (slice_get old.list place) ≡ slice_get old.list place
+
+-- THE OBJECT AT THE PLACE IS WHAT IS MADE OF IT, which is counted as a change; or it was so before.
+abbrev pub Changes : (place : ℕ) → (Object → Object) → ObjectsState → ObjectsState → Type 0
+Changes place made old new = IsSo place made old new ⊎ ChangesOne place made old new
+
+-- the object with another moment
 abbrev pub with_moment : ℕ → Object → Object
 with_moment moment o = record o { shown = record o.shown { confirmed = moment } }
 
-pub record KeepsAllBut (place moment : ℕ) (old new : ObjectsState) : Type 0 where
+-- the object showed this before, but for the moment behind which the device had its reading: that one is kept, and no change
+-- was counted
+pub record ShowsSame (place : ℕ) (seen : Shown) (old new : ObjectsState) : Type 0 where
   pub changes : new.changes ≡ old.changes
-  pub same : slice_get new.list place ≡ option_map (with_moment moment) (slice_get old.list place)
+  pub was : IfSome (slice_get old.list place) (λ o. seen ≡ record o.shown { confirmed = seen.confirmed })
+  pub same : slice_get new.list place ≡ option_map (with_moment seen.confirmed) (slice_get old.list place)
 
 -- it shows this, and a change was counted
-pub record ShowsNew (place : ℕ) (seen : Shown) (old new : ObjectsState) : Type 0 where
-  pub changes : ChangesOne place old new
-  pub seen_there : IfSome (slice_get new.list place) (λ o. o.shown ≡ seen)
-
--- it changed so, or nothing did
-abbrev pub Changes : ℕ → ObjectsState → ObjectsState → Type 0
-Changes place old new = (new ≡ old) ⊎ ChangesOne place old new
+abbrev pub ShowsNew : (place : ℕ) → Shown → ObjectsState → ObjectsState → Type 0
+ShowsNew place seen old new = ChangesOne place (λ o. record o { shown = seen }) old new
 
 -- THE OBJECT AT THE PLACE SHOWS THIS, which is counted as a change; or it showed the same before, and only the moment behind
--- which the device had its reading is another one. All others are as they were.
+-- which the device had its reading is another one. All else of it, and all others, are as they were.
 pub record ShowsAt (place : ℕ) (seen : Shown) (old new : ObjectsState) : Type 0 where
   pub length : length new.list ≡ length old.list
   pub moment : IfSome (slice_get new.list place) (λ o. o.shown.confirmed ≡ seen.confirmed)
   pub others : (k : ℕ) → k ≢ place → slice_get new.list k ≡ slice_get old.list k
-  pub counted : ShowsNew place seen old new ⊎ KeepsAllBut place seen.confirmed old new
+  pub counted : ShowsNew place seen old new ⊎ ShowsSame place seen old new
 
 -- an object but for when and how often it was read again
 abbrev pub but_for_asking : Object → Object
