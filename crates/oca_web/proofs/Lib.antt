@@ -8,3 +8,4 @@ pub mod TicketLemmas
 pub mod AgeLemmas
 pub mod ListingLemmas
 pub mod ChangeLemmas
+pub mod LearnLemmas
