@@ -2,13 +2,15 @@
 use Rattle.std.proofs.Common.{◌≡◌, ℕ, Bool, true, false, List, sym, Option, Some, None, Result, Ok, Err}
 use Rattle.std.specs.Prelude.{IfOk}
 use Rattle.oca_types.specs.declared.words.NoMemory.{NoMemory}
+use Rattle.oca_types.specs.declared.words.Ono.{Ono}
 use Rattle.oca_model.specs.declared.answer.Answer.{Answer}
 use Rattle.oca_model.specs.declared.member.Member.{Member}
 use Rattle.oca_panel.specs.declared.trouble.Trouble.{Trouble}
 use Rattle.oca_web.specs.declared.ask.Ask.{Ask}
 use Rattle.oca_web.specs.declared.inventory.Inventory.{Inventory}
 use Rattle.oca_web.specs.Learning.{BecomesShown, Learns, LearnsAnswer, LearnsFact, LearnsList, LearnsMembers, LearnsTrouble, listed_in}
-use Rattle.oca_web.specs.Listing.{Compares, KeepsList}
+use Rattle.oca_web.specs.Listing.{Compares}
+use Rattle.oca_web.specs.Finding.{Visits}
 use Rattle.oca_web.specs.Shows.{shown_listed}
 
 pub learns_list : (l : Option (List Member)) (place : ℕ) (ask : Ask) (moment : ℕ) (answer : Answer) (members : List Member)
@@ -23,16 +25,16 @@ learns_fact l place ask moment answer result old new e h same = rw (sym e) (h, s
 
 pub ruleset answer_rules = (learns_list, learns_fact)
 
-pub list_compared : (w : Bool) (place : ℕ) (members : List Member) (result : Result Unit NoMemory) (old new : Inventory) → w ≡ true
+pub list_compared : (w : Bool) (place : ℕ) (container : Ono) (members : List Member) (result : Result Unit NoMemory) (old new : Inventory) → w ≡ true
     → Compares place members old new → BecomesShown place shown_listed old.objects new.objects
-    → new ≡ record old { objects = new.objects; is_stale = new.is_stale } → LearnsList w place members result old new
-list_compared w place members result old new e c s r = rw e (c, s, r)
+    → new ≡ record old { objects = new.objects; is_stale = new.is_stale } → LearnsList w place container members result old new
+list_compared w place container members result old new e c s r = rw e (c, s, r)
 
-pub list_kept : (w : Bool) (place : ℕ) (members : List Member) (result : Result Unit NoMemory) (old new : Inventory) → w ≡ false
-    → IfOk result (λ u. KeepsList place members old.lists.items new.lists.items)
+pub list_kept : (w : Bool) (place : ℕ) (container : Ono) (members : List Member) (result : Result Unit NoMemory) (old new : Inventory) → w ≡ false
+    → IfOk result (λ u. Visits place container members old new)
     → new ≡ record old { objects = new.objects; walk = new.walk; waiting = new.waiting; lists = new.lists }
-    → LearnsList w place members result old new
-list_kept w place members result old new e k r = rw e (k, r)
+    → LearnsList w place container members result old new
+list_kept w place container members result old new e k r = rw e (k, r)
 
 pub ruleset list_rules = (list_compared, list_kept)
 

@@ -9,3 +9,4 @@ pub mod AgeLemmas
 pub mod ListingLemmas
 pub mod ChangeLemmas
 pub mod LearnLemmas
+pub mod FindLemmas

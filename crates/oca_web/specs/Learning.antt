@@ -20,7 +20,8 @@ use Rattle.oca_model.specs.declared.answer.Answer.{Answer}
 use Rattle.oca_model.specs.declared.answer.Answer.TheVariants as answers
 use Rattle.oca_model.specs.declared.member.Member.{Member}
 use Rattle.oca_web.specs.declared.object.Object.{Object}
-use Rattle.oca_web.specs.Listing.{Compares, KeepsList}
+use Rattle.oca_web.specs.Listing.{Compares}
+use Rattle.oca_web.specs.Finding.{Visits}
 use Rattle.oca_web.specs.Objects.{Changes, ObjectsState, ShowsAt}
 use Rattle.oca_web.specs.Shows.{says_locked, shown_listed, shown_ordered, shown_read, tells_of_another_device}
 
@@ -48,20 +49,19 @@ LearnsFact place asks.Value moment (answers.Reading reading) old new =
     BecomesShown place (λ s. shown_read s reading moment) old new
 LearnsFact _ _ _ _ old new = new ≡ old
 
--- A BLOCK LISTED THESE MEMBERS. In a walk this is kept, and they are found; behind it, it is compared with what was kept, and the
--- block shows that it was listed.
-abbrev pub LearnsList : (is_over : Bool) → (place : ℕ) → List Member → Result Unit NoMemory → Inventory → Inventory → Type 0
-LearnsList true place members result old new = Compares place members old new
+-- A BLOCK LISTED THESE MEMBERS. In a walk they are visited, as far as memory is not refused; behind it, they are compared with what
+-- was kept, and the block shows that it was listed.
+abbrev pub LearnsList : (is_over : Bool) → (place : ℕ) → Ono → List Member → Result Unit NoMemory → Inventory → Inventory → Type 0
+LearnsList true place container members result old new = Compares place members old new
     × BecomesShown place shown_listed old.objects new.objects
     × (new ≡ record old { objects = new.objects; is_stale = new.is_stale })
-LearnsList false place members result old new =
-    IfOk result (λ u. KeepsList place members old.lists.items new.lists.items)
+LearnsList false place container members result old new = IfOk result (λ u. Visits place container members old new)
     × (new ≡ record old { objects = new.objects; walk = new.walk; waiting = new.waiting; lists = new.lists })
 
 -- the block is the object at the place; where none stands there, nothing changed
 abbrev pub LearnsMembersOf : Option Object → (place : ℕ) → List Member → Result Unit NoMemory → Inventory → Inventory → Type 0
 LearnsMembersOf None place members result old new = new ≡ old
-LearnsMembersOf (Some o) place members result old new = LearnsList old.walked place members result old new
+LearnsMembersOf (Some o) place members result old new = LearnsList old.walked place o.ono members result old new
 
 abbrev pub LearnsMembers : (place : ℕ) → List Member → Result Unit NoMemory → Inventory → Inventory → Type 0
 LearnsMembers place members result old new =

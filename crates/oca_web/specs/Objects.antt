@@ -3,6 +3,10 @@ use Rattle.std.specs.Prelude.{◌≡◌, ◌≢◌, ◌⊎◌, ℕ, ◌+◌, nat
 use Rattle.std.specs.Prelude.{IfSome}
 use Rattle.std.specs.Option.{option_map}
 use Rattle.oca_net.specs.Ends.{one_more}
+use Rattle.std.specs.Prelude.{Option, Some, None, true, false}
+use Rattle.oca_types.specs.declared.class.Class.{Class}
+use Rattle.oca_types.specs.declared.words.Ono.{Ono}
+use Rattle.oca_web.specs.declared.object.Lock.TheVariants as locks
 use Rattle.oca_web.specs.declared.object.Object.{Object}
 use Rattle.oca_web.specs.declared.object.Shown.{Shown}
 
@@ -63,12 +67,30 @@ pub record AsksAt (place now : ℕ) (old new : ObjectsState) : Type 0 where
   pub same : option_map but_for_asking (slice_get new.list place) ≡ option_map but_for_asking (slice_get old.list place)
   pub others : (k : ℕ) → k ≢ place → slice_get new.list k ≡ slice_get old.list k
 
--- An object was added behind all others, with the number of that change.
-pub record AddsObject (old new : ObjectsState) : Type 0 where
-  pub object : Object
+-- This object was added behind all others, with the number of that change.
+pub record AddsObject (object : Object) (old new : ObjectsState) : Type 0 where
   pub counted : new.changes ≡ one_more old.changes
-  pub list : new.list ≡ old.list ++ object ∷ []
-  pub marked : object.changed ≡ new.changes
+  pub list : new.list ≡ old.list ++ record object { changed = one_more old.changes } ∷ []
+
+-- an object of which nothing was read yet: its number, the block that lists it, and its class are known
+abbrev pub unread : Shown
+unread = record { reading = None; confirmed = 0; trouble = None; lock = locks.Free; enabled = true }
+
+abbrev pub object_found : Ono → Ono → Option Class → Object
+object_found ono container of = record {
+  ono = ono;
+  container = container;
+  class = of;
+  role = [];
+  label = [];
+  lockable = false;
+  names = record { items = [] };
+  flags = record { items = [] };
+  shown = unread;
+  changed = 0;
+  asked = 0;
+  readings = 0;
+}
 
 -- THE PLACES OF THE OBJECTS THAT CHANGED after the change with this number, the first object at this place
 abbrev pub places_since : ℕ → ℕ → List Object → List ℕ

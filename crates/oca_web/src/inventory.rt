@@ -1,5 +1,6 @@
 //! What is known of a device, and what is asked of it.
-ghost use Rattle.std.specs.Prelude.{◌≡◌, [], IfSome};
+ghost use Rattle.std.specs.Prelude.{◌≡◌, ◌+◌, ◌≤◌, [], ◌++◌, length, IfSome};
+ghost use Rattle.oca_web.specs.Finding.{asks_of, numbers_of};
 ghost use Rattle.std.specs.Option.{option_map};
 ghost use Rattle.oca_web.specs.Learning.{listed_in};
 ghost use Rattle.oca_web.specs.declared.ask.Ask.TheVariants as asks;
@@ -61,6 +62,8 @@ impl Inventory {
     ghost use Rattle.oca_web.specs.Learning.{Learns, LearnsAnswer, LearnsFact, LearnsMembers, listed_in};
     ghost use Rattle.oca_web.specs.Shows.{shown_listed, shown_read};
     ghost use Rattle.oca_web.specs.Listing.{Compares, ComparesAt, KeepsList, KeepsListed};
+    ghost use Rattle.std.specs.Prelude.{◌∷◌, ◌++◌};
+    ghost use Rattle.oca_web.specs.Finding.{FindsAt, FindsEach, FindsNext, FindsObject, Visits, questions_of};
     ghost use Rattle.oca_web.specs.Polling.{OpensPage, page_asked};
     ghost use Rattle.oca_web.specs.Readings.{AsksAgain, ConfirmsBy, IsOfMoment, KeepsAsked, KeepsMoment};
     ghost use Rattle.oca_web.specs.declared.ask.Ask.TheVariants as asks;
@@ -109,38 +112,70 @@ impl Inventory {
     }
 
     /// Adds the object at the next place of the walk, unless it was visited before, with what is asked to know it.
+    #[tactic(auto, using(crate::proofs::FindLemmas::finds_next))]
     fn add_next(&mut self, class: Option<Class>) -> Result<(), NoMemory>
         ensures rest { self.new ≡ record self.old {
           objects = self.new.objects;
           walk = self.new.walk;
           waiting = self.new.waiting;
         } }
+        ensures finds { IfOk result (λ u. FindsNext class self.old self.new) }
     {
-        match self.walk.take_place()? {
+        match self.walk.take_place() {
+            Ok(taken) => self.add_taken(taken, class),
+            Err(refused) => Err(refused),
+        }
+    }
+
+    /// Adds the object at a place that was taken, unless it was visited before.
+    fn add_taken(
+        &mut self,
+        taken: Option<(Place, bool)>,
+        class: Option<Class>,
+    ) -> Result<(), NoMemory>
+        ensures rest { self.new ≡ record self.old { objects = self.new.objects; waiting = self.new.waiting } }
+        ensures finds { IfOk result (λ u. FindsAt taken class self.old self.new) }
+    {
+        match taken {
             Some((place, false)) => self.add(place, class),
             Some((_, true)) | None => Ok(()),
         }
     }
 
     /// Adds an object, with what is asked to know it.
+    #[tactic(auto, using(crate::proofs::FindLemmas::finds_one))]
     fn add(&mut self, at: Place, class: Option<Class>) -> Result<(), NoMemory>
-        ensures rest { self.new ≡ record self.old {
-          objects = self.new.objects;
-          walk = self.new.walk;
-          waiting = self.new.waiting;
-        } }
+        ensures rest { self.new ≡ record self.old { objects = self.new.objects; waiting = self.new.waiting } }
+        ensures finds { IfOk result (λ u. FindsObject at class self.old self.new) }
     {
         let place = self.objects.as_slice().len();
-        self.objects.add(Object::new(at.ono, at.container, class))?;
-        for ask in asks_of(class) {
-            self.ask_later(place, *ask)?;
+        match self.objects.add(Object::new(at.ono, at.container, class)) {
+            Ok(()) => self.ask_each(place, asks_of(class)),
+            Err(refused) => Err(refused),
         }
-        Ok(())
+    }
+
+    /// Questions that are asked behind all that wait.
+    #[tactic(auto, using(crate::proofs::FindLemmas::asking_rules))]
+    fn ask_each(&mut self, place: usize, asks: &[Ask]) -> Result<(), NoMemory>
+        ensures rest { self.new ≡ record self.old { waiting = self.new.waiting } }
+        ensures asks { IfOk result (λ u. self.new.waiting.items
+            ≡ self.old.waiting.items ++ questions_of place self.old.epoch asks.now) }
+    {
+        let Some((first, rest)) = asks.split_first() else {
+            return Ok(());
+        };
+        match self.ask_later(place, *first) {
+            Ok(()) => self.ask_each(place, rest),
+            Err(refused) => Err(refused),
+        }
     }
 
     /// A question that is asked behind all that wait.
     fn ask_later(&mut self, place: usize, ask: Ask) -> Result<(), NoMemory>
         ensures rest { self.new ≡ record self.old { waiting = self.new.waiting } }
+        ensures asks { IfOk result (λ u. self.new.waiting.items ≡ self.old.waiting.items
+            ++ (record { place = place; ask = ask; epoch = self.old.epoch }) ∷ []) }
     {
         let epoch = self.epoch;
         match self.waiting.push_back(Question { place, ask, epoch }) {
@@ -464,13 +499,14 @@ impl Inventory {
     }
 
     /// Visits the members of a block in a walk, and keeps that it lists them.
-    #[tactic(auto, using(crate::proofs::ListingLemmas::visit_rules))]
+    #[tactic(auto, using(crate::proofs::ListingLemmas::visit_rules, crate::proofs::FindLemmas::visits))]
     fn visit_members(
         &mut self,
         place: usize,
         container: Ono,
         members: &Members,
     ) -> Result<(), NoMemory>
+        ensures visits { IfOk result (λ u. Visits place container members.now.items self.old self.new) }
         ensures lists { IfOk result (λ u. KeepsList place members.now.items self.old.lists.items self.new.lists.items) }
         ensures kept { KeepsListed self.old.lists.items self.new.lists.items }
         ensures rest { self.new ≡ record self.old {
@@ -487,17 +523,22 @@ impl Inventory {
     }
 
     /// Adds the members of a block.
+    #[tactic(auto, using(crate::proofs::FindLemmas::each_rules))]
     fn add_all(&mut self, members: &[Member]) -> Result<(), NoMemory>
         ensures rest { self.new ≡ record self.old {
           objects = self.new.objects;
           walk = self.new.walk;
           waiting = self.new.waiting;
         } }
+        ensures finds { IfOk result (λ u. FindsEach members.now self.old self.new) }
     {
-        for member in members {
-            self.add_next(member.class)?;
+        let Some((first, rest)) = members.split_first() else {
+            return Ok(());
+        };
+        match self.add_next(first.class) {
+            Ok(()) => self.add_all(rest),
+            Err(refused) => Err(refused),
         }
-        Ok(())
     }
 
     /// Keeps what a block lists in a walk.
@@ -663,16 +704,30 @@ fn was_listed(lists: &[Listed], place: usize, members: &[Member]) -> bool
 }
 
 /// The numbers of members.
-fn numbers_of(members: &Members) -> ArrayVec<u32, 181> {
+fn numbers_of(members: &Members) -> ArrayVec<u32, 181>
+    ensures { result.items ≡ numbers_of members.now.items }
+{
     let mut numbers = ArrayVec::new();
-    for member in members.as_slice() {
-        let _ = numbers.try_push(member.ono.0);
-    }
+    put_numbers(members.as_slice(), &mut numbers);
     numbers
 }
 
+/// Puts the numbers of members behind those before them.
+#[tactic(auto, using(crate::proofs::FindLemmas::number_rules))]
+fn put_numbers(members: &[Member], numbers: &mut ArrayVec<u32, 181>)
+    requires { length numbers.old.items + length members.now ≤ 181 }
+    ensures { numbers.new.items ≡ numbers.old.items ++ numbers_of members.now }
+{
+    if let Some((first, rest)) = members.split_first() {
+        numbers.push(first.ono.0);
+        put_numbers(rest, numbers);
+    }
+}
+
 /// What is asked of an object of this class to know it.
-fn asks_of(class: Option<Class>) -> &'static [Ask] {
+fn asks_of(class: Option<Class>) -> &'static [Ask]
+    ensures { result.now ≡ asks_of class }
+{
     match class {
         Some(Class::Block) => &[
             Ask::Members,

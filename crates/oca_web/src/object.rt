@@ -1,6 +1,7 @@
 //! What is known of an object.
 ghost use Rattle.std.specs.Prelude.{◌≡◌, IsTrue};
 ghost use Rattle.oca_model.specs.Settings.{reading_set_to};
+ghost use Rattle.oca_web.specs.Objects.{object_found, unread};
 ghost use Rattle.oca_web.specs.Shows.{name_of_class};
 
 use oca_model::{Flags, Names, Reading, Value, word_of};
@@ -51,7 +52,9 @@ impl Shown {
 
     /// Returns what a page shows of an object before anything was read of it: no reading, no trouble, no known lock,
     /// and enabled (*profile*). The call refuses nothing and takes no memory.
-    pub fn unread() -> Shown {
+    pub fn unread() -> Shown
+        ensures { result ≡ unread }
+    {
         Shown {
             reading: None,
             confirmed: 0,
@@ -164,7 +167,10 @@ impl Object {
     /// Returns an object of which only the number, the container and the class are known. `class` is `None` if this
     /// profile does not have the class. Texts are empty, the object counts as not lockable and as enabled, and nothing
     /// of it was read. The call refuses nothing and takes no memory.
-    pub fn new(ono: Ono, container: Ono, class: Option<Class>) -> Object {
+    #[tactic(auto, using(crate::proofs::ChangeLemmas::same_bools, crate::proofs::ChangeLemmas::same_texts))]
+    pub fn new(ono: Ono, container: Ono, class: Option<Class>) -> Object
+        ensures { result ≡ object_found ono container class }
+    {
         Object {
             ono,
             container,

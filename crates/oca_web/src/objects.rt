@@ -73,7 +73,7 @@ impl Objects {
     /// has the same number. It can take memory. The only refusal is `NoMemory`, if memory was refused: then the object
     /// is not added, but the change is counted.
     pub fn add(&mut self, mut object: Object) -> Result<(), NoMemory>
-        ensures ok { IfOk result (λ u. AddsObject self.old self.new) }
+        ensures ok { IfOk result (λ u. AddsObject object self.old self.new) }
     {
         self.changes = self.changes.saturating_add(1);
         object.changed = self.changes;

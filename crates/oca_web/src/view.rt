@@ -251,9 +251,11 @@ impl View {
     pub fn open(&mut self, first: usize, visible: usize)
         ensures pages { OpensPage self.old.news.now (page_asked self.old.news.now first visible)
             self.old.inventory.poll.pages.items self.new.inventory.poll.pages.items }
-        ensures rest { self.new ≡ record self.old { inventory = record self.old.inventory {
-          poll = record self.old.inventory.poll { pages = self.new.inventory.poll.pages };
-        } } }
+        ensures rest { self.new ≡ record self.old {
+          inventory = record self.old.inventory {
+            poll = record self.old.inventory.poll { pages = self.new.inventory.poll.pages };
+          };
+        } }
     {
         let now = self.news.now;
         self.inventory.open(now, first, visible);
