@@ -776,13 +776,13 @@ fn says_locked(trouble: Trouble) -> bool
 }
 
 /// What an object shows that was set to this, as of this moment: it has a reading only where it had one.
-fn shown_set(shown: Shown, value: Value, moment: u64) -> Shown
-    ensures { result ≡ shown_set value moment shown }
+fn shown_set(shown: Shown, value: Value, behind: u64) -> Shown
+    ensures { result ≡ shown_set value behind shown }
 {
     match shown.reading {
         Some(reading) => Shown {
             reading: Some(reading_with(reading, value)),
-            confirmed: moment,
+            confirmed: behind,
             ..shown
         },
         None => shown,
