@@ -1,5 +1,5 @@
 -- Walks that go on, and others that begin.
-use Rattle.std.proofs.Common.{◌≡◌, ◌≤◌, ℕ, Bool, true, false, List, [], ◌++◌, append_assoc, append-nil, inl, inr, refl, sym, ap, ◌∙◌, arith, Result, Ok, Err}
+use Rattle.std.proofs.Common.{◌≡◌, ◌≤◌, ℕ, true, false, [], ◌++◌, append_assoc, append-nil, inl, inr, refl, sym, ap, ◌∙◌, arith, Result, Ok, Err}
 use Rattle.oca_types.specs.declared.words.NoMemory.{NoMemory}
 use Rattle.oca_panel.specs.Panels.{PanelState}
 use Rattle.oca_web.specs.declared.inventory.Inventory.{Inventory}
@@ -7,7 +7,6 @@ use Rattle.oca_web.specs.declared.view.Reach.{Reach}
 use Rattle.oca_web.specs.Orders.{OrdersState, SubmitsOrders, with_passed}
 use Rattle.oca_web.specs.Views.{AsksQuestions, Continues, ContinuesAll, RenewsLost, RestsBehind, SubmitsAndAsks, next_with}
 use Rattle.oca_web.specs.Walking.{KeepsWalk, GoesOn, OtherWalk, BeginsAnew, StaysOver}
-use Rattle.oca_web.specs.declared.inventory.Listed.{Listed}
 use Rattle.oca_web.specs.Listing.{KeepsListed}
 
 pub keeps_stays : (a b : Inventory) → KeepsWalk a b → StaysOver a b
