@@ -7,3 +7,6 @@ pub mod ManyLemmas
 pub mod TicketLemmas
 pub mod AgeLemmas
 pub mod ListingLemmas
+pub mod ChangeLemmas
+pub mod LearnLemmas
+pub mod FindLemmas

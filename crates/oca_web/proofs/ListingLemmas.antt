@@ -1,12 +1,12 @@
 -- What blocks listed, member by member and list by list.
-use Rattle.std.proofs.Common.{◌≡◌, ℕ, Bool, true, false, List, [], ◌∷◌, ◌++◌, length, refl, sym, ◌∙◌, ap, inl, inr}
+use Rattle.std.proofs.Common.{◌≡◌, ℕ, Bool, true, false, List, [], ◌∷◌, ◌++◌, length, refl, sym, ◌∙◌, ap, append-nil, inl, inr}
 use Rattle.std.specs.Prelude.{◌⊎◌, ◌==◌}
 use Rattle.std.specs.Bool.{Decides}
 use Rattle.std.proofs.lemmas.Bool.{eq-eqb}
 use Rattle.oca_model.specs.declared.member.Member.{Member}
 use Rattle.oca_web.specs.declared.inventory.Inventory.{Inventory}
 use Rattle.oca_web.specs.declared.inventory.Listed.{Listed}
-use Rattle.oca_web.specs.Listing.{Compares, IsListOf, KeepsList, WasListed}
+use Rattle.oca_web.specs.Listing.{Compares, IsListOf, KeepsList, KeepsListed, WasListed}
 
 never : {P : Type 0} → (P → ⊥) → Decides false P
 never f = (λ h. absurd (cc h), λ p. absurd (f p))
@@ -88,6 +88,19 @@ keeps_list place members one old new p m e = record { one = one; of = (p, m); li
 pub keeps_on : (place : ℕ) (members : List Member) (old between new : List Listed) → KeepsList place members old between → new ≡ between
     → KeepsList place members old new
 keeps_on place members old between new k e = rw e k
+
+pub listed_same : (old new : List Listed) → new ≡ old → KeepsListed old new
+listed_same old new e = ([], e ∙ sym (append-nil old))
+
+pub listed_one : (place : ℕ) (members : List Member) (old new : List Listed) → KeepsList place members old new → KeepsListed old new
+listed_one place members old new k = (k.one ∷ [], k.lists)
+
+pub listed_still : (old between new : List Listed) → KeepsListed old between → new ≡ between → KeepsListed old new
+listed_still old between new k e = (k.0, e ∙ k.1)
+
+pub ruleset kept_rules = (keeps_list, listed_same, listed_one)
+
+pub ruleset visit_rules = (keeps_on, listed_same, listed_still)
 
 -- ---- what follows of a block's list
 

@@ -1,5 +1,5 @@
 -- One step more.
-use Rattle.std.proofs.Common.{◌≡◌, ◌≢◌, ◌+◌, ◌≤◌, ◌<◌, ℕ, [], ◌∷◌, length, length-append, ap, arith, inl, refl, sym, ◌∙◌, Bool, true, false, Option, Some, None, Result}
+use Rattle.std.proofs.Common.{◌≡◌, ◌≢◌, ◌+◌, ◌≤◌, ◌<◌, ℕ, List, [], ◌∷◌, ◌++◌, length, length-append, ap, arith, inl, refl, sym, ◌∙◌, Bool, true, false, Option, Some, None, Result, Ok, Err}
 use Rattle.std.proofs.lemmas.Bool.Decides.{nat_tests}
 use Rattle.std.specs.Bool.{OnTrue}
 use Rattle.std.specs.Prelude.{◌==◌, OnSome, remove, slice_get}
@@ -19,7 +19,11 @@ use Rattle.oca_web.specs.Asking.{AsksOne}
 use Rattle.oca_web.specs.Readings.{KeepsAsked}
 use Rattle.oca_web.specs.Views.{AsksAtPlace, AsksQuestions, NoneAsked, OneAsked, next_behind, target_of, TakesAnswer, TakesAnswers, NoneTaken, OneTaken}
 use Rattle.oca_web.specs.declared.order.Sent.{Sent}
-use Rattle.oca_web.specs.Orders.{OrdersState, Steps, OneMore, SubmitsOrder, SubmitsFirst, SettlesOne, SettlesAt, NoneIsLeft}
+use Rattle.oca_web.specs.Orders.{OrdersState, Steps, NoStep, OneMore, SubmitsOrder, SubmitsFirst, SettlesOne, SettlesAt, NoneIsLeft}
+use Rattle.oca_web.specs.Orders.{SettlesEach, NoneSettled, OneSettled, SettlesInto}
+use Rattle.oca_web.specs.declared.turns.Settled.{Settled}
+use Rattle.oca_web.specs.Learning.{LearnsOrder, LearnsSettled, LearnsSome}
+use Rattle.oca_types.specs.declared.words.NoMemory.{NoMemory}
 
 pub one_submitted : (ahead : ℕ) (b : Bool) (s t u : OrdersState) (p q r : PanelState) → Steps (SubmitsOrder ahead) s p t q → SubmitsFirst ahead b t q u r
     → Steps (SubmitsOrder ahead) s p u r
@@ -40,10 +44,63 @@ one_in_flight ahead false n t u q r e h le = absurd (cc e)
 
 pub ruleset submit_rules = (one_submitted, none_left, one_in_flight)
 
-pub one_settled : (at : ℕ) (o : Option (Sent × Result Unit Trouble)) (s t u : OrdersState) (p q r : PanelState)
-    → Steps SettlesOne s p t q → SettlesAt at o t q u r → Steps SettlesOne s p u r
-one_settled at (Some x) s t u p q r steps h = OneMore steps (at, x.0, x.1, h)
-one_settled at None s t u p q r steps h = rw (h.0, h.1) steps
+pub none_settles : (s t : OrdersState) (p q : PanelState) → t ≡ s → q ≡ p → Steps SettlesOne s p t q
+none_settles s t p q e f = rw (e, f) NoStep
+
+pub one_settles : (at : ℕ) (b : Bool) (l m : List Settled) (s t u : OrdersState) (p q r : PanelState)
+    → Steps SettlesOne s p t q → SettlesInto b at l m t q u r → Steps SettlesOne s p u r
+one_settles at true l m s t u p q r steps h = OneMore steps (at, h.0.sent, h.0.done, h.2)
+one_settles at false l m s t u p q r steps h = rw (h.1, h.2) steps
+
+pub none_settled : (l : List Settled) (s t : OrdersState) (p q : PanelState) → l ≡ [] → t ≡ s → q ≡ p → SettlesEach l s p t q
+none_settled l s t p q n e f = rw (n, e, f) NoneSettled
+
+pub one_settled : (at : ℕ) (b : Bool) (l m : List Settled) (s t u : OrdersState) (p q r : PanelState)
+    → SettlesEach l s p t q → SettlesInto b at l m t q u r → SettlesEach m s p u r
+one_settled at true l m s t u p q r each h = rw h.1 (OneSettled at h.0 each h.2)
+one_settled at false l m s t u p q r each h = rw (h.0, h.1, h.2) each
+
+pub one_counted : (at n : ℕ) (b : Bool) (l m : List Settled) (t u : OrdersState) (q r : PanelState)
+    → length l ≤ n → SettlesInto b at l m t q u r → length m ≤ n + 1
+one_counted at n true l m t u q r le h = omega (arith, le, ap length h.1, length-append l (h.0 ∷ []))
+one_counted at n false l m t u q r le h = omega (arith, le, ap length h.0)
+
+pub ruleset settle_rules = (none_settles, one_settles, none_settled, one_settled, one_counted)
+
+pub into_one : (at : ℕ) (o : Option (Sent × Result Unit Trouble)) (sent : Sent) (done : Result Unit Trouble) (l m : List Settled)
+    (s t : OrdersState) (p q : PanelState) → SettlesAt at o s p t q → o ≡ Some (sent, done)
+    → m ≡ l ++ (record { sent = sent; done = done }) ∷ [] → SettlesInto true at l m s p t q
+into_one at o sent done l m s t p q h e f = (record { sent = sent; done = done }, f, rw e at h)
+
+pub into_none : (at : ℕ) (o : Option (Sent × Result Unit Trouble)) (l m : List Settled) (s t : OrdersState) (p q : PanelState)
+    → SettlesAt at o s p t q → o ≡ None → m ≡ l → SettlesInto false at l m s p t q
+into_none at o l m s t p q h e f = let g : SettlesAt at None s p t q = rw e at h in (f, g.0, g.1)
+
+pub ruleset into_rules = (into_one, into_none)
+
+-- ---- what is learned of orders
+
+pub learns_none : (all : List Settled) (old new : Inventory) (u : Unit) → length all ≡ 0 → new ≡ old → LearnsSome (Ok u) all old new
+learns_none [] old new u n e = e
+learns_none (x ∷ xs) old new u n e = absurd (cc n)
+
+pub learns_first : (all : List Settled) (one : Settled) (rest : List Settled) (r : Result Unit NoMemory) (old between new : Inventory)
+    → all ≡ one ∷ rest → LearnsOrder one.sent.order one.done old between → LearnsSome r rest between new → LearnsSome r all old new
+learns_first all one rest (Ok u) old between new e h more = rw e (between, h, more)
+learns_first all one rest (Err x) old between new e h more =
+    rw e (one ∷ more.0, more.1, ap (λ xs. one ∷ xs) more.2, (between, h, more.3))
+
+pub learns_stops : (all : List Settled) (one : Settled) (rest : List Settled) (e : NoMemory) (old new : Inventory)
+    → all ≡ one ∷ rest → LearnsOrder one.sent.order one.done old new → LearnsSome (Err e) all old new
+learns_stops all one rest x old new e h = rw e (one ∷ [], rest, refl, (new, h, refl))
+
+pub ruleset learning_rules = (learns_none, learns_first, learns_stops)
+
+pub learns_settled : (settled : List Settled) (result : Result Unit NoMemory) (old new : OrdersState) (before after : PanelState)
+    (known learned : Inventory) → SettlesEach settled old before new after → LearnsSome result settled known learned
+    → LearnsSettled result old before known new after learned
+learns_settled settled result old new before after known learned each learns =
+    record { settled = settled; each = each; learns = learns }
 
 -- ---- answers that are taken, and questions that are asked
 
@@ -92,14 +149,14 @@ takes_nothing at o asked outcome old new p q e s h n same = rw (sym e, s) (None,
 pub takes_this : (at : ℕ) (o : Option Asked) (asked : Asked) (outcome : Option Outcome) (x : Outcome) (old settled new : Inventory) (p q : PanelState)
     → o ≡ slice_get old.asked.items at → o ≡ Some asked → MaySettle outcome asked.handle.0 p q → outcome ≡ Some x
     → OnSome (slice_get old.asked.items at) (settled.asked.items ≡ remove old.asked.items at) → settled ≡ record old { asked = settled.asked }
-    → (asked.question.epoch ≢ settled.epoch → new ≡ settled) → TakesAnswer at old p new q
-takes_this at o asked outcome x old settled new p q e s h n r rest earlier =
+    → (asked.question.epoch ≢ settled.epoch → new ≡ settled) → new.asked ≡ settled.asked → TakesAnswer at old p new q
+takes_this at o asked outcome x old settled new p q e s h n r rest earlier same =
     let there : slice_get old.asked.items at ≡ Some asked = sym e ∙ s in
     let removed : settled.asked.items ≡ remove old.asked.items at = rw there at r in
     rw there (
       Some x,
       rw n at h,
-      record { settled = settled; asked_left = removed; rest = rest; earlier = earlier },
+      record { settled = settled; asked_left = removed; rest = rest; alone = rw (sym same) at removed; earlier = earlier },
     )
 
 pub ruleset take_rules = (takes_nowhere, takes_nothing, takes_this)

@@ -1,7 +1,10 @@
 -- What answers and ended orders change in what objects show (*profile*).
-use Rattle.std.specs.Prelude.{◌≡◌, ℕ, ◌==◌, ◌&&◌, Bool, true, false, slice_get, if◌then◌else◌, Option, Some, None, Result}
+use Rattle.std.specs.Prelude.{◌≡◌, ℕ, ◌==◌, ◌&&◌, Bool, true, false, slice_get, if◌then◌else◌, Option, Some, None, Result, Ok, Err}
+use Rattle.std.specs.Prelude.{List, [], ◌∷◌, ◌++◌}
 use Rattle.std.specs.List.{position}
 use Rattle.std.specs.Option.{option_map}
+use Rattle.oca_types.specs.declared.words.NoMemory.{NoMemory}
+use Rattle.oca_panel.specs.Panels.{PanelState}
 use Rattle.oca_panel.specs.declared.trouble.Trouble.{Trouble}
 use Rattle.oca_web.specs.declared.ask.Ask.{Ask}
 use Rattle.oca_web.specs.declared.ask.Ask.TheVariants as asks
@@ -9,8 +12,18 @@ use Rattle.oca_web.specs.declared.inventory.Inventory.{Inventory}
 use Rattle.oca_web.specs.declared.object.Lock.TheVariants as locks
 use Rattle.oca_web.specs.declared.object.Shown.{Shown}
 use Rattle.oca_web.specs.declared.order.Order.{Order}
-use Rattle.oca_web.specs.Objects.{ObjectsState, ShowsAt}
-use Rattle.oca_web.specs.Shows.{says_locked, shown_ordered, tells_of_another_device}
+use Rattle.oca_web.specs.declared.turns.Settled.{Settled}
+use Rattle.oca_web.specs.Orders.{OrdersState, SettlesEach}
+use Rattle.std.specs.Prelude.{IfOk}
+use Rattle.oca_types.specs.declared.words.Ono.{Ono}
+use Rattle.oca_model.specs.declared.answer.Answer.{Answer}
+use Rattle.oca_model.specs.declared.answer.Answer.TheVariants as answers
+use Rattle.oca_model.specs.declared.member.Member.{Member}
+use Rattle.oca_web.specs.declared.object.Object.{Object}
+use Rattle.oca_web.specs.Listing.{Compares}
+use Rattle.oca_web.specs.Finding.{Visits}
+use Rattle.oca_web.specs.Objects.{Changes, ObjectsState, ShowsAt}
+use Rattle.oca_web.specs.Shows.{says_locked, shown_listed, shown_ordered, shown_read, tells_of_another_device}
 
 -- what the object at a place shows, where one stands there
 abbrev pub shown_at : ℕ → ObjectsState → Option Shown
@@ -24,16 +37,41 @@ ShowsFrom (Some s) place made old new = ShowsAt place (made s) old new
 abbrev pub BecomesShown : (place : ℕ) → (Shown → Shown) → ObjectsState → ObjectsState → Type 0
 BecomesShown place made old new = ShowsFrom (shown_at place old) place made old new
 
+-- WHAT AN ANSWER SAYS OF AN OBJECT: its question says of what. An answer of another kind says nothing.
+abbrev pub LearnsFact : (place : ℕ) → Ask → (moment : ℕ) → Answer → ObjectsState → ObjectsState → Type 0
+LearnsFact place asks.Role moment (answers.Text role) old new = Changes place (λ o. record o { role = role }) old new
+LearnsFact place asks.Label moment (answers.Text label) old new = Changes place (λ o. record o { label = label }) old new
+LearnsFact place asks.Lockable moment (answers.Truth truth) old new = Changes place (λ o. record o { lockable = truth }) old new
+LearnsFact place asks.Names moment (answers.Names names) old new = Changes place (λ o. record o { names = names }) old new
+LearnsFact place asks.Flags moment (answers.Flags flags) old new = Changes place (λ o. record o { flags = flags }) old new
+LearnsFact place asks.Enabled moment (answers.Truth truth) old new = BecomesShown place (λ s. record s { enabled = truth }) old new
+LearnsFact place asks.Value moment (answers.Reading reading) old new =
+    BecomesShown place (λ s. shown_read s reading moment) old new
+LearnsFact _ _ _ _ old new = new ≡ old
+
+-- A BLOCK LISTED THESE MEMBERS. In a walk they are visited, as far as memory is not refused; behind it, they are compared with what
+-- was kept, and the block shows that it was listed.
+abbrev pub LearnsList : (is_over : Bool) → (place : ℕ) → Ono → List Member → Result Unit NoMemory → Inventory → Inventory → Type 0
+LearnsList true place container members result old new = Compares place members old new
+    × BecomesShown place shown_listed old.objects new.objects
+    × (new ≡ record old { objects = new.objects; is_stale = new.is_stale })
+LearnsList false place container members result old new = IfOk result (λ u. Visits place container members old new)
+    × (new ≡ record old { objects = new.objects; walk = new.walk; waiting = new.waiting; lists = new.lists })
+
+-- the block is the object at the place; where none stands there, nothing changed
+abbrev pub LearnsMembersOf : Option Object → (place : ℕ) → List Member → Result Unit NoMemory → Inventory → Inventory → Type 0
+LearnsMembersOf None place members result old new = new ≡ old
+LearnsMembersOf (Some o) place members result old new = LearnsList old.walked place o.ono members result old new
+
+abbrev pub LearnsMembers : (place : ℕ) → List Member → Result Unit NoMemory → Inventory → Inventory → Type 0
+LearnsMembers place members result old new =
+    LearnsMembersOf (slice_get old.objects.list place) place members result old new
+
 -- whether an object shows why this of it was not answered
 abbrev pub shows_trouble_of : Ask → Bool
 shows_trouble_of asks.Members = true
 shows_trouble_of asks.Value = true
-shows_trouble_of asks.Role = false
-shows_trouble_of asks.Label = false
-shows_trouble_of asks.Lockable = false
-shows_trouble_of asks.Enabled = false
-shows_trouble_of asks.Names = false
-shows_trouble_of asks.Flags = false
+shows_trouble_of _ = false
 
 -- what an object shows that did not answer: a different controller's lock, or why its value or its members are not there.
 -- The reading stays as it was, and so does its moment: nothing confirmed it.
@@ -50,6 +88,23 @@ NotesTrouble false place ask t old new = BecomesShown place (shown_troubled ask 
 abbrev pub LearnsTrouble : (place : ℕ) → Ask → Trouble → Inventory → Inventory → Type 0
 LearnsTrouble place ask t old new = NotesTrouble (old.walked && tells_of_another_device t) place ask t old new
 
+-- the members that a block listed, where they were asked
+abbrev pub listed_in : Ask → Answer → Option (List Member)
+listed_in asks.Members (answers.Members members) = Some members.items
+listed_in _ _ = None
+
+-- WHAT WAS ANSWERED IS LEARNED: members of a block, or something else of an object, which changes nothing but the objects.
+abbrev pub LearnsAnswer : Option (List Member) → (place : ℕ) → Ask → (moment : ℕ) → Answer → Result Unit NoMemory → Inventory
+    → Inventory → Type 0
+LearnsAnswer (Some members) place ask moment answer result old new = LearnsMembers place members result old new
+LearnsAnswer None place ask moment answer result old new = LearnsFact place ask moment answer old.objects new.objects
+    × (new ≡ record old { objects = new.objects })
+
+-- ... or why nothing was
+abbrev pub Learns : (place : ℕ) → Ask → (moment : ℕ) → Result Answer Trouble → Result Unit NoMemory → Inventory → Inventory → Type 0
+Learns place ask moment (Ok answer) result old new = LearnsAnswer (listed_in ask answer) place ask moment answer result old new
+Learns place ask moment (Err t) result old new = LearnsTrouble place ask t old new
+
 -- AN ORDER ENDED: its object shows what is made of what it showed. What is asked of it again, and which answers are not
 -- learned, is another matter; all else is as it was.
 pub record LearnsOrderAt (place : ℕ) (order : Order) (done : Result Unit Trouble) (old new : Inventory) : Type 0 where
@@ -63,3 +118,21 @@ LearnsOrderOf (Some place) order done old new = LearnsOrderAt place order done o
 
 abbrev pub LearnsOrder : Order → Result Unit Trouble → Inventory → Inventory → Type 0
 LearnsOrder order done old new = LearnsOrderOf (position (λ o. o.ono.0 == order.ono.0) old.objects.list) order done old new
+
+-- ORDERS ENDED, one after another, each with its own outcome
+abbrev pub LearnsEach : List Settled → Inventory → Inventory → Type 0
+LearnsEach [] old new = new ≡ old
+LearnsEach (one ∷ rest) old new =
+    (between : Inventory) × LearnsOrder one.sent.order one.done old between × LearnsEach rest between new
+
+-- all of them; where memory was refused, the first of them
+abbrev pub LearnsSome : Result Unit NoMemory → List Settled → Inventory → Inventory → Type 0
+LearnsSome (Ok u) all old new = LearnsEach all old new
+LearnsSome (Err e) all old new = (first rest : List Settled) × (all ≡ first ++ rest) × LearnsEach first old new
+
+-- WHAT IS LEARNED OF ORDERS IS HOW THEY CAME OUT: of each order what the answer says that the link held under its own handle.
+pub record LearnsSettled (result : Result Unit NoMemory) (old : OrdersState) (before : PanelState) (known : Inventory)
+    (new : OrdersState) (after : PanelState) (learned : Inventory) : Type 0 where
+  pub settled : List Settled
+  pub each : SettlesEach settled old before new after
+  pub learns : LearnsSome result settled known learned

@@ -13,3 +13,4 @@ pub mod Sites
 pub mod Results
 pub mod Views
 pub mod Walking
+pub mod Finding

@@ -20,6 +20,10 @@ pub record KeepsList (place : ℕ) (members : List Member) (old new : List Liste
   pub of : IsListOf place members one
   pub lists : new ≡ old ++ one ∷ []
 
+-- all that was listed is kept, and more may be
+abbrev pub KeepsListed : List Listed → List Listed → Type 0
+KeepsListed old new = (more : List Listed) × (new ≡ old ++ more)
+
 -- WHAT WAS FOUND STAYS where the block lists what it listed in the walk: another walk is to begin only where it lists
 -- something else. What blocks listed in the walk stays kept.
 pub record Compares (place : ℕ) (members : List Member) (old new : Inventory) : Type 0 where

@@ -27,6 +27,7 @@ use Rattle.oca_web.specs.declared.order.Order.{Order}
 use Rattle.oca_web.specs.declared.order.Wanted.{Wanted}
 use Rattle.oca_web.specs.declared.order.Sent.{Sent}
 use Rattle.oca_web.specs.declared.order.OrderResult.{OrderResult}
+use Rattle.oca_web.specs.declared.turns.Settled.{Settled}
 
 -- The orders that wait, the first that came first; those in flight under their handles; how the last ones ended, by
 -- their tickets; and the ticket of the last order.
@@ -270,3 +271,15 @@ SettlesOne old before new after = (at : ℕ) × (sent : Sent) × (done : Result 
 
 abbrev pub SettlesOrders : OrdersState → PanelState → OrdersState → PanelState → Type 0
 SettlesOrders = Steps SettlesOne
+
+-- THESE ORDERS CAME OUT, one after another, each as the answer says that the link held under its own handle.
+pub data SettlesEach : List Settled → OrdersState → PanelState → OrdersState → PanelState → Type 0 where
+  NoneSettled : {s : OrdersState} {p : PanelState} → SettlesEach [] s p s p
+  OneSettled : {all : List Settled} {s t u : OrdersState} {p q r : PanelState} (at : ℕ) (one : Settled)
+      → SettlesEach all s p t q → SettlesOrder at one.sent one.done t q u r → SettlesEach (all ++ one ∷ []) s p u r
+
+-- whether one more came out: where none did, nothing changed
+abbrev pub SettlesInto : Bool → ℕ → List Settled → List Settled → OrdersState → PanelState → OrdersState → PanelState → Type 0
+SettlesInto true at all more old before new after = (one : Settled) × (more ≡ all ++ one ∷ [])
+    × SettlesOrder at one.sent one.done old before new after
+SettlesInto false at all more old before new after = (more ≡ all) × (new ≡ old) × (after ≡ before)

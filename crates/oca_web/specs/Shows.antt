@@ -1,7 +1,10 @@
 -- What an object shows behind an answer (*profile*).
-use Rattle.std.specs.Prelude.{ℕ, ◌-◌, ◌==◌, ◌||◌, Bool, true, false, if◌then◌else◌, List, codes, Option, Some, None, Result, Ok, Err}
+use Rattle.std.specs.Prelude.{ℕ, ◌-◌, ◌==◌, ◌||◌, Bool, true, false, if◌then◌else◌, List, codes, Option, Some, None, Result, Ok, Err, is_some}
+use Rattle.std.specs.Option.{option_map}
 use Rattle.oca_types.specs.declared.class.Class.{Class}
 use Rattle.oca_types.specs.declared.class.Class.TheVariants as class
+use Rattle.oca_types.specs.declared.status.Status.TheVariants as status
+use Rattle.oca_types.specs.Status.{status_number}
 use Rattle.oca_model.specs.declared.reading.Reading.{Reading}
 use Rattle.oca_model.specs.declared.value.Value.{Value}
 use Rattle.oca_model.specs.Settings.{reading_set_to}
@@ -31,45 +34,33 @@ shown_read s reading moment =
 abbrev pub carried_out_behind : Order → ℕ
 carried_out_behind order = order.last - 5000
 
--- why it was refused: a different controller's lock is on the object (AES70-2, OcaStatus)
+-- a refusal with the status Locked: a different controller's lock is on the object (AES70-2, OcaStatus)
 abbrev pub says_locked : Trouble → Bool
-says_locked (trouble.Refused status) = status == 3
-says_locked trouble.Unreadable = false
-says_locked trouble.NoValue = false
-says_locked trouble.NoSuchWord = false
-says_locked (trouble.NotSubmitted fault) = false
-says_locked trouble.Lost = false
-says_locked trouble.Unanswered = false
+says_locked (trouble.Refused number) = number == status_number status.Locked
+says_locked _ = false
 
-abbrev pub lock_refused : Trouble → Lock → Lock
-lock_refused t before = if says_locked t then locks.Other else before
-
--- WHOSE LOCK IS ON AN OBJECT behind an order that ended so
-abbrev pub lock_after : Action → Result Unit Trouble → Lock → Lock
-lock_after action (Err t) before = lock_refused t before
-lock_after actions.Lock (Ok u) before = locks.Own
-lock_after actions.Unlock (Ok u) before = locks.Free
-lock_after (actions.Set value) (Ok u) before = before
-lock_after (actions.Rename label) (Ok u) before = before
-
--- an object that had a reading has the one that was ordered, with the limits that it had, as of this moment
-abbrev pub shown_set : Value → ℕ → Option Reading → Shown → Shown
-shown_set value moment None s = s
-shown_set value moment (Some r) s = record s { reading = Some (reading_set_to r value); confirmed = moment }
-
-abbrev pub shown_done : Action → Result Unit Trouble → ℕ → Shown → Shown
-shown_done action (Err t) moment s = s
-shown_done (actions.Set value) (Ok u) moment s = shown_set value moment s.reading s
-shown_done actions.Lock (Ok u) moment s = s
-shown_done actions.Unlock (Ok u) moment s = s
-shown_done (actions.Rename label) (Ok u) moment s = s
-
--- WHAT AN OBJECT SHOWS BEHIND AN ORDER that ended so: the reading and its moment stay, unless the order set it; whose lock
--- is on it; and all else as it was.
-abbrev pub shown_ordered : Order → Result Unit Trouble → Shown → Shown
-shown_ordered order done s = record (shown_done order.action done (carried_out_behind order) s) {
-  lock = lock_after order.action done s.lock;
+-- a value was set: a reading that was shown is this value, with the limits that it had, as of this moment
+abbrev pub shown_set : Value → ℕ → Shown → Shown
+shown_set value moment s = record s {
+  reading = option_map (λ r. reading_set_to r value) s.reading;
+  confirmed = if is_some s.reading then moment else s.confirmed;
 }
+
+-- what an order that was carried out behind this moment changes
+abbrev pub shown_done : Action → ℕ → Shown → Shown
+shown_done (actions.Set value) moment s = shown_set value moment s
+shown_done actions.Lock moment s = record s { lock = locks.Own }
+shown_done actions.Unlock moment s = record s { lock = locks.Free }
+shown_done (actions.Rename label) moment s = s
+
+-- what a refusal changes
+abbrev pub shown_refused : Trouble → Shown → Shown
+shown_refused t s = if says_locked t then record s { lock = locks.Other } else s
+
+-- WHAT AN OBJECT SHOWS BEHIND AN ORDER that ended so: what is not named here is as it was.
+abbrev pub shown_ordered : Order → Result Unit Trouble → Shown → Shown
+shown_ordered order (Ok u) s = shown_done order.action (carried_out_behind order) s
+shown_ordered order (Err t) s = shown_refused t s
 
 -- a block whose members were listed
 abbrev pub shown_listed : Shown → Shown
@@ -78,13 +69,10 @@ shown_listed s = record s { trouble = None; lock = lock_behind s.lock }
 -- THE DEVICE IS ANOTHER ONE BY NOW, where an object that was known refuses with BadONo or BadMethod (AES70-2, OcaStatus),
 -- or answers as one of another class does
 abbrev pub tells_of_another_device : Trouble → Bool
-tells_of_another_device (trouble.Refused status) = (status == 5) || (status == 11)
+tells_of_another_device (trouble.Refused number) =
+    (number == status_number status.BadOno) || (number == status_number status.BadMethod)
 tells_of_another_device trouble.Unreadable = true
-tells_of_another_device trouble.NoValue = false
-tells_of_another_device trouble.NoSuchWord = false
-tells_of_another_device (trouble.NotSubmitted fault) = false
-tells_of_another_device trouble.Lost = false
-tells_of_another_device trouble.Unanswered = false
+tells_of_another_device _ = false
 
 -- THE WORD FOR A CLASS, as pages are told it; one that is not of this profile is unknown.
 abbrev pub name_of_class : Option Class → List ℕ

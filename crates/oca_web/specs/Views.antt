@@ -82,12 +82,13 @@ pub record TurnsAndSettles (ahead : ℕ) (heard : Option ℕ) (old : OrdersState
 
 -- ---- one question
 
--- A QUESTION IN FLIGHT WAS ANSWERED: it is in flight no longer, and if it is of an earlier walk nothing else changed. (What
--- is learned of the answer is another matter.)
+-- A QUESTION IN FLIGHT WAS ANSWERED: it is in flight no longer, and all others still are. If it is of an earlier walk nothing
+-- else changed. (What is learned of the answer is another matter.)
 pub record LeavesAsked (at : ℕ) (asked : Asked) (old new : Inventory) : Type 0 where
   pub settled : Inventory
   pub asked_left : settled.asked.items ≡ remove old.asked.items at
   pub rest : settled ≡ record old { asked = settled.asked }
+  pub alone : new.asked.items ≡ remove old.asked.items at
   pub earlier : asked.question.epoch ≢ settled.epoch → new ≡ settled
 
 abbrev pub LeavesWhere : Option Outcome → (at : ℕ) → Asked → Inventory → Inventory → Type 0

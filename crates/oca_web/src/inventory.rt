@@ -1,10 +1,14 @@
 //! What is known of a device, and what is asked of it.
-ghost use Rattle.std.specs.Prelude.{◌≡◌, []};
+ghost use Rattle.std.specs.Prelude.{◌≡◌, ◌+◌, ◌≤◌, [], ◌++◌, length, IfSome};
+ghost use Rattle.oca_web.specs.Finding.{asks_of, numbers_of};
+ghost use Rattle.std.specs.Option.{option_map};
+ghost use Rattle.oca_web.specs.Learning.{listed_in};
+ghost use Rattle.oca_web.specs.declared.ask.Ask.TheVariants as asks;
 ghost use Rattle.std.specs.Bool.{Decides};
 ghost use Rattle.oca_web.specs.Listing.{IsListOf, WasListed};
 ghost use Rattle.oca_web.specs.Learning.{shown_troubled, shows_trouble_of};
-ghost use Rattle.oca_web.specs.Shows.{lock_after, lock_behind, lock_refused, says_locked, shown_done, shown_listed, shown_ordered, shown_read};
-ghost use Rattle.oca_web.specs.Shows.{shown_set, tells_of_another_device};
+ghost use Rattle.oca_web.specs.Shows.{lock_behind, says_locked, shown_done, shown_listed, shown_ordered, shown_read};
+ghost use Rattle.oca_web.specs.Shows.{shown_refused, shown_set, tells_of_another_device};
 
 use crate::ask::{Ask, Asked, Question, class_for};
 use crate::object::{Lock, Object, Shown, reading_with};
@@ -12,6 +16,7 @@ use crate::objects::Objects;
 use crate::order::{Action, ORDER_MS, Order};
 use crate::orders::lower;
 use crate::poll::Poll;
+use crate::turns::Settled;
 use arrayvec::ArrayVec;
 use oca_model::{Answer, Member, Members, Reading, Value};
 use oca_panel::{Place, Trouble, Walk};
@@ -53,13 +58,17 @@ impl Inventory {
     ghost use Rattle.std.specs.Prelude.{◌≡◌, ◌≢◌, ◌==◌, ◌≤◌, true, length, IfOk, OnSome, remove};
     ghost use Rattle.std.specs.Option.{option_map};
     ghost use Rattle.oca_web.specs.Views.{target_of};
-    ghost use Rattle.oca_web.specs.Learning.{LearnsOrder, LearnsTrouble, BecomesShown};
+    ghost use Rattle.oca_web.specs.Learning.{LearnsOrder, LearnsSome, LearnsTrouble, BecomesShown};
+    ghost use Rattle.oca_web.specs.Learning.{Learns, LearnsAnswer, LearnsFact, LearnsMembers, listed_in};
     ghost use Rattle.oca_web.specs.Shows.{shown_listed, shown_read};
-    ghost use Rattle.oca_web.specs.Listing.{Compares, ComparesAt, KeepsList};
+    ghost use Rattle.oca_web.specs.Listing.{Compares, ComparesAt, KeepsList, KeepsListed};
+    ghost use Rattle.std.specs.Prelude.{◌∷◌, ◌++◌};
+    ghost use Rattle.oca_web.specs.Finding.{FindsAt, FindsEach, FindsNext, FindsObject, Visits, questions_of};
+    ghost use Rattle.oca_web.specs.Polling.{OpensPage, page_asked};
     ghost use Rattle.oca_web.specs.Readings.{AsksAgain, ConfirmsBy, IsOfMoment, KeepsAsked, KeepsMoment};
     ghost use Rattle.oca_web.specs.declared.ask.Ask.TheVariants as asks;
     ghost use Rattle.std.specs.Prelude.{slice_get};
-    ghost use Rattle.oca_web.specs.Walking.{BeginsAnew, KeepsWalk};
+    ghost use Rattle.oca_web.specs.Walking.{BeginsAnew, GoesOn, KeepsWalk};
 
     /// Returns an inventory of a device of which nothing is known, with a walk that begins at the root (*profile*).
     /// `now` is the present moment of the program's clock, in milliseconds. The call asks nothing of the device. It
@@ -103,33 +112,70 @@ impl Inventory {
     }
 
     /// Adds the object at the next place of the walk, unless it was visited before, with what is asked to know it.
+    #[tactic(auto, using(crate::proofs::FindLemmas::finds_next))]
     fn add_next(&mut self, class: Option<Class>) -> Result<(), NoMemory>
-        ensures walk { KeepsWalk self.old self.new }
-        ensures lists { self.new.lists ≡ self.old.lists }
+        ensures rest { self.new ≡ record self.old {
+          objects = self.new.objects;
+          walk = self.new.walk;
+          waiting = self.new.waiting;
+        } }
+        ensures finds { IfOk result (λ u. FindsNext class self.old self.new) }
     {
-        match self.walk.take_place()? {
+        match self.walk.take_place() {
+            Ok(taken) => self.add_taken(taken, class),
+            Err(refused) => Err(refused),
+        }
+    }
+
+    /// Adds the object at a place that was taken, unless it was visited before.
+    fn add_taken(
+        &mut self,
+        taken: Option<(Place, bool)>,
+        class: Option<Class>,
+    ) -> Result<(), NoMemory>
+        ensures rest { self.new ≡ record self.old { objects = self.new.objects; waiting = self.new.waiting } }
+        ensures finds { IfOk result (λ u. FindsAt taken class self.old self.new) }
+    {
+        match taken {
             Some((place, false)) => self.add(place, class),
             Some((_, true)) | None => Ok(()),
         }
     }
 
     /// Adds an object, with what is asked to know it.
+    #[tactic(auto, using(crate::proofs::FindLemmas::finds_one))]
     fn add(&mut self, at: Place, class: Option<Class>) -> Result<(), NoMemory>
-        ensures walk { KeepsWalk self.old self.new }
-        ensures lists { self.new.lists ≡ self.old.lists }
+        ensures rest { self.new ≡ record self.old { objects = self.new.objects; waiting = self.new.waiting } }
+        ensures finds { IfOk result (λ u. FindsObject at class self.old self.new) }
     {
         let place = self.objects.as_slice().len();
-        self.objects.add(Object::new(at.ono, at.container, class))?;
-        for ask in asks_of(class) {
-            self.ask_later(place, *ask)?;
+        match self.objects.add(Object::new(at.ono, at.container, class)) {
+            Ok(()) => self.ask_each(place, asks_of(class)),
+            Err(refused) => Err(refused),
         }
-        Ok(())
+    }
+
+    /// Questions that are asked behind all that wait.
+    #[tactic(auto, using(crate::proofs::FindLemmas::asking_rules))]
+    fn ask_each(&mut self, place: usize, asks: &[Ask]) -> Result<(), NoMemory>
+        ensures rest { self.new ≡ record self.old { waiting = self.new.waiting } }
+        ensures asks { IfOk result (λ u. self.new.waiting.items
+            ≡ self.old.waiting.items ++ questions_of place self.old.epoch asks.now) }
+    {
+        let Some((first, rest)) = asks.split_first() else {
+            return Ok(());
+        };
+        match self.ask_later(place, *first) {
+            Ok(()) => self.ask_each(place, rest),
+            Err(refused) => Err(refused),
+        }
     }
 
     /// A question that is asked behind all that wait.
     fn ask_later(&mut self, place: usize, ask: Ask) -> Result<(), NoMemory>
-        ensures walk { KeepsWalk self.old self.new }
-        ensures lists { self.new.lists ≡ self.old.lists }
+        ensures rest { self.new ≡ record self.old { waiting = self.new.waiting } }
+        ensures asks { IfOk result (λ u. self.new.waiting.items ≡ self.old.waiting.items
+            ++ (record { place = place; ask = ask; epoch = self.old.epoch }) ∷ []) }
     {
         let epoch = self.epoch;
         match self.waiting.push_back(Question { place, ask, epoch }) {
@@ -187,7 +233,9 @@ impl Inventory {
 
     /// A page asked for values, which shows so many objects from this one on.
     pub(crate) fn open(&mut self, now: u64, first: usize, visible: usize)
-        ensures { KeepsWalk self.old self.new }
+        ensures pages { OpensPage now (page_asked now first visible) self.old.poll.pages.items
+            self.new.poll.pages.items }
+        ensures rest { self.new ≡ record self.old { poll = record self.old.poll { pages = self.new.poll.pages } } }
     {
         self.poll.open(now, first, visible);
     }
@@ -256,7 +304,8 @@ impl Inventory {
 
     /// No question is in flight: the link is another one.
     pub(crate) fn forget_asked(&mut self)
-        ensures { KeepsWalk self.old self.new }
+        ensures asked { self.new.asked.items ≡ [] }
+        ensures rest { self.new ≡ record self.old { asked = self.new.asked } }
     {
         self.asked.clear();
     }
@@ -273,7 +322,7 @@ impl Inventory {
     /// The walk is over once nothing of it waits or is in flight.
     pub(crate) fn note_walked(&mut self)
         ensures over { self.old.walked ≡ true → self.new.walked ≡ true }
-        ensures epoch { self.new.epoch ≡ self.old.epoch }
+        ensures rest { self.new ≡ record self.old { walked = self.new.walked } }
     {
         if self.waiting.is_empty() && self.asked.is_empty() {
             self.walked = true;
@@ -323,30 +372,50 @@ impl Inventory {
     /// ignored. If the reason shows, after a walk, that another device answers by now, the inventory becomes stale
     /// ([`is_stale`](Inventory::is_stale)). The call sends nothing. The only refusal is `NoMemory`, if memory was
     /// refused; members of a block may then be missing.
-    #[tactic(auto, using(crate::proofs::AgeLemmas::moment_rules))]
+    #[tactic(auto, using(crate::proofs::AgeLemmas::moment_rules, crate::proofs::WalkLemmas::goes_same, crate::proofs::LearnLemmas::learn_rules))]
     pub fn learn(
         &mut self,
         question: Question,
         moment: u64,
         answer: Result<Answer, Trouble>,
     ) -> Result<(), NoMemory>
-        ensures walk { KeepsWalk self.old self.new }
+        ensures walk { GoesOn self.old self.new }
         ensures earlier { question.epoch ≢ self.old.epoch → self.new ≡ self.old }
+        ensures asked { self.new.asked ≡ self.old.asked }
+        ensures learns { question.epoch ≡ self.old.epoch
+            → Learns question.place question.ask moment answer result self.old self.new }
         ensures moment { question.ask ≡ asks.Value → ConfirmsBy question.place moment self.old self.new }
     {
         if question.epoch != self.epoch {
             return Ok(());
         }
-        match (question.ask, answer) {
-            (Ask::Members, Ok(Answer::Members(members))) => {
-                self.learn_members(question.place, &members)
-            }
-            (ask, Ok(answer)) => {
-                self.learn_fact(question.place, ask, moment, answer);
+        match answer {
+            Ok(answer) => self.learn_answer(question.place, question.ask, moment, answer),
+            Err(trouble) => {
+                self.learn_trouble(question.place, question.ask, trouble);
                 Ok(())
             }
-            (ask, Err(trouble)) => {
-                self.learn_trouble(question.place, ask, trouble);
+        }
+    }
+
+    /// Learns what an answer says: the members of a block, or something else of an object.
+    #[tactic(auto, using(crate::proofs::AgeLemmas::moment_rules, crate::proofs::WalkLemmas::goes_same, crate::proofs::LearnLemmas::answer_rules))]
+    fn learn_answer(
+        &mut self,
+        place: usize,
+        ask: Ask,
+        moment: u64,
+        answer: Answer,
+    ) -> Result<(), NoMemory>
+        ensures walk { GoesOn self.old self.new }
+        ensures asked { self.new.asked ≡ self.old.asked }
+        ensures learns { LearnsAnswer (listed_in ask answer) place ask moment answer result self.old self.new }
+        ensures moment { ask ≡ asks.Value → ConfirmsBy place moment self.old self.new }
+    {
+        match members_in(ask, &answer) {
+            Some(members) => self.learn_members(place, members),
+            None => {
+                self.learn_fact(place, ask, moment, answer);
                 Ok(())
             }
         }
@@ -355,7 +424,8 @@ impl Inventory {
     /// Learns what an answer says of an object.
     #[tactic(auto, using(crate::proofs::AgeLemmas::moment_rules))]
     fn learn_fact(&mut self, place: usize, ask: Ask, moment: u64, answer: Answer)
-        ensures walk { KeepsWalk self.old self.new }
+        ensures learns { LearnsFact place ask moment answer self.old.objects self.new.objects }
+        ensures rest { self.new ≡ record self.old { objects = self.new.objects } }
         ensures moment { ask ≡ asks.Value → ConfirmsBy place moment self.old self.new }
     {
         match (ask, answer) {
@@ -395,6 +465,7 @@ impl Inventory {
     /// be listed, or a device whose objects are others by now.
     fn learn_trouble(&mut self, place: usize, ask: Ask, trouble: Trouble)
         ensures walk { KeepsWalk self.old self.new }
+        ensures asked { self.new.asked ≡ self.old.asked }
         ensures learns { LearnsTrouble place ask trouble self.old self.new }
         ensures moment { KeepsMoment place self.old self.new }
     {
@@ -409,8 +480,11 @@ impl Inventory {
     }
 
     /// Learns the members of a block: in a walk they are visited, else they are compared with what it listed in the walk.
+    #[tactic(auto, using(crate::proofs::WalkLemmas::goes_rules, crate::proofs::LearnLemmas::list_rules))]
     fn learn_members(&mut self, place: usize, members: &Members) -> Result<(), NoMemory>
-        ensures walk { KeepsWalk self.old self.new }
+        ensures walk { GoesOn self.old self.new }
+        ensures asked { self.new.asked ≡ self.old.asked }
+        ensures learns { LearnsMembers place members.now.items result self.old self.new }
         ensures compares { self.old.walked ≡ true → ComparesAt place members.now.items self.old self.new }
     {
         let Some(object) = self.objects.as_slice().get(place) else {
@@ -425,15 +499,22 @@ impl Inventory {
     }
 
     /// Visits the members of a block in a walk, and keeps that it lists them.
-    #[tactic(auto, using(crate::proofs::ListingLemmas::keeps_on))]
+    #[tactic(auto, using(crate::proofs::ListingLemmas::visit_rules, crate::proofs::FindLemmas::visits))]
     fn visit_members(
         &mut self,
         place: usize,
         container: Ono,
         members: &Members,
     ) -> Result<(), NoMemory>
-        ensures walk { KeepsWalk self.old self.new }
+        ensures visits { IfOk result (λ u. Visits place container members.now.items self.old self.new) }
         ensures lists { IfOk result (λ u. KeepsList place members.now.items self.old.lists.items self.new.lists.items) }
+        ensures kept { KeepsListed self.old.lists.items self.new.lists.items }
+        ensures rest { self.new ≡ record self.old {
+          objects = self.new.objects;
+          walk = self.new.walk;
+          waiting = self.new.waiting;
+          lists = self.new.lists;
+        } }
     {
         self.keep_list(place, members)?;
         self.walk
@@ -442,20 +523,29 @@ impl Inventory {
     }
 
     /// Adds the members of a block.
+    #[tactic(auto, using(crate::proofs::FindLemmas::each_rules))]
     fn add_all(&mut self, members: &[Member]) -> Result<(), NoMemory>
-        ensures walk { KeepsWalk self.old self.new }
-        ensures lists { self.new.lists ≡ self.old.lists }
+        ensures rest { self.new ≡ record self.old {
+          objects = self.new.objects;
+          walk = self.new.walk;
+          waiting = self.new.waiting;
+        } }
+        ensures finds { IfOk result (λ u. FindsEach members.now self.old self.new) }
     {
-        for member in members {
-            self.add_next(member.class)?;
+        let Some((first, rest)) = members.split_first() else {
+            return Ok(());
+        };
+        match self.add_next(first.class) {
+            Ok(()) => self.add_all(rest),
+            Err(refused) => Err(refused),
         }
-        Ok(())
     }
 
     /// Keeps what a block lists in a walk.
-    #[tactic(auto, using(crate::proofs::ListingLemmas::keeps_list))]
+    #[tactic(auto, using(crate::proofs::ListingLemmas::kept_rules))]
     fn keep_list(&mut self, place: usize, members: &Members) -> Result<(), NoMemory>
         ensures lists { IfOk result (λ u. KeepsList place members.now.items self.old.lists.items self.new.lists.items) }
+        ensures kept { KeepsListed self.old.lists.items self.new.lists.items }
         ensures rest { self.new ≡ record self.old { lists = self.new.lists } }
     {
         let Ok(members) = Vec::from_slice(self.alloc, members.as_slice()) else {
@@ -512,6 +602,21 @@ impl Inventory {
         self.ask_first(place, ask)
     }
 
+    /// Notes how orders ended, one after another, each with its own outcome.
+    #[tactic(auto, using(crate::proofs::StepLemmas::learning_rules))]
+    pub(crate) fn learn_orders(&mut self, settled: &[Settled]) -> Result<(), NoMemory>
+        ensures walk { KeepsWalk self.old self.new }
+        ensures learns { LearnsSome result settled.now self.old self.new }
+    {
+        let Some((first, rest)) = settled.split_first() else {
+            return Ok(());
+        };
+        match self.learn_order(first.sent.order, first.done) {
+            Ok(()) => self.learn_orders(rest),
+            Err(refused) => Err(refused),
+        }
+    }
+
     /// The label of an object, or its value, where it has one, is asked before all that waits.
     fn ask_first(&mut self, place: usize, ask: Ask) -> Result<(), NoMemory>
         ensures { self.new ≡ record self.old { waiting = self.new.waiting } }
@@ -524,6 +629,17 @@ impl Inventory {
         }
         let epoch = self.epoch;
         self.ask_again(Question { place, ask, epoch })
+    }
+}
+
+/// The members that a block listed, where they were asked.
+fn members_in(ask: Ask, answer: &Answer) -> Option<&Members>
+    ensures listed { option_map (λ m. m.now.items) result ≡ listed_in ask answer.now }
+    ensures asked { IfSome result (λ m. ask ≡ asks.Members) }
+{
+    match (ask, answer) {
+        (Ask::Members, Answer::Members(members)) => Some(members),
+        _ => None,
     }
 }
 
@@ -588,16 +704,30 @@ fn was_listed(lists: &[Listed], place: usize, members: &[Member]) -> bool
 }
 
 /// The numbers of members.
-fn numbers_of(members: &Members) -> ArrayVec<u32, 181> {
+fn numbers_of(members: &Members) -> ArrayVec<u32, 181>
+    ensures { result.items ≡ numbers_of members.now.items }
+{
     let mut numbers = ArrayVec::new();
-    for member in members.as_slice() {
-        let _ = numbers.try_push(member.ono.0);
-    }
+    put_numbers(members.as_slice(), &mut numbers);
     numbers
 }
 
+/// Puts the numbers of members behind those before them.
+#[tactic(auto, using(crate::proofs::FindLemmas::number_rules))]
+fn put_numbers(members: &[Member], numbers: &mut ArrayVec<u32, 181>)
+    requires { length numbers.old.items + length members.now ≤ 181 }
+    ensures { numbers.new.items ≡ numbers.old.items ++ numbers_of members.now }
+{
+    if let Some((first, rest)) = members.split_first() {
+        numbers.push(first.ono.0);
+        put_numbers(rest, numbers);
+    }
+}
+
 /// What is asked of an object of this class to know it.
-fn asks_of(class: Option<Class>) -> &'static [Ask] {
+fn asks_of(class: Option<Class>) -> &'static [Ask]
+    ensures { result.now ≡ asks_of class }
+{
     match class {
         Some(Class::Block) => &[
             Ask::Members,
@@ -645,34 +775,9 @@ fn says_locked(trouble: Trouble) -> bool
     matches!(trouble, Trouble::Refused(3))
 }
 
-/// Whose lock is on an object that refused so.
-fn lock_refused(trouble: Trouble, before: Lock) -> Lock
-    ensures { result ≡ lock_refused trouble before }
-{
-    if says_locked(trouble) {
-        Lock::Other
-    } else {
-        before
-    }
-}
-
-/// Whose lock is on an object behind an order that ended so.
-fn lock_after(action: Action, done: Result<(), Trouble>, before: Lock) -> Lock
-    ensures { result ≡ lock_after action done before }
-{
-    match done {
-        Err(trouble) => lock_refused(trouble, before),
-        Ok(()) => match action {
-            Action::Lock => Lock::Own,
-            Action::Unlock => Lock::Free,
-            Action::Set(_) | Action::Rename(_) => before,
-        },
-    }
-}
-
 /// What an object shows that was set to this, as of this moment: it has a reading only where it had one.
 fn shown_set(shown: Shown, value: Value, behind: u64) -> Shown
-    ensures { result ≡ shown_set value behind shown.reading shown }
+    ensures { result ≡ shown_set value behind shown }
 {
     match shown.reading {
         Some(reading) => Shown {
@@ -684,14 +789,28 @@ fn shown_set(shown: Shown, value: Value, behind: u64) -> Shown
     }
 }
 
-/// What an object shows behind an order that ended so, but for whose lock is on it.
-fn shown_done(shown: Shown, action: Action, done: Result<(), Trouble>, moment: u64) -> Shown
-    ensures { result ≡ shown_done action done moment shown }
+/// What an object shows behind an order that was carried out, behind this moment.
+fn shown_done(shown: Shown, action: Action, moment: u64) -> Shown
+    ensures { result ≡ shown_done action moment shown }
 {
-    match (action, done) {
-        (Action::Set(value), Ok(())) => shown_set(shown, value, moment),
-        _ => shown,
+    let lock = match action {
+        Action::Set(value) => return shown_set(shown, value, moment),
+        Action::Lock => Lock::Own,
+        Action::Unlock => Lock::Free,
+        Action::Rename(_) => return shown,
+    };
+    Shown { lock, ..shown }
+}
+
+/// What an object shows behind a refusal: a different controller's lock, where that is the reason.
+fn shown_refused(shown: Shown, trouble: Trouble) -> Shown
+    ensures { result ≡ shown_refused trouble shown }
+{
+    if says_locked(trouble) {
+        let lock = Lock::Other;
+        return Shown { lock, ..shown };
     }
+    shown
 }
 
 /// What an object shows behind an order that ended so: where it was carried out, what was ordered, as of the moment behind
@@ -699,11 +818,10 @@ fn shown_done(shown: Shown, action: Action, done: Result<(), Trouble>, moment: u
 fn shown_ordered(shown: Shown, order: Order, done: Result<(), Trouble>) -> Shown
     ensures { result ≡ shown_ordered order done shown }
 {
-    let lock = lock_after(order.action, done, shown.lock);
     let behind = order.last.saturating_sub(ORDER_MS);
-    Shown {
-        lock,
-        ..shown_done(shown, order.action, done, behind)
+    match done {
+        Ok(()) => shown_done(shown, order.action, behind),
+        Err(trouble) => shown_refused(shown, trouble),
     }
 }
 

@@ -1,6 +1,7 @@
 //! What is known of an object.
-ghost use Rattle.std.specs.Prelude.{◌≡◌};
+ghost use Rattle.std.specs.Prelude.{◌≡◌, IsTrue};
 ghost use Rattle.oca_model.specs.Settings.{reading_set_to};
+ghost use Rattle.oca_web.specs.Objects.{object_found, unread};
 ghost use Rattle.oca_web.specs.Shows.{name_of_class};
 
 use oca_model::{Flags, Names, Reading, Value, word_of};
@@ -47,9 +48,13 @@ pub struct Shown {
 }
 
 impl Shown {
+    ghost use Rattle.std.specs.Prelude.{◌≡◌, IsTrue};
+
     /// Returns what a page shows of an object before anything was read of it: no reading, no trouble, no known lock,
     /// and enabled (*profile*). The call refuses nothing and takes no memory.
-    pub fn unread() -> Shown {
+    pub fn unread() -> Shown
+        ensures { result ≡ unread }
+    {
         Shown {
             reading: None,
             confirmed: 0,
@@ -59,12 +64,73 @@ impl Shown {
         }
     }
 
-    /// Whether another one is shown otherwise: the moment of its reading is not shown as such.
-    pub(crate) fn differs(&self, other: &Shown) -> bool {
-        self.reading != other.reading
-            || self.trouble != other.trouble
-            || self.lock != other.lock
-            || self.enabled != other.enabled
+    /// Whether another one is shown in the same way: the moment of its reading is not shown as such.
+    pub(crate) fn looks_like(&self, other: &Shown) -> bool
+        ensures { IsTrue result → (other.now ≡ record self.now { confirmed = other.now.confirmed }) }
+    {
+        same_reading(self.reading, other.reading)
+            && same_trouble(self.trouble, other.trouble)
+            && self.lock == other.lock
+            && self.enabled == other.enabled
+    }
+}
+
+/// Whether two readings are the same, or neither is there.
+fn same_reading(a: Option<Reading>, b: Option<Reading>) -> bool
+    ensures { IsTrue result → a ≡ b }
+{
+    match (a, b) {
+        (Some(reading), Some(other)) => is_reading(reading, other),
+        (None, None) => true,
+        _ => false,
+    }
+}
+
+/// Whether two readings are the same.
+fn is_reading(a: Reading, b: Reading) -> bool
+    ensures { IsTrue result → a ≡ b }
+{
+    match (a, b) {
+        (Reading::Mute(state), Reading::Mute(other)) => state == other,
+        (Reading::Polarity(state), Reading::Polarity(other)) => state == other,
+        (Reading::Switch(ranged), Reading::Switch(other)) => ranged == other,
+        (Reading::Boolean(truth), Reading::Boolean(other)) => truth == other,
+        (Reading::Int8(ranged), Reading::Int8(other)) => ranged == other,
+        (Reading::Int16(ranged), Reading::Int16(other)) => ranged == other,
+        (Reading::Int32(ranged), Reading::Int32(other)) => ranged == other,
+        (Reading::Int64(ranged), Reading::Int64(other)) => ranged == other,
+        (Reading::Uint8(ranged), Reading::Uint8(other)) => ranged == other,
+        (Reading::Uint16(ranged), Reading::Uint16(other)) => ranged == other,
+        (Reading::Uint32(ranged), Reading::Uint32(other)) => ranged == other,
+        (Reading::Uint64(ranged), Reading::Uint64(other)) => ranged == other,
+        _ => false,
+    }
+}
+
+/// Whether two troubles are the same, or neither is there.
+fn same_trouble(a: Option<Trouble>, b: Option<Trouble>) -> bool
+    ensures { IsTrue result → a ≡ b }
+{
+    match (a, b) {
+        (Some(trouble), Some(other)) => is_trouble(trouble, other),
+        (None, None) => true,
+        _ => false,
+    }
+}
+
+/// Whether two troubles are the same.
+fn is_trouble(a: Trouble, b: Trouble) -> bool
+    ensures { IsTrue result → a ≡ b }
+{
+    match (a, b) {
+        (Trouble::Refused(status), Trouble::Refused(other)) => status == other,
+        (Trouble::NotSubmitted(fault), Trouble::NotSubmitted(other)) => fault == other,
+        (Trouble::Unreadable, Trouble::Unreadable)
+        | (Trouble::NoValue, Trouble::NoValue)
+        | (Trouble::NoSuchWord, Trouble::NoSuchWord)
+        | (Trouble::Lost, Trouble::Lost)
+        | (Trouble::Unanswered, Trouble::Unanswered) => true,
+        _ => false,
     }
 }
 
@@ -101,7 +167,10 @@ impl Object {
     /// Returns an object of which only the number, the container and the class are known. `class` is `None` if this
     /// profile does not have the class. Texts are empty, the object counts as not lockable and as enabled, and nothing
     /// of it was read. The call refuses nothing and takes no memory.
-    pub fn new(ono: Ono, container: Ono, class: Option<Class>) -> Object {
+    #[tactic(auto, using(crate::proofs::ChangeLemmas::same_bools, crate::proofs::ChangeLemmas::same_texts))]
+    pub fn new(ono: Ono, container: Ono, class: Option<Class>) -> Object
+        ensures { result ≡ object_found ono container class }
+    {
         Object {
             ono,
             container,

@@ -1,5 +1,5 @@
 //! The objects of a device in the order in which they were found, and the number of the last change.
-ghost use Rattle.std.specs.Prelude.{◌≡◌, IfOk};
+ghost use Rattle.std.specs.Prelude.{◌≡◌, IfOk, IsTrue};
 ghost use Rattle.oca_web.specs.Objects.{places_since};
 
 use crate::object::{Object, Shown};
@@ -73,7 +73,7 @@ impl Objects {
     /// has the same number. It can take memory. The only refusal is `NoMemory`, if memory was refused: then the object
     /// is not added, but the change is counted.
     pub fn add(&mut self, mut object: Object) -> Result<(), NoMemory>
-        ensures ok { IfOk result (λ u. AddsObject self.old self.new) }
+        ensures ok { IfOk result (λ u. AddsObject object self.old self.new) }
     {
         self.changes = self.changes.saturating_add(1);
         object.changed = self.changes;
@@ -86,7 +86,7 @@ impl Objects {
     /// Sets the role of the object at `place`, which counts as a change (*profile*). `place` is counted from 0; if no
     /// object is at `place`, nothing is changed. The call sends nothing, refuses nothing and takes no memory.
     pub fn put_role(&mut self, place: usize, role: Text)
-        ensures { Changes place self.old self.new }
+        ensures { Changes place (λ o. record o { role = role }) self.old self.new }
     {
         if place >= self.list.len() {
             return;
@@ -100,9 +100,9 @@ impl Objects {
     /// (*profile*). `place` is counted from 0; if no object is at `place`, nothing is changed. The call sends nothing,
     /// refuses nothing and takes no memory.
     pub fn put_label(&mut self, place: usize, label: Text)
-        ensures { Changes place self.old self.new }
+        ensures { Changes place (λ o. record o { label = label }) self.old self.new }
     {
-        if place >= self.list.len() || self.list[place].label.as_str() == label.as_str() {
+        if place >= self.list.len() || same_label(&self.list[place].label, &label) {
             return;
         }
         self.changes = self.changes.saturating_add(1);
@@ -113,7 +113,7 @@ impl Objects {
     /// Notes whether the object at `place` can be locked, which counts as a change (*profile*). `place` is counted from
     /// 0; if no object is at `place`, nothing is changed. The call sends nothing, refuses nothing and takes no memory.
     pub fn put_lockable(&mut self, place: usize, lockable: bool)
-        ensures { Changes place self.old self.new }
+        ensures { Changes place (λ o. record o { lockable = lockable }) self.old self.new }
     {
         if place >= self.list.len() {
             return;
@@ -127,7 +127,7 @@ impl Objects {
     /// counted from 0; if no object is at `place`, nothing is changed. The call sends nothing, refuses nothing and
     /// takes no memory.
     pub fn put_names(&mut self, place: usize, names: Names)
-        ensures { Changes place self.old self.new }
+        ensures { Changes place (λ o. record o { names = names }) self.old self.new }
     {
         if place >= self.list.len() {
             return;
@@ -141,9 +141,9 @@ impl Objects {
     /// (*profile*). `place` is counted from 0; if no object is at `place`, nothing is changed. The call sends nothing,
     /// refuses nothing and takes no memory.
     pub fn put_flags(&mut self, place: usize, flags: Flags)
-        ensures { Changes place self.old self.new }
+        ensures { Changes place (λ o. record o { flags = flags }) self.old self.new }
     {
-        if place >= self.list.len() || self.list[place].flags.as_slice() == flags.as_slice() {
+        if place >= self.list.len() || same_flags(&self.list[place].flags, &flags) {
             return;
         }
         self.changes = self.changes.saturating_add(1);
@@ -171,7 +171,7 @@ impl Objects {
         if place >= self.list.len() {
             return;
         }
-        if !self.list[place].shown.differs(&shown) {
+        if self.list[place].shown.looks_like(&shown) {
             self.list[place].shown.confirmed = shown.confirmed;
             return;
         }
@@ -201,6 +201,50 @@ impl Objects {
             .iter()
             .position(|object| object.ono.0 == ono.0)
     }
+}
+
+/// Whether two labels are the same.
+fn same_label(a: &Text, b: &Text) -> bool
+    ensures { IsTrue result → (a.now ≡ b.now) }
+{
+    a.as_str().as_bytes() == b.as_str().as_bytes()
+}
+
+/// Whether two truths are the same.
+fn same_truth(a: bool, b: bool) -> bool
+    ensures { IsTrue result → a ≡ b }
+{
+    match (a, b) {
+        (true, true) | (false, false) => true,
+        _ => false,
+    }
+}
+
+/// Whether truths are the same, in order.
+fn same_truths(a: &[bool], b: &[bool]) -> bool
+    ensures { IsTrue result → (a.now ≡ b.now) }
+{
+    let mut left = a;
+    let mut right = b;
+    while let Some((first, more)) = left.split_first() {
+        let Some((other, rest)) = right.split_first() else {
+            return false;
+        };
+        if !same_truth(*first, *other) {
+            return false;
+        }
+        left = more;
+        right = rest;
+    }
+    right.is_empty()
+}
+
+/// Whether the flags of positions are the same.
+#[tactic(auto, using(crate::proofs::ChangeLemmas::same_bools))]
+fn same_flags(a: &Flags, b: &Flags) -> bool
+    ensures { IsTrue result → (a.now ≡ b.now) }
+{
+    same_truths(a.as_slice(), b.as_slice())
 }
 
 /// Returns the places of the objects that changed after the change with the number `since`, in order, counted from 0

@@ -125,7 +125,8 @@ impl Poll {
     /// range, or else one that is no longer open. If there is neither and 128 are stored, it replaces the range of the
     /// page that asked longest ago. The call takes no memory.
     pub fn open(&mut self, now: u64, first: usize, visible: usize)
-        ensures { OpensPage now (page_asked now first visible) self.old.pages.items self.new.pages.items }
+        ensures pages { OpensPage now (page_asked now first visible) self.old.pages.items self.new.pages.items }
+        ensures rest { self.new ≡ record self.old { pages = self.new.pages } }
     {
         let page = Page {
             first,

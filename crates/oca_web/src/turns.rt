@@ -1,5 +1,7 @@
 //! Orders over a panel: they are submitted in their order, and what the answers say is noted under their tickets.
+ghost use Rattle.std.specs.Prelude.{◌<◌, length};
 ghost use Rattle.oca_web.specs.Orders.{LosesOrders, NoneIsLeft, SettlesAt, SettlesOrders, SubmitsFirst, SubmitsOrders};
+ghost use Rattle.oca_web.specs.Orders.{SettlesEach, SettlesInto};
 
 use crate::order::Sent;
 use crate::orders::Orders;
@@ -91,21 +93,40 @@ impl Default for Settled {
 /// (*profile*). The outcome is known if the command was answered, and of all orders if the link is lost. Returns these
 /// orders with their outcomes, from 0 to 32; the others stay in flight. The call sends nothing, does not wait and takes
 /// no memory.
-#[tactic(auto, using(crate::proofs::StepLemmas::one_settled))]
+#[tactic(auto, using(crate::proofs::StepLemmas::settle_rules))]
 pub fn settle_orders<E: End>(orders: &mut Orders, panel: &mut Panel<E>) -> ArrayVec<Settled, 32>
-    ensures { SettlesOrders orders.old panel.old orders.new panel.new }
+    ensures settles { SettlesOrders orders.old panel.old orders.new panel.new }
+    ensures each { SettlesEach result.items orders.old panel.old orders.new panel.new }
 {
     let mut all = ArrayVec::new();
     let mut at = 0usize;
     for _order in 0..32u32 {
-        match settle_at(orders, panel, at) {
-            Some((sent, done)) => {
-                let _ = all.try_push(Settled { sent, done });
-            }
-            None => at = at.saturating_add(1),
+        if !settle_one(orders, panel, at, &mut all) {
+            at = at.saturating_add(1);
         }
     }
     all
+}
+
+/// Takes the outcome of the order in flight at this place, where there is one, and puts the order with it behind those
+/// before it. Returns whether there was one.
+#[tactic(auto, using(crate::proofs::StepLemmas::into_rules))]
+fn settle_one<E: End>(
+    orders: &mut Orders,
+    panel: &mut Panel<E>,
+    at: usize,
+    all: &mut ArrayVec<Settled, 32>,
+) -> bool
+    requires { length all.old.items < 32 }
+    ensures { SettlesInto result at all.old.items all.new.items orders.old panel.old orders.new panel.new }
+{
+    match settle_at(orders, panel, at) {
+        Some((sent, done)) => {
+            all.push(Settled { sent, done });
+            true
+        }
+        None => false,
+    }
 }
 
 /// Ends all orders if the link is lost or late, and returns whether it is (*profile*; [`View`](crate::View) says when a

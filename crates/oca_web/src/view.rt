@@ -77,12 +77,14 @@ impl View {
     ghost use Rattle.oca_net.specs.Ends.{one_more};
     ghost use Rattle.oca_web.specs.Orders.{AddsAll, AddsTicket, SettlesOrders, SubmitsOrders, has_orders, has_room_for, no_orders};
     ghost use Rattle.oca_web.specs.Bodies.{IsForWord};
+    ghost use Rattle.oca_web.specs.Learning.{LearnsSettled};
     ghost use Rattle.oca_web.specs.Readings.{ConfirmsAsked};
     ghost use Rattle.oca_web.specs.Views.{AsksQuestions, Continues, RenewsLost, RestsBehind, SubmitsAndAsks, TakesAnswers, TurnsAndSettles};
     ghost use Rattle.oca_web.specs.Views.{AsksAtPlace, TakesAnswer, TurnsHearing};
     ghost use Rattle.std.specs.Bool.{OnTrue};
     ghost use Rattle.oca_web.specs.Views.{half_spent, moment_noted, next_with, orders_after, stood_still};
-    ghost use Rattle.oca_web.specs.Walking.{BeginsAnew, KeepsWalk, StaysOver};
+    ghost use Rattle.oca_web.specs.Polling.{OpensPage, page_asked};
+    ghost use Rattle.oca_web.specs.Walking.{BeginsAnew, GoesOn, KeepsWalk, StaysOver};
 
     /// Returns a view of the device at this address, of which nothing is known (*profile*). `span` and `first` are the
     /// span and the first handle of the panel's link. `now` is the present moment of the panel's end, in milliseconds;
@@ -247,7 +249,13 @@ impl View {
     /// values are then read again more often than those of other objects, for 2,500 ms. The call sends nothing, refuses
     /// nothing and takes no memory.
     pub fn open(&mut self, first: usize, visible: usize)
-        ensures { self.new.orders ≡ self.old.orders }
+        ensures pages { OpensPage self.old.news.now (page_asked self.old.news.now first visible)
+            self.old.inventory.poll.pages.items self.new.inventory.poll.pages.items }
+        ensures rest { self.new ≡ record self.old {
+          inventory = record self.old.inventory {
+            poll = record self.old.inventory.poll { pages = self.new.inventory.poll.pages };
+          };
+        } }
     {
         let now = self.news.now;
         self.inventory.open(now, first, visible);
@@ -438,20 +446,20 @@ impl View {
     }
 
     /// Takes the answers to orders, and notes their results.
+    #[tactic(auto, using(crate::proofs::StepLemmas::learns_settled))]
     fn take_order_answers<E: End>(&mut self, panel: &mut Panel<E>) -> Result<(), NoMemory>
         ensures orders { SettlesOrders self.old.orders panel.old self.new.orders panel.new }
+        ensures learns { LearnsSettled result self.old.orders panel.old self.old.inventory self.new.orders panel.new
+            self.new.inventory }
         ensures walk { KeepsWalk self.old.inventory self.new.inventory }
         ensures news { self.new.news ≡ self.old.news }
     {
         let settled = settle_orders(&mut self.orders, panel);
-        for one in settled.as_slice() {
-            self.inventory.learn_order(one.sent.order, one.done)?;
-        }
-        Ok(())
+        self.inventory.learn_orders(settled.as_slice())
     }
 
     /// Takes the answers to questions, and learns what they say.
-    #[tactic(auto, using(crate::proofs::WalkLemmas::keeps_stays, crate::proofs::StepLemmas::answer_rules))]
+    #[tactic(auto, using(crate::proofs::WalkLemmas::answered_rules, crate::proofs::StepLemmas::answer_rules))]
     fn take_answers<E: End>(&mut self, panel: &mut Panel<E>) -> Result<(), NoMemory>
         ensures orders { self.new.orders ≡ self.old.orders }
         ensures walk { StaysOver self.old.inventory self.new.inventory }
@@ -469,10 +477,10 @@ impl View {
     }
 
     /// Takes the answer to the question in flight at this place. Returns whether it is there.
-    #[tactic(auto, using(crate::proofs::StepLemmas::answer_rules, crate::proofs::StepLemmas::take_rules))]
+    #[tactic(auto, using(crate::proofs::WalkLemmas::answer_goes, crate::proofs::StepLemmas::answer_rules, crate::proofs::StepLemmas::take_rules))]
     fn take_answer<E: End>(&mut self, panel: &mut Panel<E>, at: usize) -> Result<bool, NoMemory>
         ensures orders { self.new.orders ≡ self.old.orders }
-        ensures walk { KeepsWalk self.old.inventory self.new.inventory }
+        ensures walk { GoesOn self.old.inventory self.new.inventory }
         ensures panel { TakesAnswers panel.old panel.new }
         ensures takes { TakesAnswer at self.old.inventory panel.old self.new.inventory panel.new }
         ensures news { self.new.news ≡ self.old.news }
