@@ -171,7 +171,7 @@ def expected():
         "result texts": texts(),
         "most": {"OCA_MOST_BYTES": constant("crates/oca_types/src/words.rt", "MOST_BYTES"),
                  "OCA_MOST_ANSWER": constant("crates/oca_types/src/words.rt", "MOST_PARAMETER_BYTES"),
-                 "OCA_MOST_WRITTEN": constant("crates/oca_device/src/device.rt", "MOST_WRITTEN")},
+                 "OCA_MOST_WRITTEN": constant("crates/oca_device/src/effect.rt", "MOST_COMMANDS")},
         "version": int(re.search(r"^    (0x[\d_]+)$", source("oca_c/src/version.rt"), re.M)[1].replace("_", ""), 16),
     }
 
