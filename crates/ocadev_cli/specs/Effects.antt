@@ -21,24 +21,24 @@ lock_text index ono =
 abbrev pub status_text : Status → List ℕ
 status_text status = codes " " ++ status_name status
 
-abbrev pub refused_text : ℕ → Status → List ℕ
-refused_text ono status = codes " refused " ++ decimal ono ++ status_text status
+abbrev pub refused_command_text : ℕ → Status → List ℕ
+refused_command_text ono status = codes " refused " ++ decimal ono ++ status_text status
 
 -- EVERY STATUS BUT OK IS A REFUSAL; a command that was executed with the status OK may have locked or unlocked.
 abbrev pub executed_text : MethodId → ℕ → Status → List ℕ
 executed_text method ono status =
     if status_number status == 0 then (if method.level == 1 then lock_text method.index ono else [])
-    else refused_text ono status
+    else refused_command_text ono status
 
-abbrev pub outcome_text : MethodId → ℕ → CommandOutcome → List ℕ
-outcome_text method ono (outcome.Executed status) = executed_text method ono status
-outcome_text method ono outcome.Duplicate = []
-outcome_text method ono outcome.Reused = []
-outcome_text method ono outcome.Old = []
+abbrev pub done_text : MethodId → ℕ → CommandOutcome → List ℕ
+done_text method ono (outcome.Executed status) = executed_text method ono status
+done_text method ono outcome.Duplicate = []
+done_text method ono outcome.Reused = []
+done_text method ono outcome.Old = []
 
 -- of a command that asks for a response; nothing of one that asks for none
 abbrev pub effect_text : Effect → List ℕ
-effect_text e = if e.respond then outcome_text e.method e.target.0 e.outcome else []
+effect_text e = if e.respond then done_text e.method e.target.0 e.outcome else []
 
 -- ---- the commands of a datagram
 

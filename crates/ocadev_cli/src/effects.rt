@@ -4,7 +4,7 @@ ghost use Rattle.std.specs.List.{flat_map};
 ghost use Rattle.oca_script.specs.Ends.{output};
 ghost use Rattle.oca_script.specs.Printing.{Prints};
 ghost use Rattle.ocadev_cli.specs.Effects.{are_mixed, effect_text, effects_text, executed_text, is_executed};
-ghost use Rattle.ocadev_cli.specs.Effects.{lock_text, refused_text, status_text};
+ghost use Rattle.ocadev_cli.specs.Effects.{lock_text, refused_command_text, status_text};
 
 use super::report::put_count;
 use oca_device::{CommandOutcome, Effect};
@@ -123,7 +123,7 @@ fn put_lock<F: Sink>(index: u16, target: Ono, faults: &mut Printer<F>)
 /// Holds that a command to an object was refused, with its status.
 fn put_refused<F: Sink>(target: Ono, status: Status, faults: &mut Printer<F>)
     requires { length faults.old.held + 100 ≤ 8192 }
-    ensures { faults.new ≡ output faults.old.contents (faults.old.held ++ refused_text target.0 status)
+    ensures { faults.new ≡ output faults.old.contents (faults.old.held ++ refused_command_text target.0 status)
         faults.old.failed }
 {
     put_count(b" refused ", u64::from(target.0), faults);
