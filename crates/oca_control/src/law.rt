@@ -81,24 +81,25 @@ pub fn law_of_sending()
 /// - A *run* is what [`drive`](crate::drive), [`turn`](crate::turn), [`begin`](crate::begin), [`ask`](crate::ask) and
 ///   the waits do with a link. Its *moments* are those of what the end delivered, and those at which commands were
 ///   begun.
+/// - `ms` is a number of milliseconds, at most 500. A run is *steady* if each of its moments is at most `ms` after the
+///   latest one before it.
 /// - *Nothing is left to send* if `due` returns `Nothing` at the moment of the link's clock.
-/// - A command *has time left* if it is answered, or if the transmissions that are left to it, `250 + ms` apart, end at
-///   most 15,000 ms after its submit.
+/// - A command *waits* while it is in flight and has no answer. It *has time left* if it is answered, or if the
+///   transmissions that are left to it, `250 + ms` apart, end at most 15,000 ms after its submit.
 ///
-/// The premises of the first conclusion:
-/// - Each moment is at most `ms` milliseconds after the latest one before it, and `ms` is at most 500.
-/// - When the run began, nothing was left to send, and each command had time left.
+/// The conclusions, each with its premises:
+/// - A run is steady, and when it began nothing was left to send and each command had time left: then the link is asked
+///   every `ms` milliseconds, or it is lost. Each command that is begun in this run has time left, however many others
+///   are in flight.
+/// - No other command waited when a command was begun: then this command has time left, whatever the link did
+///   before, unless the link is lost.
+/// - A command was begun, each command had time left then, and the run that follows is steady: then the command is sent
+///   at once, nothing is left to send, and the command is sent in time as long as it waits, unless the link is lost. If
+///   `ms` is 50, it is sent again less than 300 ms after each transmission.
 ///
-/// The conclusions:
-/// - The link is asked every `ms` milliseconds, or it is lost.
-/// - In such a run each command that is begun has time left, however many others are in flight. It has time left too if
-///   no other command waited when it was begun, whatever the link did before.
-/// - After a [`begin`](crate::begin) nothing is left to send, or the link is lost. Each command is sent at once, and
-///   from then on in time as long as it waits. With receives of at most 50 ms it is sent again less than 300 ms after
-///   each transmission.
-/// - The first premise is a fact of the state of an end that records what it delivers: its receives return within `ms`
-///   of one another. An end in memory meets the premise if its script does. An end at a socket meets it as long as the
-///   program comes back to receive in time.
+/// A run is steady over a recording end ([`End`](oca_net::End)) whose receives return within `ms` of one another. An end
+/// in memory ([`MemoryEnd`](oca_net::MemoryEnd)) is such an end if the moments in its list of deliveries are. An end at
+/// a socket is not a recording end: its run is steady as long as the program comes back to receive in time.
 pub fn law_of_running()
     ensures calls { EveryCallRuns }
     ensures goes_on { EveryRunGoesOn }

@@ -207,6 +207,7 @@ impl Answer {
     /// - `params` is not exactly such an answer.
     /// - A text has more than 64 bytes, or there are more than 16 positions, 181 members or 120 descendants.
     /// - The answer to GetClassIdentification names a class that this profile does not have.
+    /// - `class` is OcaBlock and `method` reads a value: a block has none.
     #[tactic(auto, unfolding(crate::specs::Answers::answer_in))]
     pub fn read(class: Class, method: Method, count: u8, params: &[u8]) -> Option<Answer>
         ensures { result ≡ answer_in class method count params.now }

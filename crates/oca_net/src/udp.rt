@@ -264,8 +264,8 @@ impl<'a, C: Clock> UdpEnd<'a, C> {
     }
 
     /// The present moment of the end's clock: the milliseconds since the end was bound. It is never before a moment
-    /// that a receive has returned. If the system's clock can't be read, it is the last of those moments. Nothing is
-    /// received or sent.
+    /// that a receive has returned. If the system's clock can't be read, it is the last of those moments, or 0 before
+    /// the first of them. Nothing is received or sent.
     pub fn now(&self) -> u64
         ensures { self.now.moment ≤ result }
     {

@@ -102,8 +102,9 @@ impl Sessions {
     /// - Each session has a reply window of 1 to 64 commands, with the default 32. The reply window contains the last
     ///   accepted commands of the peer with their replies.
     ///
-    /// The call takes from `alloc` all the memory that the sessions will need: no later call takes any. The only
-    /// refusal is `NoMemory` if the allocator refused memory. No table is then returned.
+    /// [`Sizes`] can't have a number outside these ranges. The call takes from `alloc` all the memory that the sessions
+    /// will need: no later call takes any. The only refusal is `NoMemory` if the allocator refused memory. No table is
+    /// then returned.
     pub fn with_sizes(alloc: Global, sizes: Sizes) -> Result<Sessions, NoMemory>
         ensures { IfOk result (λ t. t ≡ record { sizes = sizes_of sizes; moment = 0; sessions = [] }) }
     {

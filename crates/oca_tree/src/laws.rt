@@ -59,15 +59,18 @@ pub fn law_of_starts()
     ensures { PlainAddsTheSame }
 {}
 
-/// Law: an object that is added with all that is read of another object is the same object, except for two things
-/// (*profile*). The added object is not locked, and its hardware does not refuse changes. The function states this law
-/// as its contract, and does nothing at run time. What must be read is this:
-/// - Its number, container, role and class ([`Tree::object_at`](Tree::object_at)). The container is the block that
-///   contains the object.
-/// - Whether it can be locked ([`is_lockable`](Tree::is_lockable)).
-/// - Its setting, for an integer with the least and the greatest value ([`setting_of`](Tree::setting_of)). For a switch
-///   the names of its positions too ([`position_names_of`](Tree::position_names_of)).
-/// - Its label, whether it is enabled, and the flags of a switch's positions ([`start_of`](Tree::start_of)).
+/// Law: a copy of an object is the same object, except for two things (*profile*). A *copy* is made by reading all that
+/// is listed below of an object in one tree, and adding an object with it to another tree
+/// ([`TreeBuilder::add_with`](crate::TreeBuilder::add_with)). The copy is not locked, and it is not marked as an object
+/// whose hardware refuses changes ([`Tree::set_failing`](Tree::set_failing)), even if the original is. The function
+/// states this law as its contract, and does nothing at run time. What must be read:
+/// - The number, the container, the role and the class ([`Tree::object_at`](Tree::object_at)). The container is the
+///   block that contains the object.
+/// - Whether the object can be locked ([`is_lockable`](Tree::is_lockable)).
+/// - The setting ([`setting_of`](Tree::setting_of)). An integer also needs its least and its greatest value, which the
+///   same call returns. A switch also needs the names of its positions
+///   ([`position_names_of`](Tree::position_names_of)).
+/// - The label, whether the object is enabled, and the flags of a switch's positions ([`start_of`](Tree::start_of)).
 pub fn law_of_copies()
     ensures { DescriptionMakesAgain }
 {}
