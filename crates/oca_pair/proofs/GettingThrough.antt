@@ -27,7 +27,7 @@ use Rattle.oca_control.proofs.InTime.{clock_from, sent_from, in_time_made}
 use Rattle.oca_pair.specs.declared.outcome.Outcome.TheVariants as outcomes
 use Rattle.oca_pair.specs.declared.start.Start.{Start}
 use Rattle.oca_pair.specs.Networks.{Network, PeerLink, SentDatagram, SubmittedCommand, TakenAnswer, device_address, started, opening}
-use Rattle.oca_pair.specs.Steps.{Step, Submit, Due, ToDevice, ToLink, Other, Take, has_link, with_link, submitted_by, after_submit, submit_outcome, given_by, after_due_step, after_delivery, content_read, hears_datagram, after_reception, taken_by, after_take, after_step, after_steps, on_link, outcome_of}
+use Rattle.oca_pair.specs.Steps.{Step, Submit, Due, ToDevice, ToLink, Other, Take, has_link, with_link, submitted_by, after_submit, submit_outcome, given_by, after_due_step, after_delivery, content_read, hears_datagram, after_reception, taken_by, after_take, after_step, after_steps, on_link, outcome_of_step}
 use Rattle.oca_pair.specs.Steps as steps
 use Rattle.oca_pair.specs.Premises.{are_apart, Fit}
 use Rattle.oca_pair.specs.RoundTrip.{IsAnswerTo, GotItsAnswer, ComesBack, RoundTrips}
@@ -355,7 +355,7 @@ module _ (s first i : ℕ) (some : 0 < s) (p : Peer) (before : List Call) (r : R
 
 pub gets_through : WrittenIsReadBack → (w : DeviceSizes) (s : ℕ) (tree : List Object) (starts : List Start) (before later : List Step) (i : ℕ) (x : Start) (r : Request) (now ms : ℕ) (h : Handle) →
     0 < s → 2 * s ≤ w.window + 1 → are_apart starts ≡ true → Fit starts (before ++ Submit i r now ∷ later) → slice_get starts i ≡ Some x →
-    outcome_of (Submit i r now) (after_steps before (opening w s tree starts)) ≡ outcomes.Submitted h ∷ [] →
+    outcome_of_step (Submit i r now) (after_steps before (opening w s tree starts)) ≡ outcomes.Submitted h ∷ [] →
     IsAskedEvery ms (max (clock_of_calls 0 (calls_in i before (opening w s tree starts))) now) (calls_in i later (after_step (Submit i r now) (after_steps before (opening w s tree starts)))) →
     GetsThrough ms (max (clock_of_calls 0 (calls_in i before (opening w s tree starts))) now) i (command_under h.0 r) x.peer
     (calls_in i later (after_step (Submit i r now) (after_steps before (opening w s tree starts))))

@@ -30,7 +30,7 @@ use Rattle.oca_control.specs.Links.{Request, command_under, submission}
 use Rattle.oca_pair.specs.declared.outcome.Outcome.TheVariants as outcomes
 use Rattle.oca_pair.specs.declared.start.Start.{Start}
 use Rattle.oca_pair.specs.Networks.{Network, PeerLink, SentDatagram, SubmittedCommand, opening}
-use Rattle.oca_pair.specs.Steps.{Step, Submit, Due, ToDevice, ToLink, Other, Take, has_link, submitted_by, submit_outcome, after_submit, after_due_step, after_delivery, hears_datagram, after_reception, after_take, after_step, after_steps, on_link, delivery_outcome, outcome_of}
+use Rattle.oca_pair.specs.Steps.{Step, Submit, Due, ToDevice, ToLink, Other, Take, has_link, submitted_by, submit_outcome, after_submit, after_due_step, after_delivery, hears_datagram, after_reception, after_take, after_step, after_steps, on_link, delivery_outcome, outcome_of_step}
 use Rattle.oca_pair.specs.Steps as steps
 use Rattle.oca_pair.specs.Happenings.{happenings}
 use Rattle.oca_pair.specs.Premises.{are_apart, StepFits, Fit}
@@ -378,7 +378,7 @@ record Took (i : ℕ) (r : Request) (h : Handle) (n : Network) : Type 0 where
   pub there : slice_get n.links i ≡ Some link
   pub answer : submission r link.link ≡ Ok h
 
-took_by : (i : ℕ) (r : Request) (now : ℕ) (h : Handle) (n : Network) → outcome_of (Submit i r now) n ≡ outcomes.Submitted h ∷ [] → Took i r h n
+took_by : (i : ℕ) (r : Request) (now : ℕ) (h : Handle) (n : Network) → outcome_of_step (Submit i r now) n ≡ outcomes.Submitted h ∷ [] → Took i r h n
 took_by i r now h n e = by (slice_get n.links i) refl e
   where
     by : (o : Option PeerLink) → slice_get n.links i ≡ o → on_link (λ l. submit_outcome (submission r l.link)) o ≡ outcomes.Submitted h ∷ [] → Took i r h n
@@ -406,7 +406,7 @@ module _ (law : WrittenIsReadBack) (w : DeviceSizes) (s : ℕ) (tree : List Obje
   c = command_under h.0 request
 
   module _ (apart : are_apart starts ≡ true) (fit : Fit starts (before ++ call ∷ later)) (in_time : AreInTime i [] (before ++ call ∷ later) start)
-      (accepted : outcome_of call old ≡ outcomes.Submitted h ∷ []) (own : slice_get end.links i ≡ Some l)
+      (accepted : outcome_of_step call old ≡ outcomes.Submitted h ∷ []) (own : slice_get end.links i ≡ Some l)
       (which : (answer_under h.0 l.link.untaken ≡ Some answer) ⊎ WasTaken l.peer h.0 answer end.taken) where
     whole : after_steps (before ++ call ∷ later) start ≡ end
     whole = after_more before (call ∷ later) start

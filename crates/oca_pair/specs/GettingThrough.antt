@@ -21,7 +21,7 @@ use Rattle.oca_pair.specs.declared.start.Start.{Start}
 use Rattle.oca_pair.specs.Networks.{Network, PeerLink, SentDatagram, device_address, opening}
 use Rattle.oca_pair.specs.Steps.{Step, Submit, Due, ToDevice, ToLink, Other, Tick, Local, Take, content_read}
 use Rattle.oca_pair.specs.Steps.{after_step}
-use Rattle.oca_pair.specs.Steps.{after_steps, outcome_of}
+use Rattle.oca_pair.specs.Steps.{after_steps, outcome_of_step}
 use Rattle.oca_pair.specs.Premises.{are_apart, StepFits, Fit, KeepsItsSession, FindsRoom}
 use Rattle.oca_pair.specs.RoundTrip.{GotItsAnswer, asked, ComesBack}
 
@@ -109,6 +109,6 @@ EveryCommandGetsThrough =
     let new : Network = after_step (Submit i request now) old in
     let since : ℕ = max (clock_of_calls 0 (calls_in i before start)) now in
     0 < s → 2 * s ≤ w.window + 1 → are_apart starts ≡ true → Fit starts (before ++ Submit i request now ∷ later) →
-    slice_get starts i ≡ Some x → outcome_of (Submit i request now) old ≡ outcomes.Submitted h ∷ [] →
+    slice_get starts i ≡ Some x → outcome_of_step (Submit i request now) old ≡ outcomes.Submitted h ∷ [] →
     IsAskedEvery ms since (calls_in i later new) →
     GetsThrough ms since i (command_under h.0 request) x.peer (calls_in i later new) (after_steps later new)

@@ -25,7 +25,7 @@ use Rattle.oca_control.specs.Untaken.{Untaken, answer_under}
 use Rattle.oca_pair.specs.declared.outcome.Outcome.TheVariants as outcomes
 use Rattle.oca_pair.specs.declared.start.Start.{Start}
 use Rattle.oca_pair.specs.Networks.{Network, PeerLink, SentDatagram, SubmittedCommand, TakenAnswer, opening}
-use Rattle.oca_pair.specs.Steps.{Step, ToDevice, after_step, after_steps, outcome_of}
+use Rattle.oca_pair.specs.Steps.{Step, ToDevice, after_step, after_steps, outcome_of_step}
 use Rattle.oca_pair.specs.Happenings.{happenings}
 use Rattle.oca_pair.specs.Premises.{are_apart, Fit, KeepsItsSession, FindsRoom}
 
@@ -135,13 +135,13 @@ pub record CarriesUntaken (d : SentDatagram) (l : PeerLink) (c : CommandFields) 
 -- With the delivery the device executes a command, and nothing else.
 abbrev pub IsExecutedNow : ℕ → ℕ → Peer → Execution → Network → Type 0
 IsExecutedNow k now p x n =
-    (outcome_of (ToDevice k now) n ≡ outcomes.Device (verdicts.Served 1 0 0 0) ∷ [])
+    (outcome_of_step (ToDevice k now) n ≡ outcomes.Device (verdicts.Served 1 0 0 0) ∷ [])
     × (executions_for p (after_step (ToDevice k now) n) ≡ x ∷ executions_for p n)
 
 -- With the delivery the device executes nothing: it finds in its window what it executed before.
 abbrev pub WasExecuted : ℕ → ℕ → Peer → Execution → Network → Type 0
 WasExecuted k now p x n =
-    (outcome_of (ToDevice k now) n ≡ outcomes.Device (verdicts.Served 0 1 0 0) ∷ [])
+    (outcome_of_step (ToDevice k now) n ≡ outcomes.Device (verdicts.Served 0 1 0 0) ∷ [])
     × (executions_for p (after_step (ToDevice k now) n) ≡ executions_for p n)
     × Contains (executions_for p n) x
 

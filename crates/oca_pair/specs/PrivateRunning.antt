@@ -15,7 +15,7 @@ use Rattle.oca_pair.specs.declared.running.Running.{Running}
 use Rattle.oca_pair.specs.declared.running.StepFault.{StepFault}
 use Rattle.oca_pair.specs.declared.running.StepFault.TheVariants as faults
 use Rattle.oca_pair.specs.Networks.{Network, PeerLink, SentDatagram, device_address}
-use Rattle.oca_pair.specs.Steps.{Step, has_link, is_there, after_step, outcome_of, given_by, content_read}
+use Rattle.oca_pair.specs.Steps.{Step, has_link, is_there, after_step, outcome_of_step, given_by, content_read}
 
 -- each datagram is of the peer of a link
 abbrev pub AreOfLinks : List PeerLink → List SentDatagram → Type 0
@@ -33,7 +33,7 @@ pub record Shows (r : Running) (n : Network) : Type 0 where
 -- what a step led to: its outcome and the network after it, or that what it names is not there
 abbrev pub Took : Result Outcome StepFault → Step → Network → Running → Type 0
 Took (Ok outcome) step n new =
-    (is_there step n ≡ true) × (outcome_of step n ≡ outcome ∷ []) × Shows new (after_step step n)
+    (is_there step n ≡ true) × (outcome_of_step step n ≡ outcome ∷ []) × Shows new (after_step step n)
 Took (Err faults.Missing) step n new = is_there step n ≡ false
 Took (Err faults.NoMemory) step n new = Unit {0}
 

@@ -36,7 +36,7 @@ use Rattle.oca_control.specs.Links.{Request, command_under}
 use Rattle.oca_pair.specs.declared.outcome.Outcome.TheVariants as outcomes
 use Rattle.oca_pair.specs.declared.start.Start.{Start}
 use Rattle.oca_pair.specs.Networks.{Network, PeerLink, opening}
-use Rattle.oca_pair.specs.Steps.{Step, Submit, ToDevice, Tick, after_step, after_steps, outcome_of}
+use Rattle.oca_pair.specs.Steps.{Step, Submit, ToDevice, Tick, after_step, after_steps, outcome_of_step}
 use Rattle.oca_pair.specs.Happenings.{happenings}
 use Rattle.oca_pair.specs.Premises.{are_apart, Fit}
 use Rattle.oca_pair.specs.Laws.{Execution, executions_for, executions_under, answer_of, WasTaken, IsExecutedNow}
@@ -207,7 +207,7 @@ OfEachAnswer Holds =
     let end : Network = after_steps later called in
     are_apart starts ≡ true → Fit starts (before ++ Submit i request now ∷ later) →
     AreInTime i [] (before ++ Submit i request now ∷ later) start →
-    outcome_of (Submit i request now) old ≡ outcomes.Submitted h ∷ [] → slice_get end.links i ≡ Some l →
+    outcome_of_step (Submit i request now) old ≡ outcomes.Submitted h ∷ [] → slice_get end.links i ≡ Some l →
     (answer_under h.0 l.link.untaken ≡ Some answer) ⊎ WasTaken l.peer h.0 answer end.taken →
     Holds l.peer (command_under h.0 request) answer later called
 

@@ -206,24 +206,24 @@ abbrev pub reception_outcome : Option SentDatagram → Network → List Outcome
 reception_outcome (Some d) n = reception_outcomes d n.links
 reception_outcome None n = []
 
-abbrev pub outcome_of : Step → Network → List Outcome
-outcome_of (Submit link request now) n =
+abbrev pub outcome_of_step : Step → Network → List Outcome
+outcome_of_step (Submit link request now) n =
     on_link (λ l. submit_outcome (submission request l.link)) (slice_get n.links link)
-outcome_of (Due link now) n =
+outcome_of_step (Due link now) n =
     on_link (λ l. due_outcome (length n.to_device) (decision now l.link)) (slice_get n.links link)
-outcome_of (ToDevice k now) n = delivery_outcome now (slice_get n.to_device k) n
-outcome_of (ToLink k now) n = reception_outcome (slice_get n.to_links k) n
-outcome_of (Other from bytes now) n =
+outcome_of_step (ToDevice k now) n = delivery_outcome now (slice_get n.to_device k) n
+outcome_of_step (ToLink k now) n = reception_outcome (slice_get n.to_links k) n
+outcome_of_step (Other from bytes now) n =
     if has_link from n.links then [] else outcomes.Device (verdict n.sizes n.tree n.events from bytes now) ∷ []
-outcome_of (Tick now) n = outcomes.Ticked ∷ []
-outcome_of (Local ono change) n = local_outcome (state_after n.sizes n.tree n.events).tree ono change ∷ []
-outcome_of (Take link handle) n =
+outcome_of_step (Tick now) n = outcomes.Ticked ∷ []
+outcome_of_step (Local ono change) n = local_outcome (state_after n.sizes n.tree n.events).tree ono change ∷ []
+outcome_of_step (Take link handle) n =
     on_link (λ l. take_outcome (answer_under handle l.link.untaken)) (slice_get n.links link)
 
 -- THE OUTCOMES OF A SCHEDULE, in order.
 abbrev pub outcomes_of : List Step → Network → List Outcome
 outcomes_of [] n = []
-outcomes_of (step ∷ steps) n = outcome_of step n ++ outcomes_of steps (after_step step n)
+outcomes_of (step ∷ steps) n = outcome_of_step step n ++ outcomes_of steps (after_step step n)
 
 -- THE FIRST STEP THAT NAMES WHAT IS NOT THERE, by its number, from 0.
 abbrev pub one_later : Option ℕ → Option ℕ

@@ -11,7 +11,7 @@ use Rattle.oca_control.specs.Untaken.{answer_under}
 use Rattle.oca_control.specs.Links.{LinkState, Request, submission, submitted, gone_on, received, taken}
 use Rattle.oca_pair.specs.Networks.{Network, PeerLink, SentDatagram, TakenAnswer, device_address}
 use Rattle.oca_pair.specs.declared.outcome.Outcome.TheVariants as outcomes
-use Rattle.oca_pair.specs.Steps.{Step, Submit, Due, ToDevice, ToLink, Other, Take, has_link, content_read, hears_datagram, after_submit, after_due_step, after_delivery, after_reception, taken_by, after_take, after_step, after_steps, on_link, submit_outcome, outcome_of}
+use Rattle.oca_pair.specs.Steps.{Step, Submit, Due, ToDevice, ToLink, Other, Take, has_link, content_read, hears_datagram, after_submit, after_due_step, after_delivery, after_reception, taken_by, after_take, after_step, after_steps, on_link, submit_outcome, outcome_of_step}
 use Rattle.oca_pair.specs.Steps as steps
 use Rattle.oca_pair.proofs.Lists.{same_self, IsIn, in_more, in_last}
 use Rattle.oca_device.specs.Events.{Datagram}
@@ -191,7 +191,7 @@ pub after_both : (xs ys : List Step) (n : Network) → after_steps (xs ++ ys) n 
 after_both [] ys n = refl
 after_both (x ∷ xs) ys n = after_both xs ys (after_step x n)
 
-pub submit_outcome_is : (i : ℕ) (p : Peer) (l : LinkState) (request : Request) (now : ℕ) (h : Handle) (n : Network) → IsLinkOf i p l n → submission request l ≡ Ok h → outcome_of (Submit i request now) n ≡ outcomes.Submitted h ∷ []
+pub submit_outcome_is : (i : ℕ) (p : Peer) (l : LinkState) (request : Request) (now : ℕ) (h : Handle) (n : Network) → IsLinkOf i p l n → submission request l ≡ Ok h → outcome_of_step (Submit i request now) n ≡ outcomes.Submitted h ∷ []
 submit_outcome_is i p l request now h n is ok =
     ap (λ (o : Option PeerLink). on_link (λ (y : PeerLink). submit_outcome (submission request y.link)) o) is
     ∙ ap (λ (r : Result Handle ControlFault). submit_outcome r ∷ []) ok

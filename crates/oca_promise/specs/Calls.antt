@@ -16,7 +16,7 @@ use Rattle.oca_control.specs.Untaken.{answer_under}
 use Rattle.oca_pair.specs.declared.outcome.Outcome.TheVariants as step_outcomes
 use Rattle.oca_pair.specs.declared.start.Start.{Start}
 use Rattle.oca_pair.specs.Networks.{Network, opening}
-use Rattle.oca_pair.specs.Steps.{Step, Submit, after_step, after_steps, outcome_of}
+use Rattle.oca_pair.specs.Steps.{Step, Submit, after_step, after_steps, outcome_of_step}
 use Rattle.oca_pair.specs.Premises.{are_apart, Fit}
 use Rattle.oca_pair.specs.InTime.{AreInTime}
 use Rattle.oca_panel.specs.Panels.{PanelState, AsksIn}
@@ -59,7 +59,7 @@ pub record HoldsFromSubmit (Holds : OfAnAnswer) (i : ℕ) (p : Peer) (request : 
   pub now : ℕ
   pub later : List Step
   pub steps_are : steps ≡ first ++ Submit i request now ∷ later
-  pub submitted : outcome_of (Submit i request now) (after_steps first n)
+  pub submitted : outcome_of_step (Submit i request now) (after_steps first n)
       ≡ step_outcomes.Submitted (record { 0 = handle }) ∷ []
   pub holds : Holds p (command_under handle request) answer later
       (after_step (Submit i request now) (after_steps first n))

@@ -10,7 +10,7 @@ use Rattle.oca_web.specs.declared.ask.Ask.{Ask}
 use Rattle.oca_web.specs.declared.ask.Question.{Question}
 use Rattle.oca_web.specs.declared.inventory.Inventory.{Inventory}
 use Rattle.oca_web.specs.declared.object.Object.{Object}
-use Rattle.oca_web.specs.Finding.{FindsAt, FindsEach, FindsNext, FindsObject, Visits, asks_of, numbers_of, questions_of}
+use Rattle.oca_web.specs.Finding.{FindsAt, FindsEach, FindsNext, FindsOne, Visits, asks_of, member_numbers, questions_of}
 use Rattle.oca_web.specs.Listing.{KeepsList}
 use Rattle.oca_web.specs.Objects.{AddsObject, object_found}
 
@@ -33,7 +33,7 @@ pub ruleset asking_rules = (asks_none, asks_first)
 
 pub finds_one : (at : Place) (of : Option Class) (old new : Inventory) (o : Object) (place epoch : ℕ) (asks : List Ask)
     → o ≡ object_found at.ono at.container of → AddsObject o old.objects new.objects → place ≡ length old.objects.list → epoch ≡ old.epoch
-    → asks ≡ asks_of of → new.waiting.items ≡ old.waiting.items ++ questions_of place epoch asks → FindsObject at of old new
+    → asks ≡ asks_of of → new.waiting.items ≡ old.waiting.items ++ questions_of place epoch asks → FindsOne at of old new
 finds_one at of old new o place epoch asks e a p f q w = record { object = rw e at a; asked = rw (p, f, q) at w }
 
 same_finds : (taken : Option (Place × Bool)) (of : Option Class) (old new : Inventory) (w : WalkState)
@@ -62,22 +62,22 @@ pub ruleset each_rules = (each_none, each_first)
 
 -- ---- the numbers of members
 
-pub numbers_none : (ms : List Member) (old new : List ℕ) → length ms ≡ 0 → new ≡ old → new ≡ old ++ numbers_of ms
+pub numbers_none : (ms : List Member) (old new : List ℕ) → length ms ≡ 0 → new ≡ old → new ≡ old ++ member_numbers ms
 numbers_none [] old new e same = same ∙ sym (append-nil old)
 numbers_none (m ∷ ms) old new e same = absurd (cc e)
 
 pub numbers_first : (ms : List Member) (m : Member) (rest : List Member) (old between new : List ℕ) → ms ≡ m ∷ rest
-    → between ≡ old ++ m.ono.0 ∷ [] → new ≡ between ++ numbers_of rest → new ≡ old ++ numbers_of ms
-numbers_first ms m rest old between new e b n = rw (e, n, b) (append_assoc old (m.ono.0 ∷ []) (numbers_of rest))
+    → between ≡ old ++ m.ono.0 ∷ [] → new ≡ between ++ member_numbers rest → new ≡ old ++ member_numbers ms
+numbers_first ms m rest old between new e b n = rw (e, n, b) (append_assoc old (m.ono.0 ∷ []) (member_numbers rest))
 
 pub ruleset number_rules = (numbers_none, numbers_first)
 
 pub visits : (place : ℕ) (container : Ono) (members : List Member) (numbers : List ℕ) (old kept between new : Inventory)
     → KeepsList place members old.lists.items kept.lists.items → kept ≡ record old { lists = kept.lists }
     → between ≡ record kept { walk = between.walk }
-    → between.walk ≡ record kept.walk { waiting = kept.walk.waiting ++ places_of container numbers } → numbers ≡ numbers_of members
+    → between.walk ≡ record kept.walk { waiting = kept.walk.waiting ++ places_of container numbers } → numbers ≡ member_numbers members
     → FindsEach members between new → Visits place container members old new
 visits place container members numbers old kept between new k e b w n f =
-    let g : between ≡ record old { lists = kept.lists; walk = record old.walk { waiting = old.walk.waiting ++ places_of container (numbers_of members) } } =
+    let g : between ≡ record old { lists = kept.lists; walk = record old.walk { waiting = old.walk.waiting ++ places_of container (member_numbers members) } } =
     cc in
     record { listed = between; lists = rw (sym (ap (λ i. i.lists) b)) at k; next = cc; finds = f }

@@ -6,23 +6,23 @@ use Rattle.oca_web.specs.declared.inventory.Inventory.{Inventory}
 use Rattle.oca_web.specs.declared.view.Reach.{Reach}
 use Rattle.oca_web.specs.Orders.{OrdersState, SubmitsOrders, with_passed}
 use Rattle.oca_web.specs.Views.{AsksQuestions, Continues, ContinuesAll, RenewsLost, RestsBehind, SubmitsAndAsks, next_with}
-use Rattle.oca_web.specs.Walking.{KeepsWalk, GoesOn, OtherWalk, BeginsAnew, StaysOver}
+use Rattle.oca_web.specs.Walking.{KeepsWalk, WalkGoesOn, OtherWalk, BeginsAnew, StaysOver}
 use Rattle.oca_web.specs.Listing.{KeepsListed}
 
 pub keeps_stays : (a b : Inventory) → KeepsWalk a b → StaysOver a b
 keeps_stays a b k = record { rises = omega (arith, k.epoch); over = λ e w. k.walked ∙ w; lists = λ e w. k.lists }
 
-pub goes_stays : (a b : Inventory) → GoesOn a b → StaysOver a b
+pub goes_stays : (a b : Inventory) → WalkGoesOn a b → StaysOver a b
 goes_stays a b k = record { rises = omega (arith, k.epoch); over = λ e w. k.walked ∙ w; lists = λ e w. k.over w }
 
-pub goes_same : (a b : Inventory) → b.epoch ≡ a.epoch → b.walked ≡ a.walked → b.lists ≡ a.lists → GoesOn a b
+pub goes_same : (a b : Inventory) → b.epoch ≡ a.epoch → b.walked ≡ a.walked → b.lists ≡ a.lists → WalkGoesOn a b
 goes_same a b e w l =
     record { epoch = e; walked = w; kept = ([], ap (λ x. x.items) l ∙ sym (append-nil a.lists.items)); over = λ _. l }
 
-pub goes_kept : (a b : Inventory) → KeepsWalk a b → GoesOn a b
+pub goes_kept : (a b : Inventory) → KeepsWalk a b → WalkGoesOn a b
 goes_kept a b k = goes_same a b k.epoch k.walked k.lists
 
-pub goes_further : (a b c : Inventory) → GoesOn a b → GoesOn b c → GoesOn a c
+pub goes_further : (a b c : Inventory) → WalkGoesOn a b → WalkGoesOn b c → WalkGoesOn a c
 goes_further a b c x y = record {
   epoch = y.epoch ∙ x.epoch;
   walked = y.walked ∙ x.walked;
@@ -34,12 +34,12 @@ goes_further a b c x y = record {
 }
 
 pub goes_listing : (a b : Inventory) → a.walked ≡ false → b.epoch ≡ a.epoch → b.walked ≡ a.walked
-    → KeepsListed a.lists.items b.lists.items → GoesOn a b
+    → KeepsListed a.lists.items b.lists.items → WalkGoesOn a b
 goes_listing a b n e w k = record { epoch = e; walked = w; kept = k; over = λ o. absurd (cc (sym n ∙ o)) }
 
 pub ruleset goes_rules = (goes_same, goes_listing)
 
-pub ended_stays : (a b c : Inventory) → GoesOn a b → c.epoch ≡ b.epoch → c.lists ≡ b.lists → (b.walked ≡ true → c.walked ≡ true)
+pub ended_stays : (a b c : Inventory) → WalkGoesOn a b → c.epoch ≡ b.epoch → c.lists ≡ b.lists → (b.walked ≡ true → c.walked ≡ true)
     → StaysOver a c
 ended_stays a b c k e l w = record {
   rises = omega (arith, k.epoch, e);
@@ -125,11 +125,11 @@ pub ruleset walk_rules = (begins_stays, keeps_stays, stays_on, submits_and_asks,
 
 -- ---- answers
 
-pub goes_nowhere : (a b : Inventory) → b ≡ a → GoesOn a b
+pub goes_nowhere : (a b : Inventory) → b ≡ a → WalkGoesOn a b
 goes_nowhere a b e = rw e (goes_same a a refl refl refl)
 
 -- an answer is learned behind the question that is in flight no longer
-pub goes_settled : (a s b : Inventory) → s ≡ record a { asked = s.asked } → GoesOn s b → GoesOn a b
+pub goes_settled : (a s b : Inventory) → s ≡ record a { asked = s.asked } → WalkGoesOn s b → WalkGoesOn a b
 goes_settled a s b e k = goes_further a s b (rw e (goes_same a (record a { asked = s.asked }) refl refl refl)) k
 
 pub ruleset answer_goes = (goes_nowhere, goes_settled)

@@ -29,13 +29,13 @@ abbrev pub questions_of : (place epoch : ℕ) → List Ask → List Question
 questions_of place epoch all = map (λ ask. record { place = place; ask = ask; epoch = epoch }) all
 
 -- AN OBJECT WAS FOUND: it stands behind all others, and what is asked to know it waits behind all that waits.
-pub record FindsObject (at : Place) (of : Option Class) (old new : Inventory) : Type 0 where
+pub record FindsOne (at : Place) (of : Option Class) (old new : Inventory) : Type 0 where
   pub object : AddsObject (object_found at.ono at.container of) old.objects new.objects
   pub asked : new.waiting.items ≡ old.waiting.items ++ questions_of (length old.objects.list) old.epoch (asks_of of)
 
 -- an object that was visited before is found no more; nor is one where no place is left
 abbrev pub FindsAt : Option (Place × Bool) → Option Class → Inventory → Inventory → Type 0
-FindsAt (Some (at, false)) of old new = FindsObject at of old new
+FindsAt (Some (at, false)) of old new = FindsOne at of old new
 FindsAt (Some (at, true)) of old new = (new.objects ≡ old.objects) × (new.waiting ≡ old.waiting)
 FindsAt None of old new = (new.objects ≡ old.objects) × (new.waiting ≡ old.waiting)
 
@@ -50,8 +50,8 @@ abbrev pub FindsEach : List Member → Inventory → Inventory → Type 0
 FindsEach [] old new = new ≡ old
 FindsEach (m ∷ ms) old new = (between : Inventory) × FindsNext m.class old between × FindsEach ms between new
 
-abbrev pub numbers_of : List Member → List ℕ
-numbers_of members = map (λ m. m.ono.0) members
+abbrev pub member_numbers : List Member → List ℕ
+member_numbers members = map (λ m. m.ono.0) members
 
 -- THE MEMBERS OF A BLOCK WERE VISITED in a walk: it is kept that the block listed them, they are the next places of the walk, and
 -- an object was found at each of these places that was not visited before.
@@ -60,6 +60,6 @@ pub record Visits (place : ℕ) (container : Ono) (members : List Member) (old n
   pub lists : KeepsList place members old.lists.items listed.lists.items
   pub next : listed ≡ record old {
     lists = listed.lists;
-    walk = record old.walk { waiting = old.walk.waiting ++ places_of container (numbers_of members) };
+    walk = record old.walk { waiting = old.walk.waiting ++ places_of container (member_numbers members) };
   }
   pub finds : FindsEach members listed new

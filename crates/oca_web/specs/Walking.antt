@@ -11,7 +11,7 @@ pub record KeepsWalk (old new : Inventory) : Type 0 where
 
 -- The walk went on: what blocks listed in it is kept, and they may have listed more; but nothing is added to a walk that is
 -- over.
-pub record GoesOn (old new : Inventory) : Type 0 where
+pub record WalkGoesOn (old new : Inventory) : Type 0 where
   pub epoch : new.epoch ≡ old.epoch
   pub walked : new.walked ≡ old.walked
   pub kept : KeepsListed old.lists.items new.lists.items

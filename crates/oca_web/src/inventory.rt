@@ -1,6 +1,6 @@
 //! What is known of a device, and what is asked of it.
 ghost use Rattle.std.specs.Prelude.{◌≡◌, ◌+◌, ◌≤◌, [], ◌++◌, length, IfSome};
-ghost use Rattle.oca_web.specs.Finding.{asks_of, numbers_of};
+ghost use Rattle.oca_web.specs.Finding.{asks_of, member_numbers};
 ghost use Rattle.std.specs.Option.{option_map};
 ghost use Rattle.oca_web.specs.Learning.{listed_in};
 ghost use Rattle.oca_web.specs.declared.ask.Ask.TheVariants as asks;
@@ -63,12 +63,12 @@ impl Inventory {
     ghost use Rattle.oca_web.specs.Shows.{shown_listed, shown_read};
     ghost use Rattle.oca_web.specs.Listing.{Compares, ComparesAt, KeepsList, KeepsListed};
     ghost use Rattle.std.specs.Prelude.{◌∷◌, ◌++◌};
-    ghost use Rattle.oca_web.specs.Finding.{FindsAt, FindsEach, FindsNext, FindsObject, Visits, questions_of};
+    ghost use Rattle.oca_web.specs.Finding.{FindsAt, FindsEach, FindsNext, FindsOne, Visits, questions_of};
     ghost use Rattle.oca_web.specs.Polling.{OpensPage, page_asked};
     ghost use Rattle.oca_web.specs.Readings.{AsksAgain, ConfirmsBy, IsOfMoment, KeepsAsked, KeepsMoment};
     ghost use Rattle.oca_web.specs.declared.ask.Ask.TheVariants as asks;
     ghost use Rattle.std.specs.Prelude.{slice_get};
-    ghost use Rattle.oca_web.specs.Walking.{BeginsAnew, GoesOn, KeepsWalk};
+    ghost use Rattle.oca_web.specs.Walking.{BeginsAnew, WalkGoesOn, KeepsWalk};
 
     /// Returns an inventory of a device of which nothing is known, with a walk that begins at the root (*profile*).
     /// `now` is the present moment of the program's clock, in milliseconds. The call asks nothing of the device. It
@@ -146,7 +146,7 @@ impl Inventory {
     #[tactic(auto, using(crate::proofs::FindLemmas::finds_one))]
     fn add(&mut self, at: Place, class: Option<Class>) -> Result<(), NoMemory>
         ensures rest { self.new ≡ record self.old { objects = self.new.objects; waiting = self.new.waiting } }
-        ensures finds { IfOk result (λ u. FindsObject at class self.old self.new) }
+        ensures finds { IfOk result (λ u. FindsOne at class self.old self.new) }
     {
         let place = self.objects.as_slice().len();
         match self.objects.add(Object::new(at.ono, at.container, class)) {
@@ -379,7 +379,7 @@ impl Inventory {
         moment: u64,
         answer: Result<Answer, Trouble>,
     ) -> Result<(), NoMemory>
-        ensures walk { GoesOn self.old self.new }
+        ensures walk { WalkGoesOn self.old self.new }
         ensures earlier { question.epoch ≢ self.old.epoch → self.new ≡ self.old }
         ensures asked { self.new.asked ≡ self.old.asked }
         ensures learns { question.epoch ≡ self.old.epoch
@@ -407,7 +407,7 @@ impl Inventory {
         moment: u64,
         answer: Answer,
     ) -> Result<(), NoMemory>
-        ensures walk { GoesOn self.old self.new }
+        ensures walk { WalkGoesOn self.old self.new }
         ensures asked { self.new.asked ≡ self.old.asked }
         ensures learns { LearnsAnswer (listed_in ask answer) place ask moment answer result self.old self.new }
         ensures moment { ask ≡ asks.Value → ConfirmsBy place moment self.old self.new }
@@ -482,7 +482,7 @@ impl Inventory {
     /// Learns the members of a block: in a walk they are visited, else they are compared with what it listed in the walk.
     #[tactic(auto, using(crate::proofs::WalkLemmas::goes_rules, crate::proofs::LearnLemmas::list_rules))]
     fn learn_members(&mut self, place: usize, members: &Members) -> Result<(), NoMemory>
-        ensures walk { GoesOn self.old self.new }
+        ensures walk { WalkGoesOn self.old self.new }
         ensures asked { self.new.asked ≡ self.old.asked }
         ensures learns { LearnsMembers place members.now.items result self.old self.new }
         ensures compares { self.old.walked ≡ true → ComparesAt place members.now.items self.old self.new }
@@ -518,7 +518,7 @@ impl Inventory {
     {
         self.keep_list(place, members)?;
         self.walk
-            .put_members(container, numbers_of(members).as_slice())?;
+            .put_members(container, member_numbers(members).as_slice())?;
         self.add_all(members.as_slice())
     }
 
@@ -704,8 +704,8 @@ fn was_listed(lists: &[Listed], place: usize, members: &[Member]) -> bool
 }
 
 /// The numbers of members.
-fn numbers_of(members: &Members) -> ArrayVec<u32, 181>
-    ensures { result.items ≡ numbers_of members.now.items }
+fn member_numbers(members: &Members) -> ArrayVec<u32, 181>
+    ensures { result.items ≡ member_numbers members.now.items }
 {
     let mut numbers = ArrayVec::new();
     put_numbers(members.as_slice(), &mut numbers);
@@ -716,7 +716,7 @@ fn numbers_of(members: &Members) -> ArrayVec<u32, 181>
 #[tactic(auto, using(crate::proofs::FindLemmas::number_rules))]
 fn put_numbers(members: &[Member], numbers: &mut ArrayVec<u32, 181>)
     requires { length numbers.old.items + length members.now ≤ 181 }
-    ensures { numbers.new.items ≡ numbers.old.items ++ numbers_of members.now }
+    ensures { numbers.new.items ≡ numbers.old.items ++ member_numbers members.now }
 {
     if let Some((first, rest)) = members.split_first() {
         numbers.push(first.ono.0);

@@ -84,7 +84,7 @@ impl View {
     ghost use Rattle.std.specs.Bool.{OnTrue};
     ghost use Rattle.oca_web.specs.Views.{half_spent, moment_noted, next_with, orders_after, stood_still};
     ghost use Rattle.oca_web.specs.Polling.{OpensPage, page_asked};
-    ghost use Rattle.oca_web.specs.Walking.{BeginsAnew, GoesOn, KeepsWalk, StaysOver};
+    ghost use Rattle.oca_web.specs.Walking.{BeginsAnew, WalkGoesOn, KeepsWalk, StaysOver};
 
     /// Returns a view of the device at this address, of which nothing is known (*profile*). `span` and `first` are the
     /// span and the first handle of the panel's link. `now` is the present moment of the panel's end, in milliseconds;
@@ -480,7 +480,7 @@ impl View {
     #[tactic(auto, using(crate::proofs::WalkLemmas::answer_goes, crate::proofs::StepLemmas::answer_rules, crate::proofs::StepLemmas::take_rules))]
     fn take_answer<E: End>(&mut self, panel: &mut Panel<E>, at: usize) -> Result<bool, NoMemory>
         ensures orders { self.new.orders ≡ self.old.orders }
-        ensures walk { GoesOn self.old.inventory self.new.inventory }
+        ensures walk { WalkGoesOn self.old.inventory self.new.inventory }
         ensures panel { TakesAnswers panel.old panel.new }
         ensures takes { TakesAnswer at self.old.inventory panel.old self.new.inventory panel.new }
         ensures news { self.new.news ≡ self.old.news }
