@@ -80,7 +80,7 @@ view_answered lo hi h p slots d x a t at wait is =
     by (Some k) w = sym (ap (λ b. (let v : Untaken = record { command = command_under h k.request; submitted = k.submitted; times = k.times; last = k.last; answer = cond (b && is_none k.answer) (Some a) k.answer } in v) ∷ []) (same_nat h)
         ∙ ap (λ b. (let v : Untaken = record { command = command_under h k.request; submitted = k.submitted; times = k.times; last = k.last; answer = cond b (Some a) k.answer } in v) ∷ []) w)
 
--- GIVE OUT
+-- SEND
 given_other : (now h : ℕ) (u : Untaken) → u.command.handle ≢ h → marked_sent now h u ≡ u
 given_other now h u other =
     ap (λ b. let v : Untaken = record { command = u.command; submitted = u.submitted; times = cond b (u.times + 1) u.times; last = cond b now u.last; answer = u.answer } in v) (differ_nat u.command.handle h other)

@@ -161,7 +161,7 @@ pub record DrivesEnd (old new : LinkState) (before after : EndState) (report : D
   pub runs : DeliversAndTakes deliveries (all_given_to old.device decisions) report.failed_receives report.failed_sends
       before after
 
--- WHAT WAS DUE at a moment, in so many calls of `due`, WAS GIVEN OUT: it was handed to the end, for the device, and the
+-- WHAT WAS DUE at a moment, in so many calls of `due`, WAS SENT: it was handed to the end, for the device, and the
 -- report counts it and the sends that failed. No turn was taken.
 pub record SendsDue (now calls : ℕ) (old new : LinkState) (before after : EndState) (report : DriveReport)
     : Type 0 where

@@ -170,7 +170,7 @@ pub record CommandIsInTime (device : Peer) (first opened span ms : ℕ) (before 
   pub in_time : IsWaiting device h.0 (later ++ Submits request now (Ok h) ∷ before) →
       IsSentInTime ms since new.moment (sendings opened h.0 (later ++ Submits request now (Ok h) ∷ before))
 
--- EACH COMMAND THAT IS BEGUN IS GIVEN OUT IN TIME, where each command of the link has time left once it was, and the
+-- EACH COMMAND THAT IS BEGUN IS SENT IN TIME, where each command of the link has time left once it was, and the
 -- moments of the run that follows are within so many ms of one another, the first of that of the begin.
 abbrev pub EveryBegunCommandIsInTime : Type 0
 EveryBegunCommandIsInTime =

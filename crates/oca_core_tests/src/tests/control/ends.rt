@@ -101,12 +101,12 @@ fn driven(link: &mut Link, end: &mut MemoryEnd, turns: u32) -> DriveReport {
     drive(link, end, turns)
 }
 
-/// Gives out what is due.
+/// Sends what is due.
 fn sends_due(link: &mut Link, end: &mut MemoryEnd, now: u64) -> DriveReport {
     send_due(link, end, now)
 }
 
-/// Gives out what is due, in time.
+/// Sends what is due, in time.
 fn sent_in_time(link: &mut Link, end: &mut MemoryEnd, now: u64) -> DriveReport {
     send_in_time(link, end, now)
 }
