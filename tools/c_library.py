@@ -102,7 +102,7 @@ def stop(run):
 
 
 def said_by(words, **settings):
-    run = subprocess.run([str(word) for word in words], capture_output=True, text=True, timeout=120, env=dict(os.environ, **settings))
+    run = subprocess.run([str(word) for word in words], capture_output=True, text=True, timeout=300, env=dict(os.environ, **settings))
     return run.stdout, run.returncode
 
 
