@@ -76,7 +76,7 @@ class Function:
 
     def is_named(self, parts):
         """Whether the prover means it, or what lies in it, by this path below the crate."""
-        inside = [it for it in parts if it != "fn"]
+        inside = [it.lstrip("+") for it in parts if it != "fn"]  # one that calls itself has a + before its name
         if inside[:len(self.module)] != self.module:
             return False
         rest = inside[len(self.module):]
@@ -252,7 +252,7 @@ def as_it_stands(function):
 
 def proofs_of(crate, function):
     folder = Path(crate.folder, "proofs", *function.path().split("::"))
-    return sorted(folder.glob("*.antt"))
+    return sorted([*folder.glob("*.antt"), *folder.with_name(f"+{folder.name}").glob("*.antt")])
 
 
 def body_of(lines, function):
