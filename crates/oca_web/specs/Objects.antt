@@ -72,10 +72,11 @@ pub record AddsObject (object : Object) (old new : ObjectsState) : Type 0 where
   pub counted : new.changes ≡ one_more old.changes
   pub list : new.list ≡ old.list ++ record object { changed = one_more old.changes } ∷ []
 
--- an object of which nothing was read yet: its number, the block that lists it, and its class are known
+-- what an object shows of which nothing was read yet
 abbrev pub unread : Shown
 unread = record { reading = None; confirmed = 0; trouble = None; lock = locks.Free; enabled = true }
 
+-- an object that was found: its number, the block that lists it and its class are known, and nothing was read yet
 abbrev pub object_found : Ono → Ono → Option Class → Object
 object_found ono container of = record {
   ono = ono;
