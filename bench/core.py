@@ -11,6 +11,10 @@ import re
 import subprocess
 import sys
 import tempfile
+from pathlib import Path
+
+sys.path.insert(0, str(Path(__file__).resolve().parent.parent / "tools"))
+import oca_profile as oca
 
 # kind, objects, sessions, the most instructions wanted, or in how many parts of a hundred more than the first row
 ROWS = [("single", 8, 1, "458"), ("single", 128, 1, "1%"), ("single", 4096, 1, "1%"), ("single", 8, 16, "10%"),
@@ -25,18 +29,10 @@ def tree(objects):
     return "".join(f"{4097 + number} 100 mute muted lockable mute\n" for number in range(objects - 1))
 
 
-def command(handle, target, level, index, count=0, params=b""):
-    return (17 + len(params)).to_bytes(4, "big") + b"".join(it.to_bytes(size, "big") for it, size in (
-        (handle, 4), (target, 4), (level, 2), (index, 2), (count, 1))) + params
-
-
 def message(kind, objects, number):
     """The command of this number, counted from 1."""
-    if kind == "members":
-        return command(number, 100, 3, 5)
-    if kind == "setting":
-        return command(number, 4097, 4, 2, 1, b"\1")
-    return command(1 if kind == "copies" else number, 4097 + number % (objects - 1) if kind == "others" else 4097, 4, 1)
+    asked = {"members": (100, 3, 5), "setting": (4097, 4, 2, 1, b"\1"), "others": (4097 + number % (objects - 1), 4, 1)}
+    return oca.Command(1 if kind == "copies" else number, *asked.get(kind, (4097, 4, 1))).body()
 
 
 def script(kind, objects, sessions, datagrams):
@@ -45,8 +41,8 @@ def script(kind, objects, sessions, datagrams):
         yield f"0 127.0.0.1:{9001 + number} 3b00010000000b0400010001\n"
     each = 86 if kind == "packed" else 1
     for first in range(1, 1 + each * datagrams, each):
-        body = b"".join(message(kind, objects, number) for number in range(first, first + each))
-        yield f"0 127.0.0.1:9001 3b0001{9 + len(body):08x}01{each:04x}{body.hex()}\n"
+        messages = [message(kind, objects, number) for number in range(first, first + each)]
+        yield f"0 127.0.0.1:9001 {oca.pdu(1, messages).hex()}\n"
 
 
 def instructions(program, kind, objects, sessions, datagrams):

@@ -7,7 +7,6 @@ Usage: keep.py BIN [SECONDS]     BIN is the folder with `ocadev`
 For a disk as it is, and one whose fsync takes 30 and 300 ms longer (needs a C compiler): sets a second of 1, 4 and 16 panels,
 the longest wait of one for its answer and of the reader for its own, in ms, and commands without an answer in 10 s (lost)."""
 import os
-import re
 import socket
 import struct
 import subprocess
@@ -18,14 +17,12 @@ import time
 from pathlib import Path
 
 HERE = Path(__file__).resolve().parent
+sys.path.insert(0, str(HERE.parent / "tools"))
+import oca_profile as oca
+from checks import Serving
+
 MUTE, TRIM = 4097, 4100
 LOST = 10.0
-
-
-def command(handle, target, level, index, *params):
-    body = struct.pack(">IIHHB", handle, target, level, index, len(params)) + b"".join(params)
-    body = struct.pack(">I", len(body) + 4) + body
-    return b"\x3b" + struct.pack(">HIBH", 1, len(body) + 9, 1, 1) + body
 
 
 class Panel(threading.Thread):
@@ -43,7 +40,7 @@ class Panel(threading.Thread):
         while time.monotonic() < self.until:
             handle += 1
             began = time.monotonic()
-            data = command(handle, *self.words(handle))
+            data = oca.command(handle, *self.words(handle))
             while time.monotonic() - began < LOST:
                 self.end.send(data)
                 try:
@@ -61,18 +58,16 @@ class Panel(threading.Thread):
 
 def measured(folder, layer, delay, panels, seconds, home):
     env = {**os.environ, **({"LD_PRELOAD": str(layer), "SLOW": str(delay)} if delay else {})}
-    run = subprocess.Popen([f"{folder}/ocadev", "serve", "--port", "0", "--peers", "32", "--channels", "16", "--keep", f"{home}/{delay}-{panels}"],
-                           stdin=subprocess.DEVNULL, stdout=subprocess.DEVNULL, stderr=subprocess.PIPE, env=env)
-    port = int(re.match(r"listening [\d.]+:(\d+)\n", run.stderr.readline().decode())[1])
-    until = time.monotonic() + seconds
-    setting = [Panel(port, until, lambda handle: (TRIM, 5, 2, struct.pack(">h", handle % 500))) for _ in range(panels)]
-    reader = Panel(port, until, lambda handle: (MUTE, 4, 1))
-    for it in [*setting, reader]:
-        it.start()
-    for it in [*setting, reader]:
-        it.join()
-    run.kill()
-    run.wait()
+    words = ["serve", "--port", 0, "--peers", 32, "--channels", 16, "--keep", f"{home}/{delay}-{panels}"]
+    with Serving(f"{folder}/ocadev", *words, stdin=subprocess.DEVNULL, env=env) as device:
+        until = time.monotonic() + seconds
+        trims = lambda handle: (TRIM, 5, 2, 1, struct.pack(">h", handle % 500))
+        setting = [Panel(device.port, until, trims) for _ in range(panels)]
+        reader = Panel(device.port, until, lambda handle: (MUTE, 4, 1))
+        for it in [*setting, reader]:
+            it.start()
+        for it in [*setting, reader]:
+            it.join()
     return (sum(it.answered for it in setting) / seconds, max(it.longest for it in setting) * 1000, reader.longest * 1000,
             sum(it.lost for it in [*setting, reader]))
 

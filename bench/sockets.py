@@ -7,23 +7,23 @@ servers: requests a second and a processor second of `ocadev serve`, beside a ba
 (`echo.c`); `load.c` asks. clients: commands a second that `ocactl run` has answered by `ocadev serve`, beside a bare
 client in C (`load.c`), one at a time and with 16 under way; its time has the program's start and end in it."""
 import os
-import re
 import statistics
 import subprocess
 import sys
 import tempfile
 import time
+from pathlib import Path
+
+HERE = Path(__file__).resolve().parent
+sys.path.insert(0, str(HERE.parent / "tools"))
+from checks import Serving
 
 FOREVER = "4000000000"
 LINE = "4097 4 1 0 -\n"
 
 
-class Server:
-    """A server that prints its port on standard error, and the processor time that it took until it was stopped."""
-
-    def __init__(self, *words):
-        self.process = subprocess.Popen(words, stdout=subprocess.DEVNULL, stderr=subprocess.PIPE, text=True)
-        self.port = re.search(r":(\d+)", self.process.stderr.readline())[1]
+class Server(Serving):
+    """A server, and the processor time that it took until it was stopped."""
 
     def stop(self):
         self.process.kill()
@@ -36,7 +36,7 @@ class Server:
 def served(words, load, requests, outstanding):
     """The seconds that the requests took, and the processor seconds of the server; None where a datagram was lost."""
     server = Server(*words)
-    took = subprocess.run([load, server.port, str(requests), str(outstanding)], capture_output=True, text=True)
+    took = subprocess.run([load, str(server.port), str(requests), str(outstanding)], capture_output=True, text=True)
     used = server.stop()
     return (float(took.stdout), used) if took.returncode == 0 else None
 
@@ -89,7 +89,7 @@ def clients(folder, load, work, requests, rounds):
         count = requests if begun and begun[0] < 0.001 else 100
         for _ in range(rounds if begun else 0):
             own.append(run(count))
-            took = subprocess.run([load, server.port, str(requests), str(ahead)], capture_output=True, text=True)
+            took = subprocess.run([load, str(server.port), str(requests), str(ahead)], capture_output=True, text=True)
             bare.append((float(took.stdout) / requests,) if took.returncode == 0 else None)
         server.stop()
         if not any(own) or not any(bare):
@@ -103,12 +103,10 @@ def main():
     folder = os.path.abspath(sys.argv[1])
     requests = int(sys.argv[2]) if len(sys.argv) > 2 else 50000
     rounds = int(sys.argv[3]) if len(sys.argv) > 3 else 7
-    here = os.path.dirname(os.path.abspath(__file__))
     with tempfile.TemporaryDirectory() as made:
         echo, load = (os.path.join(made, name) for name in ("echo", "load"))
         for program in (echo, load):
-            source = os.path.join(here, f"{os.path.basename(program)}.c")
-            subprocess.run(["gcc", "-O2", "-o", program, source], check=True)
+            subprocess.run(["gcc", "-O2", "-o", program, HERE / f"{os.path.basename(program)}.c"], check=True)
         servers(folder, echo, load, requests, rounds)
         clients(folder, load, made, requests, rounds)
 

@@ -26,23 +26,15 @@ def is_left_by_the_gate(crate, files_of):
 
 
 def compiled(crate, words, to):
-    """Compiles the library into this archive, and answers the status: the compiler's, or 1 where it made no archive."""
-    if os.path.exists(to):
-        os.remove(to)
-    status = crate.compile(words, to)
-    if status == 0 and not os.path.isfile(to):
-        print(f"library: {to} was NOT BUILT")
-        return 1
-    return status
-
-
-def compiled_of_one_text(crate, words, to):
-    """Compiles the library so, but leaves no archive where a source was changed meanwhile."""
+    """Compiles the library into this archive, and answers the status: the compiler's, or 1 where it made no archive, or a
+    source was changed meanwhile, of which none is left."""
+    Path(to).unlink(missing_ok=True)
     stamp = crate.stamp()
-    status = compiled(crate, words, to)
-    if status == 0 and crate.stamp() != stamp:
-        print("library: a source was changed meanwhile: NOT BUILT, begin again")
-        os.remove(to)
+    status = crate.compile(words, to)
+    is_changed = crate.stamp() != stamp
+    if status == 0 and (is_changed or not os.path.isfile(to)):
+        print(f"library: {to} was NOT BUILT{': a source was changed meanwhile, begin again' if is_changed else ''}")
+        Path(to).unlink(missing_ok=True)
         return 1
     return status
 
@@ -64,7 +56,7 @@ def main():
             build.apart(crate.below())
             if not build.build_all(rt, set(crate.below())):
                 return 1
-        status = compiled_of_one_text(crate, words, f"{crate.folder}/out/{target}/liboca_c.a")
+        status = compiled(crate, words, f"{crate.folder}/out/{target}/liboca_c.a")
     for it in held:
         os.close(it)
     return status

@@ -25,7 +25,7 @@ import library
 import run
 import selftest_builds
 import selftest_tools
-from selftest_builds import FakeCrate, fake_tools, is_same, laid, main_of, memory_at, of_prover, said, within, without, writes
+from selftest_builds import FakeCrate, fake_tools, is_same, laid, main_of, memory_at, of_prover, said, without, writes
 from selftest_tools import checks, edits, lossy, snippets
 
 import panel
@@ -268,7 +268,7 @@ def builds_as_asked(folder):
     crate = FakeCrate(name="oca_c", folder=folder, below=lambda: [lower], compile=compiled, stamp=lambda: "sources")
     tools = fake_tools(1, 0, crates_below=lambda _: [crate, lower], lock=lambda _: [], files_of=lambda _: [])
     for status, is_built, words in ((0, True, []), (0, True, [arm]), (7, True, []), (0, True, [x86, "x86-64-v3"]), (0, False, [])):
-        with within(folder), patch.object(build, "build_all", lambda *_: is_built):
+        with contextlib.chdir(folder), patch.object(build, "build_all", lambda *_: is_built):
             found.append(main_of(library, tools, *words)[0])
     made = [(x86, "x86-64"), (arm, "generic"), (x86, "x86-64"), (x86, "x86-64-v3")]
     first, second, third, fourth = [(*it, it[0], "liboca_c.a") for it in made]
@@ -338,12 +338,34 @@ def judged_copies(crate, of, told):
     """Which of the two edits of the function are refused where the prover says so."""
     trial, asked = edits.Trial(crate, crate.folder), []
     lines = [f"fn a::m::{name}: not proved: the search did not prove a goal" for name in told.split()]
-    trial.checked = lambda texts, paths, without: asked.append(sorted(paths)) or edits.Answer(of_prover(lines, 1), texts)
+    trial.checked = lambda texts, paths, without, _: asked.append(sorted(paths)) or edits.Answer(of_prover(lines, 1), texts)
     group = edits.grouped([of["a"], of["b"]], crate, True)[0]
     left = trial.try_group(group)
     refused = [name for name in "ab" if of[name].is_refused]
     is_told = not trial.why and [it for it in (of["a"], of["b"]) if not it.is_refused] == left and all(it.why for it in left)
     return refused if is_told and asked == [["m::f", "m::f_as_it_stands", "m::f_edited_1"]] else None
+
+
+def copies_laws(folder):
+    """Edits of definitions are tried in copies of their laws in one check, beside a copy that must be proved. A law is
+    alone if the prover makes something of a source that reads such a definition."""
+    edits_of = {name: f"of: law::law_of_a\nfile: specs/Words.antt\nold: word = 1\nnew: word = {name}\n" for name in "23"}
+    laid(folder, {**DATA.of_law, **{f"{name}.edit": text for name, text in edits_of.items()}})
+    crate = SimpleNamespace(folder=str(folder), name="a")
+    found = []
+    for told, refused in DATA.said_of_laws:
+        of = [edits.Edit(folder / f"{name}.edit", crate) for name in edits_of]
+        trial, asked = edits.Trial(crate, crate.folder), []
+        trial.checked = lambda texts, paths, _, lemmas: asked.append((texts, paths)) or edits.Answer(of_prover(told), {*texts} - {*lemmas})
+        groups = edits.grouped(of, crate, True)
+        trial.try_group(groups[0])
+        found.append(len(groups) == 1 and not trial.why and [it.name for it in of if it.is_refused] == refused.split())
+    texts, paths = asked[0]
+    found += [paths == {f"law{it}::law_of_a" for it in ("_edited_1", "_edited_2", "_as_0_stands")}]
+    found += [{path: text for path, text in texts.items() if "_edited_2" in path} == DATA.of_law_edited]
+    found += [texts["specs/Lib.antt"].startswith(DATA.of_law_listed), "mod law_edited_1;" in texts["src/lib.rt"]]
+    laid(folder, {"src/m.rt": "ghost use Rattle.a.specs.Words.{word};\npub struct T {\n}\n"})
+    return all(found) and len(edits.grouped(of, crate, True)) == 2
 
 
 def empties_functions(folder):
@@ -355,7 +377,7 @@ def empties_functions(folder):
     for without_bodies, whole, is_refused, checks in DATA.said_of_empty:
         asked, trial = [], edits.Trial(crate, crate.folder)
 
-        def checked(texts, paths, without):
+        def checked(texts, paths, without, _):
             asked.append(sorted(it.path() for it in without))
             return edits.Answer(of_prover(without_bodies if without else whole), texts)
 
@@ -386,7 +408,7 @@ def told_of_clause(crate, clause, narrow, whole, wanted):
     laid(Path(crate.folder), {"wrong/f.edit": f"clause: {clause}\nfile: src/m.rt\nold: n + 1\nnew: n + 3\n"})
     trial = edits.Trial(crate, crate.folder)
 
-    def checked(texts, paths, without=()):
+    def checked(texts, *_):
         is_narrow = "0 < result" not in texts["src/m.rt"].split("n + 3")[0]
         lines = [f"fn a::m::{it}: not proved: the search did not prove a goal" for it in (narrow if is_narrow else whole)]
         return edits.Answer(of_prover(lines), texts)
@@ -490,9 +512,8 @@ def is_carried_badly(network, waits, order):
 def carries_badly(_):
     """The network of lossy.py is bad both ways, by a clock that goes on with each datagram."""
     count, clock = 5000, SimpleNamespace(now=0)
-    waits, order, real = [[] for _ in range(count)], [], lossy.time
-    try:
-        lossy.time = SimpleNamespace(time=lambda: clock.now / 1000)
+    waits, order = [[] for _ in range(count)], []
+    with patch.object(lossy, "time", SimpleNamespace(time=lambda: clock.now / 1000)):
         network = lossy.Network(None, 1)
         network.carry = lambda way, number: order.append((way, number)) or waits[number].append(clock.now - number)
         for moment in range(count + 1000):
@@ -500,8 +521,6 @@ def carries_badly(_):
             if moment < count:
                 network.accept(moment % 3 == 0, moment)
             network.deliver()
-    finally:
-        lossy.time = real
     for end in (network.front, network.back):
         end.close()
     return is_carried_badly(network, waits, order) and all(way == (number % 3 == 0) for way, number in order)
@@ -557,7 +576,7 @@ ROWS = [(what, functools.partial(is_as_wanted, steps=steps, passes=passes, last=
     finds_what_is_left_out, knows_the_least, knows_what_is_waited_for, ends_all_that_hangs, tells_what_failed,
     goes_on_beside, begins_early, compares_examples, builds_as_asked, compares_documents, lists_each_edit,
     names_functions, judges_edits, loses_no_step, leaves_none_out, stands_on_its_sources, counts_all,
-    knows_the_lanes, says_what_is_missing, counts_edits, waits_for_proofs, copies_edits, empties_functions,
+    knows_the_lanes, says_what_is_missing, counts_edits, waits_for_proofs, copies_edits, copies_laws, empties_functions,
     narrows_contracts, forgives_no_lateness, tells_a_verdict, judges_lossy_runs, carries_badly, counts_what_differs)]
 
 

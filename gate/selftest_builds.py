@@ -87,26 +87,12 @@ def fake_tools(processors=2, free=9e9, **more):
 
 
 @contextlib.contextmanager
-def within(folder):
-    """While this lasts this process works in the folder, and then again where it did."""
-    place = Path.cwd()
-    os.chdir(folder)
-    try:
-        yield
-    finally:
-        os.chdir(place)
-
-
-@contextlib.contextmanager
 def without(*names):
-    """While this lasts the environment has none of these."""
-    said = {name: os.environ.pop(name) for name in names if name in os.environ}
-    try:
-        yield
-    finally:
+    """While this lasts the environment has none of these; then it is as before."""
+    with patch.dict(os.environ):
         for name in names:
             os.environ.pop(name, None)
-        os.environ |= said
+        yield
 
 
 def fake_library(folder, name, below, asked, status=lambda: 0):
@@ -192,15 +178,15 @@ def takes_what_stands(folder):
     return is_same([wanted for _, *wanted in rows], found)
 
 
-def begun_with(crates, number, goes_on=None, until=None):
+def begun_with(crates, number, goes_on, until):
     """With how many of these processes each crate but `d` and `g` is made; `goes_on` waits until `until` is begun."""
-    given, is_begun = {}, threading.Event()
+    given, is_begun, crates = {}, threading.Event(), crates_of(crates)
 
     def make(crate, jobs):
         given[crate.name] = jobs
-        if crate is until:
+        if crate.name == until:
             is_begun.set()
-        return crate is not goes_on or is_begun.wait(30)
+        return crate.name != goes_on or is_begun.wait(30)
 
     is_made = build.side_by_side(crates, number, make)
     return is_made and " ".join(f"{it.name}{given[it.name]}" for it in crates if it.name not in "dg")
@@ -212,8 +198,12 @@ def meets(barrier):
     return False
 
 
-def crate_of(name, hundreds, *below):
-    return FakeCrate(name=name, below=lambda: [*below], count=lambda _: 1000 * hundreds)
+def crates_of(text):
+    """The crates that a text lists, lowest first: of each its name, its hundreds of seconds, and the names of those below it."""
+    made = {}
+    for name, hundreds, *below in map(str.split, text.split(", ")):
+        made[name] = FakeCrate(name=name, below=lambda its=[made[it] for it in below]: its, count=lambda _, of=float(hundreds): 1000 * of)
+    return [*made.values()]
 
 
 def shares_processors(_):
@@ -224,9 +214,7 @@ def shares_processors(_):
 
 def begins_in_order(_):
     """`build.py` begins no crate before those below it, and as many at once as there are processors, or as RT_JOBS says."""
-    found, number = [], []
-    a, b, c = (crate_of(name, seconds) for name, seconds in (("a", 1), ("b", 5), ("c", 2)))
-    crates = [a, b, c, crate_of("d", 9, a, c), crate_of("e", 1, a, b, c)]
+    found, number, crates = [], [], crates_of("a 1, b 5, c 2, d 9 a c, e 1 a b c")
     for most in (1, 2, 4):
         begun, used, lock = [], [0], threading.Lock()
 
@@ -246,23 +234,15 @@ def begins_in_order(_):
         with without("RT_JOBS"), patch.object(build, "side_by_side", lambda _, most, make: number.append(most)):
             os.environ |= {"RT_JOBS": says} if says else {}
             build.build_all(fake_tools(processors, free), [])
-    found.append(build.chains(crates) == {"a": 1000, "b": 600, "c": 1100, "d": 900, "e": 100} and build.work(a) == 100)
-    return all(found) and number == [2, 1, 2, 3, 4] and build.work(crate_of("oca_tree", 1)) == build.SECONDS["oca_tree"]
+    found.append(build.chains(crates) == {"a": 1000, "b": 600, "c": 1100, "d": 900, "e": 100} and build.work(crates[0]) == 100)
+    return all(found) and number == [2, 1, 2, 3, 4] and build.work(crates_of("oca_tree 1")[0]) == build.SECONDS["oca_tree"]
 
 
 def gives_long_chains_more(_):
     """`build.py` gives more processes to a crate that begins a long chain, as long as it is longer than the others."""
-    found, c, h, s, x, z = [], crate_of("c", 2), crate_of("h", 9), crate_of("s", 0.2), crate_of("x", 1), crate_of("z", 1)
-    for hundreds, above, wanted in DATA.long_chains:
-        f = crate_of("f", hundreds)
-        found.append(begun_with([c, f, crate_of("d", 9, c), crate_of("g", above, f)], 4) == wanted)
-    f, j, r = crate_of("f", 8), crate_of("j", 2, h), crate_of("r", 1, h)
-    found.append(begun_with([h, f, j, r, crate_of("d", 9, h, j), crate_of("g", 1, f)], 4, f, r) == "h3 f1 j2 r1")
-    over_x, k, i = crate_of("c", 2, x), crate_of("k", 8, z), crate_of("i", 7, z)
-    found.append(begun_with([s, x, over_x, crate_of("g", 1, x), crate_of("d", 9, s, over_x)], 4, s, over_x) == "s1 x3 c3")
-    found.append(begun_with([h, z, k, i, crate_of("d", 9, h)], 8, h, i) == "h4 z4 k2 i2")
+    found = [is_same(wanted, begun_with(*row)) for *row, wanted in DATA.long_chains]
     meeting = threading.Barrier(4, timeout=30)
-    return all(found) and build.side_by_side([crate_of("a", 9), *(crate_of(name, 1) for name in "bcd")], 8, lambda *_: meets(meeting))
+    return all(found) and build.side_by_side(crates_of("a 9, b 1, c 1, d 1"), 8, lambda *_: meets(meeting))
 
 
 def builds_each_program(folder):
@@ -307,7 +287,7 @@ def proves_a_program(folder):
     for name in with_words:
         for it in crates:
             it.rlib = "none"
-        with within(folder):
+        with contextlib.chdir(folder):
             found.append(main_of(build, fake_tools(crates_below=lambda _: crates), "--one", name, 3)[0])
     return found == [*map(len, with_words)] and asked == [(name, ["--jobs", "3"], words) for name, words in with_words.items()]
 
@@ -321,7 +301,7 @@ def builds_what_is_named(folder):
     tools = fake_tools(1, 99e9, crates_below=lambda _: crates, lock=lambda its: asked.append("locks " + named(its)) or [])
     for is_proved, names in ((True, "ab"), (True, "b"), (False, "ab"), (True, "ac"), (True, "")):
         of_all = lambda _, low, programs, to: asked.append(f"{named(low)} {named(programs)} to {to.name}" + writes()) or is_proved
-        with patch.object(build, "build_all", of_all), within(folder), memory_at(folder / "memory-of-named"):
+        with patch.object(build, "build_all", of_all), contextlib.chdir(folder), memory_at(folder / "memory-of-named"):
             status = main_of(build, tools, folder / "named", *names)[0]
         found.append((int(status not in (None, 0)), asked[:]))
         asked.clear()
@@ -506,7 +486,8 @@ def takes_what_the_gate_left(folder):
         tools = fake_tools(1, 99e9, crates_below=lambda _: [crate], lock=lambda _: [], files_of=files_of)
         made, is_apart = [], lambda: writes() == " in memory" and all("/out/statements/" in it.rlib for it in (low, high))
         build_all = lambda _, crates: made.append({*crates} == {low, high} and is_apart()) or True
-        with patch.object(edits, "rt", tools), patch.object(build, "build_all", build_all), within(folder), memory_at(folder / "memory-of-library"):
+        with patch.object(edits, "rt", tools), patch.object(build, "build_all", build_all), \
+                contextlib.chdir(folder), memory_at(folder / "memory-of-library"):
             stand = all(map(edits.stands, (low, high)))
             got = main_of(library, tools)[0], made, stand, "/out/rlib/" in low.rlib
         found.append(is_same((0, [] if is_taken else [True], is_taken, is_taken), got))
@@ -515,17 +496,13 @@ def takes_what_the_gate_left(folder):
 
 def leaves_no_old_library(folder):
     """`library.py` leaves no archive of an earlier or failed run, or of sources that changed."""
-    found = []
-    for status, makes in ((0, True), (0, False), (5, False), (5, True)):
-        to = folder / "old.a"
+    found, to = [], folder / "old.a"
+    for status, makes, is_changed, *_ in DATA.archives:
         to.write_text("old")
         compile_it = lambda _, to: (Path(to).write_text("new") if makes else None, status)[1]
-        found.append((said(library.compiled, SimpleNamespace(compile=compile_it), [], str(to))[0], to.exists() and to.read_text()))
-    for status, stamps in ((0, ["first", "second"]), (5, ["first", "second"]), (0, ["first"] * 2)):
-        compile_it = lambda _, to: status or Path(to).touch() or 0
-        crate = SimpleNamespace(compile=compile_it, stamp=stamps.pop)
-        found.append((said(library.compiled_of_one_text, crate, [], str(to))[0], to.exists()))
-    return found == [(0, "new"), (1, False), (5, False), (5, "new"), (1, False), (5, False), (0, True)]
+        crate = SimpleNamespace(compile=compile_it, stamp=["second" if is_changed else "first", "first"].pop)
+        found.append((said(library.compiled, crate, [], str(to))[0], to.exists() and to.read_text()))
+    return is_same([wanted for *_, wanted in DATA.archives], found)
 
 
 def installs_whole(folder):

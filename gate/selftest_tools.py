@@ -12,7 +12,7 @@ from unittest.mock import patch
 
 import api
 import run
-from selftest_builds import FakeCrate, edits, fake_tools, in_turn, is_same, laid, memory_at, of_prover, said, stand_in, within, writes
+from selftest_builds import FakeCrate, edits, fake_tools, in_turn, is_same, laid, memory_at, of_prover, said, stand_in, writes
 
 import checks
 import fuzz
@@ -56,7 +56,7 @@ def told_by_edits(folder, crates, words, most=60):
     """The status of `edits.py`, what it tells of each edit, and its last line, where these are all crates and a lane tries so many edits at most."""
     tools = fake_tools(1, 99e9, edited=edits.rt.edited, unread=edits.rt.unread, STALE=edits.rt.STALE, PARTS=("src", "specs"),
                        checked=said_by_the_prover, in_lanes=in_turn, need=lambda _: 1, guarded=list, crates_below=lambda _: crates)
-    with patch.multiple(edits, ROOT=folder, SELFTEST=folder / "none", rt=tools, MOST=most), memory_at(folder / "memory"), within(folder):
+    with patch.multiple(edits, ROOT=folder, SELFTEST=folder / "none", rt=tools, MOST=most), memory_at(folder / "memory"), contextlib.chdir(folder):
         status, told = said(edits.main, words)
     return status, dict(re.findall(r"(?m)^crates/(\S+)\.edit: (.*)$", told)), run.last_line(told)
 

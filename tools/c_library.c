@@ -2,8 +2,9 @@
  * what is wrong. */
 #include <oca.h>
 
-#include <stdio.h>
 #include <string.h>
+
+#include "c_checks.h"
 
 #ifdef COUNTS_BLOCKS
 /* A heap that counts the blocks that were not given back. */
@@ -39,13 +40,6 @@ void rattle_dealloc(void *at) {
 static const long blocks = 0;
 static const size_t asked = 0;
 #endif
-
-static int passed, failed;
-
-static void same(const char *what, uint32_t got, uint32_t expected) {
-    if (got == expected) passed++;
-    else { failed++; printf("%s: %u in place of %u\n", what, got, expected); }
-}
 
 static const uint8_t *text(const char *words) { return (const uint8_t *)words; }
 
@@ -167,6 +161,5 @@ static void stores(void *context, enum oca_store_result stored) {
 
 int main(void) {
     each();
-    printf("%d passed, %d failed\n", passed, failed);
-    return failed != 0;
+    return verdict();
 }

@@ -52,7 +52,7 @@ CAREFUL = ["valgrind", "-q", "--error-exitcode=99", "--leak-check=full"]
 def library(target):
     """The library for a kind of processor, proved and built by one process, since other steps run beside this one."""
     run = subprocess.run([sys.executable, "gate/library.py", target], cwd=TOP, stdout=subprocess.PIPE, stderr=subprocess.STDOUT, text=True,
-                         env={**os.environ, "LIBRARY_JOBS": "1"})
+                         env=dict(os.environ, LIBRARY_JOBS="1"))
     if run.returncode:
         sys.exit(f"no library for {target}:\n{run.stdout[-2000:]}")
     return TOP / f"crates/oca_c/out/{target}/liboca_c.a"
@@ -61,8 +61,7 @@ def library(target):
 def flags(prefix, lib="lib"):
     if shutil.which("pkg-config"):
         env = dict(os.environ, PKG_CONFIG_PATH=f"{prefix}/{lib}/pkgconfig")
-        return [shlex.split(subprocess.run(["pkg-config", which, "oca"], env=env, check=True, capture_output=True, text=True).stdout)
-                for which in ("--cflags", "--libs")]
+        return [shlex.split(ran("pkg-config", which, "oca", env=env, check=True).stdout) for which in ("--cflags", "--libs")]
     return [[f"-I{prefix}/include"], [f"-L{prefix}/{lib}", "-loca"]]
 
 
@@ -101,8 +100,12 @@ def stop(run):
     return run.communicate(timeout=120)[1]
 
 
+def ran(*words, **how):
+    return subprocess.run([*map(str, words)], **{"capture_output": True, "text": True, "timeout": 300, **how})
+
+
 def said_by(words, **settings):
-    run = subprocess.run([str(word) for word in words], capture_output=True, text=True, timeout=300, env=dict(os.environ, **settings))
+    run = ran(*words, env=dict(os.environ, **settings))
     return run.stdout, run.returncode
 
 
@@ -157,7 +160,7 @@ def each_call_sanitized(checks, made, prefix):
 
 def random_calls(checks, made, prefix):
     """Calls of devices, links and panels in any order, with any numbers, under the sanitizers: what each answers, and what it writes."""
-    sources = HERE / "c_library_random.c", TOP / "c/panel.c", TOP / "c/kept.c"
+    sources = c_rows.test("c_library_random", made), TOP / "c/panel.c", TOP / "c/kept.c"
     for seed, language in enumerate(LANGUAGES, 1):
         program = compiled(made / f"random-{language}", *SANITIZED, f"-I{prefix}/include", *sources, "-x", "none",
                            prefix / "lib/liboca.a", language=language)
@@ -248,7 +251,7 @@ def oversize(checks, made):
 
 
 def started(words):
-    run = subprocess.run([str(word) for word in words], capture_output=True, text=True, timeout=120)
+    run = ran(*words)
     return run.stdout, run.stderr.split(" ")[0], run.returncode
 
 
@@ -294,7 +297,7 @@ def warnings(checks, made, prefix):
         for warning, call in [("", "(void)!oca_device_tick(&device, 1)"), *CARELESS]:
             (made / "call.c").write_text(DATA.one_call % call)
             words = ["-O2", "-Wall", "-Wextra", f"-I{prefix}/include", "-c", "-o", os.devnull, made / "call.c"]
-            run = subprocess.run([*compiler, *words], capture_output=True, text=True)
+            run = ran(*compiler, *words)
             told = sorted(set(re.findall(r"\[-W([\w-]+?)=?\]", run.stderr)))
             wanted = [warning] if warning else []
             checks.same(f"what the compiler ({language}) warns of at {call}", (run.returncode, told), (0, wanted))
@@ -304,22 +307,12 @@ def for_every_processor(checks, archive):
     """The library has no instruction of later processors than the first x86-64: none of AVX, BMI, ABM, SSE3 or above."""
     if not shutil.which("objdump"):
         return print("NOT TRIED: the library's instructions, without objdump")
-    text = subprocess.run(["objdump", "-d", "--no-show-raw-insn", archive], capture_output=True, text=True, check=True).stdout
+    text = ran("objdump", "-d", "--no-show-raw-insn", archive, check=True).stdout
     used = set(re.findall(r"^ +[0-9a-f]+:\t(\w+)", text, re.M))
     later = r"v[a-z]\w+|popcnt\w?|lzcnt\w?|andn\w?|bextr\w?|bls\w+|bzhi\w?|mulx\w?|pdep\w?|pext\w?|rorx\w?|s[ahr][lr]x\w?|movbe\w?|crc32\w?|cmpxchg16b" \
             r"|lddqu|p(shufb|hadd\w+|alignr|abs[bwd]|mulld|(min|max)(s[bd]|u[wd])|insr[bdq]|extr[bdq]|mov[sz]x\w+|test|blend\w+|cmpeqq|cmpgtq)|round[ps][sd]"
     checks.same("instructions of later processors", {it for it in used if re.fullmatch(later, it)} - {"verr", "verw"}, set())
     checks.same("instructions", len(used) > 50, True)
-
-
-def gain(value):
-    return struct.pack(">hhh", value, -600, 100)
-
-
-# What the mixer's desk is asked for after its restart: an object, the method's level and index, and the answer's parameters.
-DESK = [(4097, 4, 1, b"\2"), (4098, 5, 1, gain(-60)), (4593, 4, 1, b"\2"), (4594, 5, 1, gain(-60)), (4113, 4, 1, b"\1"), (4161, 4, 1, b"\1"),
-        (4129, 4, 1, b"\2"), (4194, 5, 1, gain(-31)), (4146, 5, 1, gain(0)), (4227, 4, 1, b"\0\2\0\0\0\2"), (4243, 4, 1, b"\0\0\0\0\0\2"),
-        (4194, 2, 8, b"\0\4Bass"), (100, 2, 8, b"\0\3FOH"), (4195, 2, 1, b"\0"), (4211, 4, 3, b"\0\3DAT"), (4211, 4, 9, b"\0\3\1\0\1")]
 
 
 def mixer(made, name, kept, seconds, before=(), **settings):
@@ -353,9 +346,9 @@ def a_mixer(checks, made, name, before=()):
     checks.same(f"{name}: its notes", sorted(set(stop(run).splitlines())), ["front: no such line"])
     run = start(12 if before else 6)
     asker = Peer(listening(run))
-    for ono, level, index, params in DESK:
+    for ono, level, index, params in DATA.desk:
         asked = asker.ask(ono, level, index, *([b"\0\1"] if index == 3 else []))
-        checks.same(f"{name}: {ono} {level}.{index} after the restart", asked, (0, params))
+        checks.same(f"{name}: {ono} {level}.{index} after the restart", asked, (0, bytes.fromhex(params)))
     stop(run)
     run = start(12 if before else 2)
     asker = Peer(listening(run))
@@ -507,11 +500,10 @@ def refused_memory(checks, made):
     for words, refused in (([made / "device-c11", 0, 0], "not started: 8\n"), ([made / "panel-c11", 9], "not opened: 8\n")):
         counts, times = made / "counts", 0
         quick = dict(os.environ, LD_PRELOAD=layer("unreliable"), COUNTS=str(counts), FAIL_SEND="1000", ERRNO="101")
-        ran = lambda **more: subprocess.run([*map(str, words)], env=quick | more, capture_output=True, text=True, timeout=120)
-        ran()
+        ran(*words, env=quick)
         requests = int(counts.read_text().split()[0])
         for number in range(1, min(requests, 200) + 1):
-            run = ran(REFUSE=str(number))
+            run = ran(*words, env=quick | {"REFUSE": str(number)})
             times += run.stderr == refused and run.returncode == 1
             checks.same(f"{words[0].name}: request {number} refused", run.returncode in (0, 1), True)
         checks.same(f"{words[0].name}: it says that memory was refused", times > 0, True)
@@ -550,7 +542,7 @@ def installed_as_made(checks, made, archive, place):
     checks.same("the manual pages", (len(pages) > 90, sorted(there)), (True, sorted(pages)))
     checks.same("their texts", there == pages, True)
     checks.same("oca.h as it was made", (place / "include/oca.h").read_bytes() == (TOP / "include/oca.h").read_bytes(), True)
-    members = lambda file: subprocess.run(["ar", "t", file], capture_output=True, text=True, check=True).stdout.split()
+    members = lambda file: ran("ar", "t", file, check=True).stdout.split()
     own = members(archive)
     parts = [f"{name}.o" for name in PARTS]
     checks.same("what liboca_c.a has", members(place / "lib/liboca_c.a"), [*own, *parts])
@@ -601,23 +593,21 @@ def prefixes(checks, made, archive):
         panel = compiled(made / "panel-placed", *cflags, TOP / "examples/c/panel.c", *libs)
         checks.same(f"the panel of {place.name}", said_by([panel], LD_LIBRARY_PATH=f"{place}/lib"), ("", 2))
     if shutil.which("pkg-config"):
-        number = int(re.search(r"#define OCA_VERSION 0x(\w+)u", (TOP / "include/oca.h").read_text())[1], 16)
         told = said_by(["pkg-config", "--modversion", "oca"], PKG_CONFIG_PATH=f"{made}/rel/lib/pkgconfig")
-        version = f"{number >> 16}.{number >> 8 & 255}.{number & 255}"
-        checks.same("the version that pkg-config tells", told, (f"{version}\n", 0))
+        checks.same("the version that pkg-config tells", told, ("{}.{}.{}\n".format(*own_version()), 0))
 
 
 def own_version():
-    own = re.search(r"^Version: (\d+)\.(\d+)\.(\d+)$", (TOP / "include/oca.pc.in").read_text(), re.MULTILINE)
-    return tuple(map(int, own.groups()))
+    number = int(re.search(r"#define OCA_VERSION 0x(\w+)u", (TOP / "include/oca.h").read_text())[1], 16)
+    return number >> 16, number >> 8 & 255, number & 255
 
 
-def configured(made, folder, *words):
+def configured(made, folder, *words, version="1.1"):
     project = made / "project"
     project.mkdir(exist_ok=True)
     shutil.copy(TOP / "examples/c/panel.c", project)
-    (project / "CMakeLists.txt").write_text(DATA.project)
-    return subprocess.run(["cmake", "-S", project, "-B", folder, *words], cwd=made, capture_output=True, text=True)
+    (project / "CMakeLists.txt").write_text(DATA.project.replace("oca 1.1", f"oca {version}"))
+    return ran("cmake", "-S", project, "-B", folder, *words, cwd=made)
 
 
 def targets_in(run):
@@ -633,23 +623,18 @@ def by_cmake(checks, made, prefix):
     """The panel as a project of CMake has it, with the shared library and with the static one; version 2 is not found."""
     if not shutil.which("cmake"):
         return print("NOT TRIED: CMake is not installed")
-    project, said = made / "project", dict(cwd=made, capture_output=True, text=True)
     run = configured(made, "cmade", f"-DCMAKE_PREFIX_PATH={prefix}")
     checks.same("cmake -S", (run.returncode, run.stderr), (0, ""))
     checks.same("the files of each target", targets_in(run), targets_below(prefix, "lib"))
-    run = subprocess.run(["cmake", "--build", "cmade"], **said)
+    run = ran("cmake", "--build", "cmade", cwd=made)
     checks.same("cmake --build", (run.returncode, run.stderr), (0, ""))
-    major, minor, patch = own_version()
     run, port = serving([made / "device-c++17", 0, 3])
     for kind in ("oca", "static"):
         checks.same(f"the panel that CMake built with oca::{kind}", said_by([made / f"cmade/panel-{kind}", port])[1], 0)
     run.communicate(timeout=120)
-    for version, is_kept in ((f"{major}.0", True), (f"{major}.{minor}", True), (f"{major}.{minor}.{patch}", True),
-                             (f"{major}.{minor}.{patch + 1}", False), (f"{major}.{minor + 1}", False),
-                             (f"{major + 1}.0", False), (f"{major - 1}.9", False),
-                             (f"{major}.{minor}.{patch} EXACT", True), (f"{major}.0 EXACT", False)):
-        (project / "CMakeLists.txt").write_text(DATA.project.replace("oca 1.1", f"oca {version}"))
-        found = subprocess.run(["cmake", "-S", project, "-B", "none", f"-DCMAKE_PREFIX_PATH={prefix}"], **said)
+    for form, more, is_kept in DATA.versions:
+        version = form.format(*map(sum, zip(own_version(), more)))
+        found = configured(made, "none", f"-DCMAKE_PREFIX_PATH={prefix}", version=version)
         is_refused = "oca-config.cmake, version:" in found.stderr
         checks.same(f"version {version}", (found.returncode == 0, is_refused), (is_kept, not is_kept))
 
@@ -668,8 +653,7 @@ def installs_for_arm(checks, made, prefix, archive, **settings):
     cflags, libs = flags(prefix, OF_ARM)
     path = settings.get("PATH", os.environ["PATH"])
     compiler = shutil.which("aarch64-linux-gnu-gcc", path=path)
-    built = subprocess.run([compiler, "-std=c11", *STRICT, *cflags, "-o", made / "panel-by-flags", TOP / "examples/c/panel.c", *libs],
-                           capture_output=True, text=True)
+    built = ran(compiler, "-std=c11", *STRICT, *cflags, "-o", made / "panel-by-flags", TOP / "examples/c/panel.c", *libs)
     checks.same("the panel for AArch64 by its oca.pc", (built.returncode, built.stderr), (0, ""))
     if shutil.which("cmake"):
         run = configured(made, f"for-{prefix.name}", f"-Doca_DIR={prefix}/{OF_ARM}/cmake/oca")
@@ -789,16 +773,16 @@ def names(checks, archive, header, prefix):
     inline = set(re.findall(r"static inline [\w ]+?[ *](oca_\w+)\(", text))
     prototypes = set(re.findall(r"^(?:(?:enum|struct) )?\w+ (oca_\w+)\(", text, flags=re.MULTILINE)) - inline
     for name in ("liboca_c.a", "liboca.a"):
-        symbols = subprocess.run(["nm", "-g", "--defined-only", prefix / "lib" / name], capture_output=True, text=True).stdout
+        symbols = ran("nm", "-g", "--defined-only", prefix / "lib" / name).stdout
         exported = set(re.findall(r" T (oca_\w+)$", symbols, flags=re.MULTILINE))
         checks.same(f"prototypes without a symbol in {name}", prototypes - exported, set())
         checks.same(f"symbols without a prototype in {name}", exported - prototypes, set())
-    needed = subprocess.run(["nm", "-u", archive], capture_output=True, text=True).stdout
+    needed = ran("nm", "-u", archive).stdout
     checks.same("what the library needs", sorted(set(re.findall(r" U (\w+)$", needed, flags=re.MULTILINE))),
                 ["memcpy", "memmove", "memset", "rattle_alloc", "rattle_dealloc", "rattle_realloc"])
-    shared = subprocess.run(["nm", "-D", "--defined-only", prefix / "lib/liboca.so"], capture_output=True, text=True).stdout
+    shared = ran("nm", "-D", "--defined-only", prefix / "lib/liboca.so").stdout
     checks.same("what the shared library exports", set(re.findall(r" T (\w+)$", shared, flags=re.MULTILINE)), prototypes)
-    told = subprocess.run(["readelf", "-d", prefix / "lib/liboca.so"], capture_output=True, text=True).stdout
+    told = ran("readelf", "-d", prefix / "lib/liboca.so").stdout
     checks.same("its SONAME", re.findall(r"SONAME.*\[(.*)\]", told), ["liboca.so.1"])
 
 

@@ -1,26 +1,14 @@
 /* The panel of the C library over a network and a clock of its own: a device of the library behind it, or a peer that answers as a test
  * wants. It prints what is wrong. With a word, a port of this machine, it prints the objects of the device there, as `ocactl tree` does. */
-#define _POSIX_C_SOURCE 200809L
 /* What a panel hands to its link goes by this file's `handed`: c/panel.c is compiled beside it, with the same name for it. */
 #define oca_link_datagram handed
 #include <oca.h>
 #undef oca_link_datagram
 
-#include <arpa/inet.h>
-#include <netinet/in.h>
-#include <poll.h>
-#include <stdio.h>
 #include <stdlib.h>
 #include <string.h>
-#include <sys/socket.h>
-#include <time.h>
 
-static int passed, failed;
-
-static void same(const char *what, uint32_t got, uint32_t expected) {
-    if (got == expected) passed++;
-    else { failed++; printf("%s: %u in place of %u\n", what, got, expected); }
-}
+#include "c_checks.h"
 
 static void says(const char *what, const char *got, const char *expected) {
     same(what, strcmp(got, expected) == 0, 1);
@@ -318,29 +306,6 @@ static uint32_t answers_position(struct network *network, uint32_t ono, uint32_t
 
 /* ---- a device at a port of this machine ---- */
 
-static uint64_t socket_now(void *context) {
-    struct timespec time;
-    (void)context;
-    clock_gettime(CLOCK_MONOTONIC, &time);
-    return (uint64_t)time.tv_sec * 1000 + (uint64_t)time.tv_nsec / 1000000;
-}
-
-static void socket_send(void *context, const uint8_t *bytes, size_t len) { (void)send(*(int *)context, bytes, len, 0); }
-
-static bool socket_receive(void *context, uint64_t until, uint8_t *out, size_t out_len, size_t *len, uint32_t *ip, uint16_t *port) {
-    const uint64_t now = socket_now(context);
-    struct pollfd wait = {*(int *)context, POLLIN, 0};
-    struct sockaddr_in from;
-    socklen_t size = sizeof from;
-    if (poll(&wait, 1, until > now ? (int)(until - now) : 0) <= 0) return false;
-    const ssize_t got = recvfrom(wait.fd, out, out_len, 0, (struct sockaddr *)&from, &size);
-    if (got < 0) return false;
-    *len = (size_t)got;
-    *ip = ntohl(from.sin_addr.s_addr);
-    *port = ntohs(from.sin_port);
-    return true;
-}
-
 static bool prints(void *context, const struct oca_visit *visit) {
     (void)context;
     if (visit->described.asked != OCA_ASKED_DONE) printf("%u: %s\n", visit->ono, oca_outcome_text(visit->described));
@@ -351,16 +316,11 @@ static bool prints(void *context, const struct oca_visit *visit) {
 }
 
 static int prints_objects(uint16_t port) {
-    struct sockaddr_in to;
     struct oca_panel panel = OCA_PANEL_INIT;
-    int file = socket(AF_INET, SOCK_DGRAM, 0);
-    memset(&to, 0, sizeof to);
-    to.sin_family = AF_INET;
-    to.sin_port = htons(port);
-    to.sin_addr.s_addr = htonl(INADDR_LOOPBACK);
-    if (file < 0 || connect(file, (const struct sockaddr *)&to, sizeof to) != 0) return 2;
-    const struct oca_end end = {sizeof end, &file, socket_now, socket_send, socket_receive};
-    if (oca_panel_open(&panel, &end, INADDR_LOOPBACK, port, 1, 16, 10500) != OCA_DONE) return 2;
+    struct oca_socket own = OCA_SOCKET_INIT;
+    if (oca_socket_open_towards(&own, 0x7f000001, port, 0) != OCA_SOCKET_DONE) return 2;
+    const struct oca_end end = oca_socket_end(&own);
+    if (oca_panel_open(&panel, &end, own.device_ip, port, 1, 16, 10500) != OCA_DONE) return 2;
     const struct oca_outcome outcome = oca_panel_walk(&panel, &walk, prints, NULL);
     if (outcome.asked != OCA_ASKED_DONE) printf("%s\n", oca_outcome_text(outcome));
     oca_panel_close(&panel);
@@ -372,6 +332,5 @@ static int prints_objects(uint16_t port) {
 int main(int count, char **words) {
     if (count > 1) return prints_objects((uint16_t)atoi(words[1]));
     each();
-    printf("%d passed, %d failed\n", passed, failed);
-    return failed != 0;
+    return verdict();
 }

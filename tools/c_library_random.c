@@ -3,6 +3,7 @@
  * one that the header names, what is closed answers so, and what is refused leaves what it would have told.
  * It prints which results each call answered. Usage: random CALLS SEED */
 #include <oca.h>
+#include "c_library_random_calls.h" /* made by c_rows.py of rows/c_library_random_calls.toml */
 #include <stdio.h>
 #include <stdlib.h>
 #include <string.h>
@@ -54,6 +55,10 @@ static void *room(int which, size_t size) {
     return place->whole + EDGE;
 }
 
+#define ROOM(which, type) ((type *)room(which, sizeof(type)))
+#define ROOMS(which, type, count) ((type *)room(which, sizeof(type) * (count)))
+#define FLAG ((bool *)memset(room(0, 1), 0, 1))
+
 /* That nothing beside the places was written to, and nothing in them where the call refused it. */
 static void looks(int count, bool may_write, const char *what) {
     for (int k = 0; k < count; k++) {
@@ -96,6 +101,16 @@ static size_t any_datagram(uint8_t *bytes, uint32_t handle) {
     return len;
 }
 
+/* A description of an object is read into a struct of its size, or of another one. */
+static enum oca_result reads_spec(struct oca_device *d, uint32_t ono) {
+    struct oca_spec *read = ROOM(0, struct oca_spec);
+    read->size = below(3) ? (uint32_t)sizeof *read : (uint32_t)number();
+    memcpy(places[0].before + EDGE, &read->size, 4);
+    const enum oca_result result = below(2) ? CALL(oca_device_spec)(d, below(12), read) : CALL(oca_device_spec_of)(d, below(3) ? ono : 100, read);
+    expect(read->size == sizeof *read || result != OCA_DONE, "a struct of another size is written to");
+    return result;
+}
+
 /* A call of a device. */
 static void calls_device(struct oca_device *d) {
     static const uint8_t role[] = {'r', 'o', 'l', 'e', 0xff}, zeros[80] = {0};
@@ -105,55 +120,11 @@ static void calls_device(struct oca_device *d) {
     const size_t size = below(4) ? below(80) : 0;
     const struct oca_value value = any_value();
     static struct oca_kept kept[3];
-    struct oca_spec spec = any_spec(), *read;
+    struct oca_spec spec = any_spec();
     enum oca_result result = OCA_DONE;
     int count = 0;
     bool may_open = false;
-    switch (below(40)) {
-    case 0: result = CALL(oca_device_open)(d, (uint16_t)(below(2) ? below(30) : number())), may_open = true; break;
-    case 1: result = CALL(oca_device_open_with)(d, (uint16_t)below(30), &spec), may_open = true; break;
-    case 2: if (below(8) == 0) oca_device_close(d); return;
-    case 3: if (below(9)) return; result = CALL(oca_device_start)(d, (uint8_t)number(), (uint8_t)number()); break;
-    case 4: if (below(9)) return; result = CALL(oca_device_start_within)(d, (uint8_t)(1 + below(9)), (uint8_t)(1 + below(4)), (size_t)number()); break;
-    case 5: case 6: case 7: result = CALL(oca_device_add)(d, container, ono, &spec); break;
-    case 8: result = CALL(oca_device_add_block)(d, container, ono, role, below(6), below(2)); break;
-    case 9: result = CALL(oca_device_add_int8)(d, container, ono, role, below(6), below(2), (int8_t)below(256), (int8_t)below(256), (int8_t)below(256)); break;
-    case 10: result = CALL(oca_device_datagram_words)(d, below(3), (uint16_t)below(3), bytes, any_datagram(bytes, below(50)), number(), (uint32_t *)room(0, 4 * (size % 9)), size % 9), count = 1; break;
-    case 11: result = CALL(oca_device_packets)(d, (size_t *)room(0, sizeof(size_t))), count = 1; break;
-    case 12: result = CALL(oca_device_packet)(d, below(4), (uint8_t *)room(0, size), size, (size_t *)room(1, sizeof(size_t))), count = 2; break;
-    case 13: result = CALL(oca_device_left_out)(d, (bool *)memset(room(0, 1), 0, 1)), count = 0; break;
-    case 14: result = CALL(oca_device_written)(d, (uint32_t *)room(0, 4 * size), size, (size_t *)room(1, sizeof(size_t))), count = 2; break;
-    case 15: result = CALL(oca_device_tick)(d, number()); break;
-    case 16: result = CALL(oca_device_next_lapse)(d, (uint64_t *)room(0, 8)), count = 1; break;
-    case 17: result = CALL(oca_device_set)(d, ono, &value); break;
-    case 18: result = CALL(oca_device_set_state)(d, ono, (uint8_t)number()); break;
-    case 19: result = CALL(oca_device_set_signed)(d, ono, (int64_t)number()); break;
-    case 20: result = CALL(oca_device_set_unsigned)(d, ono, number()); break;
-    case 21: result = CALL(oca_device_setting)(d, ono, (struct oca_setting *)room(0, sizeof(struct oca_setting))), count = 1; break;
-    case 22: result = CALL(oca_device_object_words)(d, below(12), (uint32_t *)room(0, 4 * (size % 6)), size % 6, (uint8_t *)room(1, size), size), count = 2; break;
-    case 23: case 27:
-        read = (struct oca_spec *)room(0, sizeof spec);
-        read->size = below(3) ? (uint32_t)sizeof spec : (uint32_t)number();
-        memcpy(places[0].before + EDGE, &read->size, 4);
-        result = below(2) ? CALL(oca_device_spec)(d, below(12), read) : CALL(oca_device_spec_of)(d, below(3) ? ono : 100, read), count = 1;
-        expect(read->size == sizeof spec || result != OCA_DONE, "a struct of another size is written to");
-        break;
-    case 28: result = CALL(oca_device_peers)(d, (size_t *)room(0, sizeof(size_t))), count = 1; break;
-    case 29: result = CALL(oca_device_peer)(d, below(4), (uint32_t *)room(0, 4), (uint16_t *)room(1, 2)), count = 2; break;
-    case 30: result = CALL(oca_device_keep)(d, kept, below(4), (size_t *)room(0, sizeof(size_t))), count = 1; break;
-    case 31: result = CALL(oca_device_add_kept)(d, container, ono, &spec, kept, 3); break;
-    case 32: result = CALL(oca_device_open_kept)(d, (uint16_t)below(30), &spec, kept, 3), may_open = true; break;
-    case 33: result = CALL(oca_device_set_label)(d, ono, below(2) ? role : zeros, below(4) ? below(sizeof role + 1) : 0); break;
-    case 36: result = CALL(oca_device_set_label)(d, ono, zeros, below(sizeof zeros + 1)); break;
-    case 34: result = CALL(oca_device_set_enabled)(d, ono, below(2)); break;
-    case 35: result = CALL(oca_device_unlock)(d, ono); break;
-    case 37: result = CALL(oca_device_set_failing)(d, ono, below(2)); break;
-    case 38: result = CALL(oca_device_is_failing)(d, ono, (bool *)memset(room(0, 1), 0, 1)), count = 0; break;
-    case 24: result = CALL(oca_device_set_position)(d, ono, (uint16_t)number()); break;
-    case 25: result = CALL(oca_device_waits)(d, (bool *)memset(room(0, 1), 0, 1)), count = 0; break;
-    case 26: result = CALL(oca_device_stored)(d); break;
-    default: result = CALL(oca_device_lock)(d, ono, (uint32_t *)room(0, 4), (uint32_t *)room(1, 4), (uint16_t *)room(2, 2)), count = 3; break;
-    }
+    switch (below(DEVICE_COUNT)) { DEVICE_CALLS }
     told(result);
     expect(result <= OCA_NO_VALUE, "a result of a device");
     expect(was_open || may_open || result == OCA_CLOSED, "a closed device answers so");
@@ -196,20 +167,7 @@ static void calls_link(struct oca_link *l) {
     enum oca_result result = OCA_DONE;
     int count = 0;
     bool is_opening = false;
-    switch (below(14)) {
-    case 0: result = CALL(oca_link_open)(l, below(3), (uint16_t)below(3), (uint32_t)number(), now, (uint8_t)number()), is_opening = true; break;
-    case 1: if (below(8) == 0) oca_link_close(l); return;
-    case 2: case 3: result = CALL(oca_link_submit)(l, (uint32_t)number(), 4, 1, (uint8_t)number(), bytes, below(9) ? below(9) : below(OCA_MOST_BYTES + 1), now, (uint32_t *)room(0, 4)), count = 1; break;
-    case 4: case 5: result = CALL(oca_link_due)(l, now, (uint8_t *)room(0, size), size, (size_t *)room(1, sizeof(size_t)), (uint32_t *)room(2, 4), (uint32_t *)room(3, 4)), count = 4; break;
-    case 6: result = CALL(oca_link_datagram)(l, below(3), (uint16_t)below(3), bytes, any_datagram(bytes, below(50)), now, (uint32_t *)room(0, 4), (uint32_t *)room(1, 4)), count = 2; break;
-    case 7: result = CALL(oca_link_next_due)(l, (uint64_t *)room(0, 8)), count = 1; break;
-    case 8: result = CALL(oca_link_answered)(l, (uint32_t *)room(0, 4)), count = 1; break;
-    case 9: result = CALL(oca_link_next_handle)(l, (uint32_t *)room(0, 4)), count = 1; break;
-    case 10: result = CALL(oca_link_last_heard)(l, (uint64_t *)room(0, 8)), count = 1; break;
-    case 11: result = CALL(oca_link_in_flight)(l, (uint32_t)number(), (bool *)memset(room(0, 1), 0, 1)); break;
-    case 12: result = CALL(oca_link_is_late)(l, now, (bool *)memset(room(0, 1), 0, 1)); break;
-    default: result = CALL(oca_link_take)(l, (uint32_t)number(), (uint32_t *)room(0, 4), (uint32_t *)room(1, 4), (uint8_t *)room(2, size), size, (size_t *)room(3, sizeof(size_t))), count = 4; break;
-    }
+    switch (below(LINK_COUNT)) { LINK_CALLS }
     told(result);
     expect(result <= OCA_NO_VALUE, "a result of a link");
     expect(was_open || is_opening || result == OCA_CLOSED, "a closed link answers so");
@@ -254,24 +212,7 @@ static void calls_panel(struct oca_panel *panel) {
     uint8_t bytes[OCA_MOST_BYTES] = {0};
     uint32_t handle = 0;
     const uint32_t ono = (uint32_t)number(), wait_ms = below(3) ? below(400) : 0;
-    switch (below(16)) {
-    case 0: if (oca_panel_open(panel, &end, below(2), (uint16_t)below(2), (uint32_t)number(), (uint8_t)number(), wait_ms) == OCA_DONE) moment = number() >> below(40); break;
-    case 1: if (below(5) == 0) oca_panel_close(panel); break;
-    case 2: outcome = oca_panel_turn(panel); break;
-    case 3: (void)oca_panel_begin_set(panel, ono, any_value(), &handle); break;
-    case 4: (void)oca_panel_begin_get(panel, ono, below(15), &handle); break;
-    case 5: (void)oca_panel_begin(panel, ono, (uint32_t)number(), (uint8_t)number(), bytes, below(OCA_MOST_BYTES + 1), &handle); break;
-    case 6: outcome = oca_panel_finish(panel, below(12), &answer); break;
-    case 7: outcome = oca_panel_finish_get(panel, (uint32_t)number(), below(15), &reading); break;
-    case 8: outcome = oca_panel_set(panel, ono, any_value()); break;
-    case 9: outcome = oca_panel_get(panel, ono, &reading); break;
-    case 10: outcome = oca_panel_class(panel, ono, &id); break;
-    case 11: outcome = oca_panel_set_label(panel, ono, &name); break;
-    case 12: outcome = oca_panel_label(panel, ono, &name); break;
-    case 13: outcome = oca_panel_position_names(panel, ono, &names); break;
-    case 14: outcome = oca_panel_members(panel, ono, &members); break;
-    default: if (below(20) == 0) outcome = oca_panel_walk(panel, &walk, visits, NULL); break;
-    }
+    switch (below(PANEL_COUNT)) { PANEL_CALLS }
     expect(outcome.asked <= OCA_ASKED_NO_HANDLE && outcome.status <= 255 && strlen(oca_outcome_text(outcome)) > 0, "an outcome");
     expect(panel->link.is_open == (panel->link.at != NULL), "a panel is open or not");
     if (moment > UINT64_MAX - 1000000 && below(4)) moment = number() >> 30;

@@ -1,7 +1,7 @@
 """Tests in C of the library for C, made of rows of data. Other tools use it; it has no `main`.
 
-A file tools/rows/NAME_calls.toml has tables `part`. Each is a function in C: its `name`, what it `takes`, what it `has` (declarations), and its `rows`;
-with a word `when` it is empty unless this word is defined. A row is
+A file tools/rows/NAME_calls.toml has tables `part`, or lists of the cases of a switch (see `cases`). A `part` is a function in C: its `name`, what it
+`takes`, what it `has` (declarations), and its `rows`; with a word `when` it is empty unless this word is defined. A row is
 
     [WHAT, CALL, RESULT]              a call of the library, and what it answers, without OCA_
     [WHAT, CALL, RESULT, .., HOLDS]   the same, further calls, each with what it answers, and what holds behind them
@@ -98,7 +98,21 @@ def function(name, rows, takes="void", has=(), when=""):
     return f"#ifdef {when}\n{text}#else\nstatic void {name}(void) {{}}\n#endif\n" if when else text
 
 
+def case(call, count=0, *also):
+    name, given = call.split("(", 1)
+    return ", ".join([f"result = CALL(oca_{name})({given}", f"count = {count}", *also])
+
+
+def cases(name, rows):
+    """The cases of a switch, as the macro NAME_CALLS, and how many there are: a row is a statement, or what `case` takes."""
+    lines = (f" \\\n    case {number}: {row if isinstance(row, str) else case(*row)}; break;" for number, row in enumerate(rows))
+    return f"#define {name}_COUNT {len(rows)}\n#define {name}_CALLS{''.join(lines)}\n"
+
+
 def test(name, place):
-    """Puts the test tools/NAME.c into this folder, with the functions of tools/rows/NAME_calls.toml beside it; answers where the test is."""
-    (place / f"{name}_calls.h").write_text("".join(function(**part) for part in data(f"{name}_calls").part))
+    """Puts the test tools/NAME.c into this folder, with c_checks.h and what tools/rows/NAME_calls.toml has beside it; answers where the test is."""
+    shutil.copy(HERE / "c_checks.h", place)
+    read = vars(data(f"{name}_calls"))
+    made = [function(**part) for part in read.pop("part", ())] + [cases(*row) for row in read.items()]
+    (place / f"{name}_calls.h").write_text("".join(made))
     return shutil.copy(HERE / f"{name}.c", place)

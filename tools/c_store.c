@@ -10,7 +10,6 @@
 #include <fcntl.h>
 #include <signal.h>
 #include <stdarg.h>
-#include <stdio.h>
 #include <stdlib.h>
 #include <string.h>
 #include <sys/file.h>
@@ -19,16 +18,7 @@
 #include <sys/wait.h>
 #include <unistd.h>
 
-static unsigned long passed, wrong;
-
-static void same(const char *what, long got, long wanted) {
-    if (got == wanted) {
-        passed++;
-        return;
-    }
-    wrong++;
-    printf("WRONG: %s: %ld in place of %ld\n", what, got, wanted);
-}
+#include "c_checks.h"
 
 /* ---- the calls of the system, one of which may fail ---- */
 
@@ -174,14 +164,14 @@ static void take_other(const char *path) {
 static int without_permission(void) {
     char out[8];
     size_t length = 0;
-    const unsigned long before = wrong;
+    const unsigned long before = failed;
     told("a folder that may not be written", oca_store_open("mine/file", &store), "open", EACCES);
     told("a folder that may not be looked into", oca_store_open("hidden/file", &store), "open", EACCES);
     same("a lock that is there", oca_store_open("mine/there", &store), OCA_STORE_DONE);
     told("a file that may not be read", oca_store_load(&store, out, sizeof out, &length), "open", EACCES);
     told("a save into a folder that may not be written", save("x"), "open", EACCES);
     oca_store_close(&store);
-    return wrong > before;
+    return failed > before;
 }
 
 /* Each call of a save fails once: which call that is, how the store names it, which of them it is. */
@@ -193,6 +183,5 @@ static const struct { const char *call, *name; int at; } of_save[] = {
 
 int main(void) {
     each();
-    printf("%lu passed, %lu failed\n", passed, wrong);
-    return wrong > 0;
+    return verdict();
 }

@@ -112,6 +112,14 @@ def waited(holds, seconds=60.0, pause=0.01):
     return time.monotonic() - begun
 
 
+def tries(count, take, is_well):
+    """What this gives, again and again until it is well, at most so many times: a machine may be busy."""
+    found = [take()]
+    while len(found) < count and not is_well(found[-1]):
+        found.append(take())
+    return found
+
+
 def nulls_of(run, seconds=30):
     """The descriptors of a run at which the null device stands, once it has a socket; nothing where it has none in so many seconds."""
     def files():

@@ -2,6 +2,7 @@
 import collections
 import multiprocessing
 import subprocess
+import sys
 from pathlib import Path
 from types import ModuleType
 
@@ -54,15 +55,29 @@ def runs_of(program, kind, head, texts):
     return [lines[first:end] for first, end in zip(begins, begins[1:])]
 
 
-def in_processes(work, jobs, refuses, wrong):
-    """The counts of all jobs, the text of the first break or None, and what is found of each wrong rule; jobs run side by side."""
-    total = collections.Counter()
+def events_of(lines):
+    """The lines that `trials events` prints of each event: the last two are the number of sessions and the objects."""
+    found = [[]]
+    for line in lines:
+        found[-1].append(line)
+        if line.startswith("objects"):
+            found.append([])
+    return [its for its in found if its]
+
+
+def in_processes(work, what, batch, refuses, rules, count=300, seed=1):
+    """Holds so many runs of the program in processes side by side, as the words FOLDER [COUNT [SEED]] say, and each wrong
+    rule: the number, the seed, the counts, and what is found of the rules. A break is printed and ends this process."""
+    folder, count, seed = [*sys.argv[1:], *("", count, seed)[len(sys.argv) - 1:]]
+    count, seed, total = int(count), int(seed), collections.Counter()
+    jobs = [(f"{folder}/trials", seed, range(count)[first:first + batch]) for first in range(0, count, batch)]
     with multiprocessing.Pool(min(4, multiprocessing.cpu_count())) as pool:
         for counts, fault in pool.imap(work, jobs):
             total += counts
             if fault:
-                return total, fault, []
-        return total, None, pool.map(refuses, wrong, chunksize=1)
+                print(f"{fault}\nseed {seed}: a break after {total[what]} {what} without one")
+                sys.exit(verdict({what: False}))
+        return count, seed, total, pool.map(refuses, [(seed, name) for name in rules], chunksize=1)
 
 
 def verdict(checks):

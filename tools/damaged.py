@@ -11,8 +11,8 @@ the damaged ones, and answers alike."""
 import sys
 
 import oca_profile as oca
-from checks import verdict
-from comparing import runs_of
+from checks import Checks
+from comparing import events_of, runs_of
 from tables import data
 
 MESSAGES = [*map(bytes.fromhex, data("damaged").messages)]
@@ -55,24 +55,16 @@ def found(data):
 def blocks(folder, events):
     """What `trials events` says of each event of a history: its lines but the last two, and those."""
     (lines,) = runs_of(f"{folder}/trials", "events", "history", [["history 32 16 0", *events]])
-    said = "".join(f"{line}\n" for line in lines[1:]).split("\nobjects")
-    if len(said) != len(events) + 1:
-        raise RuntimeError(f"{len(said) - 1} of {len(events)} events")
-    heads = [said[0]] + [part.partition("\n")[2] for part in said[1:-1]]
-    states = [part.partition("\n")[0] for part in said[1:]]
-    return [(head.rpartition("\nsessions ")[0], head.rpartition("\nsessions ")[2] + state) for head, state in zip(heads, states)]
+    said = events_of(lines[1:])
+    if len(said) != len(events):
+        raise RuntimeError(f"{len(said)} of {len(events)} events")
+    return [(its[:-2], its[-2:]) for its in said]
 
 
-class Trial:
+class Trial(Checks):
     def __init__(self, folder):
-        self.folder = folder
-        self.tried = self.refused = self.again = self.wrong = 0
-
-    def expect(self, good, what, data):
-        if not good:
-            self.wrong += 1
-            print("WRONG:", what, oca.hex_text(data))
-        return good
+        super().__init__(folder)
+        self.refused = self.again = 0
 
     def message(self, message):
         begin = [event(SENDER, MESSAGES[k]) for k in BEFORE]
@@ -93,16 +85,15 @@ class Trial:
         for _ in BEFORE:
             state = self.told(touched, untouched)[1]
         for data, line, is_refused in tried:
-            self.tried += 1
-            good = next(touched) == (line, state)
+            good = next(touched) == ([line], state)
             if is_refused:
-                good &= [next(touched) for _ in range(2)] == [(line, state)] * 2
+                good &= [next(touched) for _ in range(2)] == [([line], state)] * 2
                 for _ in range(1 + len(AGAIN)):
                     had, state = self.told(touched, untouched)
                     good &= had
                 self.refused += good
             self.again += line.startswith("again 3b")
-            self.expect(good, line, data)
+            self.expect(line, good, oca.hex_text(data))
 
     def told(self, touched, untouched):
         one, other = next(touched), next(untouched)
@@ -113,9 +104,8 @@ def main():
     trial = Trial(sys.argv[1])
     for message in MESSAGES:
         trial.message(message)
-    print(f"damaged datagrams: {trial.tried} tried, {trial.refused} refused with nothing changed, {trial.again} of the others "
-          f"written back alike, {trial.wrong} wrong")
-    return verdict(trial.tried - trial.wrong, trial.wrong)
+    print(f"damaged datagrams: {trial.refused} refused with nothing changed, {trial.again} of the others written back alike")
+    return trial.verdict()
 
 
 if __name__ == "__main__":

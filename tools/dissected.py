@@ -1,7 +1,7 @@
 #!/usr/bin/env python3
 """Has Wireshark's dissector read what `ocadev` hears and answers, and counts the frames.
 
-Usage: dissected.py BIN     BIN is the folder with `ocadev`; it needs `tshark` (4.0 or later)
+Usage: dissected.py BIN     BIN is the folder with `ocadev`; it needs `tshark` (4.0 or later), and `text2pcap` of it
 
 No step of the gate.
 
@@ -20,7 +20,6 @@ from pathlib import Path
 from checks import verdict
 
 TOP = Path(__file__).resolve().parent.parent
-DEVICE, PANEL = ("127.0.0.1", 65000), ("127.0.0.1", 9001)
 FIELDS = ("type", "msgcount", "handle", "tono", "mlevel", "midx", "pcount", "status")
 # The fields of a message behind its handle, by the type of its PDU.
 MESSAGES = {1: (("tono", "mlevel", "midx", "pcount"), ">IHHB"), 3: (("status", "pcount"), ">BB")}
@@ -71,20 +70,11 @@ def read_messages(frame, at, count, names, layout, found):
         at += size
 
 
-def packet(frame, is_answer):
-    """The frame in UDP and IPv4, as a record of a capture file."""
-    (from_ip, from_port), (to_ip, to_port) = (DEVICE, PANEL) if is_answer else (PANEL, DEVICE)
-    addresses = b"".join(bytes(map(int, ip.split("."))) for ip in (from_ip, to_ip))
-    udp = struct.pack(">HHHH", from_port, to_port, 8 + len(frame), 0) + frame
-    ip = struct.pack(">BBHHHBBH", 0x45, 0, 20 + len(udp), 0, 0, 64, 17, 0) + addresses + udp
-    return struct.pack("<IIII", 0, 0, len(ip), len(ip)) + ip
-
-
 def dissected(frames):
     """Of each frame the fields that the dissector reads, and what it complains of."""
+    dump = "".join(f"{'O' if is_answer else 'I'}\n000000 {frame.hex(' ')}\n" for frame, is_answer in frames)
     with tempfile.NamedTemporaryFile(suffix=".pcap") as file:
-        file.write(struct.pack("<IHHiIII", 0xA1B2C3D4, 2, 4, 0, 0, 65535, 101) + b"".join(packet(*frame) for frame in frames))
-        file.flush()
+        subprocess.run(["text2pcap", "-q", "-D", "-u", "9001,65000", "-", file.name], input=dump, capture_output=True, text=True, timeout=120, check=True)
         fields = [word for name in ("ocp1." + name for name in FIELDS) for word in ("-e", name)]
         words = ["tshark", "-r", file.name, "-T", "fields", *fields, "-e", "_ws.malformed"]
         lines = subprocess.run(words, capture_output=True, text=True, timeout=120, check=True).stdout.splitlines()

@@ -13,8 +13,11 @@ is by hand.
 
 An edit is refused if a goal of a function that it touches fails by itself, and not only since a proof file names what
 is gone. What is not refused is tried in smaller groups without copies and with all bodies, and at last alone. An edit
-of no function is alone; its line 'of: PATH' has the function whose proof it must break. The edits of
-tools/edits_selftest/CRATE/ must not be refused, for what their line 'says: ' has: they try this tool.
+of no function is alone; its line 'of: PATH' has the function whose proof it must break. But if it changes one file of
+specs/, and that function is a law in a module of its own, then the law is copied, with its proof and those definitions
+and lemmas of the crate between the two that the edit reaches: many such copies are in one check, beside a copy without
+an edit, which must be proved. The edits of tools/edits_selftest/CRATE/ must not be refused, for what their line
+'says: ' has: they try this tool.
 
 Crates run side by side, as many as there are processors and memory for, or as RT_JOBS says, over the libraries that `rt
 ci` left. Beside the gate's `rt ci`, which notes proved crates in the file GATE_PROVED, a crate waits for its libraries
@@ -45,6 +48,7 @@ MOST = 60  # edits of a crate that are tried by one lane: with more, the others 
 CLAUSE = re.compile(r"( *)(requires|ensures|ghost)(\*?)(?: (\w+):?)? \{")
 FUNCTION = re.compile(r"( *)(?:pub(?:\([a-z: ]+\))? )?(?:const |unsafe |extern \"C\" )*fn (\w+)")
 BLOCK = re.compile(r"( *)(?:unsafe )?(?:pub(?:\([a-z: ]+\))? )?(impl|trait)\b(.*)")
+COPIED = re.compile(r"_edited_\d+$|_as_\d+_stands$")  # the name of a copied file of lemmas
 GONE = re.compile(r"has no field|is not in scope|has no `|was not admitted|is no name")
 # What is counted: whether an edit must not be refused, and whether all is well with it.
 KINDS = [(False, True), (False, False), (True, True), (True, False)]
@@ -218,6 +222,10 @@ class Edit:
     def is_alone(self):
         return not self.functions or self.must_pass
 
+    def is_of_law(self, crate):
+        law = law_of(self) if self.is_alone() and not self.must_pass else None
+        return bool(law) and bool(between(crate, *law))
+
     def can_be_copied(self):
         counts = [len(re.findall(rf"(?m)^{word}: ", self.text)) for word in ("file", "old")]
         return counts == [1, len(self.functions)] and len(self.keys()) == 1 and not self.functions[0].is_of_trait
@@ -244,6 +252,120 @@ class Copy:
         for file in proofs_of(crate, function):
             text = file.read_text().replace(".".join(old.parts) + ".", ".".join(new.parts) + ".")
             self.proofs[str(new / file.name)] = text
+
+
+class LawFunction(Function):
+    """A copy of a law: the prover means it by a path in its module, or by the name of a copied file of lemmas."""
+
+    def __init__(self, module, name, lemmas):
+        super().__init__([module], None, name, 0, 0)
+        self.lemmas = lemmas
+
+    def is_named(self, parts):
+        return parts[:1] == self.module or len(parts) == 1 and parts[0] in self.lemmas
+
+
+class LawCopy:
+    """A copy of the module of a law under another name, and of these files of specs/ and proofs/ that lie between the
+    law and an edit: with the edit, or as they stand where there is none. `texts` has the copies by their paths, and
+    `listed` the lines that declare the originals: the file, the line, and the line of the copy behind it."""
+
+    def __init__(self, crate, law, files, edit, ending):
+        module, name = law
+        self.edit, self.crate, self.texts = edit, crate, {}
+        self.changed = rt.edited(edit.text, crate.folder)[0] if edit else {}
+        lemmas = {it.stem + ending for it in files if it.parts[0] == "proofs"}
+        self.function = LawFunction(module + ending, name, lemmas)
+        at = rf"\b(Rattle\.{crate.name}\.|crate::)"
+        self.renames = [(rf"{at}({it.parts[0]})(\.|::){it.stem}\b", rf"\1\2\3{it.stem}{ending}") for it in files]
+        self.renames.append((rf"{at}(proofs)(\.){module}\.", rf"\1\2\3{module}{ending}."))
+        for file in files:
+            self.put(file, file.with_name(f"{file.stem}{ending}.antt"))
+        self.put(Path("src", f"{module}.rt"), Path("src", f"{module}{ending}.rt"))
+        for file in proofs_of_law(crate, module, name):
+            self.put(file, Path("proofs", module + ending, *file.parts[2:]))
+        self.listed = [(f"{it.parts[0]}/Lib.antt", f"mod {it.stem}", f"mod {it.stem}{ending}") for it in files]
+        self.listed.append(("src/lib.rt", f"mod {module};", f"mod {module}{ending};"))
+
+    def put(self, file, to):
+        text = self.changed.get(str(file)) or Path(self.crate.folder, file).read_text()
+        for old, new in self.renames:
+            text = re.sub(old, new, text)
+        self.texts[str(to)] = text
+
+
+def law_of(edit):
+    """The module and the name of the law of an edit of one file of specs/, and this file."""
+    files = [it.strip() for it in re.findall(r"(?m)^file: (.*)$", edit.text)]
+    parts = edit.of[0].split("::") if len(edit.of) == 1 else []
+    is_so = len(parts) == 2 and len(files) == 1 and re.fullmatch(r"specs/\w+\.antt", files[0])
+    return (*parts, Path(files[0])) if is_so else None
+
+
+def with_called(crate, module, name):
+    """The law and the functions of its module that it calls: the text of each, by its name."""
+    text, called, new = Path(crate.folder, "src", f"{module}.rt").read_text(), {}, {name}
+    functions = functions_of(f"src/{module}.rt", text)
+    bodies = {it.name: "\n".join(text.split("\n")[it.first:it.last + 1]) for it in functions}
+    while new:
+        called |= {it: bodies[it] for it in new}
+        new = {*re.findall(r"\b(\w+)\(", "\n".join(called.values()))} & {*bodies} - {*called}
+    return called
+
+
+def proofs_of_law(crate, module, name):
+    folders = [Path(crate.folder, "proofs", module, it) for it in sorted(with_called(crate, module, name))]
+    return [file.relative_to(crate.folder) for it in folders for file in sorted(it.glob("*.antt"))]
+
+
+def types_of_law(crate, module, name):
+    """What the law, or what it calls, has of other modules of the crate: as a path that the prover makes."""
+    words = {*re.findall(r"\w+", "\n".join(with_called(crate, module, name).values()))}
+    text = Path(crate.folder, "src", f"{module}.rt").read_text()
+    uses = re.findall(r"(?m)^use crate::([\w:]+)::(?:(\w+)|\{([^}]*)\});", text)
+    found = {(path.replace("::", "."), it) for path, *names in uses for it in re.findall(r"\w+", " ".join(names))}
+    return {f"specs.declared.{path}.{it}" for path, it in found if it in words}
+
+
+def between(crate, module, name, edited):
+    """The files of specs/ and proofs/ that the law and its proof reach, and which reach the edited one, with this one.
+    None if the law can't be copied: it is in no module of its own, or what the prover makes of other sources may depend
+    on these files, which a copy would not change."""
+    law, top = Path("src", f"{module}.rt"), Path(crate.folder, "src/lib.rt")
+    if not Path(crate.folder, law).is_file() or f"mod {module};" not in top.read_text():
+        return []
+    named = re.compile(rf"(?:\bRattle\.{crate.name}\.|\bcrate::)(specs|proofs)(?:\.|::)(\w+)((?:\.\w+)*)")
+    files = [law, *proofs_of_law(crate, module, name)]
+    texts, reached, made, todo = {law: "\n".join(Path(crate.folder, it).read_text() for it in files)}, {}, {}, [law]
+    while todo:
+        at = todo.pop()
+        found = {(Path(kind, f"{stem}.antt"), f"{kind}.{stem}{more}") for kind, stem, more in named.findall(texts[at])}
+        reached[at] = {it for it, _ in found if Path(crate.folder, it).is_file()}
+        made[at] = {path for it, path in found if it not in reached[at] and not path.startswith(f"proofs.{module}.")}
+        todo += reached[at] - {*texts}
+        texts |= {it: Path(crate.folder, it).read_text() for it in reached[at] - {*texts}}
+    made[law] |= types_of_law(crate, module, name)
+    copied, is_new = {edited}, True
+    while is_new:
+        more = {at for at in reached if reached[at] & copied} - copied
+        copied, is_new = copied | more, bool(more)
+    files = copied - {law}
+    reads = re.compile(rf"\bRattle\.{crate.name}\.specs\.({'|'.join(it.stem for it in files)})\b")
+    is_plain = law in copied and not any(depends(crate, path, reads) for at in copied for path in made[at])
+    return sorted(files) if is_plain else []
+
+
+def depends(crate, path, reads):
+    """Whether what the prover makes under this path is of a source that reads these definitions: but for an enum, of
+    which it makes the cases alone, unless it has a model."""
+    parts = re.sub(r"^(specs\.declared|specs|proofs)\.", "", path).split(".")
+    for file in Path(crate.folder, "src").rglob("*.rt"):
+        module, text = module_of(file.relative_to(crate.folder)), file.read_text()
+        is_its = module and parts[:len(module)] == module
+        enums = [it for it in parts if re.search(rf"(?m)^(pub )?enum {it}\b", text) and f"Model for {it}" not in text]
+        if is_its and reads.search(text) and not enums:
+            return True
+    return False
 
 
 def as_it_stands(function):
@@ -322,19 +444,23 @@ def narrowed(crate, texts, wanted):
 class Group:
     """Edits that one check tries: some in their places, others in copies of the functions that those change."""
 
-    def __init__(self, edit):
-        self.placed, self.copied = [edit], []
+    def __init__(self, edit, in_law=False):
+        self.placed, self.copied, self.of_laws = [] if in_law else [edit], [], [edit] if in_law else []
 
     def edits(self):
-        return [*self.placed, *self.copied]
+        return [*self.placed, *self.copied, *self.of_laws]
 
     def empties(self):
-        return not self.placed[0].is_alone()
+        return not any(it.is_alone() for it in self.placed)
 
     def take(self, edit, crate, with_copies):
         """Takes the edit, where it can be tried beside the others, and says whether it can."""
-        if edit.is_alone() or self.placed[0].is_alone():
+        if not self.empties():
             return False
+        if edit.is_alone():
+            in_law = with_copies and edit.is_of_law(crate)
+            self.of_laws += [edit] if in_law else []
+            return in_law
         taken = set().union(*(it.keys() for it in self.placed))
         if not taken & edit.keys() and not rt.edited("\n".join(it.text for it in [*self.placed, edit]), crate.folder)[1]:
             self.placed.append(edit)
@@ -354,6 +480,18 @@ class Group:
             found.append(Copy(crate, function, path, edit, function.named(f"{function.name}_edited_{number}")))
         return found
 
+    def laws(self, crate):
+        """The copies of the laws of edits of definitions, each law once more without an edit."""
+        of, found = {}, []
+        for number, edit in enumerate(self.of_laws, len(self.copied) + 1):
+            *law, edited = law_of(edit)
+            files = between(crate, *law, edited)
+            of.setdefault(tuple(law), set()).update(files)
+            found.append(LawCopy(crate, law, files, edit, f"_edited_{number}"))
+        for number, (law, files) in enumerate(sorted(of.items())):
+            found.append(LawCopy(crate, law, sorted(files), None, f"_as_{number}_stands"))
+        return found
+
     def wanted(self, crate, copies):
         """The clauses that refuse a function's edits, by its path, if each names one; none by hand."""
         of = [(it.functions[0], it.functions[0].path(), it.clause) for it in self.placed if len(it.keys()) == 1]
@@ -366,13 +504,18 @@ class Group:
             found.setdefault(path, set()).add("" if by_hand else clause)
         return {path: clauses for path, clauses in found.items() if "" not in clauses}
 
-    def texts(self, crate, copies):
+    def texts(self, crate, copies, laws=()):
         """The texts of the files that the group changes or adds, by their paths in the crate."""
-        texts = dict(rt.edited("\n".join(it.text for it in self.placed), crate.folder)[0])
+        texts = dict(rt.edited("\n".join(it.text for it in self.placed), crate.folder)[0]) if self.placed else {}
         for it in sorted(copies, key=lambda it: -it.behind):
             text = texts.get(it.path) or Path(crate.folder, it.path).read_text()
             lines = text.split("\n")
             texts[it.path] = "\n".join([*lines[:it.behind + 1], "", *it.lines, *lines[it.behind + 1:]])
+        for law in laws:
+            for path, old, new in law.listed:
+                text = texts.get(path) or Path(crate.folder, path).read_text()
+                texts[path] = re.sub(rf"(?m)^((?:pub )?){re.escape(old)}$", lambda it: f"{it[0]}\n{it[1]}{new}", text)
+        texts |= {path: text for it in laws for path, text in it.texts.items()}
         return texts | {path: text for it in copies for path, text in it.proofs.items()}
 
 
@@ -381,7 +524,7 @@ def grouped(edits, crate, with_copies=False):
     groups = []
     for edit in edits:
         if not any(group.take(edit, crate, with_copies) for group in groups):
-            groups.append(Group(edit))
+            groups.append(Group(edit, with_copies and edit.is_of_law(crate)))
     return groups
 
 
@@ -404,9 +547,10 @@ class Answer:
 
     def read(self, line):
         """Takes a line: a function of its own proof folder that has an error, or one that the search did not prove."""
-        error = re.match(r"(?:\./)?proofs/(\S+/)?[^/\s]+\.antt:\d+:\d+: error: (.*)", line)
+        error = re.match(r"(?:\./)?proofs/(\S+/)?([^/\s]+)\.antt:\d+:\d+: error: (.*)", line)
         if error:
-            (self.gone if GONE.search(error[2]) else self.wrong).append((error[1] or "").split("/")[:-1])
+            parts = [error[2]] if not error[1] and COPIED.search(error[2]) else (error[1] or "").split("/")[:-1]
+            (self.gone if GONE.search(error[3]) else self.wrong).append(parts)
         told = re.match(r"fn [^:\s]+::(\S+): (?:not proved|no proof)(.*)", line)
         if told:
             parts = told[1].split("::")
@@ -459,8 +603,9 @@ class Trial:
         if os.environ.get("EDITS_KEPT") and os.path.isdir(earlier):
             self.kept = shutil.copytree(earlier, f"{room}/kept")
 
-    def checked(self, texts, paths, without=()):
-        """Checks these functions of a copy of the crate, or all; some without their proofs."""
+    def checked(self, texts, paths, without=(), lemmas=()):
+        """Checks these functions of a copy of the crate, or all; some without their proofs. The files of these lemmas
+        read well, since they are copies: an error there is of a goal."""
         self.checks += 1
         only = [word for path in sorted(paths) for word in ("--only", path)]
         with tempfile.TemporaryDirectory(prefix="edits-") as room:
@@ -476,30 +621,33 @@ class Trial:
             ran = rt.checked(crate, texts, [*FLAGS, *only], self.kept)
             if only and "` has no function `" in ran.stdout:  # a path that the prover writes in another way
                 ran = rt.checked(crate, texts, FLAGS, self.kept)
-        return Answer(ran, texts)
+        return Answer(ran, {*texts} - {*lemmas})
 
     def try_group(self, group, empties=False):
         """Checks a group; the edits that are not refused. Once more whole if other functions fail."""
-        copies = group.copies(self.crate)
-        copied = {it.edit.name: [it.function] for it in copies if it.edit}
+        copies, laws = group.copies(self.crate), group.laws(self.crate)
+        copied = {it.edit.name: [it.function] for it in [*copies, *laws] if it.edit}
         tried = {edit.name: copied.get(edit.name, edit.functions) for edit in group.edits()}
-        functions = [*itertools.chain(*tried.values()), *(it.function for it in copies if not it.edit)]
-        paths = {path for edit in group.edits() for path in edit.of} | {it.path() for it in functions}
+        functions = [*itertools.chain(*tried.values()), *(it.function for it in [*copies, *laws] if not it.edit)]
+        paths = {path for edit in group.placed for path in edit.of} | {it.path() for it in functions}
         is_whole = any(not it.functions and not it.of for it in group.edits())
-        texts, empty, narrow = group.texts(self.crate, copies), [], set()
+        texts, empty, narrow = group.texts(self.crate, copies, laws), [], set()
         empties = empties and group.empties()
         if empties:
             texts, empty = emptied(self.crate, texts, functions)
             texts, narrow = narrowed(self.crate, texts, group.wanted(self.crate, copies))
-        answer = self.checked(texts, set() if is_whole else paths, empty)
+        lemmas = {path for it in laws for path in it.texts if path.startswith("proofs/")}
+        answer = self.checked(texts, set() if is_whole else paths, empty, lemmas)
         strange = answer.strange(functions, empty) if functions and not answer.why else None
         if empties and (strange or answer.why):
             return self.try_group(group)
         if strange:
             self.why = f"{strange} is not proved, though no edit touches it"
         unproved = {it.function.path() for it in copies if not it.edit and answer.leaves(it.function)}
+        is_law_unproved = any(answer.leaves(it.function) for it in laws if not it.edit)
         for edit in group.edits():
-            is_void = edit.name in copied and as_it_stands(edit.functions[0]).path() in unproved
+            is_void = edit in group.copied and as_it_stands(edit.functions[0]).path() in unproved
+            is_void |= edit in group.of_laws and is_law_unproved
             edit.is_refused = not is_void and answer.refuses(tried[edit.name])
             edit.why = None if edit.is_refused else answer.reason(edit)
             is_narrow = bool(tried[edit.name]) and tried[edit.name][0].path() in narrow

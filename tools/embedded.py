@@ -4,7 +4,6 @@
 nothing.
 
 Usage: embedded.py BIN     BIN is the folder with `amplifier`, `panel` and `ocadev`"""
-import itertools
 import os
 import re
 import socket
@@ -16,8 +15,9 @@ from pathlib import Path
 import oca_profile as oca
 import peers
 from checks import Checks, bound, write
+from tables import table
 
-OPENED = "open channel 1: status 0\n"
+DATA, OPENED = table("embedded"), "open channel 1: status 0\n"
 MUTES, GAINS = (4097, 5097), (4098, 5098)
 LOCK_TOTAL, LOCK_READONLY = 3, 6
 
@@ -62,41 +62,20 @@ def panel_sets(checks):
         checks.same(f"what is read, lock {lock}", peer.levels(), shown((("open", after or 0), ("muted", 0))))
 
 
-FOLLOW = "its members follow"
-DESK = ('100 OcaBlock "root": its members follow', '4096 OcaBlock "desk": its members follow',
-        '4097 OcaMute "mute": muted', '4098 OcaPolarity "polarity": non-inverted', '4099 OcaSwitch "input": 0',
-        '4100 OcaInt16Actuator "trim": 0', '4101 OcaBooleanActuator "lamp": off', '4102 OcaUint8Actuator "dim": 10')
-
-
-def channel(number, mute, gain):
-    block = 3096 + 1000 * number
-    rows = ((block + 1, 'OcaMute "mute"', mute), (block + 2, 'OcaInt16Actuator "gain"', gain))
-    lines = [f"{ono}: Locked" if value == "Locked" else f"{ono} {found}: {value}" for ono, found, value in rows]
-    return [f'{block} OcaBlock "channel {number}": {FOLLOW}', *lines]
-
-
 def listing(checks):
     """The panel lists objects by classes, roles and values; it says what is locked, too long, or not answered."""
     run, port, peer = amplified(checks)
-    root = [f'100 OcaBlock "root": {FOLLOW}']
-    rows = (((), [*channel(1, "muted", 0), *channel(2, "muted", 0)]),
-            ((MUTES[1], 4, 2, b"\2"), [*channel(1, "muted", 0), *channel(2, "unmuted", 0)]),
-            ((GAINS[0], 5, 2, b"\xff\xc4"), [*channel(1, "muted", -60), *channel(2, "unmuted", 0)]),
-            ((GAINS[0], 1, LOCK_READONLY), [*channel(1, "muted", -60), *channel(2, "unmuted", 0)]),
-            ((MUTES[1], 1, LOCK_TOTAL), [*channel(1, "muted", -60), *channel(2, "Locked", 0)]),
-            ((MUTES[0] - 1, 1, LOCK_TOTAL), ["4096: Locked", *channel(2, "Locked", 0)]))
-    for command, lines in rows:
+    for command, printed in DATA["listed"]:
         if command:
-            checks.same(f"before a listing, {command}", peer.ask(*command)[0], 0)
-        checks.same(f"a listing behind {command}", panel(checks, port, "objects").splitlines(), root + lines)
-    # 104 members of 14 bytes each and the two bytes of their count are more than the 1,452 of an answer.
-    for words, lines in (((), DESK), (("--channels", "103"), ('100 OcaBlock "root": BufferOverflow',))):
-        checks.same(f"a listing of ocadev {words}", tuple(panel(checks, checks.serve(*words)[1], "objects").splitlines()), lines)
+            checks.same(f"before a listing, {command}", peer.ask(*command[:3], *map(bytes.fromhex, command[3:]))[0], 0)
+        checks.same(f"a listing behind {command}", panel(checks, port, "objects"), printed)
+    for words, printed in DATA["of_ocadev"]:
+        checks.same(f"a listing of ocadev {words}", panel(checks, checks.serve(*words)[1], "objects"), printed)
     with bound() as silent:
         port = silent.getsockname()[1]
         checks.same("a listing where nobody answers", panel(checks, port, "objects"), "100: lost\n")
         checks.same("the panel where nobody answers", panel(checks, port), "lost\n")
-    for words in ((9, "object"), (9, "objects", "all"), ("objects", 9)):
+    for words in DATA["usage"]:
         checks.same(f"the words {words}", panel(checks, *words), "usage: panel [PORT [objects]]\n")
 
 
@@ -105,31 +84,25 @@ def knobs(checks):
     run, port, peer = amplified(checks)
     levels = [["muted", 0], ["muted", 0]]
     checks.same("at first", peer.levels(), shown(levels))
-    for line, channel, place, value in (("mute 2", 1, 0, "muted"), ("mute 1", 0, 0, "muted"), ("open 1", 0, 0, "open"), ("mute 1", 0, 0, "muted"),
-                                        ("open 2", 1, 0, "open"), ("mute 2", 1, 0, "muted"), ("gain 1 -60", 0, 1, -60), ("gain 2 -30", 1, 1, -30),
-                                        ("gain 1 100", 0, 1, 100), ("gain 2 -800", 1, 1, -800), ("gain 2 0", 1, 1, 0)):
+    for line, channel, place, value in DATA["turned"]:
         changes = levels[channel][place] != value
         levels[channel][place] = value
         write(run, f"{line}\n", ends=False)
         if changes:
             checks.same(f"{line}: what is shown", run.stdout.readline(), shown(levels))
             checks.same(f"{line}: what is read", peer.levels(), shown(levels))
-    others = "mute 3|mute|mute 1 |gain 2 -3O|gain 2|gain 2 -|open 1 2|" + "x" * 200
-    for line, note in (*((it, "a line turns no knob") for it in others.split("|")), *((it, "the value is out of range") for it in ("gain 2 101", "gain 1 -801"))):
+    for line, note in DATA["unturned"]:
         write(run, f"{line}\n", ends=False)
         checks.same(f"{line}: a note", run.stderr.readline(), f"note: {note}\n")
         checks.same(f"{line}: what is read", peer.levels(), shown(levels))
-    for onos, level, wanted in ((MUTES, 4, ((b"\2", "open"), (b"\1", "muted"))), (GAINS, 5, ((b"\xff\xc4", -60), (b"\0\x14", 20)))):
-        for channel, (params, value) in itertools.product((0, 1), wanted):
-            levels[channel][level - 4] = value
-            checks.same("a peer sets", peer.ask(onos[channel], level, 2, params)[0], 0)
-            checks.same("a peer sets: what is shown", run.stdout.readline(), shown(levels))
-    run.stdin.write("open 2")
-    run.stdin.close()
+    for ono, level, params, channel, place, value in DATA["by_a_peer"]:
+        levels[channel][place] = value
+        checks.same("a peer sets", peer.ask(ono, level, 2, bytes.fromhex(params))[0], 0)
+        checks.same("a peer sets: what is shown", run.stdout.readline(), shown(levels))
+    write(run, "open 2")
     levels[1][0] = "open"
     checks.same("a last line without its end", run.stdout.readline(), shown(levels))
     checks.same("behind the end of the input", peer.levels(), shown(levels))
-    run.stdin = None
 
 
 def objects(checks):
@@ -170,29 +143,23 @@ def closed(checks):
     checks.same("an amplifier whose turns are over", checks.ran("amplifier", 0, 2)[2], 0)
 
 
-def ended(checks, words, lines="", output=subprocess.PIPE):
+def ended(checks, words, lines, output=subprocess.PIPE):
     """What an amplifier prints that ends by itself, with the lines of a file as its input: behind where it listens, its notes, and its status."""
     with tempfile.TemporaryFile("w+") as given:
         given.write(lines)
         given.seek(0)
-        done = subprocess.run([f"{checks.folder}/amplifier", *map(str, words)], stdin=given, stdout=output, stderr=subprocess.PIPE, text=True, timeout=60)
+        done = subprocess.run([f"{checks.folder}/amplifier", *words], stdin=given, stdout=output, stderr=subprocess.PIPE, text=True, timeout=60)
     return done.stdout, re.sub(r"^listening 127\.0\.0\.1:\d+\n", "", done.stderr), done.returncode
 
 
 def ends(checks):
-    """One line is turned before each turn, 2 without words. A port or an output that fails is told, with status 1."""
-    first, second, third = (shown(levels) for levels in ((("open", 0), ("muted", 0)), (("open", 0), ("open", 0)), (("muted", 0), ("open", 0))))
-    lines = "open 1\nopen 2\nmute 1\nmute 2\n"
-    for words, said in (((), first + second), ((0, 0), ""), ((0, 1), first), ((0, 2), first + second), ((0, 3), first + second + third)):
-        checks.same(f"an amplifier with the words {words}", ended(checks, words, lines), (said, "", 0))
-    checks.same("a last line that nothing ends", ended(checks, (0, 3), "open 1\nopen 2"), (first + second, "", 0))
-    refused = "note: the value is out of range\nnote: a line turns no knob\n"
-    checks.same("lines that turn nothing", ended(checks, (0, 3), "gain 1 101\nmute 3\nopen 1\n"), (first, refused, 0))
-    with bound() as other:
-        port = other.getsockname()[1]
-        checks.same("an amplifier at a taken port", ended(checks, (port, 2)), ("", "socket failed\n", 1))
-    with open("/dev/full", "w") as full:
-        checks.same("an amplifier that cannot print", ended(checks, (0, 9), lines, full), (None, "write failed\n", 1))
+    """A port or an output that fails is told, with status 1."""
+    with bound() as other, open("/dev/full", "w") as full:
+        taken = str(other.getsockname()[1])
+        for words, lines, printed, said in DATA["ended"]:
+            got = ended(checks, [taken if it == "PORT" else it for it in words], lines)
+            checks.same(f"an amplifier with the words {words}, {lines!r}", got, (printed, said, int("failed" in said)))
+        checks.same("an amplifier that cannot print", ended(checks, ["0", "9"], "open 1\n", full), (None, "write failed\n", 1))
 
 
 if __name__ == "__main__":

@@ -140,10 +140,10 @@ class Checks(checks.Checks):
         port = ["--port", self.port] if own and "--port" not in words else []
         return self.ran("ocactl", command, "--device", f"127.0.0.1:{getattr(device, 'port', device)}", *port, *words, given=given)
 
-    def prints(self, what, device, words, printed, status, said=""):
+    def prints(self, what, device, words, printed, status, said="", given=""):
         """A run prints just that, and says that. `N ms ago` lies within the run; if a command was lost, seconds ago."""
         begun = time.monotonic()
-        out, err, code = self.run(device, *words)
+        out, err, code = self.run(device, *words, given=given)
         took = (time.monotonic() - begun) * 1000
         for ago in map(int, re.findall(r"\b(\d+) ms ago", err)):
             self.same(f"{what}: {ago} ms ago of {took:.0f}", (3000 if " lost\n" in out else 0) <= ago <= took, True)
@@ -188,6 +188,27 @@ def of_rows(checks):
                 if asks:
                     asks = " ".join(asks.split())
                     checks.same(f"{what}: what it asks", heard_as(device, asks), asks.split(", "))
+
+
+# Devices by their names in the rows, each of the stage box. At the port of `nobody` there is none.
+DEVICES = {"the second implementation": lambda: Served(stagebox()), "deaf": lambda: Deaf(stagebox(), None), "faint": lambda: Faint(stagebox(), None),
+           "deaf to sets": lambda: Deaf(stagebox(), SETS), "nameless": lambda: Deaf(stagebox(), [NAME]), "in itself": InItself,
+           "nobody": lambda: contextlib.nullcontext(free_port())}
+
+
+def told(checks):
+    """What is printed and noted where a device answers nothing, or something else than others do; what it is asked, and that all this is commands."""
+    for row in table("hands")["told"]:
+        what = row["name"]
+        with DEVICES[row["device"]]() as device:
+            said = row.get("said", "").replace("DEVICE", str(getattr(device, "port", device))).replace("OWN", str(checks.port))
+            checks.prints(what, device, row["words"].split(), row["printed"], row["status"], said, row.get("given", ""))
+            if "asks" in row:
+                checks.same(f"{what}: what it asks", heard_as(device, row["asks"]), row["asks"].split(", "))
+                are_commands = all(message[0] == "command" for data, _ in device.heard for message in oca.check(data))
+                checks.same(f"{what}: whether all that it sends is commands", are_commands, True)
+            if "sets" in row:
+                checks.same(f"{what}: what was sent", sorted({c[0] for c in asked(device) if c[1] in SETS}), row["sets"])
 
 
 # What is told of a span that a device's window of 32 does not bear.
@@ -258,71 +279,6 @@ def ends_as_told(checks):
 def ended(checks, command, answers, words, lines):
     with Served(stagebox()) if answers else silent() as device:
         return checks.run(device, command, *words.split(), given=lines)[2]
-
-
-def strange_answers(checks):
-    """A device that answers what no device of the profile does: a block that is in itself."""
-    with InItself() as device:
-        printed = "100 1.1.3 0 r\n" + "100 1.1.3 100 r\n" * 4095 + "more than 4096 objects\n"
-        checks.prints("tree: a block in itself", device, ["tree"], printed, 4)
-
-
-def silence(checks):
-    """Nobody answers: each object has its line, and a note says what was heard, and that no program has the port where none has."""
-    port = free_port()
-    note = f"note: nothing was heard from 127.0.0.1:{port}: its host says that no program has this port\n"
-    checks.prints("get: nobody has the port", port, ["get", "--turns", 2, 4097], "4097 no answer\n", 3, note)
-    for ahead, printed in ((1, "4097 lost\n4098 not sent\n4101 not sent\n"), (2, "4097 lost\n4098 lost\n4101 not sent\n")):
-        with Deaf(stagebox(), SETS) as device:
-            checks.prints(f"set --ahead {ahead}: lost, and what was never sent", device,
-                          ["set", "--ahead", ahead, 4097, "muted", 4098, "inverted", 4101, "on"], printed, 3,
-                          f"note: 127.0.0.1:{device.port} was last heard N ms ago\n")
-            sent = {c[0] for c in asked(device) if c[1] in SETS}
-            checks.same(f"set --ahead {ahead}: what was sent", sent, {4097} if ahead == 1 else {4097, 4098})
-    with Served(stagebox()) as device:
-        checks.prints("get: answered, and no handle is left", device, ["get", "--first-handle", oca.U32 - 1, 4097, 4098],
-                      "4097 muted\n4098 refused 2 handles-spent\n", 3)
-    for kind in (Deaf, Faint):
-        with kind(stagebox(), None) as device:
-            checks.prints(f"get: heard, and never answered: {kind.__name__}", device, ["get", "--turns", 2, 4097],
-                          "4097 no answer\n", 3, is_deaf(device.port, checks.port))
-
-
-def unnamed(checks):
-    """`get` of a switch without the name of its position is no silence: nothing is noted, and nothing more asked."""
-    read = [(4099, CLASS, b""), (4099, (4, 1), b""), (4099, NAME, b"\0\0")]
-    for more, printed, asks in ((), "", []), ((4097,), "4097 muted\n", [(4097, CLASS, b""), (4097, (4, 1), b"")]):
-        with Deaf(stagebox(), [NAME]) as device:
-            what = f"get: the name of a position is not answered, and {len(more)} objects behind it"
-            checks.prints(what, device, ["get", "--turns", 40, 4099, *more], f"4099 0\n{printed}", 0)
-            checks.same(f"{what}: what it asks", asked(device), [*read, *asks])
-            checks.same(f"{what}: whether all that it sends is commands", are_commands(device), True)
-
-
-def are_commands(device):
-    return all(message[0] == "command" for data, _ in device.heard for message in oca.check(data))
-
-
-def answered(checks):
-    """`run` whose commands are all answered: it notes nothing, and sends nothing but them."""
-    with Served(stagebox()) as device:
-        got = checks.run(device, "run", "--first-handle", 1, given="4097 4 1 0 -\n77 4 1 0 -\n")
-        checks.same("run: all is answered", got, ("answer 0 1 01\nanswer 5 0 -\n", "", 0))
-        checks.same("run: all is answered: what it asks", asked(device), [(4097, (4, 1), b""), (77, (4, 1), b"")])
-        checks.same("run: all is answered: whether all that it sends is commands", are_commands(device), True)
-
-
-def is_deaf(device, own):
-    return f"note: 127.0.0.1:{device} is heard, but answers no command from port {own}: wait two minutes, or give " "another --port\n"
-
-
-def silence_of_a_run(checks):
-    """`run`, which nobody answers: its line, the note and the status, as for the commands above."""
-    runs = lambda what, device, note: checks.same(f"run: {what}", checks.run(device, "run", "--first-handle", 1, given="4097 4 1 0 -\n"), ("lost\n", note, 3))
-    port, unheard = free_port(), "note: nothing was heard from 127.0.0.1:{}"
-    runs("nobody has the port", port, f"{unheard.format(port)}: its host says that no program has this port\n")
-    with Deaf(stagebox(), None) as device:
-        runs("a device that is deaf", device, is_deaf(device.port, checks.port))
 
 
 def failed_sends(checks):
@@ -457,25 +413,18 @@ def behind_a_terminal(checks):
 
 
 def old_sessions(checks):
-    """A session that is ahead of the clock, as behind a clock that was set back: the other port is taken before anything is set."""
-    own, other = by_turns()
-    used = "note: 127.0.0.1:{} answers no command from port {}: port {} is used instead\n"
-    for words, printed, done in ((("set", 4097, "unmuted"), "4097 unmuted\n", lambda o: o.state == 2),
-                                 (("lock", 4097), "4097 locked\n", lambda o: o.lock == ("total", (127, 0, 0, 1, other)))):
-        with OldSession(stagebox(), [own]) as device:
-            checks.same(f"{words[0]}: an old session", checks.run(device, *words, own=False), (printed, used.format(device.port, own, other), 0))
-            checks.same(f"{words[0]}: an old session: the device", done(next(o for o in device.tree if o.ono == 4097)), True)
-    with OldSession(stagebox(), [own, other]) as device:
-        got = checks.run(device, "get", "--turns", 2, 4097, own=False)
-        checks.same("two old sessions", got, ("4097 no answer\n", used.format(device.port, own, other) + is_deaf(device.port, other), 3))
-
-
-def no_other_port(checks):
-    """If the session is ahead of the clock and the other port in use, the own port is used, and the silence is told."""
-    own, other = by_turns()
-    with OldSession(stagebox(), [own]) as device, silent(other):
-        got = checks.run(device, "get", "--turns", 2, 4097, own=False)
-        checks.same("an old session, and no other port", got, ("4097 no answer\n", is_deaf(device.port, own), 3))
+    """A session that is ahead of the clock, as behind a clock that was set back: the other port is taken before anything is
+    set. Where that one is in use, the own port is used, and the silence is told."""
+    places = dict(zip(("OWN", "OTHER"), by_turns()))
+    for row in table("hands")["old"]:
+        what, taken = row["name"], silent(places["OTHER"]) if row.get("is_taken") else contextlib.nullcontext()
+        with OldSession(stagebox(), [places[it] for it in row["ahead"]]) as device, taken:
+            filled = lambda text: re.sub("DEVICE|OWN|OTHER", lambda it: str((places | {"DEVICE": device.port})[it[0]]), text)
+            got = checks.run(device, *row["words"].split(), own=False)
+            checks.same(what, got, (row["printed"], filled(row["said"]), row["status"]))
+            if "has" in row:
+                has = next(of_object(o) for o in device.tree if o.ono == 4097)
+                checks.same(f"{what}: the device", has, filled(row["has"]))
 
 
 def own_port_in_use(checks):
@@ -524,7 +473,7 @@ def held(checks):
 
 
 if __name__ == "__main__":
-    at_own_ports = (old_sessions, no_other_port, own_port_in_use, missed_first)
+    at_own_ports = (old_sessions, own_port_in_use, missed_first)
     sys.exit(Checks(sys.argv[1]).tried(
-        of_rows, sets_at_once, tells_at_once, helps, ends_as_told, strange_answers, silence, unnamed, answered, silence_of_a_run,
-        failed_sends, *at_own_ports, at_a_terminal, at_a_terminal_alone, behind_a_terminal, held, alone=at_own_ports))
+        of_rows, told, sets_at_once, tells_at_once, helps, ends_as_told, failed_sends, *at_own_ports,
+        at_a_terminal, at_a_terminal_alone, behind_a_terminal, held, alone=at_own_ports))

@@ -21,34 +21,22 @@ from tables import data
 CALLS = TOP / "crates/oca_c/src"
 DATA = data("header")
 STRUCTURES = TOP / "crates/oca_calls/src"
+STRUCTS = {name: f"struct {of}" for name, of in DATA.structs.items()}
 NUMBERS = {"bool": "bool", "usize": "size_t", **{f"{sign}{bits}": f"{'u' if sign == 'u' else ''}int{bits}_t" for sign in "iu" for bits in (8, 16, 32, 64)}}
-HANDLES = {"DeviceHandle": ("struct oca_device", "device"), "LinkHandle": ("struct oca_link", "link")}
-STRUCTS = {"Name": "struct oca_name", "Reading": "struct oca_setting", "ValueWords": "struct oca_value", "ReadingWords": "struct oca_reading",
-           "RequestWords": "struct oca_request", "SpecWords": "struct oca_spec", "Names": "struct oca_names", "Members": "struct oca_members",
-           "ClassId": "struct oca_class_id"}
-# A parameter that the header calls otherwise, by its call.
-RENAMED = {
-    ("oca_device_datagram_words", "out"): "verdict", ("oca_device_object_words", "out"): "object", ("oca_device_setting", "reading"): "setting",
-    ("oca_link_submit", "command"): "handle", ("oca_link_due", "kind"): "due", ("oca_link_due", "command"): "handle",
-    ("oca_link_datagram", "kind"): "reception", ("oca_link_take", "command"): "handle", ("oca_link_answered", "command"): "handle",
-    ("oca_link_next_handle", "command"): "handle", ("oca_link_in_flight", "command"): "handle",
-}
-LENGTHS = {"bytes": "len", "verdict": "words", "object": "words"}
 
 
 def in_c(call, name, kind):
     """The header's parameters for one of the library's: a slice is a pointer and a length."""
-    name = RENAMED.get((call, name), name)
+    name = DATA.renamed.get(call, {}).get(name, name)
     read = re.fullmatch(r"(&(?:mut )?)?(\[)?(\w+)\]?", kind)
     lent, is_slice, inner = read.groups()
-    if inner in HANDLES:
-        of, name = HANDLES[inner]
-        return [(f"{of} *", name)]
+    if inner in DATA.handles:
+        return [(f"struct oca_{DATA.handles[inner]} *", DATA.handles[inner])]
     of = NUMBERS.get(inner) or STRUCTS[inner]
     if not lent:
         return [(of, name)]
     pointer = (f"{'' if lent == '&mut ' else 'const '}{of} *", name)
-    return [pointer, ("size_t", LENGTHS.get(name, f"{name}_len"))] if is_slice else [pointer]
+    return [pointer, ("size_t", DATA.lengths.get(name, f"{name}_len"))] if is_slice else [pointer]
 
 
 def exported():
@@ -141,65 +129,54 @@ def arms(source, kind, prefix):
     return {f"{prefix}{upper(name)}": int(number) for name, number in re.findall(rf"{kind}::(\w+)(?:\(\w+\))? => \(?(\d+)", source)}
 
 
-def constant(file, name):
-    return int(re.search(rf"const {name}: usize = (\d+);", (TOP / file).read_text())[1])
+def number_in(text, form):
+    return int(re.search(form, text, re.M)[1].replace("_", ""), 0)
 
 
-def expected():
-    """What the header must have besides prototypes: each constant and struct by its name."""
+def result_texts(header):
+    """What the header says of those results, or of all where they are not those that its enums have; what it must say."""
+    there, said = dict(re.findall(r'case (OCA_\w+): return "([^"]*)";', header)), texts()
+    return {word: there.get(word) for word in said} if there.keys() == results(header) else there, said
+
+
+def compared(header):
+    """What is compared besides prototypes: by its name what the header has, and what it must have."""
     due = arms(text("link.rt"), "Due", "OCA_DUE_")
     due["OCA_DUE_COMMAND"] = due.pop("OCA_DUE_SEND")
+    results_of_calls = {f"OCA_{upper(name)}": int(number) for name, number in re.findall(r"^    (\w+) = (\d+),", text("answer.rt"), re.M)}
+    enums = {
+        "oca_result": results_of_calls, "oca_due": due, "oca_method": methods(),
+        **{of: arms(text(file), kind, prefix) for of, file, kind, prefix in DATA.arms},
+        **{of: variants(file, kind, prefix) for of, file, kind, prefix in DATA.variants},
+    }
     verdict = re.search(r"\} => \[0, (.*?)\]", text("words.rt"))[1].split(", ")
     object_words = re.findall(r"(\w+)", " ".join(re.findall(r"^        (?:object\.|)(\w+)(?:\.0|\(object\.class\)|\.len\(\) as u32),", text("words.rt"), re.M)))
-    return {
-        "enum oca_result": {f"OCA_{upper(name)}": int(number) for name, number in
-                            re.findall(r"^    (\w+) = (\d+),", text("answer.rt"), re.M)},
-        "enum oca_class": arms(text("words.rt"), "Class", "OCA_CLASS_"),
-        "enum oca_due": due,
-        "enum oca_reception": arms(text("link.rt"), "Reception", "OCA_"),
-        "struct oca_verdict": [(name, "uint32_t") for name in ["kind", *verdict[:4], "fault", "at"]],
-        "struct oca_object": [(name, "uint32_t") for name in object_words[:2]] + [("class_number", "uint32_t"), ("role_size", "uint32_t"), ("role[64]", "uint8_t")],
-        **{of: struct(name) for name, of in STRUCTS.items()},
-        "size of oca_spec": int(re.search(r"const SPEC_SIZE: u32 = (\d+);", text("spec_words.rt"))[1]),
-        "enum oca_status": variants("oca_types/src/status.rt", "Status", "OCA_STATUS_"),
-        "enum oca_fault": variants("oca_pdu/src/fault.rt", "PduFaultKind", "OCA_FAULT_"),
-        "enum oca_method": methods(),
-        "enum oca_mute_state": variants("oca_model/src/value.rt", "MuteState", "OCA_"),
-        "enum oca_polarity_state": variants("oca_model/src/value.rt", "PolarityState", "OCA_"),
-        "enum oca_lock_kind": arms(text("words.rt"), "LockKind", "OCA_LOCKED_"),
-        "status texts": re.findall(r'=> Some\("(\w+)"\)', source("oca_model/src/status.rt")),
-        "result texts": texts(),
-        "most": {"OCA_MOST_BYTES": constant("crates/oca_types/src/words.rt", "MOST_BYTES"),
-                 "OCA_MOST_ANSWER": constant("crates/oca_types/src/words.rt", "MOST_PARAMETER_BYTES"),
-                 "OCA_MOST_WRITTEN": constant("crates/oca_device/src/effect.rt", "MOST_COMMANDS")},
-        "version": int(re.search(r"^    (0x[\d_]+)$", source("oca_c/src/version.rt"), re.M)[1].replace("_", ""), 16),
+    structs = {
+        "oca_verdict": [(name, "uint32_t") for name in ["kind", *verdict[:4], "fault", "at"]],
+        "oca_object": [(name, "uint32_t") for name in [*object_words[:2], "class_number", "role_size"]] + [("role[64]", "uint8_t")],
+        **{of: struct(name) for name, of in DATA.structs.items()},
     }
-
-
-def stated(header, name):
-    if name == "most":
-        return {word: int(number) for word, number in re.findall(r"(OCA_MOST_\w+) = (\d+)", header)}
-    if name == "version":
-        return int(re.search(r"#define OCA_VERSION (0x[0-9a-fA-F]+)u", header)[1], 16)
-    if name == "size of oca_spec":
-        return int(re.search(r"sizeof\(struct oca_spec\) == (\d+)", header)[1])
-    if name == "status texts":
-        return re.findall(r'"(\w+)"', re.search(r"oca_status_text.*?\};", header, re.S)[0])
-    if name == "result texts":
-        there = dict(re.findall(r'case (OCA_\w+): return "([^"]*)";', header))
-        return {word: there.get(word) for word in texts()} if there.keys() == results(header) else there
-    of, word = name.split(" ")
-    return numbered(header, word) if of == "enum" else fields(header, word)
+    most = {word: int(number) for word, number in re.findall(r"(OCA_MOST_\w+) = (\d+)", header)}
+    return {
+        **{f"enum {name}": (numbered(header, name), of) for name, of in enums.items()},
+        **{f"struct {name}": (fields(header, name), of) for name, of in structs.items()},
+        "size of oca_spec": (number_in(header, r"sizeof\(struct oca_spec\) == (\d+)"),
+                             number_in(text("spec_words.rt"), r"const SPEC_SIZE: u32 = (\d+);")),
+        "status texts": (re.findall(r'"(\w+)"', re.search(r"oca_status_text.*?\};", header, re.S)[0]),
+                         re.findall(r'Status::\w+ => "(\w+)"', source("oca_types/src/status.rt"))),
+        "result texts": result_texts(header),
+        "most": (most, {of: number_in(source(file), rf"const {name}: usize = (\d+);") for of, file, name in DATA.most}),
+        "version": (number_in(header, r"#define OCA_VERSION (0x[0-9a-fA-F]+)u"), number_in(source("oca_c/src/version.rt"), r"^    (0x[0-9A-Fa-f_]+)$")),
+    }
 
 
 def differences(header):
     """How many things were compared, and what differs, a line each."""
-    library, there, others = exported(), prototypes(header), expected()
+    library, there, others = exported(), prototypes(header), compared(header)
+    pairs = {name: (there[name], library[name]) for name in sorted(library.keys() & there.keys())} | others
     wrong = [f"{name}: in one of both alone" for name in sorted(library.keys() ^ there.keys())]
-    wrong += [f"{name}: the header has {there[name]}, the library {library[name]}" for name in sorted(library.keys() & there.keys())
-              if there[name] != library[name]]
-    wrong += [f"{name}: the header has {stated(header, name)}, the library {of}" for name, of in others.items() if stated(header, name) != of]
-    return len(library) + sum(len(of) if isinstance(of, (dict, list)) else 1 for of in others.values()), wrong
+    wrong += [f"{name}: the header has {stated}, the library {of}" for name, (stated, of) in pairs.items() if stated != of]
+    return len(library) + sum(len(of) if isinstance(of, (dict, list)) else 1 for _, of in others.values()), wrong
 
 
 def comments(header):

@@ -12,7 +12,7 @@ import random
 import sys
 
 import oca_profile as oca
-from comparing import broken, changed, in_processes, runs_of, verdict, wrong_rules
+from comparing import broken, changed, events_of, in_processes, runs_of, verdict, wrong_rules
 from fuzz import Panel, datagram
 from oca_law import LARGEST_DATAGRAM, Datagram, Local, Tick, Told, shown_objects, walk
 from schedules import peer
@@ -25,19 +25,16 @@ class History:
     def __init__(self, window=32, peers=16, channels=0):
         self.window, self.peers, self.channels, self.events, self.now = window, peers, channels, [], 0
 
-    def says(self, number, *pdus, data=None):
-        whole = b"".join(pdus) if data is None else data
-        self.events.append(Datagram(peer(number), whole[:LONGEST], self.now))
+    def says(self, number, *pdus):
+        self.events.append(Datagram(peer(number), b"".join(pdus)[:LONGEST], self.now))
         return self
 
     def at(self, now):
         self.now = now
         return self
 
-    def tick(self, now):
-        self.now = now
-        self.events.append(Tick(now))
-        return self
+    def tick(self):
+        self.events.append(Tick(self.now))
 
     def sets(self, ono, kind, value):
         self.events.append(Local(ono, (kind, value)))
@@ -47,18 +44,12 @@ class History:
         lines = [f"history {self.window} {self.peers} {self.channels}"]
         for e in self.events:
             if isinstance(e, Local):
-                lines.append(front_line(e.ono, *e.value))
+                lines.append(oca.front_line(e.ono, *e.value))
             elif isinstance(e, Tick):
                 lines.append(f"{e.now} quiet")
             else:
                 lines.append(f"{e.now} {oca.peer_text(e.sender)} {oca.hex_text(e.data)}")
         return lines
-
-
-def front_line(ono, kind, value):
-    if kind == "label":
-        return f"label {ono} {oca.hex_text(value.encode())}"
-    return {"enabled": f"enabled {ono} {value}", "unlock": f"unlock {ono}", "failing": f"failing {ono} {value}"}.get(kind, f"set {ono} {kind} {value}")
 
 
 def ask(handle, target, level, index, count=0, params=b"", respond=True):
@@ -90,16 +81,16 @@ def lapses(r):
                                 lock(2, 4100, 6)).says(1, lock(1, 4098))
     start, other = h.now, r.choice([None, start_of_noise(r)])
     if other:
-        h.at(start + kept).says(0, data=other)
+        h.at(start + kept).says(0, other)
     for late in sorted(r.sample([3 * kept - 1, 3 * kept, 3 * kept + 1, 4 * kept, 5 * kept, 5 * kept + 1, 9 * kept], 4)):
         h.at(start + late)
         kind = r.randrange(4)
         if kind == 0:
-            h.tick(h.now)
+            h.tick()
         elif kind == 1:
             h.says(1, lock(1 + len(h.events), 4097, 3))
         elif kind == 2:
-            h.says(2, data=b"\0")
+            h.says(2, b"\0")
         else:
             h.says(0, get(1 + len(h.events)))
     return h
@@ -117,11 +108,11 @@ def forgetting(r):
         h.at(h.now + r.choice([119999, 120000, 120000, 120001, 120001, 240000, 90001]))
         kind = r.randrange(3)
         if kind == 0:
-            h.tick(h.now)
+            h.tick()
         if kind != 1:
             h.says(r.randrange(2), trim(1, 5), lock(2), trim(1, 7))
         else:
-            h.says(1, lock(3 + len(h.events))).says(0, data=start_of_noise(r))
+            h.says(1, lock(3 + len(h.events))).says(0, start_of_noise(r))
     return h.at(h.now + 15001).says(2, get(1)).says(0, lock(9))
 
 
@@ -239,7 +230,7 @@ def wander(r):
         step = r.choice([0, 0, 1, 5, 100, 251, 750, 2500, 3001, 7500, 15001, 90001, 119999, 120000, 120001, -50, -5000, -130000])
         h.at(max(0, h.now + (step if r.randrange(3) == 0 or step < 3000 else 1)))
         if kind == 0:
-            h.tick(h.now)
+            h.tick()
         elif kind == 1:
             reading(h, 40, handle)
             handle += 9
@@ -251,7 +242,7 @@ def wander(r):
             n = r.choice(numbers)
             h.says(n, ask(min(oca.U32, r.choice([panels[n].next + 1, 1])), r.choice([4097, 4098, 4100]), 1, r.choice([3, 3, 6, 4])))
         else:
-            h.says(r.choice(numbers), data=datagram(r, panels[r.choice(numbers)]))
+            h.says(r.choice(numbers), datagram(r, panels[r.choice(numbers)]))
     reading(h.at(h.now + 1), 41, 1)
     return h
 
@@ -302,25 +293,17 @@ def objects_of(line):
     return tuple(read)
 
 
-def tale_in(lines):
-    tale = []
-    for line in lines:
-        word = line.split(" ")[0]
-        if word == ">":
-            tale[-1] = tale[-1]._replace(packets=tale[-1].packets + (bytes.fromhex(line[2:]),))
-        elif word == "written":
-            tale[-1] = tale[-1]._replace(written=tuple(map(int, line.split(" ")[1:])))
-        elif word == "sessions":
-            tale[-1] = tale[-1]._replace(sessions=int(line.split(" ")[1]))
-        elif word == "objects":
-            tale[-1] = tale[-1]._replace(objects=objects_of(line))
-        else:
-            tale.append(Told(verdict_of(line), (), (), None, None))
-    return tale
+def told_in(said, *others):
+    """What these lines tell of an event."""
+    *others, sessions, objects = others
+    packets = tuple(bytes.fromhex(line[2:]) for line in others if line.startswith("> "))
+    written = tuple(int(word) for line in others if line.startswith("written ") for word in line.split(" ")[1:])
+    return Told(verdict_of(said), packets, written, int(sessions.removeprefix("sessions ")), objects_of(objects))
 
 
-def tales(folder, histories):
-    return [tale_in(lines[1:]) for lines in runs_of(f"{folder}/trials", "events", "history", [history.text() for history in histories])]
+def tales(program, histories):
+    runs = runs_of(program, "events", "history", [history.text() for history in histories])
+    return [[told_in(*its) for its in events_of(lines[1:])] for lines in runs]
 
 
 def shown(history, tale, fault):
@@ -420,10 +403,10 @@ def alterations(r, history, tale):
 
 def work(job):
     """The counts of a range of numbers, and the text of the first break or None."""
-    folder, seed, numbers = job
+    program, seed, numbers = job
     histories, total = [made(seed, n) for n in numbers], collections.Counter()
     r = random.Random(f"{seed} {numbers[0]} altered")
-    for history, tale in zip(histories, tales(folder, histories), strict=True):
+    for history, tale in zip(histories, tales(program, histories), strict=True):
         fault = broken(walk, history, tale)
         if fault:
             return total, shown(history, tale, fault)
@@ -440,14 +423,7 @@ def summary(seed, total, wrong):
 
 
 def main():
-    folder = sys.argv[1]
-    count = int(sys.argv[2]) if len(sys.argv) > 2 else 300
-    seed = int(sys.argv[3]) if len(sys.argv) > 3 else 1
-    jobs = [(folder, seed, range(first, min(first + 9, count))) for first in range(0, count, 9)]
-    total, fault, wrong = in_processes(work, jobs, refuses, [(seed, name) for name in RULES])
-    if fault:
-        print(f"{fault}\nlaw: seed {seed}: a break after {total['histories']} histories without one")
-        return verdict({"law": False})
+    count, seed, total, wrong = in_processes(work, "histories", 9, refuses, RULES)
     for found, _, said in wrong:
         if not found:
             print(f"FAILED: {said}")

@@ -47,9 +47,9 @@ class Behind:
 class Network:
     """Carries datagrams between one controller and one device, as badly as the seed says."""
 
-    def __init__(self, device, seed, back="127.0.0.1"):
+    def __init__(self, device, seed):
         self.random = random.Random(seed)
-        self.front, self.back = bound(), bound(back)  # the controller takes the front for the device
+        self.front, self.back = bound(), bound()  # the controller takes the front for the device
         self.device, self.controller, self.behind = device, None, Behind()
         self.due, self.number, self.latest = [], 0, {True: -1, False: -1}
         self.lost = self.doubled = self.overtaken = self.carried = 0
@@ -85,21 +85,14 @@ class Network:
             self.carry(inward, data)
 
     def step(self):
-        step(self)
-
-
-def step(*networks):
-    """Takes what comes within 20 ms or until the next delivery is due, and delivers what is."""
-    due = min((network.due[0][0] for network in networks if network.due), default=time.time() + 0.02)
-    ways = {end: network for network in networks for end in (network.front, network.back)}
-    for end in select.select(list(ways), [], [], min(0.02, max(0, due - time.time())))[0]:
-        network = ways[end]
-        data, sender = end.recvfrom(65535)
-        if end is network.front:
-            network.controller = sender
-        network.accept(end is network.front, data)
-    for network in networks:
-        network.deliver()
+        """Takes what comes within 20 ms or until the next delivery is due, and delivers what is."""
+        due = self.due[0][0] - time.time() if self.due else 0.02
+        for end in select.select([self.front, self.back], [], [], min(0.02, max(0, due)))[0]:
+            data, sender = end.recvfrom(65535)
+            if end is self.front:
+                self.controller = sender
+            self.accept(end is self.front, data)
+        self.deliver()
 
 
 class Directed(Network):

@@ -23,7 +23,7 @@ from pathlib import Path
 
 import checks
 import oca_profile as oca
-from checks import at, bound, comes, ended, free_port, heard, layer, next_line, nulls_of, waited, write
+from checks import at, bound, comes, ended, free_port, heard, layer, next_line, nulls_of, tries, waited, write
 from tables import data
 
 GET, ASKS = (4097, 4, 1), ("--target", 4097, "--level", 4, "--index", 1, "--count", 0)
@@ -202,19 +202,12 @@ SENT = ("--target", 1, "--level", 1, "--index", 1, "--count", 0)
 
 def refused_sockets(checks):
     """A socket that the system refuses: a note has the system's reason, with the port where the program chose one or was given one for objects."""
-    in_use = "Address already in use (os error 98)"
-    nowhere = "Cannot assign requested address (os error 99)"
     with bound() as taken, bound() as device:
-        port, to = taken.getsockname()[1], ("--device", at(device))
-        # 192.0.2.1 is an address of no machine
-        for words, why in ((("ocadev", "serve", "--port", port), in_use),
-                           (("ocadev", "serve", "--ip", "192.0.2.1", "--port", 0), nowhere),
-                           (("ocactl", "send", *to, *SENT, "--port", port), in_use),
-                           (("ocactl", "send", *to, *SENT, "--ip", "192.0.2.1"), nowhere),
-                           (("ocactl", "run", *to, "--port", port), f"port {port}: {in_use}"),
-                           (("ocactl", "get", *to, "--port", port, 4097), f"port {port}: {in_use}"),
-                           (("ocactl", "lock", *to, "--port", port, 4097), f"port {port}: {in_use}")):
-            checks.same(f"a refused socket of {words}", ended(checks.start(*words)), ("", f"note: {why}\nsocket failed\n", 1))
+        places = {"TAKEN": str(taken.getsockname()[1]), "DEVICE": at(device)}
+        for words, why in DATA.refused_sockets:
+            words = [places.get(word, word) for word in words.split()]
+            said = ("", f"note: {why.replace('TAKEN', places['TAKEN'])}\nsocket failed\n", 1)
+            checks.same(f"a refused socket of {words}", ended(checks.start(*words)), said)
 
 
 def with_a_buffer(checks, granted, *words):
@@ -265,14 +258,9 @@ def asks_the_host(checks):
 
 def is_a_program_there(checks):
     """An unheard device's host is asked by an empty datagram, for 200 ms: four waits meanwhile."""
-    asked, took = set(), []
-    for _ in range(TRIES):
-        what, ms, wait = asks_the_host(checks)
-        asked.add(what)
-        took.append((ms, ms / wait))
-        if took[-1][1] < 6:
-            break
-    checks.same("what a host is asked that may have no program there", asked, {(b"", "127.0.0.2", True)})
+    found = tries(TRIES, lambda: asks_the_host(checks), lambda it: it[1] / it[2] < 6)
+    took = [(ms, ms / wait) for _, ms, wait in found]
+    checks.same("what a host is asked that may have no program there", {what for what, *_ in found}, {(b"", "127.0.0.2", True)})
     told = f"{took}: in milliseconds, and by waits of 50 ms"
     checks.expect("a host is asked for 200 ms at least", min(took)[0] > 180, told)
     checks.expect("a host is asked for 200 ms at most", took[-1][1] < 6, told, is_time=True)
@@ -313,16 +301,14 @@ def sends_lines(checks, device, count):
 
 def lines_at_once(checks):
     """A line of `ocactl run` is sent at once where nothing is under way: the fourth of seven sooner than half a wait of 50 ms ends."""
-    fourth = []
-    for _ in range(TRIES):
+    def take():
         with bound() as device, Waits() as waits:
             took = sends_lines(checks, device, 8)
-        if len(took) < 8:
-            return
-        fourth.append(sorted(took[1:])[3] / waits.one)  # the first line waits for the program to begin
-        if fourth[-1] < 0.5:
-            break
-    checks.expect("`run`: a line is sent sooner than half a wait of 50 ms ends", fourth[-1] < 0.5, f"{fourth} of such a wait", is_time=True)
+        return sorted(took[1:])[3] / waits.one if len(took) == 8 else None  # the first line waits for the program to begin
+
+    fourth = tries(TRIES, take, lambda it: it is None or it < 0.5)
+    if None not in fourth:  # else the lines have failed
+        checks.expect("`run`: a line is sent sooner than half a wait of 50 ms ends", fourth[-1] < 0.5, f"{fourth} of such a wait", is_time=True)
 
 
 def copies_behind_a_pause(checks):
@@ -349,11 +335,8 @@ def copies_behind_a_pause(checks):
 
 def a_line_behind_a_pause(checks):
     """A command behind a pause is sent at its own moment: it is sent again 250 ms later, and not at once."""
-    for _ in range(3):
-        times = copies_behind_a_pause(checks)
-        if times == 1:
-            break
-    checks.same("`run` with a pause: how often the second command is sent in 50 ms", times, 1, is_time=True)
+    times = tries(3, lambda: copies_behind_a_pause(checks), lambda it: it == 1)
+    checks.same("`run` with a pause: how often the second command is sent in 50 ms", times[-1], 1, is_time=True)
 
 
 def a_stalled_neighbour(checks):
@@ -414,8 +397,7 @@ def null_at_closed(checks):
     """The null device stands at each closed one of descriptors 0 to 2 before sockets, else at 0."""
     with bound() as silent:
         to = silent.getsockname()[1]
-        send = ("--target", 1, "--level", 1, "--index", 1, "--count", 0)
-        for words in (("ocadev", "serve", "--port", 0, "--turns", 1000), ("ocactl", "send", "--device", f"127.0.0.1:{to}", *send),
+        for words in (("ocadev", "serve", "--port", 0, "--turns", 1000), ("ocactl", "send", "--device", f"127.0.0.1:{to}", *SENT),
                       ("ocapanel", "--device", f"127.0.0.1:{to}", "--listen", "127.0.0.1:0"), ("amplifier", 0, 1000), ("panel", to)):
             for closed in (of for count in (0, 1, 2, 3) for of in itertools.combinations((0, 1, 2), count)):
                 run = checks.start(*words, close=closed)
@@ -424,28 +406,34 @@ def null_at_closed(checks):
                 run.communicate(timeout=60)
 
 
+@contextlib.contextmanager
+def locked(checks, what, **settings):
+    """A device with such a sleep whose mute a peer has locked: that peer, and what another one gets that asks for the mute."""
+    run, port = checks.serve(**settings)
+    with bound() as holder, bound() as other:
+        def gets(handle, status, behind=""):
+            got = answer(other, handle, ("127.0.0.1", port))[0]
+            checks.same(f"{what}: what another peer gets{behind}", got and got[18], status)
+
+        holder.connect(("127.0.0.1", port))
+        holder.send(oca.command(1, 4097, 1, 3))
+        checks.same(f"{what}: the lock", holder.recv(2000), oca.response(1))
+        yield holder, gets
+
+
 def asleep(checks):
     """A machine's sleep counts: locks lapse in it, and 15 seconds behind its submit no command is sent again."""
-    lock = oca.command(1, 4097, 1, 3)
     for seconds, status in ((20, 0), (10, 3), (0, 3)):
-        run, port = checks.serve(SLEPT=seconds)
-        with bound() as holder, bound() as other:
-            holder.sendto(lock, ("127.0.0.1", port))
-            checks.same(f"a sleep of {seconds} seconds: the lock", holder.recv(2000), oca.response(1))
-            got = answer(other, 1, ("127.0.0.1", port))[0]
-            checks.same(f"a sleep of {seconds} seconds: what another peer gets", got and got[18], status)
-    run, port = checks.serve(UNBOOTED=1000)
-    with bound() as holder, bound() as other:
-        holder.sendto(lock, ("127.0.0.1", port))
-        checks.same("no clock that counts sleep: the lock", holder.recv(2000), oca.response(1))
-        got = answer(other, 1, ("127.0.0.1", port))[0]
-        checks.same("no clock that counts sleep, and the date is set: another peer", got and got[18], 3)
-        beat = oca.pdu(4, [(1).to_bytes(2, "big")])
-        holder.sendto(beat, ("127.0.0.1", port))
-        checks.same("no clock that counts sleep: a heartbeat of a second", holder.recv(2000), beat)
+        with locked(checks, f"a sleep of {seconds} seconds", SLEPT=seconds) as (_, gets):
+            gets(1, status)
+    what = "no clock that counts sleep, and the date is set"
+    with locked(checks, what, UNBOOTED=1000) as (holder, gets):
+        gets(1, 3)
+        beat = oca.pdu(4, [b"\0\1"])
+        holder.send(beat)
+        checks.same(f"{what}: a heartbeat of a second", holder.recv(2000), beat)
         time.sleep(3.5)
-        got = answer(other, 2, ("127.0.0.1", port))[0]
-        checks.same("no clock that counts sleep: another peer behind a silence of three", got and got[18], 0)
+        gets(2, 0, " behind a silence of three")
     for seconds, copies in ((16, 1), (5, 20)):
         with bound() as silent:
             got = checks.send(at(silent), 1, SLEPT=seconds)
@@ -474,16 +462,16 @@ def kept_safely(checks):
 
 def a_failed_receive(checks):
     """Behind a receive that failed the next one comes soon: an answer that is there is taken, and its command not sent again."""
-    for _ in range(3):
+    def copies():
         with bound() as device:
             run = checks.start("ocactl", "send", "--device", at(device), "--first-handle", 1, *ASKS, FAIL_RECEIVE=1, ERRNO=errno.ENETDOWN)
             data, sender = device.recvfrom(2000)
             device.sendto(response(1), sender)
             checks.same("a receive that failed: the answer", ended(run), ("answer 0 1 01\n", "", 0))
-            copies = heard(device)
-        if not copies:
-            break
-    checks.expect("a receive that failed: the command is not sent again", not copies, copies, is_time=True)
+            return heard(device)
+
+    found = tries(3, copies, lambda it: not it)[-1]
+    checks.expect("a receive that failed: the command is not sent again", not found, found, is_time=True)
 
 
 def reports_behind_a_sleep(checks):

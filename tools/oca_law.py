@@ -208,39 +208,33 @@ def are_groups(answers, groups):
 EXECUTE, SET, WRITES = oca.execute, oca.set_local, oca.writes
 
 
-class Tree:
-    """The objects at one time, which never change."""
-
-    def __init__(self, objects):
-        self.objects = tuple(objects)
-
-
+# `tree` is a tuple of objects, which never change.
 Execution = namedtuple("Execution", "tree status count parameters wrote")
 
 
 def with_copies(tree, ones):
-    return [o.copy() if o.ono in ones else o for o in tree.objects]
+    return tuple(o.copy() if o.ono in ones else o for o in tree)
 
 
 def execution(tree, p, c):
     own = with_copies(tree, [c.target])
     status, count, parameters = EXECUTE(own, p, oca.Command(*c))
     wrote = WRITES(own, oca.Command(*c), (status, count, parameters))
-    return Execution(Tree(own) if status == 0 else tree, status, count, parameters, wrote)
+    return Execution(own if status == 0 else tree, status, count, parameters, wrote)
 
 
 def released(tree, p):
-    held = [o.ono for o in tree.objects if o.lock and o.lock[1] == p]
+    held = [o.ono for o in tree if o.lock and o.lock[1] == p]
     own = with_copies(tree, held)
     for o in own:
         if o.ono in held:
             o.lock = None
-    return Tree(own) if held else tree
+    return own
 
 
 def after_set(tree, ono, value):
     own = with_copies(tree, [ono])
-    return Tree(own) if SET(own, ono, *value) is None else tree
+    return own if SET(own, ono, *value) is None else tree
 
 
 # ---- what happened (LawByEvents.antt)
@@ -376,24 +370,14 @@ def all_counted(w, A, messages):
     return total
 
 
-def remembered(definition):
-    """What a definition of the Law gave is kept for the same arguments, as long as the Law."""
-    @functools.wraps(definition)
-    def kept(law, *arguments):
-        key = (definition, *arguments)
-        if key not in law.memory:
-            law.memory[key] = definition(law, *arguments)
-        return law.memory[key]
-    return kept
-
-
 class Law:
     """The definitions that speak of the size w of the windows, the greatest number of sessions, or the opening tree."""
 
     def __init__(self, w, most_sessions, tree):
-        self.w, self.most_sessions, self.tree, self.memory = w, most_sessions, tree, {}
+        self.w, self.most_sessions, self.tree = w, most_sessions, tree
+        for name in ("clock", "opened", "known", "admitted", "accepted_in", "carried_out"):  # what they gave is kept
+            setattr(self, name, functools.cache(getattr(self, name)))
 
-    @remembered
     def clock(self, H):
         if H is None:
             return 0
@@ -414,7 +398,6 @@ class Law:
     def is_known(self, t, p, arrivals):
         return len(self.session(t, p, arrivals)) > 0
 
-    @remembered
     def opened(self, arrivals):
         if arrivals is None:
             return ()
@@ -423,14 +406,12 @@ class Law:
             return self.opened(before)
         return tuple(q for q in self.opened(before) if q != a.sender) + (a.sender,)
 
-    @remembered
     def known(self, t, arrivals):
         return tuple(p for p in self.opened(arrivals) if self.is_known(t, p, arrivals))
 
     def has_room(self, t, p, arrivals):
         return self.is_known(t, p, arrivals) or len(self.known(t, arrivals)) < self.most_sessions
 
-    @remembered
     def admitted(self, H):
         if H is None:
             return None
@@ -444,7 +425,6 @@ class Law:
         now, arrivals = self.clock(before), self.admitted(before)
         return [p for p in self.known(now, arrivals) if is_lapsed(t, self.session(now, p, arrivals))]
 
-    @remembered
     def accepted_in(self, own):
         """accepted_of w [] (said own): of the messages before the last arrival, and then of its messages."""
         if not own:
@@ -468,7 +448,6 @@ class Law:
         A = self.accepted_by(self.clock(before), x.sender, self.admitted(before))
         return [Executes(x.sender, c) for c in accepted_of(self.w, A, self.served_of(x.sender, x.messages, before))]
 
-    @remembered
     def carried_out(self, H):
         """All changes in order, each with what executing it gave, and the objects after them."""
         if H is None:
@@ -534,7 +513,7 @@ class Walk:
     """Holds the law of a device against what it said, event by event."""
 
     def __init__(self, history):
-        self.law = Law(history.window, history.peers, Tree(oca.bench(history.channels)))
+        self.law = Law(history.window, history.peers, tuple(oca.bench(history.channels)))
         self.H, self.number = None, 0
 
     def expect(self, holds, sentence, what):
@@ -559,7 +538,7 @@ class Walk:
             fault = SET(with_copies(before, [event.ono]), event.ono, *event.value)
             self.expect(told.verdict == (("set",) if fault is None else ("refused", fault)), "set_fault",
                         f"{told.verdict}, where the fault is {fault}")
-        objects = shown_objects(law.objects(self.H).objects)
+        objects = shown_objects(law.objects(self.H))
         self.expect(told.objects == objects, "objects_are", f"the objects to be are {objects}")
         known = law.known(law.clock(self.H), law.admitted(self.H))
         self.expect(told.sessions == len(known), "sessions_are", f"{told.sessions} in place of {len(known)} sessions")

@@ -684,9 +684,9 @@ class Network:
         if kind == "tick":
             self.device.advance(step[1])
             return "quiet"
-        if kind == "set":
-            fault = self.device.set(*step[1:])
-            return "set" if fault is None else f"refused {fault}"
+        if kind in FRONT:
+            fault = self.device.set(*front_change(step))
+            return ("set" if kind == "set" else "changed") if fault is None else f"refused {fault}"
         if kind == "other":
             _, now, peer, data = step
             return None if any(p == peer for p, _ in self.links) else self.device.datagram(peer, data, now)[0]
@@ -722,14 +722,31 @@ class Network:
             + [f"sessions {len(self.device.sessions)}"]
 
 
+# What a step at the front is called; a setting says its class, the others are CHANGES.
+FRONT = ("set", *CHANGES)
+
+
+def front_change(step):
+    """The object of a step at the front, what is changed, and to what."""
+    return step[1:] if step[0] == "set" else (step[1], step[0], step[2])
+
+
+def front_line(ono, kind, value):
+    if kind == "label":
+        return f"label {ono} {hex_text(value.encode())}"
+    return f"unlock {ono}" if kind == "unlock" else f"{kind} {ono} {value}" if kind in CHANGES else f"set {ono} {kind} {value}"
+
+
 def peer_text(peer):
     return "{}.{}.{}.{}:{}".format(*peer)
 
 
 def step_line(step):
     kind = step[0]
-    if kind in ("take", "set"):
+    if kind == "take":
         return " ".join(map(str, step))
+    if kind in FRONT:
+        return front_line(*front_change(step))
     rest = [peer_text(f) if isinstance(f, tuple) else hex_text(f) if isinstance(f, bytes) else str(f) for f in step[2:]]
     return " ".join([str(step[1]), kind] + rest)
 

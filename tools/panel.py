@@ -684,37 +684,30 @@ def of_other_classes(folder):
             panel.comes(is_new, "an object of another class under the same number is found", 30)
 
 
-def is_walked_once(device, panel, where):
-    """Checks that the walk of a device that lists an object twice stands, and found each object once."""
-    same(f"each object that is listed {where} is found once", sorted(o["ono"] for o in panel.get("/tree")["objects"]),
-         sorted(o.ono for o in device.tree))
-    device.asked.clear()
-    panel.comes(lambda _: [*device.asked.values()].count(device.what) > 2, f"what is listed {where} is listed again", 60)
-    values = panel.look()
-    same(f"the walk of a device that lists an object {where} stands", (values["walked"], values["epoch"]), (True, 1))
-
-
-def in_two_blocks(folder):
-    """A device that lists an object in two blocks, before the others of the second one, is walked once."""
-    tree, real = oca.bench(2), oca.members
-    first, second = [o for o in tree if o.kind == "block" and o.ono != 100][:2]
-    one = next(o for o in tree if o.container == first.ono)
-    listed_in_both = lambda tree, ono: real(tree, ono) if ono != second.ono else [one, *real(tree, ono)]
-    with patch.object(oca, "members", listed_in_both), walked(folder, Noting(tree, second.ono, (3, 5))) as (device, panel):
-        is_walked_once(device, panel, "in two blocks")
+@contextlib.contextmanager
+def listing(folder, tree, block, lists, where):
+    """A panel of a device that lists an object twice, by what this block lists: its walk stands, and found each object once."""
+    real = oca.members
+    listed = lambda tree, ono: lists(real(tree, ono)) if ono == block.ono else real(tree, ono)
+    with patch.object(oca, "members", listed), walked(folder, Noting(tree, block.ono, (3, 5))) as (device, panel):
+        found = sorted(o["ono"] for o in panel.get("/tree")["objects"])
+        same(f"each object that is listed {where} is found once", found, sorted(o.ono for o in tree))
+        device.asked.clear()
+        panel.comes(lambda _: [*device.asked.values()].count(device.what) > 2, f"what is listed {where} is listed again", 60)
+        values = panel.look()
+        same(f"the walk of a device that lists an object {where} stands", (values["walked"], values["epoch"]), (True, 1))
+        yield panel
 
 
 def listed_twice(folder):
-    """A device whose block lists an object twice is walked once, and again once the block lists something else."""
-    tree, real, is_twice = oca.bench(2), oca.members, [True]
-    block = next(o for o in tree if o.kind == "block" and o.ono != 100)
-
-    def listed(tree, ono):
-        its = real(tree, ono)
-        return [*its, its[0]] if ono == block.ono and is_twice else its
-
-    with patch.object(oca, "members", listed), walked(folder, Noting(tree, block.ono, (3, 5))) as (device, panel):
-        is_walked_once(device, panel, "twice")
+    """A device that lists an object in two blocks, before the others of the second one, is walked once. So is one whose
+    block lists an object twice, and again once the block lists something else."""
+    tree, is_twice = oca.bench(2), [True]
+    first, second = [o for o in tree if o.kind == "block" and o.ono != 100][:2]
+    one = next(o for o in tree if o.container == first.ono)
+    with listing(folder, tree, second, lambda its: [one, *its], "in two blocks"):
+        pass
+    with listing(folder, oca.bench(2), first, lambda its: [*its, its[0]] if is_twice else its, "twice") as panel:
         is_twice.clear()
         panel.comes(lambda v: v["walked"] and v["epoch"] > 1, "it is walked again once the block lists something else", 30)
 
@@ -1217,20 +1210,22 @@ def at_an_old_port(folder):
         same("its orders are carried out", panel.fare("/set", 4097, "unmuted"), None)
 
 
+def is_free(port):
+    with contextlib.suppress(OSError), socket.socket() as s:
+        s.bind(("127.0.0.1", port))
+        return True
+    return False
+
+
 def by_its_names(folder):
     """A panel is asked by its own address, and one at 127.0.0.1 also as localhost; a page orders under the name by
-    which it was asked, and under no other."""
-    order = {"ono": MUTE, "value": "muted"}
-    for ip, other in (("127.0.0.1", "127.0.0.2"), ("127.0.0.2", "127.0.0.1")):
-        with walked(folder, ip=ip) as (_, panel):
-            if not same(f"--listen {ip}:0: where it tells that it is", panel.told_ip, ip):
-                continue
-            own, local, is_local = panel.host, f"localhost:{panel.port}", ip == "127.0.0.1"
-            for host, status in ((own, 200), (local, 200 if is_local else 421), ("localhost", 421), (ip, 421), (f"{other}:{panel.port}", 421)):
-                same(f"a panel at {ip} that is asked as {host}", panel.status(Host=host), status)
-            for host, page, status in ((own, own, 202), (local, local, 202 if is_local else 421), (local, own, 403 if is_local else 421), (own, local, 403)):
-                got = panel.post("/set", order, Host=host, Origin=f"http://{page}")[0]
-                same(f"a panel at {ip} that is ordered as {host} by a page of {page}", got, status)
+    which it was asked, and under no other. At port 80 browsers leave the port out; where it can't be had this is left out."""
+    for ip, port in (("127.0.0.1", 0), ("127.0.0.2", 0), *[("127.0.0.1", 80)] * is_free(80)):
+        with walked(folder, ip=ip, port=port) as (_, panel):
+            if same(f"--listen {ip}:{port}: where it tells that it is", panel.told_ip, ip):
+                for row in panel.rows(f"at {ip}:{port}"):
+                    data = request(row)
+                    same(f"{data!r} at {panel.host}", panel.exchange(data)[0], row["status"])
 
 
 def runs(folder):
@@ -1358,28 +1353,11 @@ def only_shown(folder):
 def units(folder):
     with tempfile.TemporaryDirectory() as room, Device(folder) as device:
         path = Path(room) / "units"
-        path.write_text("# units\n\nclass int16 0.1 dB\n  ono 4100\t-10 mV\r\nclass uint8 7 %\n" + "# more\n" * 9000
-                        + "ono 4294967295 -1234567890.12345678 0123456789abcdef\n")
-        rows = (("int16", None, "0.1", "dB"), (None, 4100, "-10", "mV"), ("uint8", None, "7", "%"),
-                (None, 4294967295, "-1234567890.12345678", "0123456789abcdef"))
-        wanted = [dict(zip(("class", "ono", "factor", "unit"), row)) for row in rows]
+        path.write_text(TABLE["units"]["text"])
+        wanted = [dict.fromkeys(("class", "ono")) | row for row in TABLE["units"]["found"]]
         for given, found in ((("--units", path), wanted), ((), [])):
             with Panel(folder, device.port, *given) as panel:
                 same(f"units {given}", panel.get("/tree")["units"], found)
-
-
-def at_port_80(folder):
-    """At port 80 browsers leave the port out of Host and Origin; where the port can't be had this is left out."""
-    try:
-        with socket.socket() as s:
-            s.bind(("127.0.0.1", 80))
-    except OSError:
-        return
-    with walked(folder, port=80) as (_, panel):
-        for host, status in (("127.0.0.1", 200), ("127.0.0.1:80", 200), ("localhost", 200), ("localhost:80", 200), ("127.0.0.2", 421), ("127.0.0.1:81", 421)):
-            same(f"a panel at port 80 that is asked as {host}", panel.status(Host=host), status)
-        got = panel.post("/set", {"ono": MUTE, "value": "muted"}, Host="127.0.0.1", Origin="http://127.0.0.1")[0]
-        same("an order of its page", got, 202)
 
 
 def steady(folder):
@@ -1404,10 +1382,10 @@ def steady(folder):
 def main():
     folder, pool = sys.argv[1], ThreadPoolExecutor(1)
     beside = pool.submit(steady, folder)
-    for part in (words, spans, bound_for, classes, seldom, of_other_classes, in_two_blocks, listed_twice, visible_first, often, aged,
+    for part in (words, spans, bound_for, classes, seldom, of_other_classes, listed_twice, visible_first, often, aged,
                  newer_than_an_answer, beside_an_order, right_behind, late_orders, behind_untaken_answers, over_a_stop, asleep, failing, beside_large,
                  unwatched, troubled, ailing, counted, without_a_page, at_its_port, at_an_old_port, by_its_names, a_mute, limits_of_orders, runs,
-                 many_orders, labels, lost_stays_told, tokens, only_shown, units, at_port_80):
+                 many_orders, labels, lost_stays_told, tokens, only_shown, units):
         part(folder)
     with Device(folder) as device, Panel(folder, device.port) as panel:
         page(panel)

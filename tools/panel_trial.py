@@ -39,8 +39,8 @@ DATA = data("panel_trial")
 def prepared(sources=None, place=None):
     text, _, _ = page.page(sources)
     Path(place, "page.html").write_text(text)
-    for name in ("stand", "cases"):
-        Path(place, f"{name}.js").write_text(page.shorten((CASES / f"{name}.js").read_text(), sources))
+    for name, before in (("stand", ""), ("cases", f"const ROWS={json.dumps(table('page_cases'))};")):
+        Path(place, f"{name}.js").write_text(before + page.shorten((CASES / f"{name}.js").read_text(), sources))
     return [str(Path(place, name)) for name in ("page.html", "stand.js", "cases.js")]
 
 
@@ -152,8 +152,8 @@ class Window:
     def size(self, width, height, mobile=False):
         self.call("Emulation.setDeviceMetricsOverride", width=width, height=height, deviceScaleFactor=1, mobile=mobile)
 
-    def dark(self, is_dark):
-        self.call("Emulation.setEmulatedMedia", features=[{"name": "prefers-color-scheme", "value": "dark" if is_dark else "light"}])
+    def prefers(self, what, value):
+        self.call("Emulation.setEmulatedMedia", features=[{"name": f"prefers-{what}", "value": value}])
 
     def ask(self, script):
         return self.browser.send("Runtime.evaluate", self.session, expression=script, returnByValue=True, awaitPromise=True)
@@ -264,10 +264,6 @@ def idle(ono):
     return f"!!{row(ono)}&&!isOut({row(ono)},'set')&&!isOut({row(ono)},'lock')"
 
 
-def message_has(text):
-    return f"{row(MUTE, '.strip.message.textContent')}.includes({json.dumps(text)})"
-
-
 def shows(ono, value):
     return f"{idle(ono)}&&{row(ono, '.value')}==={json.dumps(value)}"
 
@@ -337,24 +333,27 @@ def by_hand(folder, device, browser, address):
     value = said(folder, device, TRIM)[0]
     one.holds(f"{shows(TRIM, value)}&&{FADER}.getAttribute('aria-valuenow')==='{value}'", f"the last value of the drag stands: {value}")
     check(int(value) > 60, f"the drag went up: {value}")
-    steps(folder, device, one, "keys")
-    steps(folder, device, one, "deliberate")
-    locks(folder, device, one, two)
-    labels(folder, device, two)
-    steps(folder, device, one, "names", two)
+    for name in ("keys", "deliberate", "locks", "labels", "names"):
+        steps(folder, device, one, name, two)
     if one.run(row(MUTE, ".value")) == "muted":
         one.click(part(MUTE))
-    steps(folder, device, one, "many")
-    steps(folder, device, one, "held", two)
+    for name in ("many", "held"):
+        steps(folder, device, one, name, two)
     return one, two
 
 
 def steps(folder, device, one, name, two=None, panel=None, relay=None):
     """What is done in a window by the rows of this name of tools/rows/by_hand.toml, and what then holds."""
     sends = lambda number: lambda whom: (device if whom == "device" else panel).process.send_signal(number)
+    lock = contextlib.ExitStack()
     does = {"run": one.run, "wait": one.wait, "holds": one.holds, "click": one.click, "wheel": one.wheel, "key": one.key, "type": one.type,
             "drag": one.drag, "let go": one.let_go, "sleep": time.sleep, "stop": sends(signal.SIGSTOP), "go on": sends(signal.SIGCONT),
             "loses": lambda share: setattr(relay, "share", share), "other runs": lambda script: two.run(script),
+            "choose": one.choose, "other chooses": lambda *place: two.choose(*place), "other holds": lambda *what: two.holds(*what),
+            "size": one.size, "prefers": one.prefers, "looks": lambda script, value, what: same(what, one.looks(script), value),
+            "locks": lambda ono: lock.enter_context(locked(folder, device.port, ono)), "unlocks": lock.close,
+            "label": lambda ono, text: give_label(folder, device, ono, text),
+            "is told": lambda words, told, what: check(told in ocactl(folder, device.port, *words.split()), what),
             "agrees": lambda what: same(what, said(folder, device, MUTE), [one.run(row(MUTE, ".value"))]),
             "is": lambda script, value, what: same(what, one.run(script), value),
             "fares": lambda ono, value, what: one.holds(shows(ono, value), what),
@@ -365,61 +364,20 @@ def steps(folder, device, one, name, two=None, panel=None, relay=None):
         does[action](*given)
 
 
-def locks(folder, device, one, two):
-    """Locks of this panel and of a different controller, in the strip's one menu."""
-    one.choose(MUTE, 1, 1)
-    two.holds(f"{row(MUTE, '.lock')}==='own'&&{row(MUTE, '.strip.menu.className')}==='menu own'", "a lock is shown in both windows")
-    check("Locked" in ocactl(folder, device.port, "set", MUTE, "muted"), "and holds")
-    two.choose(MUTE, 1, 1)
-    one.holds(f"{row(MUTE, '.lock')}==='free'", "it is taken off in the other one")
-    for ono in (TRIM, BLOCK):
-        with locked(folder, device.port, ono):
-            if ono == BLOCK:
-                one.run(f"{row(BLOCK)}.lock==='free'&&order({row(BLOCK)},'lock')")
-            one.holds(f"{idle(ono)}&&{row(ono, '.lock')}==='other'&&{message_has('another controller')}", f"a lock of a different controller is shown at {ono}")
-        one.holds(f"{row(ono, '.lock')}==='free'&&!{message_has('locked by')}", f"and no longer where it is taken off at {ono}")
-
-
 def give_label(folder, device, ono, text):
     params = (len(text).to_bytes(2, "big") + text.encode()).hex()
     ocactl(folder, device.port, "send", *f"--target {ono} --level 2 --index 9 --count 1 --params {params}".split())
 
 
-def labels(folder, device, two):
-    """A label that another controller gives is shown in place of the role, as a text."""
-    for label, name in [("Lead <b>vocal</b>", "Lead <b>vocal</b>"), ("\u202elacov", "\ufffdlacov"), ("", "channel 1")]:
-        give_label(folder, device, BLOCK, label)
-        two.holds(f"{row(MUTE, '.strip.name.textContent')}==={json.dumps(name)}", f"the label {label!r} is shown as {name!r}")
-
-
-def looks(one):
+def looks(folder, device, one):
     """Contrast in light and dark, sizes of targets, no sideways scroll, a name for each control."""
-    for ono, value in [(MUTE, "muted"), (OTHER_MUTE, "unmuted")]:
-        one.run(f"change({row(ono)},'{value}')")
-        one.holds(shows(ono, value), f"{ono} is {value}")
-    for is_dark in (False, True):
-        one.dark(is_dark)
+    steps(folder, device, one, "one_muted")
+    for scheme in ("light", "dark"):
+        one.prefers("color-scheme", scheme)
         texts, edges = one.looks("contrasts()")
-        check(texts[0] >= 4.5, f"contrast of texts, dark {is_dark}: {texts}")
-        check(edges[0] >= 3, f"contrast of edges, dark {is_dark}: {edges}")
-    one.dark(False)
-    for width in (320, 390, 768, 1280, 1920):
-        one.size(width, 800, width < 500)
-        one.holds(f"document.documentElement.scrollWidth<={width}", f"no sideways scroll at {width} px")
-        same(f"targets below 44 px at {width} px", one.looks("small()"), [])
-    one.size(1280, 900)
-    same("controls without a name", one.looks("nameless()"), 0)
-    moves = one.run(f"(()=>{{const e={part(MUTE)},y=()=>e.getBoundingClientRect().y,a=y();note({MUTE},'refused','x'.repeat(200));"
-                    f"const b=y();unnote({MUTE});return[a,b,y()]}})()")
-    check(moves[0] == moves[1] == moves[2], f"a message moves no control: {moves}")
-    one.call("Emulation.setEmulatedMedia", features=[{"name": "prefers-reduced-motion", "value": "reduce"}])
-    one.run("document.querySelector('.hold').classList.add('down')")
-    seconds = one.run("parseFloat(getComputedStyle(document.querySelector('.hold'),'::after').transitionDuration)")
-    check(seconds == 0, f"with reduced motion nothing moves by itself: {seconds}")
-    one.run("document.querySelector('.hold').classList.remove('down')")
-    one.run(f"{part(MUTE)}.focus()")
-    one.key("Tab", 9)
-    check(one.run("parseFloat(getComputedStyle(document.activeElement).outlineWidth)") >= 2, "the focus is seen")
+        check(texts[0] >= 4.5, f"contrast of texts, {scheme}: {texts}")
+        check(edges[0] >= 3, f"contrast of edges, {scheme}: {edges}")
+    steps(folder, device, one, "sizes")
 
 
 def pictures(folder, browser, place):
@@ -436,9 +394,9 @@ def pictures(folder, browser, place):
                     one.run(f"change({row(4098 + 5 * n)},'unmuted')")
             one.holds(f"{row(4132, '.label')}==='Talkback'&&{shows(4135, '-300')}&&program.name==='Stage box A'", "its names and levels are set")
             one.run("document.activeElement.blur();scrollTo(0,0)")
-            for name, width, height, is_dark in [("panel.png", 1280, 800, False), ("panel-tablet.png", 834, 1112, True)]:
-                one.size(width, height, is_dark)
-                one.dark(is_dark)
+            for name, width, height, scheme in [("panel.png", 1280, 800, "light"), ("panel-tablet.png", 834, 1112, "dark")]:
+                one.size(width, height, scheme == "dark")
+                one.prefers("color-scheme", scheme)
                 time.sleep(1)
                 Path(place, name).write_bytes(one.picture())
 
@@ -559,13 +517,6 @@ def hostile(folder, browser):
         check(all(len(name) <= 120 for name in names), "and not without an end")
 
 
-def watching(folder, browser):
-    """A panel that is read only shows all, and no control that acts."""
-    with Device(folder) as device, program(folder, device.port, "--read-only") as panel, \
-            opened(browser, panel.address, "a page that is read only shows the device") as window:
-        steps(folder, device, window, "watching")
-
-
 def with_token(folder, browser):
     """The token goes out of the address bar; a window without it is told what to open."""
     with Device(folder) as device, program(folder, device.port, "--verbose", token=True) as panel, \
@@ -595,9 +546,10 @@ def sources():
 
 
 def programs(folder, browser):
-    with Device(folder) as device, program(folder, device.port) as panel, opened(browser, panel.address, "the page is live") as one:
-        steps(folder, device, one, "stalls", panel=panel)
-    for tries in (begun_anew, bad_network, ages, cut_off, large, hostile, watching, with_token):
+    for name, words in (("stalls", ()), ("watching", ("--read-only",))):
+        with Device(folder) as device, program(folder, device.port, *words) as panel, opened(browser, panel.address, f"{name}: the page is live") as one:
+            steps(folder, device, one, name, panel=panel)
+    for tries in (begun_anew, bad_network, ages, cut_off, large, hostile, with_token):
         tries(folder, browser)
 
 
@@ -612,7 +564,7 @@ def in_chromium(folder, chromium, place):
                 browser.lines.clear()
                 windows = []
                 counted("by hand", lambda: windows.extend(by_hand(folder, device, browser, panel.address)))
-                counted("looks", looks, windows[0])
+                counted("looks", looks, folder, device, windows[0])
                 for window in windows:
                     window.close()
             counted("programs", programs, folder, browser)

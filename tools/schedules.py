@@ -128,7 +128,7 @@ def wander(r, window, span):
         elif kind == "other":
             schedule.timed("other", r.choice(strangers), others_bytes(r))
         elif kind == "set":
-            schedule.add("set", *some_setting(r))
+            schedule.add(*some_change(r))
         else:
             sent = network.to_device if kind == "to-device" else network.to_links
             if sent:
@@ -138,11 +138,38 @@ def wander(r, window, span):
     return schedule
 
 
-def some_setting(r):
-    """A change at the device's own front, now and then one that is refused."""
-    return r.choice([(4097, "mute", r.randrange(1, 3)), (4099, "switch", r.randrange(4)),
-                     (4100, "int16", r.randrange(-601, 602)), (4101, "boolean", r.randrange(2)),
-                     (4096, "boolean", 1), (4100, "mute", 1), (4097, "polarity", 1), (4100, "int8", 3), (5000, "uint64", 0)])
+def some_change(r):
+    """A step at the device's own front, now and then one that is refused."""
+    if r.randrange(2):
+        return ("set", *r.choice([(4097, "mute", r.randrange(1, 3)), (4099, "switch", r.randrange(4)),
+                                  (4100, "int16", r.randrange(-601, 602)), (4101, "boolean", r.randrange(2)),
+                                  (4096, "boolean", 1), (4100, "mute", 1), (4097, "polarity", 1), (4100, "int8", 3), (5000, "uint64", 0)]))
+    ono = r.choice([4096, 4097, 4097, 4097, 4099, 4100, 4101, 5000])
+    return r.choice([("label", ono, r.choice(["", "Vox", "B\u00fchne", "z" * 64, "z" * 65])), ("enabled", ono, r.randrange(2)),
+                     ("unlock", ono, None), ("failing", ono, r.choice([0, 0, 1]))])
+
+
+# What a link asks while the front changes objects: GetEnabled, SetEnabled, GetLabel, SetLabel, and values.
+ASKED = [(4097, (2, 1), 0, lambda r: b""), (4097, (2, 2), 1, lambda r: bytes([r.randrange(2)])), (4097, (2, 8), 0, lambda r: b""),
+         (4097, (2, 9), 1, lambda r: oca.text_bytes(r.choice(["", "Solo"]))), (4099, (2, 1), 0, lambda r: b""),
+         (4097, (4, 1), 0, lambda r: b""), (4097, (4, 2), 1, lambda r: bytes([r.choice([1, 2])])), (4099, (4, 1), 0, lambda r: b""),
+         (4100, (5, 1), 0, lambda r: b""), (4101, (5, 1), 0, lambda r: b""), (4097, (1, 3), 0, lambda r: b"")]
+
+
+def fronts(r, window, span):
+    """A link asks for and sets objects, one after another, and the device's own front changes them in between."""
+    schedule, came = Schedule(window, span, starts(r, 1), r.choice(PEERS)), 0
+    for _ in range(r.choice([10, 20, 40])):
+        for _ in range(r.choice([0, 1, 1, 2])):
+            schedule.add(*some_change(r))
+        target, (level, index), count, make = r.choice(ASKED)
+        schedule.timed("submit", 0, target, level, index, count, make(r))
+        said = schedule.timed("due", 0).split()
+        schedule.deliver("to-device", [int(said[1])] if said[0] == "sent" else [])
+        schedule.deliver("to-link", range(came, len(schedule.network.to_links)))
+        came = len(schedule.network.to_links)
+        goes_on(r, schedule, [0, 1, 100])
+    return schedule
 
 
 def noise(r, schedule):
@@ -160,7 +187,7 @@ def noise(r, schedule):
     elif kind == 3:
         schedule.timed("tick")
     elif kind == 4:
-        schedule.add("set", *some_setting(r))
+        schedule.add(*some_change(r))
 
 
 def crowd(r, window, span):

@@ -12,7 +12,7 @@
  *                    CLOCK_BOOTTIME, is so far ahead, and no other
  *   UNBOOTED=N       the clock that counts sleep can't be read, and the date is so many seconds ahead behind the first send that is taken
  *   CALLS=FILE       a line goes to this file for each fsync and each rename, as it is made, with the names of the files
- *   SLOW=N           each fsync takes N milliseconds more              FAIL_SYNC=N    the fsync number N fails
+ *   FAIL_SYNC=N      the fsync number N fails
  *   ASKED=FILE       a line goes to this file for each time that a send buffer is asked for, with the number of bytes
  *   GRANTED=N        the system says that it grants a send buffer of N bytes, where it was asked for one; below 0 it does not tell
  *   GONE=1           behind the first send that is taken no socket can be bound: the system says that the address is not there
@@ -130,19 +130,19 @@ __attribute__((constructor)) static void start(void) {
 static int is_refused(void) {
     if (!started) return 0;
     requests++;
-    return requests == REFUSE || (REFUSE_FROM && requests >= REFUSE_FROM);
+    if (requests != REFUSE && (!REFUSE_FROM || requests < REFUSE_FROM)) return 0;
+    errno = ENOMEM;
+    return 1;
 }
 
 void *malloc(size_t size) {
     if (!real_malloc) find();
-    if (is_refused()) { errno = ENOMEM; return NULL; }
-    return real_malloc(size);
+    return is_refused() ? NULL : real_malloc(size);
 }
 
 void *realloc(void *old, size_t size) {
     if (!real_realloc) find();
-    if (is_refused()) { errno = ENOMEM; return NULL; }
-    return real_realloc(old, size);
+    return is_refused() ? NULL : real_realloc(old, size);
 }
 
 ssize_t read(int file, void *bytes, size_t size) {
@@ -247,7 +247,7 @@ int fchmod(int file, mode_t mode) { return step_fails("mode") ? -1 : real_fchmod
 
 int flock(int file, int how) { return step_fails("lock") ? -1 : real_flock(file, how); }
 
-/* Told with the file's name; it takes so many milliseconds more. */
+/* Told with the file's name. */
 int fsync(int file) {
     char line[4200], at[32], name[4096];
     snprintf(at, sizeof at, "/proc/self/fd/%d", file);
@@ -255,7 +255,7 @@ int fsync(int file) {
     name[length > 0 ? length : 0] = 0;
     snprintf(line, sizeof line, "fsync %s\n", name);
     tell("CALLS", line);
-    const long more = set("SLOW") + said("slow");
+    const long more = said("slow");
     const int is_folder = kind_of(file) == S_IFDIR;
     struct timespec time = {more / 1000, more % 1000 * 1000000};
     if (more) nanosleep(&time, NULL);

@@ -21,28 +21,16 @@ import oca_profile as oca
 from checks import free_port, layer, verdict
 from damaged import MESSAGES
 from peers import Peer, Served
+from tables import data
 
-PEERS = ["127.0.0.1:9001", "127.0.0.1:9002"]
-
-
-def command(handle, target, level, index, count=0, params=b"", respond=True):
-    return oca.pdu(1 if respond else 0, [oca.Command(handle, target, level, index, count, params).body()]).hex()
+DATA = data("unreliable")
 
 
 def device_scripts():
     """Duplicates, a duplicate after a later command, ranges, the window's edge, overtaking: a script each."""
-    get = lambda handle: command(handle, 4097, 4, 1)
-    mute = lambda handle, state: command(handle, 4097, 4, 2, 1, bytes([state]))
-    trim = lambda handle, value: command(handle, 4100, 5, 2, 1, value.to_bytes(2, "big", signed=True))
-    for wanted in (
-        [get(1), get(1)],
-        [mute(2, 1), mute(3, 2), mute(2, 1), get(4)],
-        [trim(6, 600), trim(7, -600), trim(8, 601), command(9, 4100, 5, 1)],
-        [get(h) for h in [*range(1, 34), 1, 2, 0]],
-        [get(h) for h in [*range(6, 39), 5]],
-        [mute(1, 2), mute(2, 1), mute(4, 2), mute(3, 1), get(5)],
-    ):
-        yield "".join(f"{k} {PEERS[0]} {line}\n" for k, line in enumerate(wanted)).encode()
+    for script in DATA.device_scripts:
+        asked = [oca.command(handle, *DATA.asked[what], len(value), *map(bytes.fromhex, value)) for handle, what, *value in script]
+        yield "".join(f"{k} 127.0.0.1:9001 {sent.hex()}\n" for k, sent in enumerate(asked)).encode()
 
 
 def link_scripts():

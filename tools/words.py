@@ -8,7 +8,6 @@ This script is the device that hears `ocactl`, and the controller that speaks to
 passed, M failed'."""
 import contextlib
 import errno
-import functools
 import os
 import random
 import re
@@ -318,17 +317,6 @@ def serves_until_stopped(checks):
         checks.same(f"serve --verbose --turns {turns}", (out.split()[:2], out.split()[16:18], len(told)), (["turns", str(turns)], ["quiet", str(turns)], 1))
 
 
-def kept_or_not(part):
-    """The part for a device whose state is not kept, and for one whose state is kept in a file: both tell the same."""
-    @functools.wraps(part)
-    def both(checks):
-        with tempfile.TemporaryDirectory() as folder:
-            for keep in ((), ("--keep", f"{folder}/state")):
-                part(checks, *keep)
-    return both
-
-
-@kept_or_not
 def tells_locks(checks, *keep):
     """`serve --verbose`, with and without `--keep`: locks, unlocks and refusals of executed commands, and a lapse."""
     run, port = checks.serve(*keep, "--verbose")
@@ -351,7 +339,6 @@ def tells_locks(checks, *keep):
         checks.same(f"{serve}: a set after the locks lapsed", lapsed, "served 1 0 0 wrote 4097")
 
 
-@kept_or_not
 def tells_stats(checks, *keep):
     """`serve --stats 1`, also with `--keep`: reports of all datagrams, at most once a second."""
     serve, begun, told = " ".join(["serve", *keep[:1], "--stats"]), time.monotonic(), []
@@ -386,6 +373,14 @@ def tells_stats(checks, *keep):
     # the first comes a second behind the start at least, and each other one a second behind the one before, whenever this script reads it
     checks.expect(f"{serve}: {count} reports in {took:.2f} seconds", 3 <= count <= took)
     checks.expect(f"{serve}: {count} reports, not in {took:.2f} seconds", took < count + 2, is_time=True)
+
+
+def tells(checks):
+    """A device whose state is not kept, and one whose state is kept in a file, tell the same."""
+    with tempfile.TemporaryDirectory() as folder:
+        for part in (tells_locks, tells_stats):
+            for keep in ((), ("--keep", f"{folder}/{part.__name__}")):
+                part(checks, *keep)
 
 
 def listed_line(r, onos):
@@ -457,4 +452,4 @@ def trees(checks):
 if __name__ == "__main__":
     sys.exit(Checks(sys.argv[1]).tried(
         drives_while_it_waits, typed, spans_of_hands, at_own_ports, faults, bad_values, missing_options, versions, unwritten,
-        without_streams, serves, serves_until_stopped, tells_stats, tells_locks, trees, alone=(at_own_ports, unwritten)))
+        without_streams, serves, serves_until_stopped, tells, trees, alone=(at_own_ports, unwritten)))

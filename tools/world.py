@@ -18,7 +18,8 @@ A peer keeps its session while its admitted datagrams come at most 120,000 ms ap
  once        no command is executed twice if the peer kept its session
  in time     the same of a link in time, whatever the device forgets: it asks nothing 15,000 ms behind a submit, and its
              datagrams come at most 100,000 ms late; its answer is that of the only execution under the handle
- said        that execution lies behind the submit, and an OK answer to a get method is what was last set, with its limits
+ said        that execution lies behind the submit, and an OK answer of GetLabel, GetEnabled or the get method of a class is what
+             was last set, with its limits
  second      the transcript is, byte for byte, that of the second implementation
  premises    some schedules are within the premises, and lose, double and overtake datagrams
  sizes       with W = 2 * S - 2 a schedule breaks 'untaken', at each of the 31 pairs; random ones at (2, 2) and (4, 3)
@@ -36,7 +37,7 @@ from unittest.mock import patch
 import oca_profile as oca
 import schedules
 from comparing import Break, broken, changed, in_processes, runs_of, verdict, wrong_rules
-from schedules import PAIRS, crowd, directed, lossy, slow, visitors, wander
+from schedules import PAIRS, crowd, directed, fronts, lossy, slow, visitors, wander
 from tables import data
 
 BATCH, DATA = 40, data("world")
@@ -54,6 +55,23 @@ def reading(o):
         size, signed = oca.WIDTHS[o.kind]
         return 3, b"".join(n.to_bytes(size, "big", signed=signed) for n in (o.state, o.low, o.high))
     return 1, bytes([min(int(o.state), 1) if o.kind == "boolean" else o.state])
+
+
+def held_by(o, method):
+    """What GetLabel, GetEnabled or the get method of its class gives of an object, None for another method."""
+    if method == READS.get(o.kind):
+        return reading(o)
+    return {(2, 8): (1, oca.text_bytes(o.label)), (2, 1): (1, bytes([o.enabled]))}.get(method)
+
+
+def set_by(o, method, params):
+    """An object is set by SetLabel, SetEnabled or the set method of its class; another method changes nothing that is read here."""
+    if method == SETS.get(o.kind):
+        o.state = int.from_bytes(params, "big", signed=o.kind in oca.WIDTHS and oca.WIDTHS[o.kind][1])
+    elif method == (2, 9):
+        o.label = params[2:].decode()
+    elif method == (2, 2):
+        o.enabled = bool(params[0])
 
 
 class Waiting:
@@ -104,7 +122,7 @@ class Laws:
             except Break as fault:
                 fault.at = self.number
                 raise
-            self.count[("front " if step[0] == "set" else "said ") + said.split(" ")[0]] += 1
+            self.count[("front " if step[0] in oca.FRONT else "said ") + said.split(" ")[0]] += 1
             self.count["said too old"] += said == "served 0 0 1"
         if self.answers_sent != len(self.sent["to-link"]):
             raise Break("untaken", len(self.steps) - 1, "datagrams were sent to links that answer nothing")
@@ -211,6 +229,15 @@ class Laws:
         if said == "set" and step[1] in self.settings:
             self.settings[step[1]].state = step[3]
 
+    def label(self, step, said):
+        if said == "changed" and step[1] in self.settings:
+            setattr(self.settings[step[1]], step[0], step[2])
+
+    def unlock(self, step, said):
+        """No answer that is held against a law tells of locks, or of hardware that refuses."""
+
+    enabled, failing = label, unlock
+
     def other(self, step, said):
         self.came_from(step[2], step[1], step[3], said)
         if said.startswith("served"):
@@ -220,11 +247,10 @@ class Laws:
 
     def meets(self, p, command, reply):
         """A command of a link is executed: what its object gives to a get method, or None; and what it is set to."""
-        o = self.settings.get(command.target)
-        get, set_to = o and READS.get(o.kind), o and SETS.get(o.kind)
-        self.met[p][command.handle] = self.number, o and (command.level, command.index) == get and reading(o)
-        if o and (command.level, command.index) == set_to and reply and reply[1] == 0:
-            o.state = int.from_bytes(command.params, "big", signed=o.kind in oca.WIDTHS and oca.WIDTHS[o.kind][1])
+        o, method = self.settings.get(command.target), (command.level, command.index)
+        self.met[p][command.handle] = self.number, o and held_by(o, method)
+        if o and reply and reply[1] == 0:
+            set_by(o, method, command.params)
 
     def says(self, link, answer):
         """An answer of a link in time: its execution lies behind the call, and a reading is what the object held."""
@@ -388,7 +414,7 @@ def made(seed, number):
         window, span = r.randrange(1, 65), r.randrange(1, 33)
     if r.randrange(3) == 0:
         return [directed(window, span, r).take_all()]
-    schedule = r.choice([crowd, visitors, lossy, slow] + [wander] * 10)(r, window, span)
+    schedule = r.choice([crowd, visitors, lossy, slow, fronts] + [wander] * 10)(r, window, span)
     if r.randrange(20) == 0:
         return [schedule.refused(r)]
     if len(schedule.steps) <= 24 and r.randrange(8) == 0:
@@ -508,12 +534,7 @@ def main():
         result = first_broken(program, [directed(window, span)])
         print(result[0] if result else "no break")
         return 0
-    count, seed = int(sys.argv[2]), int(sys.argv[3]) if len(sys.argv) > 3 else 1
-    jobs = [(program, seed, range(first, min(first + BATCH, count))) for first in range(0, count, BATCH)]
-    total, fault, wrong = in_processes(work, jobs, refuses, [(seed, name) for name in RULES])
-    if fault:
-        print(f"{fault}\nworld: seed {seed}: a break after {total['schedules']} schedules without one")
-        return verdict({"laws": False})
+    count, seed, total, wrong = in_processes(work, "schedules", BATCH, refuses, RULES)
     for _, said in wrong:
         print(said)
     good = sizes(program, seed)

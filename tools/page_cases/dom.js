@@ -2,7 +2,7 @@
 // as `HTML`.
 class Part {
   constructor(tag) {
-    Object.assign(this, { tagName: tag.toUpperCase(), attributes: {}, nodes: [], parent: null, hidden: false, disabled: false, value: "", listeners: {}, checked: false, isOpen: false });
+    Object.assign(this, { tagName: tag.toUpperCase(), attributes: {}, nodes: [], parent: null, hidden: false, disabled: false, value: "", checked: false, open: false });
     const names = () => (this.attributes.class || "").split(" ").filter(Boolean), keep = list => this.attributes.class = [...new Set(list)].join(" ");
     this.classList = {
       add: name => keep([...names(), name]), remove: name => keep(names().filter(one => one !== name)), contains: name => names().includes(name),
@@ -11,8 +11,6 @@ class Part {
     this.style = { setProperty: (name, value) => this.style[name] = value };
     this.dataset = {};
   }
-  get className() { return this.attributes.class || ""; }
-  set className(text) { this.attributes.class = text; }
   get textContent() { return this.nodes.map(node => typeof node === "string" ? node : node.textContent).join(""); }
   set textContent(text) { this.nodes = [String(text)]; }
   get children() { return this.nodes.filter(node => typeof node !== "string"); }
@@ -20,7 +18,6 @@ class Part {
   get lastElementChild() { return this.children.at(-1) || null; }
   get firstChild() { return typeof this.nodes[0] === "string" ? { data: this.nodes[0] } : this.nodes[0] || null; }
   get offsetHeight() { return 100; }
-  get open() { return this.isOpen; }
   adopt(nodes) {
     return nodes.map(node => {
       if (typeof node === "string" || typeof node === "number") return String(node);
@@ -53,7 +50,7 @@ class Part {
   setAttribute(name, value) { this.attributes[name] = String(value); }
   removeAttribute(name) { delete this.attributes[name]; }
   toggleAttribute(name, on) { on ? this.attributes[name] = "" : delete this.attributes[name]; }
-  addEventListener(name, act) { this.listeners[name] = act; }
+  addEventListener() {}
   getBoundingClientRect() { return { width: 60, height: 348, x: 0, y: 0 }; }
   focus() {
     document.activeElement = this;
@@ -63,10 +60,10 @@ class Part {
   select() {}
   setPointerCapture() {}
   scrollIntoView() {}
-  showModal() { this.isOpen = true; }
-  close() { this.isOpen = false; }
+  showModal() { this.open = true; }
+  close() { this.open = false; }
 }
-for (const [name, attribute] of [["id", "id"], ["role", "role"], ["ariaLabel", "aria-label"], ["ariaHasPopup", "aria-haspopup"], ["dir", "dir"]]) {
+for (const [name, attribute] of [["id", "id"], ["className", "class"], ["role", "role"], ["ariaLabel", "aria-label"], ["ariaHasPopup", "aria-haspopup"], ["dir", "dir"]]) {
   Object.defineProperty(Part.prototype, name, { get() { return this.attributes[attribute] || ""; }, set(text) { this.attributes[attribute] = String(text); } });
 }
 

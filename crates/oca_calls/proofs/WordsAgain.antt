@@ -7,6 +7,7 @@ use Rattle.std.specs.Str.Parse.{ParsesSigned}
 use Rattle.std.proofs.lemmas.Fmt.{parse-decimal, decimal_is_IsNumeral, parse-signed_decimal}
 use Rattle.std.proofs.lemmas.Str.Parse.{numerals_by_value, tells_digits, parse_signed_minus}
 use Rattle.std.proofs.lemmas.Result.{Ok-from_Ok_iff}
+use Rattle.std.proofs.Math.Facts.{sfits_widen}
 use Rattle.oca_types.specs.declared.class.Class.TheVariants as class
 use Rattle.oca_model.specs.declared.value.MuteState.TheVariants.{Muted, Unmuted}
 use Rattle.oca_model.specs.declared.value.PolarityState.TheVariants.{NonInverted, Inverted}
@@ -42,21 +43,9 @@ signed : (w : Width) (z : ℤ) (f : ℤ → Value) (found : Option Value) → Fi
 signed w z f None fits small h = absurd (refused _ _ (parsed w z (Err tt) fits small h))
 signed w z f (Some y) fits small h = ap Some (h.1 ∙ ap f (both_ok _ _ _ _ refl refl (parsed w z (Ok _) fits small (h.0, refl))))
 
-small8 : (z : ℤ) → FitsSigned w8 z → Small z
-small8 (pos n) fits = omega (arith, fits.sfits)
-small8 (negsuc n) fits = omega (arith, fits.sfits)
-
-small16 : (z : ℤ) → FitsSigned w16 z → Small z
-small16 (pos n) fits = omega (arith, fits.sfits)
-small16 (negsuc n) fits = omega (arith, fits.sfits)
-
-small32 : (z : ℤ) → FitsSigned w32 z → Small z
-small32 (pos n) fits = omega (arith, fits.sfits)
-small32 (negsuc n) fits = omega (arith, fits.sfits)
-
-small64 : (z : ℤ) → FitsSigned w64 z → Small z
-small64 (pos n) fits = omega (arith, fits.sfits)
-small64 (negsuc n) fits = omega (arith, fits.sfits)
+small : (z : ℤ) → FitsSigned w64 z → Small z
+small (pos n) fits = omega (arith, fits.sfits)
+small (negsuc n) fits = omega (arith, fits.sfits)
 
 -- of two words that differ
 first : (a b : Value) (found : Option Value) → (word_of a ≡ word_of b → ⊥) → IsOneOf a b (word_of a) found → found ≡ Some a
@@ -78,10 +67,10 @@ read_back (Polarity Inverted) found fits h = second (Polarity NonInverted) (Pola
 read_back (Switch n) found fits h = unsigned 16 n Switch found fits (omega (arith, fits)) h
 read_back (Boolean true) found fits h = first (Boolean true) (Boolean false) found (λ q. cc) h
 read_back (Boolean false) found fits h = second (Boolean true) (Boolean false) found (λ q. cc) h
-read_back (Int8 z) found fits h = signed w8 z Int8 found fits (small8 z fits) h
-read_back (Int16 z) found fits h = signed w16 z Int16 found fits (small16 z fits) h
-read_back (Int32 z) found fits h = signed w32 z Int32 found fits (small32 z fits) h
-read_back (Int64 z) found fits h = signed w64 z Int64 found fits (small64 z fits) h
+read_back (Int8 z) found fits h = signed w8 z Int8 found fits (small z (sfits_widen tt fits)) h
+read_back (Int16 z) found fits h = signed w16 z Int16 found fits (small z (sfits_widen tt fits)) h
+read_back (Int32 z) found fits h = signed w32 z Int32 found fits (small z (sfits_widen tt fits)) h
+read_back (Int64 z) found fits h = signed w64 z Int64 found fits (small z fits) h
 read_back (Uint8 n) found fits h = unsigned 8 n Uint8 found fits (omega (arith, fits)) h
 read_back (Uint16 n) found fits h = unsigned 16 n Uint16 found fits (omega (arith, fits)) h
 read_back (Uint32 n) found fits h = unsigned 32 n Uint32 found fits (omega (arith, fits)) h

@@ -3,7 +3,6 @@ use Rattle.std.specs.Prelude.{◌≡◌, ◌⊎◌, ℕ, ◌-◌, ◌==◌, ◌<
 use Rattle.std.specs.Prelude.{Some, None, IfSome, IsSome, Result, Ok, Err, FitsSigned}
 use Rattle.std.specs.Int.{w64, FitsUnsigned, cast_unsigned, from_bool}
 use Rattle.std.specs.List.{AllByRecursion}
-use Rattle.std.specs.Option.{option_map}
 use Rattle.oca_tree.specs.declared.object.Object.{Object}
 use Rattle.oca_tree.specs.declared.builder.Kind.{Kind}
 use Rattle.oca_tree.specs.declared.builder.Kind.TheVariants as kinds
@@ -56,61 +55,34 @@ position_flags w = map is_yes (take w.positions w.enableds)
 
 -- ---- readings
 
--- the number of a value of the class
-abbrev pub int8_in : Option Value → Option ℤ
-int8_in (Some (values.Int8 n)) = Some n
-int8_in _ = None
-
-abbrev pub int16_in : Option Value → Option ℤ
-int16_in (Some (values.Int16 n)) = Some n
-int16_in _ = None
-
-abbrev pub int32_in : Option Value → Option ℤ
-int32_in (Some (values.Int32 n)) = Some n
-int32_in _ = None
-
-abbrev pub int64_in : Option Value → Option ℤ
-int64_in (Some (values.Int64 n)) = Some n
-int64_in _ = None
-
-abbrev pub uint8_in : Option Value → Option ℕ
-uint8_in (Some (values.Uint8 n)) = Some n
-uint8_in _ = None
-
-abbrev pub uint16_in : Option Value → Option ℕ
-uint16_in (Some (values.Uint16 n)) = Some n
-uint16_in _ = None
-
-abbrev pub uint32_in : Option Value → Option ℕ
-uint32_in (Some (values.Uint32 n)) = Some n
-uint32_in _ = None
-
-abbrev pub uint64_in : Option Value → Option ℕ
-uint64_in (Some (values.Uint64 n)) = Some n
-uint64_in _ = None
-
--- a setting within its limits, where both are there
-abbrev pub ranged : {X : Type 0} → X → Option X → Option X → Option (Ranged X)
-ranged setting (Some least) (Some greatest) = Some (record { setting = setting; least = least; greatest = greatest })
-ranged setting (Some least) None = None
-ranged setting None greatest = None
+-- a setting within its limits
+abbrev pub ranged : {X : Type 0} → X → X → X → Ranged X
+ranged setting least greatest = record { setting = setting; least = least; greatest = greatest }
 
 -- the reading that three values make: the limits of an integer are of its class; those of others are not looked at
 abbrev pub reading_of_values : Option Value → Option Value → Option Value → Option Reading
 reading_of_values None l g = None
 reading_of_values (Some (values.Mute state)) l g = Some (readings.Mute state)
 reading_of_values (Some (values.Polarity state)) l g = Some (readings.Polarity state)
-reading_of_values (Some (values.Switch n)) l g =
-    Some (readings.Switch (record { setting = n; least = n; greatest = n }))
+reading_of_values (Some (values.Switch n)) l g = Some (readings.Switch (ranged n n n))
 reading_of_values (Some (values.Boolean truth)) l g = Some (readings.Boolean truth)
-reading_of_values (Some (values.Int8 n)) l g = option_map readings.Int8 (ranged n (int8_in l) (int8_in g))
-reading_of_values (Some (values.Int16 n)) l g = option_map readings.Int16 (ranged n (int16_in l) (int16_in g))
-reading_of_values (Some (values.Int32 n)) l g = option_map readings.Int32 (ranged n (int32_in l) (int32_in g))
-reading_of_values (Some (values.Int64 n)) l g = option_map readings.Int64 (ranged n (int64_in l) (int64_in g))
-reading_of_values (Some (values.Uint8 n)) l g = option_map readings.Uint8 (ranged n (uint8_in l) (uint8_in g))
-reading_of_values (Some (values.Uint16 n)) l g = option_map readings.Uint16 (ranged n (uint16_in l) (uint16_in g))
-reading_of_values (Some (values.Uint32 n)) l g = option_map readings.Uint32 (ranged n (uint32_in l) (uint32_in g))
-reading_of_values (Some (values.Uint64 n)) l g = option_map readings.Uint64 (ranged n (uint64_in l) (uint64_in g))
+reading_of_values (Some (values.Int8 n)) (Some (values.Int8 l)) (Some (values.Int8 g)) =
+    Some (readings.Int8 (ranged n l g))
+reading_of_values (Some (values.Int16 n)) (Some (values.Int16 l)) (Some (values.Int16 g)) =
+    Some (readings.Int16 (ranged n l g))
+reading_of_values (Some (values.Int32 n)) (Some (values.Int32 l)) (Some (values.Int32 g)) =
+    Some (readings.Int32 (ranged n l g))
+reading_of_values (Some (values.Int64 n)) (Some (values.Int64 l)) (Some (values.Int64 g)) =
+    Some (readings.Int64 (ranged n l g))
+reading_of_values (Some (values.Uint8 n)) (Some (values.Uint8 l)) (Some (values.Uint8 g)) =
+    Some (readings.Uint8 (ranged n l g))
+reading_of_values (Some (values.Uint16 n)) (Some (values.Uint16 l)) (Some (values.Uint16 g)) =
+    Some (readings.Uint16 (ranged n l g))
+reading_of_values (Some (values.Uint32 n)) (Some (values.Uint32 l)) (Some (values.Uint32 g)) =
+    Some (readings.Uint32 (ranged n l g))
+reading_of_values (Some (values.Uint64 n)) (Some (values.Uint64 l)) (Some (values.Uint64 g)) =
+    Some (readings.Uint64 (ranged n l g))
+reading_of_values _ _ _ = None
 
 -- THE READING whose words these are, or none.
 abbrev pub AreReadingOf : ReadingWords → Option Reading → Type 0

@@ -1,9 +1,9 @@
 -- What is stored of an object, brought into the struct that says what the object is to be (profile).
-use Rattle.std.specs.Prelude.{◌≡◌, ◌⊎◌, ℕ, ◌<◌, ◌≤◌, ◌≤ℤ◌, Option, Some, None}
+use Rattle.std.specs.Prelude.{◌≡◌, ◌⊎◌, ℕ, ◌<◌, ◌≤◌, true, Option, Some, None}
 use Rattle.std.specs.List.{AllByRecursion}
-use Rattle.oca_model.specs.declared.reading.Ranged.{Ranged}
 use Rattle.oca_model.specs.declared.reading.Reading.{Reading}
 use Rattle.oca_model.specs.declared.reading.Reading.TheVariants as readings
+use Rattle.oca_model.specs.Settings.{is_within}
 use Rattle.oca_calls.specs.declared.answer.Answer.{Answer}
 use Rattle.oca_calls.specs.declared.answer.Answer.TheVariants as answers
 use Rattle.oca_calls.specs.declared.value_words.ReadingWords.{ReadingWords}
@@ -45,24 +45,10 @@ AreAlike w stored =
 abbrev pub HasSetTexts : SpecWords → Type 0
 HasSetTexts w = IsName w.label × AllByRecursion IsName (names_of w)
 
--- an unsigned number lies within its limits, and a signed one
-abbrev pub IsInLimits : Ranged ℕ → Type 0
-IsInLimits r = (r.least ≤ r.setting) × (r.setting ≤ r.greatest)
-
 -- A setting that an object with these limits, and so many positions, can have.
 abbrev pub IsPossible : Reading → ℕ → Type 0
-IsPossible (readings.Mute state) positions = Unit {0}
-IsPossible (readings.Polarity state) positions = Unit {0}
 IsPossible (readings.Switch r) positions = r.setting < positions
-IsPossible (readings.Boolean truth) positions = Unit {0}
-IsPossible (readings.Int8 r) positions = (r.least ≤ℤ r.setting) × (r.setting ≤ℤ r.greatest)
-IsPossible (readings.Int16 r) positions = (r.least ≤ℤ r.setting) × (r.setting ≤ℤ r.greatest)
-IsPossible (readings.Int32 r) positions = (r.least ≤ℤ r.setting) × (r.setting ≤ℤ r.greatest)
-IsPossible (readings.Int64 r) positions = (r.least ≤ℤ r.setting) × (r.setting ≤ℤ r.greatest)
-IsPossible (readings.Uint8 r) positions = IsInLimits r
-IsPossible (readings.Uint16 r) positions = IsInLimits r
-IsPossible (readings.Uint32 r) positions = IsInLimits r
-IsPossible (readings.Uint64 r) positions = IsInLimits r
+IsPossible r positions = is_within r ≡ true
 
 -- WHAT WAS STORED IS BROUGHT INTO A STRUCT, with this answer, the first that applies: bad size, where one of them is of
 -- another version; other kind, where they are of two classes, or of two numbers of positions; bad range, where these are

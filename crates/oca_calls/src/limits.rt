@@ -1,100 +1,31 @@
 //! Reading the words of a reading: a value, and limits of its class.
 ghost use Rattle.std.specs.Prelude.{◌≡◌};
-ghost use Rattle.oca_calls.specs.CSpecs.{AreReadingOf, int8_in, int16_in, int32_in, int64_in, ranged, uint8_in, uint16_in};
-ghost use Rattle.oca_calls.specs.CSpecs.{reading_of_values, uint32_in, uint64_in};
+ghost use Rattle.oca_calls.specs.CSpecs.{AreReadingOf, ranged, reading_of_values};
 
 use crate::value_words::ReadingWords;
 use oca_model::{Ranged, Reading, Value};
 
-/// A setting within its limits, where both are there.
-fn ranged<N: Copy>(setting: N, least: Option<N>, greatest: Option<N>) -> Option<Ranged<N>>
+/// A setting within its limits.
+fn ranged<N: Copy>(setting: N, least: N, greatest: N) -> Ranged<N>
     ensures { result ≡ ranged setting least greatest }
 {
-    Some(Ranged {
+    Ranged {
         setting,
-        least: least?,
-        greatest: greatest?,
-    })
-}
-
-/// The number of a value of this class.
-fn int8_in(value: Option<Value>) -> Option<i8>
-    ensures { result ≡ int8_in value }
-{
-    match value {
-        Some(Value::Int8(number)) => Some(number),
-        _ => None,
+        least,
+        greatest,
     }
 }
 
-/// The number of a value of this class.
-fn int16_in(value: Option<Value>) -> Option<i16>
-    ensures { result ≡ int16_in value }
-{
-    match value {
-        Some(Value::Int16(number)) => Some(number),
-        _ => None,
-    }
-}
-
-/// The number of a value of this class.
-fn int32_in(value: Option<Value>) -> Option<i32>
-    ensures { result ≡ int32_in value }
-{
-    match value {
-        Some(Value::Int32(number)) => Some(number),
-        _ => None,
-    }
-}
-
-/// The number of a value of this class.
-fn int64_in(value: Option<Value>) -> Option<i64>
-    ensures { result ≡ int64_in value }
-{
-    match value {
-        Some(Value::Int64(number)) => Some(number),
-        _ => None,
-    }
-}
-
-/// The number of a value of this class.
-fn uint8_in(value: Option<Value>) -> Option<u8>
-    ensures { result ≡ uint8_in value }
-{
-    match value {
-        Some(Value::Uint8(number)) => Some(number),
-        _ => None,
-    }
-}
-
-/// The number of a value of this class.
-fn uint16_in(value: Option<Value>) -> Option<u16>
-    ensures { result ≡ uint16_in value }
-{
-    match value {
-        Some(Value::Uint16(number)) => Some(number),
-        _ => None,
-    }
-}
-
-/// The number of a value of this class.
-fn uint32_in(value: Option<Value>) -> Option<u32>
-    ensures { result ≡ uint32_in value }
-{
-    match value {
-        Some(Value::Uint32(number)) => Some(number),
-        _ => None,
-    }
-}
-
-/// The number of a value of this class.
-fn uint64_in(value: Option<Value>) -> Option<u64>
-    ensures { result ≡ uint64_in value }
-{
-    match value {
-        Some(Value::Uint64(number)) => Some(number),
-        _ => None,
-    }
+/// The reading of an integer of this class, where both limits are of the class.
+macro_rules! within {
+    ($class:ident, $setting:expr, $low:expr, $high:expr) => {
+        match ($low, $high) {
+            (Some(Value::$class(low)), Some(Value::$class(high))) => {
+                Some(Reading::$class(ranged($setting, low, high)))
+            }
+            _ => None,
+        }
+    };
 }
 
 /// Returns the reading that the words of a struct for C hold. `None` if the words of the value hold no value
@@ -122,19 +53,15 @@ fn reading_of_values(
     match value? {
         Value::Mute(state) => Some(Reading::Mute(state)),
         Value::Polarity(state) => Some(Reading::Polarity(state)),
-        Value::Switch(n) => Some(Reading::Switch(Ranged {
-            setting: n,
-            least: n,
-            greatest: n,
-        })),
+        Value::Switch(n) => Some(Reading::Switch(ranged(n, n, n))),
         Value::Boolean(truth) => Some(Reading::Boolean(truth)),
-        Value::Int8(n) => ranged(n, int8_in(low), int8_in(high)).map(Reading::Int8),
-        Value::Int16(n) => ranged(n, int16_in(low), int16_in(high)).map(Reading::Int16),
-        Value::Int32(n) => ranged(n, int32_in(low), int32_in(high)).map(Reading::Int32),
-        Value::Int64(n) => ranged(n, int64_in(low), int64_in(high)).map(Reading::Int64),
-        Value::Uint8(n) => ranged(n, uint8_in(low), uint8_in(high)).map(Reading::Uint8),
-        Value::Uint16(n) => ranged(n, uint16_in(low), uint16_in(high)).map(Reading::Uint16),
-        Value::Uint32(n) => ranged(n, uint32_in(low), uint32_in(high)).map(Reading::Uint32),
-        Value::Uint64(n) => ranged(n, uint64_in(low), uint64_in(high)).map(Reading::Uint64),
+        Value::Int8(n) => within!(Int8, n, low, high),
+        Value::Int16(n) => within!(Int16, n, low, high),
+        Value::Int32(n) => within!(Int32, n, low, high),
+        Value::Int64(n) => within!(Int64, n, low, high),
+        Value::Uint8(n) => within!(Uint8, n, low, high),
+        Value::Uint16(n) => within!(Uint16, n, low, high),
+        Value::Uint32(n) => within!(Uint32, n, low, high),
+        Value::Uint64(n) => within!(Uint64, n, low, high),
     }
 }

@@ -112,16 +112,8 @@ fn is_possible(reading: Reading, positions: u16) -> bool
     ensures { IsTrue result ↔ IsPossible reading positions }
 {
     match reading {
-        Reading::Mute(_) | Reading::Polarity(_) | Reading::Boolean(_) => true,
         Reading::Switch(r) => r.setting < positions,
-        Reading::Int8(r) => r.least <= r.setting && r.setting <= r.greatest,
-        Reading::Int16(r) => r.least <= r.setting && r.setting <= r.greatest,
-        Reading::Int32(r) => r.least <= r.setting && r.setting <= r.greatest,
-        Reading::Int64(r) => r.least <= r.setting && r.setting <= r.greatest,
-        Reading::Uint8(r) => r.least <= r.setting && r.setting <= r.greatest,
-        Reading::Uint16(r) => r.least <= r.setting && r.setting <= r.greatest,
-        Reading::Uint32(r) => r.least <= r.setting && r.setting <= r.greatest,
-        Reading::Uint64(r) => r.least <= r.setting && r.setting <= r.greatest,
+        _ => reading.is_within(),
     }
 }
 

@@ -72,6 +72,17 @@ pub fn bytes_of(flags: &[bool]) -> [u8; MOST_POSITIONS]
     place
 }
 
+/// The kind of an integer that is read so.
+macro_rules! integer {
+    ($class:ident, $ranged:expr) => {
+        Kind::$class {
+            setting: $ranged.setting,
+            least: $ranged.least,
+            greatest: $ranged.greatest,
+        }
+    };
+}
+
 /// The kind of object that is read so, a switch with these names.
 fn kind_with<'a>(reading: Reading, names: &'a [&'a str]) -> Kind<'a>
     ensures { IsKindOf result reading (map (λ name. name.now) names.now) }
@@ -84,46 +95,14 @@ fn kind_with<'a>(reading: Reading, names: &'a [&'a str]) -> Kind<'a>
             position: r.setting,
         },
         Reading::Boolean(truth) => Kind::Boolean(truth),
-        Reading::Int8(r) => Kind::Int8 {
-            setting: r.setting,
-            least: r.least,
-            greatest: r.greatest,
-        },
-        Reading::Int16(r) => Kind::Int16 {
-            setting: r.setting,
-            least: r.least,
-            greatest: r.greatest,
-        },
-        Reading::Int32(r) => Kind::Int32 {
-            setting: r.setting,
-            least: r.least,
-            greatest: r.greatest,
-        },
-        Reading::Int64(r) => Kind::Int64 {
-            setting: r.setting,
-            least: r.least,
-            greatest: r.greatest,
-        },
-        Reading::Uint8(r) => Kind::Uint8 {
-            setting: r.setting,
-            least: r.least,
-            greatest: r.greatest,
-        },
-        Reading::Uint16(r) => Kind::Uint16 {
-            setting: r.setting,
-            least: r.least,
-            greatest: r.greatest,
-        },
-        Reading::Uint32(r) => Kind::Uint32 {
-            setting: r.setting,
-            least: r.least,
-            greatest: r.greatest,
-        },
-        Reading::Uint64(r) => Kind::Uint64 {
-            setting: r.setting,
-            least: r.least,
-            greatest: r.greatest,
-        },
+        Reading::Int8(r) => integer!(Int8, r),
+        Reading::Int16(r) => integer!(Int16, r),
+        Reading::Int32(r) => integer!(Int32, r),
+        Reading::Int64(r) => integer!(Int64, r),
+        Reading::Uint8(r) => integer!(Uint8, r),
+        Reading::Uint16(r) => integer!(Uint16, r),
+        Reading::Uint32(r) => integer!(Uint32, r),
+        Reading::Uint64(r) => integer!(Uint64, r),
     }
 }
 

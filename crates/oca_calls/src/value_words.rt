@@ -88,40 +88,19 @@ impl ValueWords {
                 2 => Some(Value::Polarity(PolarityState::Inverted)),
                 _ => None,
             },
-            4 => match u16::try_from(self.bits) {
-                Ok(position) => Some(Value::Switch(position)),
-                Err(_) => None,
-            },
+            4 => u16::try_from(self.bits).ok().map(Value::Switch),
             5 => match self.bits {
                 0 => Some(Value::Boolean(false)),
                 1 => Some(Value::Boolean(true)),
                 _ => None,
             },
-            6 => match i8::try_from(number) {
-                Ok(setting) => Some(Value::Int8(setting)),
-                Err(_) => None,
-            },
-            7 => match i16::try_from(number) {
-                Ok(setting) => Some(Value::Int16(setting)),
-                Err(_) => None,
-            },
-            8 => match i32::try_from(number) {
-                Ok(setting) => Some(Value::Int32(setting)),
-                Err(_) => None,
-            },
+            6 => i8::try_from(number).ok().map(Value::Int8),
+            7 => i16::try_from(number).ok().map(Value::Int16),
+            8 => i32::try_from(number).ok().map(Value::Int32),
             9 => Some(Value::Int64(number)),
-            10 => match u8::try_from(self.bits) {
-                Ok(setting) => Some(Value::Uint8(setting)),
-                Err(_) => None,
-            },
-            11 => match u16::try_from(self.bits) {
-                Ok(setting) => Some(Value::Uint16(setting)),
-                Err(_) => None,
-            },
-            12 => match u32::try_from(self.bits) {
-                Ok(setting) => Some(Value::Uint32(setting)),
-                Err(_) => None,
-            },
+            10 => u8::try_from(self.bits).ok().map(Value::Uint8),
+            11 => u16::try_from(self.bits).ok().map(Value::Uint16),
+            12 => u32::try_from(self.bits).ok().map(Value::Uint32),
             13 => Some(Value::Uint64(self.bits)),
             _ => None,
         }

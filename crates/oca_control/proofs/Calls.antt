@@ -46,11 +46,11 @@ is_accepted r h l e = by_lost l.lost e
     by_room n true q room e = by_length n (nat_lt most_command_parameter_bytes (length r.params)) q room e
     by_room n false q room e = cc
 
-    by_next : (o : Option ℕ) → l.next ≡ o → submission_under r o l ≡ Ok h → IsAccepted r h l
+    by_next : (o : Option ℕ) → l.next ≡ o → submission_under most_command_parameter_bytes r o l ≡ Ok h → IsAccepted r h l
     by_next None q e = cc
     by_next (Some n) q e = by_room n (span_has_room l.span n l.untaken) q refl e
 
-    by_lost : (b : Bool) → cond b (Err faults.Lost) (submission_under r l.next l) ≡ Ok h → IsAccepted r h l
+    by_lost : (b : Bool) → cond b (Err faults.Lost) (submission_under most_command_parameter_bytes r l.next l) ≡ Ok h → IsAccepted r h l
     by_lost true e = cc
     by_lost false e = by_next l.next refl e
 

@@ -317,7 +317,7 @@ submit_right device first opened s before l r a g lost fits e = by_lost l.lost l
     by_room q k n f false p e = subst (λ x. IsSubmitAnswer s (first + length (commands before)) (length r.params) before x) e
         (q, low k (first + length (commands before)) f n, full_of k n p)
 
-    by_next : is_lost before ≡ false → (o : Option ℕ) → end_of o ≡ first + length (commands before) → Fits32 o → submission_under r o l ≡ a →
+    by_next : is_lost before ≡ false → (o : Option ℕ) → end_of o ≡ first + length (commands before) → Fits32 o → submission_under most_command_parameter_bytes r o l ≡ a →
         IsSubmitAnswer s (first + length (commands before)) (length r.params) before a
     by_next q None n f e = subst (λ x. IsSubmitAnswer s (first + length (commands before)) (length r.params) before x) e (q, spent (first + length (commands before)) n)
       where
@@ -325,7 +325,7 @@ submit_right device first opened s before l r a g lost fits e = by_lost l.lost l
         spent m n = omega arith
     by_next q (Some k) n f e = by_room q k n f (span_has_room l.span k l.untaken) refl e
 
-    by_lost : (b : Bool) → b ≡ is_lost before → cond b (Err faults.Lost) (submission_under r l.next l) ≡ a → IsSubmitAnswer s (first + length (commands before)) (length r.params) before a
+    by_lost : (b : Bool) → b ≡ is_lost before → cond b (Err faults.Lost) (submission_under most_command_parameter_bytes r l.next l) ≡ a → IsSubmitAnswer s (first + length (commands before)) (length r.params) before a
     by_lost true q e = subst (λ x. IsSubmitAnswer s (first + length (commands before)) (length r.params) before x) e (sym q)
     by_lost false q e = by_next (sym q) l.next g.next_is fits e
 

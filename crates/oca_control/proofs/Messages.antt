@@ -1,17 +1,24 @@
 -- What is known of the content of bytes.
-use Rattle.std.proofs.Common.{◌≡◌, ℕ, ◌+◌, ◌≤◌, List, [], ◌∷◌, length, map, refl, sym, ap, ◌∙◌, arith, subst, Option, Some, None, Result, Ok, Err, Bool, length-append}
+use Rattle.std.proofs.Common.{◌≡◌, ℕ, ◌+◌, ◌≤◌, true, false, cond, List, [], ◌∷◌, length, map, refl, sym, ap, ◌∙◌, arith, subst, Option, Some, None, Result, Ok, Err, Bool, length-append}
+use Rattle.std.specs.Prelude.{nat_lt, nat_le}
 use Rattle.std.specs.List.{flat_map}
+use Rattle.std.proofs.lemmas.Bool.Decides.{nat_tests}
 use Rattle.std.proofs.lemmas.List.Concat.{flat_map-cons}
 use Rattle.oca_types.specs.Peers.{CommandFields}
 use Rattle.oca_pdu.specs.declared.fault.PduFault.{PduFault}
-use Rattle.oca_pdu.specs.Messages.{Msg, Command, Response, Pdu, Commands, Responses, OneKeepAlive, ResponseFields, messages_of}
+use Rattle.oca_types.specs.declared.words.Peer.{Peer}
+use Rattle.oca_pdu.specs.Messages.{Msg, Command, Response, KeepAlive, Pdu, Commands, Responses, OneKeepAlive, ResponseFields, messages_of}
 use Rattle.oca_pdu.specs.Encoding.{IsDatagram, pdu_encoding, response_encoding}
 use Rattle.oca_pdu.specs.Reading.{read_datagram}
 use Rattle.oca_pdu.proofs.Codec.{IsBytes}
 use Rattle.oca_pdu.proofs.Decided.{each-append}
 use Rattle.oca_pdu.proofs.Encoded.{datagram_again}
 use Rattle.oca_pdu.proofs.Exact.{is_found, not_refused}
+use Rattle.oca_control.specs.declared.reception.Reception.{Reception}
 use Rattle.oca_control.specs.Contents.{IsContent}
+use Rattle.oca_control.specs.Links.{LinkState, reception, received}
+use Rattle.oca_control.specs.Shortening.{shortened_message, shortened}
+use Rattle.oca_control.specs.Steps.{ReceivesWithin}
 use Rattle.oca_control.specs.PrivateSlots.{IsShortResponse, AreShortResponses}
 
 -- what reading gives
@@ -67,3 +74,73 @@ pdus_short (p ∷ ps) fits =
 pub datagram_short : (ps : List Pdu) (bytes : List ℕ) (ms : List Msg) → IsDatagram ps bytes → ms ≡ flat_map messages_of ps → AreShortResponses ms
 datagram_short ps bytes ms are same =
     subst AreShortResponses (sym same) (pdus_short ps (let short = are.within_limit in let whole = ap length are.bytes_are in omega arith))
+
+-- What is short enough is not shortened.
+kept_answer : (most : ℕ) (r : ResponseFields) → length r.params ≤ most → shortened_message most (Response r) ≡ Response r
+kept_answer most r short = ap (λ b. Response (record { handle = r.handle; status = cond b 14 r.status; count = cond b 0 r.count; params = cond b [] r.params })) (not_above most (length r.params) short)
+  where
+    not_above : (a b : ℕ) → b ≤ a → nat_lt a b ≡ false
+    not_above a b p = grind (arith, nat_tests)
+
+-- Where an answer may have as many bytes of parameters as a datagram holds, no message of a datagram is shortened.
+kept_messages : (most : ℕ) (ms : List Msg) → 1452 ≤ most → AreShortResponses ms → map (shortened_message most) ms ≡ ms
+kept_messages most [] wide short = refl
+kept_messages most (Command respond c ∷ ms) wide short = ap (λ xs. Command respond c ∷ xs) (kept_messages most ms wide short.1)
+kept_messages most (Response r ∷ ms) wide short =
+    ap (λ m. m ∷ map (shortened_message most) ms) (kept_answer most r (let s = short.0 in omega arith))
+    ∙ ap (λ xs. Response r ∷ xs) (kept_messages most ms wide short.1)
+kept_messages most (KeepAlive form ∷ ms) wide short = ap (λ xs. KeepAlive form ∷ xs) (kept_messages most ms wide short.1)
+
+-- The messages of a datagram, each shortened.
+pub shortened_is : (most : ℕ) (ms : List Msg) → AreShortResponses ms → shortened most (Some ms) ≡ Some (map (shortened_message most) ms)
+shortened_is most ms short = by (nat_le 1452 most) refl
+  where
+    wide : (a : ℕ) → nat_le 1452 a ≡ true → 1452 ≤ a
+    wide a p = grind (arith, nat_tests)
+
+    by : (b : Bool) → nat_le 1452 most ≡ b → cond b (Some ms) (Some (map (shortened_message most) ms)) ≡ Some (map (shortened_message most) ms)
+    by true p = ap (λ (x : List Msg). Some x) (sym (kept_messages most ms (wide most p) short))
+    by false p = refl
+
+-- Bytes that are no datagram hold nothing to shorten.
+pub shortened_none : (most : ℕ) → shortened most None ≡ None
+shortened_none most = by (nat_le 1452 most)
+  where
+    by : (b : Bool) → (let x : Option (List Msg) = cond b None None in x) ≡ None
+    by true = refl
+    by false = refl
+
+-- A datagram was heard whose messages are these, each shortened.
+pub received_messages : {most now : ℕ} {from : Peer} {bytes : List ℕ} {old new : LinkState} {returned : Reception} (ms : List Msg) → IsContent (Some ms) bytes → AreShortResponses ms →
+    returned ≡ reception from (Some (map (shortened_message most) ms)) old → new ≡ received from (Some (map (shortened_message most) ms)) now old → ReceivesWithin most from bytes now old returned new
+received_messages {most} {now} {from} {old = old} ms holds short answer_is link_is = record {
+  content = Some ms;
+  holds = holds;
+  answer_is = answer_is ∙ ap (λ (o : Option (List Msg)). reception from o old) (sym (shortened_is most ms short));
+  link_is = link_is ∙ ap (λ (o : Option (List Msg)). received from o now old) (sym (shortened_is most ms short));
+}
+
+-- Bytes that reading refuses hold nothing.
+pub no_content : (bytes : List ℕ) (f : PduFault) → read_datagram bytes ≡ Err f → IsContent None bytes
+no_content bytes f e = λ ps are. not_refused ps bytes f are e
+
+-- Bytes were heard that are no datagram.
+pub received_none : {most now : ℕ} {from : Peer} {bytes : List ℕ} {old new : LinkState} {returned : Reception} → IsContent None bytes →
+    returned ≡ reception from None old → new ≡ received from None now old → ReceivesWithin most from bytes now old returned new
+received_none {most} {now} {from} {old = old} holds answer_is link_is = record {
+  content = None;
+  holds = holds;
+  answer_is = answer_is ∙ ap (λ (o : Option (List Msg)). reception from o old) (sym (shortened_none most));
+  link_is = link_is ∙ ap (λ (o : Option (List Msg)). received from o now old) (sym (shortened_none most));
+}
+
+-- What was heard follows from any content of the bytes, since they have one.
+pub answer_of_content : {most now : ℕ} {from : Peer} {bytes : List ℕ} {old new : LinkState} {returned : Reception} → IsBytes bytes → ReceivesWithin most from bytes now old returned new →
+    (content : Option (List Msg)) → IsContent content bytes → returned ≡ reception from (shortened most content) old
+answer_of_content {most} {from = from} {bytes = bytes} {old = old} fits x content is =
+    x.answer_is ∙ ap (λ o. reception from (shortened most o) old) (sym (one_content bytes x.content fits x.holds) ∙ one_content bytes content fits is)
+
+pub link_of_content : {most now : ℕ} {from : Peer} {bytes : List ℕ} {old new : LinkState} {returned : Reception} → IsBytes bytes → ReceivesWithin most from bytes now old returned new →
+    (content : Option (List Msg)) → IsContent content bytes → new ≡ received from (shortened most content) now old
+link_of_content {most} {now} {from} {bytes} {old} fits x content is =
+    x.link_is ∙ ap (λ o. received from (shortened most o) now old) (sym (one_content bytes x.content fits x.holds) ∙ one_content bytes content fits is)

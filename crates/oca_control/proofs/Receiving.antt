@@ -6,33 +6,34 @@ use Rattle.std.proofs.Math.Dec.{eqb}
 use Rattle.oca_pdu.specs.Messages.{Msg, Command, Response, KeepAlive}
 use Rattle.oca_control.specs.Answers.{AnswerFields, answer_of_response}
 use Rattle.oca_control.specs.Untaken.{Untaken, span_has_room, answered, hears, hears_all, answers_by, answers_by_all, answer_under, without_handle}
+use Rattle.oca_control.specs.Shortening.{shortened_message}
 use Rattle.oca_control.specs.PrivateSlots.{AreShortResponses, IsShortResponse, TableState}
 
--- Half-way through the messages of a datagram: so many commands were answered so far, what is still to be heard gives
--- the whole, and the next handle is as it was.
-pub record HearsOn (rest : List Msg) (us : List Untaken) (hi n : ℕ) (all : List Msg) (first : List Untaken) (start : ℕ) : Type 0 where
+-- Half-way through the messages of a datagram, where an answer may have so many bytes of parameters: so many commands
+-- were answered so far, what is still to be heard gives the whole, and the next handle is as it was.
+pub record HearsOn (most : ℕ) (rest : List Msg) (us : List Untaken) (hi n : ℕ) (all : List Msg) (first : List Untaken) (start : ℕ) : Type 0 where
   pub few : n + length rest ≤ 146
   pub short : AreShortResponses rest
-  pub count : n + answers_by_all rest us ≡ answers_by_all all first
-  pub heard : hears_all rest us ≡ hears_all all first
+  pub count : n + answers_by_all (map (shortened_message most) rest) us ≡ answers_by_all (map (shortened_message most) all) first
+  pub heard : hears_all (map (shortened_message most) rest) us ≡ hears_all (map (shortened_message most) all) first
   pub next : hi ≡ start
 
 -- The next message to be heard is short.
-pub hears_first : (m : Msg) (rest rest' all : List Msg) (us first : List Untaken) (hi n start : ℕ) → HearsOn rest us hi n all first start → rest ≡ m ∷ rest' → IsShortResponse m
-hears_first m rest rest' all us first hi n start h step = (subst AreShortResponses step h.short).0
+pub hears_first : (most : ℕ) (m : Msg) (rest rest' all : List Msg) (us first : List Untaken) (hi n start : ℕ) → HearsOn most rest us hi n all first start → rest ≡ m ∷ rest' → IsShortResponse m
+hears_first most m rest rest' all us first hi n start h step = (subst AreShortResponses step h.short).0
 
 -- One message more was heard.
-pub hears_further : (m : Msg) (rest rest' all : List Msg) (us first us' : List Untaken) (hi hi' n n' start : ℕ) → HearsOn rest us hi n all first start → rest ≡ m ∷ rest' →
-    us' ≡ hears m us → hi' ≡ hi → n' ≡ n + answers_by m us → n' ≤ n + 1 → HearsOn rest' us' hi' n' all first start
-hears_further m rest rest' all us first us' hi hi' n n' start h step heard next count one = record {
+pub hears_further : (most : ℕ) (m : Msg) (rest rest' all : List Msg) (us first us' : List Untaken) (hi hi' n n' start : ℕ) → HearsOn most rest us hi n all first start → rest ≡ m ∷ rest' →
+    us' ≡ hears (shortened_message most m) us → hi' ≡ hi → n' ≡ n + answers_by (shortened_message most m) us → n' ≤ n + 1 → HearsOn most rest' us' hi' n' all first start
+hears_further most m rest rest' all us first us' hi hi' n n' start h step heard next count one = record {
   few = let few : n + length rest ≤ 146 = h.few in let fewer : length rest ≡ length (m ∷ rest') = ap length step in omega arith;
   short = (subst AreShortResponses step h.short).1;
-  count = ap (λ k. k + answers_by_all rest' us') count
-      ∙ ap (λ vs. n + answers_by m us + answers_by_all rest' vs) heard
-      ∙ plus_assoc n (answers_by m us) (answers_by_all rest' (hears m us))
-      ∙ ap (λ ms. n + answers_by_all ms us) (sym step)
+  count = ap (λ k. k + answers_by_all (map (shortened_message most) rest') us') count
+      ∙ ap (λ vs. n + answers_by (shortened_message most m) us + answers_by_all (map (shortened_message most) rest') vs) heard
+      ∙ plus_assoc n (answers_by (shortened_message most m) us) (answers_by_all (map (shortened_message most) rest') (hears (shortened_message most m) us))
+      ∙ ap (λ ms. n + answers_by_all (map (shortened_message most) ms) us) (sym step)
       ∙ h.count;
-  heard = ap (hears_all rest') heard ∙ ap (λ ms. hears_all ms us) (sym step) ∙ h.heard;
+  heard = ap (hears_all (map (shortened_message most) rest')) heard ∙ ap (λ ms. hears_all (map (shortened_message most) ms) us) (sym step) ∙ h.heard;
   next = next ∙ h.next;
 }
   where

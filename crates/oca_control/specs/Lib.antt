@@ -9,6 +9,7 @@ pub mod Copies
 pub mod Turning
 pub mod Untaken
 pub mod Links
+pub mod Shortening
 pub mod Steps
 pub mod Histories
 pub mod Answering

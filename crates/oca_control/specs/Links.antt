@@ -64,17 +64,22 @@ command_under h r =
 abbrev pub Request : Type 0
 Request = RequestFields
 
--- what `submit` returns where this is the next handle, or none is left
-abbrev pub submission_under : RequestFields → Option ℕ → LinkState → Result Handle ControlFault
-submission_under r None l = Err faults.HandlesSpent
-submission_under r (Some h) l =
+-- what `submit` returns where this is the next handle, or none is left, and a command may have so many bytes of
+-- parameters
+abbrev pub submission_under : ℕ → RequestFields → Option ℕ → LinkState → Result Handle ControlFault
+submission_under most r None l = Err faults.HandlesSpent
+submission_under most r (Some h) l =
     if span_has_room l.span h l.untaken
-    then (if nat_lt most_command_parameter_bytes (length r.params) then Err faults.TooLong else Ok (record { 0 = h }))
+    then (if nat_lt most (length r.params) then Err faults.TooLong else Ok (record { 0 = h }))
     else Err faults.SpanFull
 
--- what `submit` returns
+-- what `submit` returns where a command may have so many
+abbrev pub submission_within : ℕ → RequestFields → LinkState → Result Handle ControlFault
+submission_within most r l = if l.lost then Err faults.Lost else submission_under most r l.next l
+
+-- what `submit` returns where it may have as many as a datagram holds
 abbrev pub submission : RequestFields → LinkState → Result Handle ControlFault
-submission r l = if l.lost then Err faults.Lost else submission_under r l.next l
+submission r l = submission_within most_command_parameter_bytes r l
 
 -- After 4294967295 no handle is left.
 abbrev pub handle_after : ℕ → Option ℕ
@@ -90,8 +95,11 @@ after_submission (Ok h) r now l =
       untaken = l.untaken ++ new_untaken (present_moment now l) (command_under h.0 r) ∷ [];
     }
 
+abbrev pub submitted_within : ℕ → RequestFields → ℕ → LinkState → LinkState
+submitted_within most r now l = after_submission (submission_within most r l) r now l
+
 abbrev pub submitted : RequestFields → ℕ → LinkState → LinkState
-submitted r now l = after_submission (submission r l) r now l
+submitted r now l = submitted_within most_command_parameter_bytes r now l
 
 -- DUE. What is to be sent: a command, a keep-alive or nothing; or the link is lost.
 pub data Decision : Type 0 where

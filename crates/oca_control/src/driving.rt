@@ -7,7 +7,7 @@ ghost use Rattle.oca_control.specs.Running.{NothingIsLeft};
 ghost use Rattle.oca_control.specs.PrivateDriving.{IsReportWithin, given_report, GivesOne, TakesDriveTurn};
 
 use crate::due::Due;
-use crate::link::Link;
+use crate::link::{Link, LinkOf};
 use crate::reception::Reception;
 use crate::report::DriveReport;
 use oca_net::{End, Heard};
@@ -70,7 +70,11 @@ pub fn drive<E: End>(link: &mut Link, end: &mut E, turns: u32) -> DriveReport
 /// Afterwards nothing is left to send at that moment, or the link is lost and `lost` is `true`
 /// ([`law_of_sending`](crate::law_of_sending)). A link that was lost before sends nothing. The call does not check
 /// whether a command was submitted more than 15,000 ms ago. [`send_in_time`](crate::send_in_time) checks that.
-pub fn send_due<E: End>(link: &mut Link, end: &mut E, now: u64) -> DriveReport
+pub fn send_due<E: End, const COMMAND: usize, const ANSWER: usize>(
+    link: &mut LinkOf<COMMAND, ANSWER>,
+    end: &mut E,
+    now: u64,
+) -> DriveReport
     ensures gives { SendsDue now (link.old.span + 1) link.old link.new (E.state end.old) (E.state end.new) result }
     ensures lost { result.lost ≡ link.new.lost }
     ensures left { result.lost ≡ false → NothingIsLeft link.new }
@@ -123,7 +127,12 @@ pub(crate) fn count_of(reception: Reception) -> u64
 }
 
 /// Hands what is due at this moment to the end, for the device, and returns what was handed over.
-fn give_all<E: End>(link: &mut Link, end: &mut E, packet: &mut Packet, now: u64) -> DriveReport
+fn give_all<E: End, const COMMAND: usize, const ANSWER: usize>(
+    link: &mut LinkOf<COMMAND, ANSWER>,
+    end: &mut E,
+    packet: &mut Packet,
+    now: u64,
+) -> DriveReport
     ensures gives { SendsDue now (link.old.span + 1) link.old link.new (E.state end.old) (E.state end.new) result }
     ensures few { length link.old.untaken ≤ link.old.span }
     ensures fits { IsReportWithin 4294967295 result }
@@ -142,8 +151,8 @@ fn give_all<E: End>(link: &mut Link, end: &mut E, packet: &mut Packet, now: u64)
 
 /// Calls `due` once, and hands what it gives to the end, for the device. Returns whether it gave anything, and what was
 /// handed over.
-fn give_one<E: End>(
-    link: &mut Link,
+fn give_one<E: End, const COMMAND: usize, const ANSWER: usize>(
+    link: &mut LinkOf<COMMAND, ANSWER>,
     end: &mut E,
     packet: &mut Packet,
     now: u64,

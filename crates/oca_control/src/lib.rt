@@ -30,7 +30,7 @@ pub use fault::ControlFault;
 pub use law::{
     law_copies_in_time, law_of_answering, law_of_histories, law_of_running, law_of_sending,
 };
-pub use link::Link;
+pub use link::{Link, LinkOf, SmallLink};
 pub use outcome::Outcome;
 pub use reception::Reception;
 pub use report::DriveReport;

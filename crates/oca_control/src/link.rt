@@ -1,9 +1,9 @@
 //! The link of a controller to a device.
 ghost use Rattle.std.specs.Prelude.{◌≡◌, ◌≤◌, ◌<◌, ℕ, max, if◌then◌else◌, length, List, Option, Some, None};
-ghost use Rattle.std.specs.Prelude.{MatchOption};
+ghost use Rattle.std.specs.Prelude.{MatchOption, min, map};
 ghost use Rattle.std.specs.Option.{option_map};
 ghost use Rattle.oca_types.specs.Peers.{RequestFields};
-ghost use Rattle.oca_types.specs.Sizes.{span_size};
+ghost use Rattle.oca_types.specs.Sizes.{span_size, most_command_parameter_bytes};
 ghost use Rattle.oca_pdu.specs.Messages.{Msg, msg_of};
 ghost use Rattle.oca_pdu.specs.Limits.{most_messages};
 ghost use Rattle.oca_pdu.specs.Datagrams.{messages_left};
@@ -12,10 +12,11 @@ ghost use Rattle.oca_control.specs.Contents.{IsContent};
 ghost use Rattle.oca_control.specs.Untaken.{Untaken, hears, answers_by, hears_all, answers_by_all, first_answered};
 ghost use Rattle.oca_control.specs.Untaken.{answer_under, waits};
 ghost use Rattle.std.specs.List.{list_any};
-ghost use Rattle.oca_control.specs.Links.{reception_counted, late_at, new_link, submission, submitted, decision};
-ghost use Rattle.oca_control.specs.Links.{due_answer, due_bytes, gone_on, IsNextDue, NeverIsDue, reception, received};
-ghost use Rattle.oca_control.specs.Links.{present_moment, taken};
-ghost use Rattle.oca_control.specs.Steps.{ReceivesDatagram};
+ghost use Rattle.oca_control.specs.Links.{reception_counted, late_at, new_link, submission_within, submitted_within};
+ghost use Rattle.oca_control.specs.Links.{decision, due_answer, due_bytes, gone_on, IsNextDue, NeverIsDue, reception};
+ghost use Rattle.oca_control.specs.Links.{present_moment, received, taken};
+ghost use Rattle.oca_control.specs.Steps.{ReceivesWithin};
+ghost use Rattle.oca_control.specs.Shortening.{shortened, shortened_message};
 ghost use Rattle.oca_control.specs.PrivateSlots.{AreShortResponses, IsShortResponse};
 
 use crate::answer::Answer;
@@ -35,7 +36,16 @@ use std::marker::Model;
 const KEEP_ALIVE_MS: u64 = 2500;
 
 /// A controller's link to one device: it decides what is sent and when, and stores the answers. No call takes memory.
-/// The commands, at most 32, lie in the link itself.
+/// The commands, at most 32, lie in the link itself, each with its answer. So what the link takes in bytes follows from
+/// the longest command and the longest answer (*profile*):
+/// - `COMMAND` is the number of bytes of parameters that a command may have, and at most 1,445 count. A longer command
+///   is refused.
+/// - `ANSWER` is the number of bytes of parameters that an answer may have. An answer with more is stored with the
+///   status BufferOverflow (14, AES70-2), ParamCount 0 and no parameters. The device executed the command or refused
+///   it, and what it said is not known. The command is answered, so it is not sent again. With 1,452 or more bytes each
+///   answer is stored as it came.
+///
+/// [`Link`] has room for each command and answer of a datagram, and [`SmallLink`] takes 12 kB.
 ///
 /// The words of its calls:
 /// - The *handle* of a command is a 32-bit number (AES70-3), which the link gives the command at its submit.
@@ -52,17 +62,31 @@ const KEEP_ALIVE_MS: u64 = 2500;
 /// - The *link's clock* is the latest moment that the link was given, in milliseconds of a clock of the caller. An
 ///   earlier moment is treated as that latest moment. The caller gives the link each datagram with its moment.
 #[derive(Drop)]
-pub struct Link {
+pub struct LinkOf<const COMMAND: usize, const ANSWER: usize> {
     device: Peer,
     moment: u64,
     sent: u64,
     heard: u64,
     lost: bool,
     span: Span,
-    table: Table,
+    table: Table<COMMAND, ANSWER>,
 }
 
-impl Model for Link {
+/// A link with room for each command and each answer that a datagram holds: commands with 1,445 bytes of parameters,
+/// and answers with 1,452 bytes. It takes 94,520 bytes. [`LinkOf`] has its calls, and explains their words.
+pub type Link = LinkOf<1445, 1452>;
+
+/// A link in at most 12,288 bytes, for a panel that sets and reads single values: commands with 64 bytes of parameters,
+/// and answers with 264 bytes. A longer answer becomes the status BufferOverflow without parameters ([`LinkOf`]). It
+/// has the calls of [`LinkOf`], and [`send_in_time`](crate::send_in_time), [`send_due`](crate::send_due) and
+/// [`is_late`](crate::is_late) work with it. The other calls over an end take a [`Link`].
+pub type SmallLink = LinkOf<64, 264>;
+
+const _: () = prove!(std::mem::size_of::<Link>() == 94_520);
+
+const _: () = prove!(std::mem::size_of::<SmallLink>() <= 12_288);
+
+impl<const COMMAND: usize, const ANSWER: usize> Model for LinkOf<COMMAND, ANSWER> {
     ghost use Rattle.std.specs.Prelude.{◌≤◌, length};
     ghost use Rattle.oca_types.specs.Sizes.{span_size};
     ghost use Rattle.oca_control.specs.Links.{LinkState};
@@ -84,7 +108,7 @@ impl Model for Link {
     ghost invariant = { λ l. length l.table.untaken ≤ span_size l.span };
 }
 
-impl Link {
+impl<const COMMAND: usize, const ANSWER: usize> LinkOf<COMMAND, ANSWER> {
     /// Makes a link to the device at the address `device`. Nothing is sent, no memory is taken, and nothing is refused.
     /// The arguments:
     /// - `first_handle` is the handle of the first command, 0 to 4294967295. Each later handle is one higher.
@@ -98,10 +122,10 @@ impl Link {
     /// - The device may leave a command unanswered, as an old one or as another command under a used handle.
     /// - A late answer to a command of the earlier link is treated as the answer to this link's command under that
     ///   handle.
-    pub fn new(device: Peer, first_handle: Handle, now: u64, span: Span) -> Link
+    pub fn new(device: Peer, first_handle: Handle, now: u64, span: Span) -> Self
         ensures { result ≡ new_link device first_handle.0 now (span_size span) }
     {
-        Link {
+        LinkOf {
             device,
             moment: now,
             sent: now,
@@ -121,7 +145,7 @@ impl Link {
     /// - `Lost` if the link is lost.
     /// - `HandlesSpent` if a command has the handle 4294967295 already.
     /// - `SpanFull` if the next handle is not below the lowest handle whose answer was not taken yet, plus the span.
-    /// - `TooLong` if the parameters have more than 1,445 bytes.
+    /// - `TooLong` if the parameters have more than `COMMAND` bytes or more than 1,445: for a [`Link`] more than 1,445.
     pub fn submit(
         &mut self,
         target: Ono,
@@ -137,7 +161,7 @@ impl Link {
           count = count;
           params = params.now;
         } in
-            result ≡ submission request self.old }
+            result ≡ submission_within (min COMMAND most_command_parameter_bytes) request self.old }
         ensures link { let request : RequestFields = record {
           target = target.0;
           level = method.level;
@@ -145,7 +169,7 @@ impl Link {
           count = count;
           params = params.now;
         } in
-            self.new ≡ submitted request now self.old }
+            self.new ≡ submitted_within (min COMMAND most_command_parameter_bytes) request now self.old }
     {
         if self.lost {
             return Err(ControlFault::Lost);
@@ -156,7 +180,7 @@ impl Link {
         if !self.table.has_room(self.span.get()) {
             return Err(ControlFault::SpanFull);
         }
-        if params.len() > MOST_COMMAND_PARAMETER_BYTES {
+        if params.len() > COMMAND.min(MOST_COMMAND_PARAMETER_BYTES) {
             return Err(ControlFault::TooLong);
         }
         self.moment = self.moment.max(now);
@@ -218,17 +242,18 @@ impl Link {
     /// - `Stranger` if the address or the port is not the device's: nothing else is changed.
     /// - `Malformed` if the bytes are no well-formed datagram (AES70-3): nothing else is changed.
     /// - `Answered` with the number of commands that got their first answer in it, 1 or more. Each such answer is
-    ///   stored.
+    ///   stored. If its parameters have more than `ANSWER` bytes, it is stored with the status BufferOverflow and
+    ///   without parameters ([`LinkOf`]). A [`Link`] has room for each answer.
     /// - `NothingNew` if no command got its first answer.
     ///
     /// After the last two [`last_heard`](Link::last_heard) is this moment. Commands and keep-alives in the datagram do
     /// nothing else. A lost link stores answers too.
     pub fn datagram(&mut self, from: Peer, bytes: &[u8], now: u64) -> Reception
-        ensures receives { ReceivesDatagram from bytes.now now self.old result self.new }
+        ensures receives { ReceivesWithin ANSWER from bytes.now now self.old result self.new }
         ensures answer { (content : Option (List Msg)) → IsContent content bytes.now →
-            result ≡ reception from content self.old }
+            result ≡ reception from (shortened ANSWER content) self.old }
         ensures link { (content : Option (List Msg)) → IsContent content bytes.now →
-            self.new ≡ received from content now self.old }
+            self.new ≡ received from (shortened ANSWER content) now self.old }
     {
         self.moment = self.moment.max(now);
         if from != self.device {
@@ -244,7 +269,8 @@ impl Link {
     }
 
     /// Takes the answer to the command with this handle, and removes the command from the link. The answer has the
-    /// status and the parameters as the device sent them. `None` if no answer is there, as for a handle that no command
+    /// status and the parameters as the device sent them, or BufferOverflow and none if they were too long
+    /// ([`LinkOf`]). `None` if no answer is there, as for a handle that no command
     /// has: then nothing is changed. A lost link gives its answers too.
     pub fn take(&mut self, handle: Handle) -> Option<Answer>
         ensures answer { option_map answer_fields result ≡ answer_under handle.0 self.old.untaken }
@@ -320,7 +346,7 @@ impl Link {
     }
 }
 
-impl Link {
+impl<const COMMAND: usize, const ANSWER: usize> LinkOf<COMMAND, ANSWER> {
     /// The device's address.
     pub(crate) fn device(&self) -> Peer
         ensures { result ≡ self.now.device }
@@ -352,7 +378,7 @@ impl Link {
     }
 }
 
-impl fmt::Debug for Link {
+impl<const COMMAND: usize, const ANSWER: usize> fmt::Debug for LinkOf<COMMAND, ANSWER> {
     /// The device's address, the span, the present moment, that of the last datagram from the device, and whether the
     /// link is lost.
     fn fmt<W: fmt::Write>(&self, f: &mut fmt::Formatter<W>) -> fmt::Result {
@@ -377,12 +403,16 @@ fn counted(answered: u32) -> Reception
 }
 
 /// Takes the responses among the messages in, and returns how many commands they answer.
-fn hear_all(table: &mut Table, messages: Messages<'_>) -> u32
+fn hear_all<const COMMAND: usize, const ANSWER: usize>(
+    table: &mut Table<COMMAND, ANSWER>,
+    messages: Messages<'_>,
+) -> u32
     requires few { length (messages_left messages) ≤ most_messages }
     requires short { AreShortResponses (messages_left messages) }
-    ensures answered { result ≡ answers_by_all (messages_left messages.entry) table.old.untaken }
-    ensures table { table.new
-        ≡ record { next = table.old.next; untaken = hears_all (messages_left messages.entry) table.old.untaken } }
+    ensures answered { let all = map (shortened_message ANSWER) (messages_left messages.entry) in
+        result ≡ answers_by_all all table.old.untaken }
+    ensures table { let all = map (shortened_message ANSWER) (messages_left messages.entry) in
+        table.new ≡ record { next = table.old.next; untaken = hears_all all table.old.untaken } }
 {
     let mut answered = 0;
     for message in messages {
@@ -394,11 +424,15 @@ fn hear_all(table: &mut Table, messages: Messages<'_>) -> u32
 }
 
 /// Takes a message in, and returns whether it is a response that a command waited for.
-fn hear(table: &mut Table, message: Message<'_>) -> bool
+fn hear<const COMMAND: usize, const ANSWER: usize>(
+    table: &mut Table<COMMAND, ANSWER>,
+    message: Message<'_>,
+) -> bool
     requires { IsShortResponse (msg_of message) }
-    ensures answered { (if result then 1 else 0) ≡ answers_by (msg_of message.entry) table.old.untaken }
-    ensures table { table.new
-        ≡ record { next = table.old.next; untaken = hears (msg_of message.entry) table.old.untaken } }
+    ensures answered { let heard = shortened_message ANSWER (msg_of message.entry) in
+        (if result then 1 else 0) ≡ answers_by heard table.old.untaken }
+    ensures table { let heard = shortened_message ANSWER (msg_of message.entry) in
+        table.new ≡ record { next = table.old.next; untaken = hears heard table.old.untaken } }
 {
     match message {
         Message::Response {

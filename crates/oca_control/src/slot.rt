@@ -1,6 +1,6 @@
 //! The place of one command and its answer.
 ghost use Rattle.std.specs.Prelude.{◌≡◌, ◌<◌, ◌≤◌, [], ◌∷◌, length, Some, None, true, is_some, IsSomeAnd, IfSome};
-ghost use Rattle.std.specs.Prelude.{IsTrue, if◌then◌else◌, nat_lt};
+ghost use Rattle.std.specs.Prelude.{IsTrue, if◌then◌else◌, nat_lt, min};
 ghost use Rattle.std.specs.Option.{option_map};
 ghost use Rattle.oca_types.specs.Peers.{request_of};
 ghost use Rattle.oca_types.specs.Sizes.{most_command_parameter_bytes, most_parameter_bytes};
@@ -10,6 +10,7 @@ ghost use Rattle.oca_pdu.specs.Encoding.{pdu_encoding};
 ghost use Rattle.oca_control.specs.Limits.{most_sendings};
 ghost use Rattle.oca_control.specs.Answers.{answer_fields};
 ghost use Rattle.oca_control.specs.Links.{command_under};
+ghost use Rattle.oca_control.specs.Shortening.{shortened_answer};
 ghost use Rattle.oca_control.specs.PrivateSlots.{new_held, held_is_due, held_is_late, held_waits, held_answer};
 ghost use Rattle.oca_control.specs.PrivateSlots.{held_given, held_answered};
 
@@ -17,9 +18,7 @@ use crate::answer::Answer;
 use crate::moments::later;
 use arrayvec::ArrayVec;
 use oca_pdu::write_command;
-use oca_types::{
-    Command, Handle, MOST_COMMAND_PARAMETER_BYTES, MethodId, Ono, Packet, Params, Request,
-};
+use oca_types::{Command, Handle, MethodId, Ono, Packet, Params, Request, Status};
 use std::marker::Model;
 
 /// A command is sent again after so many milliseconds without an answer.
@@ -32,25 +31,28 @@ pub const LONGEST_LIFE_MS: u64 = 15_000;
 /// A command is sent at most so often.
 const MOST_SENDINGS: u8 = 20;
 
-/// A slot of a link's table: it has one command and its answer, or is empty. A slot is never copied: its calls write
+/// A slot of a link's table: it has one command and its answer, or is empty. It has room for a command with `COMMAND`
+/// bytes of parameters, and for an answer with `ANSWER` bytes of parameters. A slot is never copied: its calls write
 /// into it.
 #[derive(Drop)]
-pub struct Slot {
+pub struct Slot<const COMMAND: usize, const ANSWER: usize> {
     held: bool,
     answered: bool,
     times: u8,
+    count: u8,
+    answer_status: u8,
+    answer_count: u8,
     submitted: u64,
     last: u64,
     target: Ono,
     method: MethodId,
-    count: u8,
-    params: ArrayVec<u8, MOST_COMMAND_PARAMETER_BYTES>,
-    answer: Answer,
+    params: ArrayVec<u8, COMMAND>,
+    answer_params: ArrayVec<u8, ANSWER>,
 }
 
-impl Model for Slot {
-    ghost use Rattle.std.specs.Prelude.{Option, Some, None, if◌then◌else◌};
-    ghost use Rattle.oca_control.specs.Answers.{answer_fields};
+impl<const COMMAND: usize, const ANSWER: usize> Model for Slot<COMMAND, ANSWER> {
+    ghost use Rattle.std.specs.Prelude.{◌≤◌, length, Option, Some, None, if◌then◌else◌};
+    ghost use Rattle.oca_types.specs.Sizes.{most_command_parameter_bytes, most_parameter_bytes};
     ghost use Rattle.oca_control.specs.PrivateSlots.{Held};
 
     ghost Value = { Option Held };
@@ -66,33 +68,40 @@ impl Model for Slot {
       submitted = s.submitted;
       times = s.times;
       last = s.last;
-      answer = if s.answered then Some (answer_fields s.answer) else None;
+      answer = if s.answered then Some (record {
+        status = s.answer_status;
+        count = s.answer_count;
+        params = s.answer_params.items;
+      }) else None;
     }) else None };
+
+    ghost invariant = { λ s. record {
+      command : length s.params.items ≤ most_command_parameter_bytes;
+      answer : length s.answer_params.items ≤ most_parameter_bytes;
+    } };
 }
 
-impl Default for Slot {
+impl<const COMMAND: usize, const ANSWER: usize> Default for Slot<COMMAND, ANSWER> {
     /// A place that holds no command.
-    fn default() -> Slot {
+    fn default() -> Self {
         Slot {
             held: false,
             answered: false,
             times: 0,
+            count: 0,
+            answer_status: 0,
+            answer_count: 0,
             submitted: 0,
             last: 0,
             target: Ono(0),
             method: MethodId { level: 0, index: 0 },
-            count: 0,
             params: ArrayVec::new(),
-            answer: Answer {
-                status: 0,
-                count: 0,
-                params: Params::new(),
-            },
+            answer_params: ArrayVec::new(),
         }
     }
 }
 
-impl Slot {
+impl<const COMMAND: usize, const ANSWER: usize> Slot<COMMAND, ANSWER> {
     /// Whether the slot holds a command.
     pub fn is_held(&self) -> bool
         ensures { result ≡ is_some self.now }
@@ -157,10 +166,10 @@ impl Slot {
     }
 
     /// Puts a command into the slot, as submitted at the moment `now`, in milliseconds of the link's clock, and not
-    /// sent yet. `request` is the command; it must have at most 1,445 bytes of parameters (a premise). What the slot
-    /// held before is lost.
+    /// sent yet. `request` is the command; it must have at most `COMMAND` bytes of parameters, and at most 1,445
+    /// (premises). What the slot held before is lost.
     pub fn put(&mut self, request: Request<'_>, now: u64)
-        requires { length request.params.now ≤ most_command_parameter_bytes }
+        requires { length request.params.now ≤ min COMMAND most_command_parameter_bytes }
         ensures { self.new ≡ Some (new_held now (request_of request.entry)) }
     {
         self.held = true;
@@ -198,17 +207,24 @@ impl Slot {
     }
 
     /// Stores the answer to the command in the slot: its status, its ParamCount (`count`) and its parameters
-    /// (`params`), at most 1,452 bytes (a premise). An earlier answer is lost.
+    /// (`params`), at most 1,452 bytes (a premise). If the parameters have more than `ANSWER` bytes, the answer is
+    /// stored with the status BufferOverflow, and without parameters. An earlier answer is lost.
     pub fn store(&mut self, status: u8, count: u8, params: &[u8])
         requires { length params.now ≤ most_parameter_bytes }
         ensures { self.new
-            ≡ option_map (held_answered (record { status = status; count = count; params = params.now })) self.old }
+            ≡ option_map (held_answered (shortened_answer ANSWER
+            (record { status = status; count = count; params = params.now }))) self.old }
     {
         self.answered = true;
-        self.answer.status = status;
-        self.answer.count = count;
-        self.answer.params.clear();
-        let _ = self.answer.params.try_extend_from_slice(params);
+        self.answer_params.clear();
+        if params.len() > ANSWER {
+            self.answer_status = Status::BufferOverflow.number();
+            self.answer_count = 0;
+            return;
+        }
+        self.answer_status = status;
+        self.answer_count = count;
+        let _ = self.answer_params.try_extend_from_slice(params);
     }
 
     /// Takes the answer, and removes the command. `None` if the slot has no answer: then nothing is changed.
@@ -221,10 +237,10 @@ impl Slot {
         }
         self.held = false;
         let mut params = Params::new();
-        let _ = params.try_extend_from_slice(self.answer.params.as_slice());
+        let _ = params.try_extend_from_slice(self.answer_params.as_slice());
         Some(Answer {
-            status: self.answer.status,
-            count: self.answer.count,
+            status: self.answer_status,
+            count: self.answer_count,
             params,
         })
     }

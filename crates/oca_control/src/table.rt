@@ -1,6 +1,6 @@
 //! The commands in flight of a link, each in the place that its handle names.
 ghost use Rattle.std.specs.Prelude.{◌≡◌, ◌+◌, ◌-◌, ◌%◌, ◌<◌, ◌≤◌, [], ◌∷◌, ◌++◌, map, length, Option, Some, None, true};
-ghost use Rattle.std.specs.Prelude.{is_some, IfSome, IsTrue, if◌then◌else◌, slice_index_or};
+ghost use Rattle.std.specs.Prelude.{is_some, IfSome, IsTrue, if◌then◌else◌, slice_index_or, min};
 ghost use Rattle.std.specs.List.{list_any};
 ghost use Rattle.std.specs.Option.{option_map};
 ghost use Rattle.oca_types.specs.Peers.{request_of};
@@ -11,6 +11,7 @@ ghost use Rattle.oca_control.specs.Untaken.{new_untaken, span_has_room, is_late,
 ghost use Rattle.oca_control.specs.Untaken.{first_answered};
 ghost use Rattle.oca_control.specs.Untaken.{answer_under, without_handle};
 ghost use Rattle.oca_control.specs.Links.{command_under, due_answer};
+ghost use Rattle.oca_control.specs.Shortening.{shortened_answer};
 ghost use Rattle.oca_control.specs.PrivateSlots.{IsSlotTable, untaken_from, untaken_at, held_at, held_is_due, some_due};
 ghost use Rattle.oca_control.specs.PrivateSlots.{handle_left, first_decided, after_decision, bytes_decided};
 ghost use Rattle.oca_control.specs.PrivateSlots.{IsLowestDueSlot, IsPlaceOf};
@@ -23,15 +24,16 @@ use std::marker::Model;
 
 /// The commands in flight of a link, at most 32. Their handles are from `low` on and below `next`, which is the handle
 /// of the next command. The command under a handle is in the slot whose index is the handle modulo 32. `next` is
-/// 4294967296 if no handle is left.
+/// 4294967296 if no handle is left. Each slot has room for `COMMAND` bytes of parameters of a command, and for `ANSWER`
+/// bytes of parameters of an answer.
 #[derive(Drop)]
-pub struct Table {
+pub struct Table<const COMMAND: usize, const ANSWER: usize> {
     low: u64,
     next: u64,
-    slots: [Slot; 32],
+    slots: [Slot<COMMAND, ANSWER>; 32],
 }
 
-impl Model for Table {
+impl<const COMMAND: usize, const ANSWER: usize> Model for Table<COMMAND, ANSWER> {
     ghost use Rattle.std.specs.Prelude.{◌-◌};
     ghost use Rattle.oca_control.specs.PrivateSlots.{TableState, IsSlotTable, untaken_from};
 
@@ -42,9 +44,9 @@ impl Model for Table {
     ghost invariant = { λ t. IsSlotTable t.low t.next t.slots };
 }
 
-impl Table {
+impl<const COMMAND: usize, const ANSWER: usize> Table<COMMAND, ANSWER> {
     /// A table without commands. The first command gets the handle `first`.
-    pub fn new(first: Handle) -> Table
+    pub fn new(first: Handle) -> Self
         ensures { result ≡ record { next = first.0; untaken = [] } }
     {
         Table {
@@ -71,11 +73,11 @@ impl Table {
 
     /// Adds a command after the others, under the next handle, as submitted at the moment `now`, in milliseconds of the
     /// link's clock. A handle must be left, the next handle must lie below the lowest one in flight plus 32, and the
-    /// parameters must have at most 1,445 bytes (premises).
+    /// parameters must have at most `COMMAND` bytes, and at most 1,445 (premises).
     pub fn submit(&mut self, request: Request<'_>, now: u64)
         requires left { self.old.next < 4294967296 }
         requires room { span_has_room 32 self.old.next self.old.untaken ≡ true }
-        requires short { length request.params.now ≤ most_command_parameter_bytes }
+        requires short { length request.params.now ≤ min COMMAND most_command_parameter_bytes }
         ensures { self.new ≡ record {
           next = self.old.next + 1;
           untaken = self.old.untaken ++ new_untaken now (command_under self.old.next (request_of request.entry)) ∷ [];
@@ -149,14 +151,16 @@ impl Table {
     }
 
     /// Stores an answer: its status, its ParamCount (`count`) and its parameters (`params`), at most 1,452 bytes (a
-    /// premise). Returns whether a command with this handle waited for it. `false` if none did: then nothing is
-    /// changed.
+    /// premise). If the parameters have more than `ANSWER` bytes, the answer is stored with the status BufferOverflow,
+    /// and without parameters. Returns whether a command with this handle waited for it. `false` if none did: then
+    /// nothing is changed.
     pub fn answer(&mut self, handle: Handle, status: u8, count: u8, params: &[u8]) -> bool
         requires { length params.now ≤ most_parameter_bytes }
         ensures new { result ≡ list_any (waits handle.0) self.old.untaken }
         ensures state { self.new ≡ record {
           next = self.old.next;
-          untaken = map (answered handle.0 (record { status = status; count = count; params = params.now }))
+          untaken = map (answered handle.0
+              (shortened_answer ANSWER (record { status = status; count = count; params = params.now })))
               self.old.untaken;
         } }
     {
@@ -194,7 +198,11 @@ impl Table {
 /// The earliest moment, in milliseconds of the link's clock, from which on some unanswered command is due: 0 if one was
 /// never sent, otherwise 250 ms after the last transmission of the one whose last transmission is the oldest. So the
 /// moment may be past. `None` if no command waits for an answer, or the moment does not fit 64 bits.
-fn due_from(slots: &[Slot; 32], low: u64, next: u64) -> Option<u64>
+fn due_from<const COMMAND: usize, const ANSWER: usize>(
+    slots: &[Slot<COMMAND, ANSWER>; 32],
+    low: u64,
+    next: u64,
+) -> Option<u64>
     requires { low ≤ next }
     ensures { HoldsFrom (some_due (untaken_from low (next - low) slots.now)) result }
 {
@@ -206,7 +214,12 @@ fn due_from(slots: &[Slot; 32], low: u64, next: u64) -> Option<u64>
 }
 
 /// Whether a command is late of those from `low` on and below `next`.
-fn some_late(slots: &[Slot; 32], low: u64, next: u64, now: u64) -> bool
+fn some_late<const COMMAND: usize, const ANSWER: usize>(
+    slots: &[Slot<COMMAND, ANSWER>; 32],
+    low: u64,
+    next: u64,
+    now: u64,
+) -> bool
     requires { low ≤ next }
     ensures { result ≡ list_any (is_late now) (untaken_from low (next - low) slots.now) }
 {
@@ -219,7 +232,11 @@ fn some_late(slots: &[Slot; 32], low: u64, next: u64, now: u64) -> bool
 }
 
 /// The lowest handle from `low` on and below `next` that has its answer.
-fn lowest_answered(slots: &[Slot; 32], low: u64, next: u64) -> Option<u64>
+fn lowest_answered<const COMMAND: usize, const ANSWER: usize>(
+    slots: &[Slot<COMMAND, ANSWER>; 32],
+    low: u64,
+    next: u64,
+) -> Option<u64>
     requires { low ≤ next }
     ensures value { result ≡ first_answered (untaken_from low (next - low) slots.now) }
     ensures below { IfSome result (λ h. h < next) }
@@ -253,7 +270,12 @@ fn place_of(handle: Handle, low: u64, next: u64) -> Option<usize>
 }
 
 /// The lowest due handle from `low` on and below `next`.
-fn lowest_due(slots: &[Slot; 32], low: u64, next: u64, now: u64) -> Option<u64>
+fn lowest_due<const COMMAND: usize, const ANSWER: usize>(
+    slots: &[Slot<COMMAND, ANSWER>; 32],
+    low: u64,
+    next: u64,
+    now: u64,
+) -> Option<u64>
     requires { low ≤ next }
     ensures { IsLowestDueSlot now slots.now low next result }
 {
@@ -266,7 +288,11 @@ fn lowest_due(slots: &[Slot; 32], low: u64, next: u64, now: u64) -> Option<u64>
 }
 
 /// The lowest held handle from `low` on and below `next`, or `next`.
-fn lowest_held(slots: &[Slot; 32], low: u64, next: u64) -> u64
+fn lowest_held<const COMMAND: usize, const ANSWER: usize>(
+    slots: &[Slot<COMMAND, ANSWER>; 32],
+    low: u64,
+    next: u64,
+) -> u64
     requires { low ≤ next }
     ensures above { low ≤ result }
     ensures below { result ≤ next }

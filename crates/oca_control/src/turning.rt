@@ -6,7 +6,7 @@ ghost use Rattle.oca_control.specs.Running.{NothingIsLeft, LeavesNothing};
 ghost use Rattle.oca_control.specs.PrivateTurning.{IsEndOfTurn, lost_report};
 
 use crate::driving::{count_of, nothing, send_due};
-use crate::link::Link;
+use crate::link::{Link, LinkOf};
 use crate::report::DriveReport;
 use oca_net::{End, Heard};
 use oca_types::Packet;
@@ -27,7 +27,10 @@ const WAIT_MS: u64 = 50;
 /// - The network may hold a datagram for up to 100 seconds.
 ///
 /// The link stays late until the answer comes.
-pub fn is_late(link: &Link, now: u64) -> bool
+pub fn is_late<const COMMAND: usize, const ANSWER: usize>(
+    link: &LinkOf<COMMAND, ANSWER>,
+    now: u64,
+) -> bool
     ensures { result ≡ late_at now link.now }
 {
     link.late_at(now)
@@ -44,7 +47,11 @@ pub fn is_late(link: &Link, now: u64) -> bool
 /// - `sent` and `keep_alives`: the commands and the keep-alives that were given to the end to send.
 /// - `failed_sends`: how many of these sends failed. After a send that fails the next is made. Its command is due again
 ///   after 250 ms.
-pub fn send_in_time<E: End>(link: &mut Link, end: &mut E, now: u64) -> DriveReport
+pub fn send_in_time<E: End, const COMMAND: usize, const ANSWER: usize>(
+    link: &mut LinkOf<COMMAND, ANSWER>,
+    end: &mut E,
+    now: u64,
+) -> DriveReport
     ensures gives { SendsInTime now link.old link.new (E.state end.old) (E.state end.new) result }
     ensures left { result.lost ≡ false → NothingIsLeft link.new }
 {

@@ -1,6 +1,6 @@
 -- Each class has the methods that set and read its values.
 use Rattle.std.proofs.Common.{◌≡◌, refl, subst}
-use Rattle.std.specs.Prelude.{Option, Some, None}
+use Rattle.std.specs.Prelude.{Some, None}
 use Rattle.oca_types.specs.declared.words.MethodId.{MethodId}
 use Rattle.oca_types.specs.declared.class.Class.{Class}
 use Rattle.oca_types.specs.declared.class.Class.TheVariants as class
@@ -9,7 +9,7 @@ use Rattle.oca_types.specs.declared.class.Method.TheVariants.{GetState, GetPosit
 use Rattle.oca_types.specs.declared.class.MethodKind.TheVariants.{Known}
 use Rattle.oca_types.specs.Methods.{method_kind, access, IsMethodId}
 use Rattle.oca_model.specs.declared.value.Value.{Value}
-use Rattle.oca_model.specs.declared.value.Value.TheVariants.{Mute, Polarity, Switch, Boolean, Int8, Int16, Int32, Int64, Uint8, Uint16, Uint32, Uint64}
+use Rattle.oca_model.specs.declared.value.Value.TheVariants.{Mute, Polarity, Switch}
 use Rattle.oca_model.specs.Values.{class_of_value, set_method, get_method}
 
 -- a class that has a method by some pair has a pair for it
@@ -21,15 +21,7 @@ unfolding method_kind
 has_set (Mute x) h = there (class_of_value (Mute x)) (set_method (Mute x)) (record { level = 4; index = 2 }) refl h
 has_set (Polarity x) h = there (class_of_value (Polarity x)) (set_method (Polarity x)) (record { level = 4; index = 2 }) refl h
 has_set (Switch x) h = there (class_of_value (Switch x)) (set_method (Switch x)) (record { level = 4; index = 2 }) refl h
-has_set (Boolean x) h = there (class_of_value (Boolean x)) (set_method (Boolean x)) (record { level = 5; index = 2 }) refl h
-has_set (Int8 x) h = there (class_of_value (Int8 x)) (set_method (Int8 x)) (record { level = 5; index = 2 }) refl h
-has_set (Int16 x) h = there (class_of_value (Int16 x)) (set_method (Int16 x)) (record { level = 5; index = 2 }) refl h
-has_set (Int32 x) h = there (class_of_value (Int32 x)) (set_method (Int32 x)) (record { level = 5; index = 2 }) refl h
-has_set (Int64 x) h = there (class_of_value (Int64 x)) (set_method (Int64 x)) (record { level = 5; index = 2 }) refl h
-has_set (Uint8 x) h = there (class_of_value (Uint8 x)) (set_method (Uint8 x)) (record { level = 5; index = 2 }) refl h
-has_set (Uint16 x) h = there (class_of_value (Uint16 x)) (set_method (Uint16 x)) (record { level = 5; index = 2 }) refl h
-has_set (Uint32 x) h = there (class_of_value (Uint32 x)) (set_method (Uint32 x)) (record { level = 5; index = 2 }) refl h
-has_set (Uint64 x) h = there (class_of_value (Uint64 x)) (set_method (Uint64 x)) (record { level = 5; index = 2 }) refl h
+has_set v h = there (class_of_value v) (set_method v) (record { level = 5; index = 2 }) refl h
 
 has_here : (of : Class) (m called : Method) → called ≡ m → (id : MethodId) → method_kind of id ≡ Known called (access called) → IsMethodId of m None → ⊥
 has_here of m called same id e h = let P : Method → Type 0 = λ x. method_kind of id ≡ Known x (access x) in there of m id (subst P same e) h
@@ -40,12 +32,4 @@ has_get class.Block m e h = cc
 has_get class.Mute m e h = let same : GetState ≡ m = cc in has_here class.Mute m GetState same (record { level = 4; index = 1 }) refl h
 has_get class.Polarity m e h = let same : GetState ≡ m = cc in has_here class.Polarity m GetState same (record { level = 4; index = 1 }) refl h
 has_get class.Switch m e h = let same : GetPosition ≡ m = cc in has_here class.Switch m GetPosition same (record { level = 4; index = 1 }) refl h
-has_get class.Boolean m e h = let same : GetSetting ≡ m = cc in has_here class.Boolean m GetSetting same (record { level = 5; index = 1 }) refl h
-has_get class.Int8 m e h = let same : GetSetting ≡ m = cc in has_here class.Int8 m GetSetting same (record { level = 5; index = 1 }) refl h
-has_get class.Int16 m e h = let same : GetSetting ≡ m = cc in has_here class.Int16 m GetSetting same (record { level = 5; index = 1 }) refl h
-has_get class.Int32 m e h = let same : GetSetting ≡ m = cc in has_here class.Int32 m GetSetting same (record { level = 5; index = 1 }) refl h
-has_get class.Int64 m e h = let same : GetSetting ≡ m = cc in has_here class.Int64 m GetSetting same (record { level = 5; index = 1 }) refl h
-has_get class.Uint8 m e h = let same : GetSetting ≡ m = cc in has_here class.Uint8 m GetSetting same (record { level = 5; index = 1 }) refl h
-has_get class.Uint16 m e h = let same : GetSetting ≡ m = cc in has_here class.Uint16 m GetSetting same (record { level = 5; index = 1 }) refl h
-has_get class.Uint32 m e h = let same : GetSetting ≡ m = cc in has_here class.Uint32 m GetSetting same (record { level = 5; index = 1 }) refl h
-has_get class.Uint64 m e h = let same : GetSetting ≡ m = cc in has_here class.Uint64 m GetSetting same (record { level = 5; index = 1 }) refl h
+has_get of m e h = let same : GetSetting ≡ m = cc in has_here of m GetSetting same (record { level = 5; index = 1 }) refl h

@@ -1,6 +1,7 @@
 -- What a reading is once it was set to a value.
 use Rattle.std.proofs.Common.{◌≡◌, ℕ, ◌<◌, Bool, true, false, refl, arith}
-use Rattle.std.specs.Prelude.{Option, Some, None, ℤ, ◌≤ℤ◌, not, nat_le, int_le}
+use Rattle.std.specs.Prelude.{Option, Some, None, FitsSigned, ℤ, ◌≤ℤ◌, not, nat_le, int_le}
+use Rattle.std.specs.Int.{w8, w16, w32, w64}
 use Rattle.std.proofs.lemmas.Int.{ints}
 use Rattle.oca_model.specs.declared.reading.Ranged.{Ranged}
 use Rattle.oca_model.specs.declared.reading.Reading.{Reading}
@@ -76,6 +77,11 @@ above r z e = grind (arith, ints)
 below : (r : Ranged ℤ) (z : ℤ) → not (lies int_le (set_in_limits r z)) ≡ false → z ≤ℤ r.greatest
 below r z e = grind (arith, ints)
 
+signed_typed : (Fits : ℤ → Type 0) → ((low z high : ℤ) → Fits low → Fits high → low ≤ℤ z → z ≤ℤ high → Fits z) → (r : Ranged ℤ) (z : ℤ) → All3 Fits r → not (lies int_le (set_in_limits r z)) ≡ false
+    → All3 Fits (set_in_limits r z)
+signed_typed Fits between r z is e =
+    record { setting = between r.least z r.greatest is.least is.greatest (above r z e) (below r z e); least = is.least; greatest = is.greatest }
+
 -- its numbers are of their types
 pub stays_typed : (r : Reading) (v : Value) → IsReading r → is_beyond r v ≡ false → IsReading (reading_set_to r v)
 unfolding with_value is_within
@@ -84,18 +90,10 @@ stays_typed (readings.Uint8 r) (set.Uint8 n) is e = natural_typed _ r n is e
 stays_typed (readings.Uint16 r) (set.Uint16 n) is e = natural_typed _ r n is e
 stays_typed (readings.Uint32 r) (set.Uint32 n) is e = natural_typed _ r n is e
 stays_typed (readings.Uint64 r) (set.Uint64 n) is e = natural_typed _ r n is e
-stays_typed (readings.Int8 r) (set.Int8 z) is e =
-    let low = is.least in let high = is.greatest in let a = above r z e in let b = below r z e in
-    record { setting = omega (arith, ints, low, high, a, b); least = low; greatest = high }
-stays_typed (readings.Int16 r) (set.Int16 z) is e =
-    let low = is.least in let high = is.greatest in let a = above r z e in let b = below r z e in
-    record { setting = omega (arith, ints, low, high, a, b); least = low; greatest = high }
-stays_typed (readings.Int32 r) (set.Int32 z) is e =
-    let low = is.least in let high = is.greatest in let a = above r z e in let b = below r z e in
-    record { setting = omega (arith, ints, low, high, a, b); least = low; greatest = high }
-stays_typed (readings.Int64 r) (set.Int64 z) is e =
-    let low = is.least in let high = is.greatest in let a = above r z e in let b = below r z e in
-    record { setting = omega (arith, ints, low, high, a, b); least = low; greatest = high }
+stays_typed (readings.Int8 r) (set.Int8 z) is e = signed_typed (FitsSigned w8) (λ l n h a b c d. omega (arith, ints, a, b, c, d)) r z is e
+stays_typed (readings.Int16 r) (set.Int16 z) is e = signed_typed (FitsSigned w16) (λ l n h a b c d. omega (arith, ints, a, b, c, d)) r z is e
+stays_typed (readings.Int32 r) (set.Int32 z) is e = signed_typed (FitsSigned w32) (λ l n h a b c d. omega (arith, ints, a, b, c, d)) r z is e
+stays_typed (readings.Int64 r) (set.Int64 z) is e = signed_typed (FitsSigned w64) (λ l n h a b c d. omega (arith, ints, a, b, c, d)) r z is e
 stays_typed (readings.Mute a) (set.Mute x) is e = tt
 stays_typed (readings.Polarity a) (set.Polarity x) is e = tt
 stays_typed (readings.Boolean a) (set.Boolean x) is e = tt

@@ -60,17 +60,7 @@ set_by of v e is = ap (λ c. as_request Set (value_in c (value_encoding v))) (sy
 set_understood : (of : Class) (v : Value) → class_of_value v ≡ of → IsOfItsType v → request_in of (set_method v) 1 (value_encoding v) ≡ Ok (Set v)
 unfolding request_in
 set_understood of (value.Mute x) e is = set_by of (value.Mute x) e is
-set_understood of (value.Polarity x) e is = set_by of (value.Polarity x) e is
-set_understood of (value.Switch x) e is = set_by of (value.Switch x) e is
-set_understood of (value.Boolean x) e is = set_by of (value.Boolean x) e is
-set_understood of (value.Int8 x) e is = set_by of (value.Int8 x) e is
-set_understood of (value.Int16 x) e is = set_by of (value.Int16 x) e is
-set_understood of (value.Int32 x) e is = set_by of (value.Int32 x) e is
-set_understood of (value.Int64 x) e is = set_by of (value.Int64 x) e is
-set_understood of (value.Uint8 x) e is = set_by of (value.Uint8 x) e is
-set_understood of (value.Uint16 x) e is = set_by of (value.Uint16 x) e is
-set_understood of (value.Uint32 x) e is = set_by of (value.Uint32 x) e is
-set_understood of (value.Uint64 x) e is = set_by of (value.Uint64 x) e is
+set_understood of v e is = set_by of v e is
 
 -- the get methods, by name
 state_understood : (of : Class) (m : Method) → method.GetState ≡ m → request_in of m 0 [] ≡ Ok Get
@@ -90,15 +80,7 @@ get_understood class.Block m e = cc
 get_understood class.Mute m e = state_understood class.Mute m cc
 get_understood class.Polarity m e = state_understood class.Polarity m cc
 get_understood class.Switch m e = position_understood class.Switch m cc
-get_understood class.Boolean m e = setting_understood class.Boolean m cc
-get_understood class.Int8 m e = setting_understood class.Int8 m cc
-get_understood class.Int16 m e = setting_understood class.Int16 m cc
-get_understood class.Int32 m e = setting_understood class.Int32 m cc
-get_understood class.Int64 m e = setting_understood class.Int64 m cc
-get_understood class.Uint8 m e = setting_understood class.Uint8 m cc
-get_understood class.Uint16 m e = setting_understood class.Uint16 m cc
-get_understood class.Uint32 m e = setting_understood class.Uint32 m cc
-get_understood class.Uint64 m e = setting_understood class.Uint64 m cc
+get_understood of m e = setting_understood of m cc
 
 -- ---- the law
 

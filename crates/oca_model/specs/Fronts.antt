@@ -1,14 +1,15 @@
 -- What is read where an encoding stands at the front.
 use Rattle.std.proofs.Common.{◌≡◌, ℕ, ◌<◌, ◌^◌, true, false, Bool, List, [], ◌++◌, length, refl, sym, ap, ◌∙◌}
 use Rattle.std.proofs.Common.{append_assoc, append-nil}
-use Rattle.std.specs.Prelude.{ℤ, Option, Some, FitsSigned}
+use Rattle.std.specs.Prelude.{Option, Some, FitsSigned}
 use Rattle.std.specs.Str.{chars}
 use Rattle.std.specs.Int.{w8, w16, w32, w64, byte_len}
-use Rattle.oca_types.specs.Numbers.{unsigned_encoding, signed_encoding, bool_encoding}
-use Rattle.oca_types.specs.Reading.{unsigned_at, signed_at, bool_at, text_at}
+use Rattle.oca_types.specs.Fixed.{Codec, IsFixed, unsigned, signed}
+use Rattle.oca_types.specs.Numbers.{unsigned_encoding, bool_encoding}
+use Rattle.oca_types.specs.Reading.{unsigned_at, bool_at, text_at}
 use Rattle.oca_types.specs.Texts.{text_encoding}
-use Rattle.oca_types.proofs.Fixed.{unsigned_some, signed_some, fixed_u8, fixed_u16, fixed_u32, fixed_u64, fixed_i8}
-use Rattle.oca_types.proofs.Fixed.{fixed_i16, fixed_i32, fixed_i64}
+use Rattle.oca_types.proofs.Fixed.{fixed_u8, fixed_u16, fixed_u32, fixed_u64, fixed_i8, fixed_i16, fixed_i32}
+use Rattle.oca_types.proofs.Fixed.{fixed_i64}
 use Rattle.oca_types.proofs.Texts.{chars_of}
 use Rattle.oca_types.proofs.TextAt.{at_count, front_some}
 use Rattle.oca_model.specs.Parameters.{whole}
@@ -26,55 +27,40 @@ module _ {V : Type 0} (Fits : V → Type 0) (encoding : V → List ℕ) (read_at
 
 -- ---- numbers
 
-pub u8_front : (n : ℕ) (rest : List ℕ) → n < 256 ^ byte_len w8 →
-    unsigned_at w8 (unsigned_encoding w8 n ++ rest) ≡ Some (n, rest)
-u8_front n rest fits =
-    let bytes = unsigned_encoding w8 n in
-    unsigned_some w8 (bytes ++ rest) bytes rest refl refl ∙ ap (λ x. Some (x, rest)) (fixed_u8.one n bytes (fits, refl))
+-- A value that fits is read where its encoding stands at the front.
+abbrev pub ReadsFront : {V : Type 0} → (V → Type 0) → Codec V → Type 0
+ReadsFront {V} Fits codec = (v : V) (rest : List ℕ) → Fits v → codec.read_at (codec.encoding v ++ rest) ≡ Some (v, rest)
 
-pub u16_front : (n : ℕ) (rest : List ℕ) → n < 256 ^ byte_len w16 →
-    unsigned_at w16 (unsigned_encoding w16 n ++ rest) ≡ Some (n, rest)
-u16_front n rest fits =
-    let bytes = unsigned_encoding w16 n in
-    unsigned_some w16 (bytes ++ rest) bytes rest refl refl
-    ∙ ap (λ x. Some (x, rest)) (fixed_u16.one n bytes (fits, refl))
+front_of : {V : Type 0} (codec : Codec V) (n : ℕ) → IsFixed codec n → (v : V) (rest : List ℕ) →
+    codec.IsEncoding v (codec.encoding v) → codec.read_at (codec.encoding v ++ rest) ≡ Some (v, rest)
+front_of codec n fixed v rest is =
+    let bytes = codec.encoding v in
+    fixed.enough (bytes ++ rest) bytes rest (fixed.size v bytes is) refl
+    ∙ ap (λ x. Some (x, rest)) (fixed.one v bytes is)
 
-pub u32_front : (n : ℕ) (rest : List ℕ) → n < 256 ^ byte_len w32 →
-    unsigned_at w32 (unsigned_encoding w32 n ++ rest) ≡ Some (n, rest)
-u32_front n rest fits =
-    let bytes = unsigned_encoding w32 n in
-    unsigned_some w32 (bytes ++ rest) bytes rest refl refl
-    ∙ ap (λ x. Some (x, rest)) (fixed_u32.one n bytes (fits, refl))
+pub u8_front : ReadsFront (λ n. n < 256 ^ byte_len w8) (unsigned w8)
+u8_front n rest fits = front_of (unsigned w8) 1 fixed_u8 n rest (fits, refl)
 
-pub u64_front : (n : ℕ) (rest : List ℕ) → n < 256 ^ byte_len w64 →
-    unsigned_at w64 (unsigned_encoding w64 n ++ rest) ≡ Some (n, rest)
-u64_front n rest fits =
-    let bytes = unsigned_encoding w64 n in
-    unsigned_some w64 (bytes ++ rest) bytes rest refl refl
-    ∙ ap (λ x. Some (x, rest)) (fixed_u64.one n bytes (fits, refl))
+pub u16_front : ReadsFront (λ n. n < 256 ^ byte_len w16) (unsigned w16)
+u16_front n rest fits = front_of (unsigned w16) 2 fixed_u16 n rest (fits, refl)
 
-pub i8_front : (n : ℤ) (rest : List ℕ) → FitsSigned w8 n → signed_at w8 (signed_encoding w8 n ++ rest) ≡ Some (n, rest)
-i8_front n rest fits =
-    let bytes = signed_encoding w8 n in
-    signed_some w8 (bytes ++ rest) bytes rest refl refl ∙ ap (λ x. Some (x, rest)) (fixed_i8.one n bytes (fits, refl))
+pub u32_front : ReadsFront (λ n. n < 256 ^ byte_len w32) (unsigned w32)
+u32_front n rest fits = front_of (unsigned w32) 4 fixed_u32 n rest (fits, refl)
 
-pub i16_front : (n : ℤ) (rest : List ℕ) → FitsSigned w16 n →
-    signed_at w16 (signed_encoding w16 n ++ rest) ≡ Some (n, rest)
-i16_front n rest fits =
-    let bytes = signed_encoding w16 n in
-    signed_some w16 (bytes ++ rest) bytes rest refl refl ∙ ap (λ x. Some (x, rest)) (fixed_i16.one n bytes (fits, refl))
+pub u64_front : ReadsFront (λ n. n < 256 ^ byte_len w64) (unsigned w64)
+u64_front n rest fits = front_of (unsigned w64) 8 fixed_u64 n rest (fits, refl)
 
-pub i32_front : (n : ℤ) (rest : List ℕ) → FitsSigned w32 n →
-    signed_at w32 (signed_encoding w32 n ++ rest) ≡ Some (n, rest)
-i32_front n rest fits =
-    let bytes = signed_encoding w32 n in
-    signed_some w32 (bytes ++ rest) bytes rest refl refl ∙ ap (λ x. Some (x, rest)) (fixed_i32.one n bytes (fits, refl))
+pub i8_front : ReadsFront (FitsSigned w8) (signed w8)
+i8_front n rest fits = front_of (signed w8) 1 fixed_i8 n rest (fits, refl)
 
-pub i64_front : (n : ℤ) (rest : List ℕ) → FitsSigned w64 n →
-    signed_at w64 (signed_encoding w64 n ++ rest) ≡ Some (n, rest)
-i64_front n rest fits =
-    let bytes = signed_encoding w64 n in
-    signed_some w64 (bytes ++ rest) bytes rest refl refl ∙ ap (λ x. Some (x, rest)) (fixed_i64.one n bytes (fits, refl))
+pub i16_front : ReadsFront (FitsSigned w16) (signed w16)
+i16_front n rest fits = front_of (signed w16) 2 fixed_i16 n rest (fits, refl)
+
+pub i32_front : ReadsFront (FitsSigned w32) (signed w32)
+i32_front n rest fits = front_of (signed w32) 4 fixed_i32 n rest (fits, refl)
+
+pub i64_front : ReadsFront (FitsSigned w64) (signed w64)
+i64_front n rest fits = front_of (signed w64) 8 fixed_i64 n rest (fits, refl)
 
 -- ---- Booleans and texts
 

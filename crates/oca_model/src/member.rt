@@ -49,6 +49,17 @@ fn has_fields(class: Class, fields: &[u16]) -> bool
     class_fields(class).as_slice() == fields
 }
 
+/// The first of these classes whose identifier has these fields.
+macro_rules! first_with {
+    ($fields:expr, $($class:ident)*) => {
+        $(if has_fields(Class::$class, $fields) {
+            Some(Class::$class)
+        } else)* {
+            None
+        }
+    };
+}
+
 /// Returns the class whose identifier has these fields (OcaClassID, AES70-2), such as `Mute` for 1, 1, 1, 2. The fields
 /// and their number must match exactly. The result is `None` if none of the 13 classes of this profile has these
 /// fields. The call takes no memory.
@@ -56,46 +67,7 @@ fn has_fields(class: Class, fields: &[u16]) -> bool
 pub fn class_with(fields: &[u16]) -> Option<Class>
     ensures { result ≡ class_with fields.now }
 {
-    if has_fields(Class::Block, fields) {
-        return Some(Class::Block);
-    }
-    if has_fields(Class::Mute, fields) {
-        return Some(Class::Mute);
-    }
-    if has_fields(Class::Polarity, fields) {
-        return Some(Class::Polarity);
-    }
-    if has_fields(Class::Switch, fields) {
-        return Some(Class::Switch);
-    }
-    if has_fields(Class::Boolean, fields) {
-        return Some(Class::Boolean);
-    }
-    if has_fields(Class::Int8, fields) {
-        return Some(Class::Int8);
-    }
-    if has_fields(Class::Int16, fields) {
-        return Some(Class::Int16);
-    }
-    if has_fields(Class::Int32, fields) {
-        return Some(Class::Int32);
-    }
-    if has_fields(Class::Int64, fields) {
-        return Some(Class::Int64);
-    }
-    if has_fields(Class::Uint8, fields) {
-        return Some(Class::Uint8);
-    }
-    if has_fields(Class::Uint16, fields) {
-        return Some(Class::Uint16);
-    }
-    if has_fields(Class::Uint32, fields) {
-        return Some(Class::Uint32);
-    }
-    if has_fields(Class::Uint64, fields) {
-        return Some(Class::Uint64);
-    }
-    None
+    first_with!(fields, Block Mute Polarity Switch Boolean Int8 Int16 Int32 Int64 Uint8 Uint16 Uint32 Uint64)
 }
 
 /// An OcaClassIdentification: the fields of its identifier. Its version may be any.

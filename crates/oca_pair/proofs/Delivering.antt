@@ -9,7 +9,7 @@ use Rattle.oca_types.specs.declared.words.Peer.{Peer}
 use Rattle.oca_types.specs.declared.words.Handle.{Handle}
 use Rattle.oca_types.specs.declared.words.Reply.{Reply}
 use Rattle.oca_types.specs.Peers.{same_peer, CommandFields}
-use Rattle.oca_types.specs.Sizes.{DeviceSizes}
+use Rattle.oca_types.specs.Sizes.{DeviceSizes, most_command_parameter_bytes}
 use Rattle.oca_pdu.specs.declared.message.Form.TheVariants.{Seconds}
 use Rattle.oca_pdu.specs.Messages.{ResponseFields, Msg, Command, Response, KeepAlive, Commands, OneKeepAlive}
 use Rattle.oca_pdu.specs.Encoding.{pdu_encoding, ResponseFits}
@@ -225,11 +225,11 @@ granted r l h e = by_lost l.lost e
     by_room n true k q = let a = by_long n (nat_lt 1445 (length r.params)) refl q in (a.0, sym (ap (λ i. span_has_room l.span i l.untaken) a.0) ∙ k, a.1)
     by_room n false k q = cc
 
-    by_next : (o : Option ℕ) → submission_under r o l ≡ Ok h → (o ≡ Some h.0) × (span_has_room l.span h.0 l.untaken ≡ true) × (length r.params ≤ 1445)
+    by_next : (o : Option ℕ) → submission_under most_command_parameter_bytes r o l ≡ Ok h → (o ≡ Some h.0) × (span_has_room l.span h.0 l.untaken ≡ true) × (length r.params ≤ 1445)
     by_next None q = cc
     by_next (Some n) q = let a = by_room n (span_has_room l.span n l.untaken) refl q in (ap Some a.0, a.1, a.2)
 
-    by_lost : (b : Bool) → cond b (Err faults.Lost) (submission_under r l.next l) ≡ Ok h → (l.next ≡ Some h.0) × (span_has_room l.span h.0 l.untaken ≡ true) × (length r.params ≤ 1445)
+    by_lost : (b : Bool) → cond b (Err faults.Lost) (submission_under most_command_parameter_bytes r l.next l) ≡ Ok h → (l.next ≡ Some h.0) × (span_has_room l.span h.0 l.untaken ≡ true) × (length r.params ≤ 1445)
     by_lost true q = cc
     by_lost false q = by_next l.next q
 

@@ -54,7 +54,8 @@ use Rattle.oca_pair.proofs.Networks.{LinkSound, Sound, hears_peer, sound_step, s
 use Rattle.oca_pair.proofs.RoundTrip.{grown_steps}
 use Rattle.oca_pair.proofs.GettingThrough.{after_more, took}
 use Rattle.oca_pair.proofs.InTime.{mapped_at, same_some, answers_in_time}
-use Rattle.oca_pair.proofs.ObjectsKept.{execution_status, execution_refuses, class_stays}
+use Rattle.oca_tree.proofs.TypesKept.{execution_status, execution_refuses}
+use Rattle.oca_pair.proofs.ObjectsKept.{class_stays}
 
 -- ---- the peers of links stay
 

@@ -42,7 +42,8 @@ use Rattle.oca_pair.specs.Steps.{Step, after_steps}
 use Rattle.oca_pair.specs.Happenings.{happenings}
 use Rattle.oca_pair.specs.Laws.{Execution, answer_of}
 use Rattle.oca_pair.specs.Saying.{HappensIn, IsOfOneExecutionSince, objects_left, is_of_every_class, CommandAsks, AnswersTyped, IsAnsweredByItsObject, OksSayWhatIsHeld, ReadingsWereHeld, SettingsWereMade, ClassesMetAreThoseAtFirst, OfEachAnswer}
-use Rattle.oca_pair.proofs.ObjectsKept.{found_in, number_of, IsGood, ok_found, execution_status, objects_good, class_stays}
+use Rattle.oca_tree.proofs.TypesKept.{found_in, number_of, IsGood, ok_found, execution_status}
+use Rattle.oca_pair.proofs.ObjectsKept.{objects_good, class_stays}
 use Rattle.oca_pair.proofs.Fixed.{tree_kept}
 use Rattle.oca_pair.proofs.Saying.{between_law}
 use Rattle.oca_pair.proofs.InTime.{same_some}

@@ -179,9 +179,9 @@ pub fn law_once_in_time()
 ///   stays true.
 ///
 /// OK, Reads and Sets have two more premises. The device's objects were a tree at first, with texts and numbers of
-/// their types, which is always true in Rust. The answer is read by the object's class, and a value that is set is of
-/// this class. OK also holds of an answer to a method of OcaRoot or OcaWorker (AES70-2), read by any class. A command
-/// without an answer was executed at most once ([`law_once_in_time`]).
+/// their types; [`Tree::len`](oca_tree::Tree::len) ensures both of each tree. The answer is read by the object's class,
+/// and a value that is set is of this class. OK also holds of an answer to a method of OcaRoot or OcaWorker (AES70-2),
+/// read by any class. A command without an answer was executed at most once ([`law_once_in_time`]).
 pub fn law_of_what_is_said()
     ensures between { OfEachAnswer IsOfOneExecutionSince }
     ensures refused { OfEachAnswer RefusalsChangeNothing }

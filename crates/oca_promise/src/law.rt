@@ -18,8 +18,8 @@ use oca_pdu::law_reading;
 /// - *In time*: the premises of [`law_of_what_is_said`](oca_pair::law_of_what_is_said) hold. The link is never asked
 ///   what is due while a command that was submitted more than 15,000 ms ago has no answer (the link is then *late*).
 ///   Each of its datagrams that comes to the device comes no earlier than it left, and at most 100,000 ms later.
-/// - From "Set" on: the device's objects were a tree at first, with texts and numbers of their types. In Rust that is
-///   always true.
+/// - From "Set" on: the device's objects were a tree at first, with texts and numbers of their types.
+///   [`Tree::len`](oca_tree::Tree::len) ensures both of each tree.
 ///
 /// The conclusions:
 /// - Once: each answer is the reply of the only execution of the call's command. The execution lies between the call

@@ -123,26 +123,21 @@ pub fn placed(rest: Option<&[u8]>) -> Result<(u32, u32, Class, Option<&[u8]>), O
     }
 }
 
+/// Returns the class where the word is that of one of these.
+macro_rules! named {
+    ($word:expr, $($name:literal => $class:ident),*) => {
+        $(if $word == $name.as_slice() {
+            return Some(Class::$class);
+        })*
+    };
+}
+
 /// A class by its word.
 #[tactic(auto, unfolding(crate::specs::Lines::class_of_word, crate::specs::PrivateLines::integer_class_of))]
 fn class(word: &[u8]) -> Option<Class>
     ensures { result ≡ class_of_word word.now }
 {
-    if word == b"block".as_slice() {
-        return Some(Class::Block);
-    }
-    if word == b"mute".as_slice() {
-        return Some(Class::Mute);
-    }
-    if word == b"polarity".as_slice() {
-        return Some(Class::Polarity);
-    }
-    if word == b"switch".as_slice() {
-        return Some(Class::Switch);
-    }
-    if word == b"boolean".as_slice() {
-        return Some(Class::Boolean);
-    }
+    named!(word, b"block" => Block, b"mute" => Mute, b"polarity" => Polarity, b"switch" => Switch, b"boolean" => Boolean);
     integer_class(word)
 }
 
@@ -151,18 +146,7 @@ fn class(word: &[u8]) -> Option<Class>
 fn integer_class(word: &[u8]) -> Option<Class>
     ensures { result ≡ integer_class_of word.now }
 {
-    if word == b"int8".as_slice() {
-        return Some(Class::Int8);
-    }
-    if word == b"int16".as_slice() {
-        return Some(Class::Int16);
-    }
-    if word == b"int32".as_slice() {
-        return Some(Class::Int32);
-    }
-    if word == b"int64".as_slice() {
-        return Some(Class::Int64);
-    }
+    named!(word, b"int8" => Int8, b"int16" => Int16, b"int32" => Int32, b"int64" => Int64);
     unsigned_class(word)
 }
 
@@ -171,18 +155,7 @@ fn integer_class(word: &[u8]) -> Option<Class>
 fn unsigned_class(word: &[u8]) -> Option<Class>
     ensures { result ≡ unsigned_class_of word.now }
 {
-    if word == b"uint8".as_slice() {
-        return Some(Class::Uint8);
-    }
-    if word == b"uint16".as_slice() {
-        return Some(Class::Uint16);
-    }
-    if word == b"uint32".as_slice() {
-        return Some(Class::Uint32);
-    }
-    if word == b"uint64".as_slice() {
-        return Some(Class::Uint64);
-    }
+    named!(word, b"uint8" => Uint8, b"uint16" => Uint16, b"uint32" => Uint32, b"uint64" => Uint64);
     None
 }
 

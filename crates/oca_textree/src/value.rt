@@ -30,18 +30,25 @@ pub struct Limits<'a> {
     rest: Option<&'a [u8]>,
 }
 
+/// What the word says, where it is one of two.
+macro_rules! one_of {
+    ($word:expr, $first:literal => $one:expr, $second:literal => $other:expr) => {
+        if $word == $first.as_slice() {
+            Some($one)
+        } else if $word == $second.as_slice() {
+            Some($other)
+        } else {
+            None
+        }
+    };
+}
+
 /// A mute's state by its word.
 #[tactic(auto, unfolding(crate::specs::Lines::one_of))]
 fn mute(word: &[u8]) -> Option<MuteState>
     ensures { result ≡ one_of (codes "muted") Muted (codes "unmuted") Unmuted word.now }
 {
-    if word == b"muted".as_slice() {
-        Some(MuteState::Muted)
-    } else if word == b"unmuted".as_slice() {
-        Some(MuteState::Unmuted)
-    } else {
-        None
-    }
+    one_of!(word, b"muted" => MuteState::Muted, b"unmuted" => MuteState::Unmuted)
 }
 
 /// A polarity's state by its word.
@@ -49,13 +56,7 @@ fn mute(word: &[u8]) -> Option<MuteState>
 fn polarity(word: &[u8]) -> Option<PolarityState>
     ensures { result ≡ one_of (codes "non-inverted") NonInverted (codes "inverted") Inverted word.now }
 {
-    if word == b"non-inverted".as_slice() {
-        Some(PolarityState::NonInverted)
-    } else if word == b"inverted".as_slice() {
-        Some(PolarityState::Inverted)
-    } else {
-        None
-    }
+    one_of!(word, b"non-inverted" => PolarityState::NonInverted, b"inverted" => PolarityState::Inverted)
 }
 
 /// Returns the Boolean that a word means: true for `on`, false for `off`, and `None` for any other word (*profile*).
@@ -63,13 +64,7 @@ fn polarity(word: &[u8]) -> Option<PolarityState>
 pub fn truth(word: &[u8]) -> Option<bool>
     ensures { result ≡ one_of (codes "on") true (codes "off") false word.now }
 {
-    if word == b"on".as_slice() {
-        Some(true)
-    } else if word == b"off".as_slice() {
-        Some(false)
-    } else {
-        None
-    }
+    one_of!(word, b"on" => true, b"off" => false)
 }
 
 /// Returns whether an object can be locked, by a word: true for `lockable`, false for `no-lock`, and `None` for any
@@ -78,13 +73,7 @@ pub fn truth(word: &[u8]) -> Option<bool>
 pub fn lockable(word: &[u8]) -> Option<bool>
     ensures { result ≡ one_of (codes "lockable") true (codes "no-lock") false word.now }
 {
-    if word == b"lockable".as_slice() {
-        Some(true)
-    } else if word == b"no-lock".as_slice() {
-        Some(false)
-    } else {
-        None
-    }
+    one_of!(word, b"lockable" => true, b"no-lock" => false)
 }
 
 /// An integer of at most 20 digits, behind a minus where it is negative.
@@ -254,116 +243,17 @@ fn boolean_at(rest: Option<&[u8]>) -> Read<'_>
     Ok((Kind::Boolean(state), rest))
 }
 
-/// An integer of the type Int8, with its limits.
-#[tactic(auto, unfolding(crate::specs::Lines::value_at, oca_tree::specs::Building::value_of))]
-fn int8_at(rest: Option<&[u8]>) -> Read<'_>
-    ensures { kind_view result ≡ value_at Class.Int8 (option_copied rest.entry) }
-{
-    let read = read_limits(rest, -128, 127)?;
-    let kind = Kind::Int8 {
-        setting: read.setting as i8,
-        least: read.least as i8,
-        greatest: read.greatest as i8,
-    };
-    Ok((kind, read.rest))
-}
-
-/// An integer of the type Int16, with its limits.
-#[tactic(auto, unfolding(crate::specs::Lines::value_at, oca_tree::specs::Building::value_of))]
-fn int16_at(rest: Option<&[u8]>) -> Read<'_>
-    ensures { kind_view result ≡ value_at Class.Int16 (option_copied rest.entry) }
-{
-    let read = read_limits(rest, -32768, 32767)?;
-    let kind = Kind::Int16 {
-        setting: read.setting as i16,
-        least: read.least as i16,
-        greatest: read.greatest as i16,
-    };
-    Ok((kind, read.rest))
-}
-
-/// An integer of the type Int32, with its limits.
-#[tactic(auto, unfolding(crate::specs::Lines::value_at, oca_tree::specs::Building::value_of))]
-fn int32_at(rest: Option<&[u8]>) -> Read<'_>
-    ensures { kind_view result ≡ value_at Class.Int32 (option_copied rest.entry) }
-{
-    let read = read_limits(rest, -2147483648, 2147483647)?;
-    let kind = Kind::Int32 {
-        setting: read.setting as i32,
-        least: read.least as i32,
-        greatest: read.greatest as i32,
-    };
-    Ok((kind, read.rest))
-}
-
-/// An integer of the type Int64, with its limits.
-#[tactic(auto, unfolding(crate::specs::Lines::value_at, oca_tree::specs::Building::value_of))]
-fn int64_at(rest: Option<&[u8]>) -> Read<'_>
-    ensures { kind_view result ≡ value_at Class.Int64 (option_copied rest.entry) }
-{
-    let read = read_limits(rest, -9223372036854775808, 9223372036854775807)?;
-    let kind = Kind::Int64 {
-        setting: read.setting as i64,
-        least: read.least as i64,
-        greatest: read.greatest as i64,
-    };
-    Ok((kind, read.rest))
-}
-
-/// An integer of the type Uint8, with its limits.
-#[tactic(auto, unfolding(crate::specs::Lines::value_at, oca_tree::specs::Building::value_of))]
-fn uint8_at(rest: Option<&[u8]>) -> Read<'_>
-    ensures { kind_view result ≡ value_at Class.Uint8 (option_copied rest.entry) }
-{
-    let read = read_limits(rest, 0, 255)?;
-    let kind = Kind::Uint8 {
-        setting: read.setting as u8,
-        least: read.least as u8,
-        greatest: read.greatest as u8,
-    };
-    Ok((kind, read.rest))
-}
-
-/// An integer of the type Uint16, with its limits.
-#[tactic(auto, unfolding(crate::specs::Lines::value_at, oca_tree::specs::Building::value_of))]
-fn uint16_at(rest: Option<&[u8]>) -> Read<'_>
-    ensures { kind_view result ≡ value_at Class.Uint16 (option_copied rest.entry) }
-{
-    let read = read_limits(rest, 0, 65_535)?;
-    let kind = Kind::Uint16 {
-        setting: read.setting as u16,
-        least: read.least as u16,
-        greatest: read.greatest as u16,
-    };
-    Ok((kind, read.rest))
-}
-
-/// An integer of the type Uint32, with its limits.
-#[tactic(auto, unfolding(crate::specs::Lines::value_at, oca_tree::specs::Building::value_of))]
-fn uint32_at(rest: Option<&[u8]>) -> Read<'_>
-    ensures { kind_view result ≡ value_at Class.Uint32 (option_copied rest.entry) }
-{
-    let read = read_limits(rest, 0, 4_294_967_295)?;
-    let kind = Kind::Uint32 {
-        setting: read.setting as u32,
-        least: read.least as u32,
-        greatest: read.greatest as u32,
-    };
-    Ok((kind, read.rest))
-}
-
-/// An integer of the type Uint64, with its limits.
-#[tactic(auto, unfolding(crate::specs::Lines::value_at, oca_tree::specs::Building::value_of))]
-fn uint64_at(rest: Option<&[u8]>) -> Read<'_>
-    ensures { kind_view result ≡ value_at Class.Uint64 (option_copied rest.entry) }
-{
-    let read = read_limits(rest, 0, 18_446_744_073_709_551_615)?;
-    let kind = Kind::Uint64 {
-        setting: read.setting as u64,
-        least: read.least as u64,
-        greatest: read.greatest as u64,
-    };
-    Ok((kind, read.rest))
+/// An integer of this kind and type, with its limits, each from the one to the other.
+macro_rules! integer_at {
+    ($rest:expr, $kind:ident, $type:ty, $low:expr, $high:expr) => {{
+        let read = read_limits($rest, $low, $high)?;
+        let kind = Kind::$kind {
+            setting: read.setting as $type,
+            least: read.least as $type,
+            greatest: read.greatest as $type,
+        };
+        Ok((kind, read.rest))
+    }};
 }
 
 /// Reads the value of an object of this class from the next fields of a line; returns the value and the rest of the
@@ -385,13 +275,13 @@ pub fn kind_at(class: Class, rest: Option<&[u8]>) -> Read<'_>
         Class::Mute => mute_at(rest),
         Class::Polarity => polarity_at(rest),
         Class::Boolean => boolean_at(rest),
-        Class::Int8 => int8_at(rest),
-        Class::Int16 => int16_at(rest),
-        Class::Int32 => int32_at(rest),
-        Class::Int64 => int64_at(rest),
-        Class::Uint8 => uint8_at(rest),
-        Class::Uint16 => uint16_at(rest),
-        Class::Uint32 => uint32_at(rest),
-        Class::Uint64 => uint64_at(rest),
+        Class::Int8 => integer_at!(rest, Int8, i8, -128, 127),
+        Class::Int16 => integer_at!(rest, Int16, i16, -32768, 32767),
+        Class::Int32 => integer_at!(rest, Int32, i32, -2147483648, 2147483647),
+        Class::Int64 => integer_at!(rest, Int64, i64, -9223372036854775808, 9223372036854775807),
+        Class::Uint8 => integer_at!(rest, Uint8, u8, 0, 255),
+        Class::Uint16 => integer_at!(rest, Uint16, u16, 0, 65_535),
+        Class::Uint32 => integer_at!(rest, Uint32, u32, 0, 4_294_967_295),
+        Class::Uint64 => integer_at!(rest, Uint64, u64, 0, 18_446_744_073_709_551_615),
     }
 }

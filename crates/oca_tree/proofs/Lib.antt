@@ -24,3 +24,4 @@ pub mod SetReads
 pub mod TypedRight
 pub mod TypedCommands
 pub mod Names
+pub mod TypesKept

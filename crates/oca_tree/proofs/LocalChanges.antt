@@ -1,11 +1,12 @@
 -- What a change at the front does, from what each of its steps found.
 use Rattle.std.proofs.Common.{◌≡◌, ℕ, ◌≤◌, ◌<◌, ◌^◌, chars, subst, Bool, true, false, cond, List, length, get_or, set, refl, ap, ◌∙◌, arith, IsUtf8, []}
-use Rattle.std.specs.Prelude.{Some, None, not, ◌||◌, nat_lt}
+use Rattle.std.specs.Prelude.{Option, Some, None, IfSome, IsSome, not, ◌||◌, nat_lt}
 use Rattle.std.specs.List.{position}
 use Rattle.std.proofs.lemmas.Bool.Decides.{nat_tests}
 use Rattle.std.specs.Str.{is_utf8}
 use Rattle.std.proofs.lemmas.Str.{is_utf8-from_IsUtf8, IsUtf8-from_is_utf8, encodes-chars, length-le-encodes}
 use Rattle.oca_model.proofs.Carried.{SetsTexts}
+use Rattle.oca_model.specs.Lists.{IsText}
 use Rattle.oca_types.specs.Peers.{CommandFields}
 use Rattle.oca_model.specs.declared.request.Request.{Request}
 use Rattle.oca_model.specs.declared.request.Request.TheVariants as asked
@@ -45,8 +46,14 @@ long_label label utf8 long = by (nat_lt 64 (length label)) refl
     by true many = rw (is_utf8-from_IsUtf8 label utf8, many) refl
     by false few = let no : false ≡ true = long (grind (arith, nat_tests, few)) in absurd cc
 
-few_chars : (text : List ℕ) → IsUtf8 text → length text ≤ 64 → length (chars text) < 2 ^ 16
+-- a text of at most 64 bytes has few characters
+pub few_chars : (text : List ℕ) → IsUtf8 text → length text ≤ 64 → length (chars text) < 2 ^ 16
 few_chars text u few = let least : length (chars text) ≤ length text = subst (λ l. length (chars text) ≤ length l) (encodes-chars text u) (length-le-encodes (chars text)) in omega (arith, few, least)
+
+-- what was made of UTF-8 of at most 64 bytes is a text
+pub made_text : (text : List ℕ) (r : Option (List ℕ)) → IsUtf8 text → (IsSome r → length text ≤ 64) → IfSome r (λ t. t ≡ text) → IfSome r IsText
+made_text text None utf8 few same = tt
+made_text text (Some t) utf8 few same = let short = few refl in rw same (utf8, few_chars text utf8 short, short)
 
 no_fault : (a b : Bool) → cond (not a || b) (Some faults.BadLabel) None ≡ None → (a ≡ true) × (b ≡ false)
 no_fault true false e = (refl, refl)

@@ -12,6 +12,9 @@ use Rattle.oca_tree.specs.Places.{Place, place_of, places, is_block_value}
 use Rattle.oca_tree.specs.Trees.{IsTree, IsSound, IsSoundValue, IsSoundLock, IsBuilt}
 use Rattle.oca_tree.specs.Building.{add_fault, value_of}
 use Rattle.oca_tree.specs.Starts.{flags_of, with_flags, restored, start_fault, IsPlain, PlainAddsTheSame}
+use Rattle.oca_model.specs.Lists.{IsText}
+use Rattle.oca_tree.specs.Copies.{names_in}
+use Rattle.oca_tree.specs.TypedLaws.{IsOfItsTypes}
 use Rattle.oca_tree.proofs.Adding.{places_push}
 
 flags_block : (flags : Option (List Bool)) (v : Value) → is_block_value (with_flags flags v) ≡ is_block_value v
@@ -25,6 +28,18 @@ restored_place start o =
 
 pub restored_sound : (start : Start) (o new : Object) → new ≡ restored start o → IsSoundValue new.value → IsSoundLock o.lockable o.lock → IsSound new
 restored_sound start o new e value lock = record { value = value; lock = rw e lock }
+
+-- so are its texts and numbers, and a label that is stored is a text
+names_flags : (flags : Option (List Bool)) (v : Value) → names_in (with_flags flags v) ≡ names_in v
+unfolding names_in
+names_flags None v = refl
+names_flags (Some fs) values.Block = refl
+names_flags (Some fs) (values.Switch switch) = refl
+names_flags (Some fs) (values.Reads r) = refl
+
+pub restored_typed : (start : Start) (o new : Object) → new ≡ restored start o → IsText start.label.now → IsOfItsTypes o → IsOfItsTypes new
+restored_typed start o new e label h =
+    rw e (record { role = h.role; label = label; names = rw (names_flags (flags_of start) o.value) h.names; number = h.number; container = h.container })
 
 -- another object at the same place
 pub replaced_tree : (tree : List Object) (o new : Object) → place_of new ≡ place_of o → IsSound new → IsTree tree → IsTree (tree ++ o ∷ []) → IsTree (tree ++ new ∷ [])

@@ -23,6 +23,7 @@ use Rattle.oca_model.specs.declared.answer.Answer.TheVariants as answers
 use Rattle.oca_model.specs.declared.asked.Asked.{Asked}
 use Rattle.oca_model.specs.declared.reading.Reading.{Reading}
 use Rattle.oca_model.specs.declared.reading.Reading.TheVariants as readings
+use Rattle.oca_model.specs.Lists.{IsText, Each}
 use Rattle.oca_model.specs.Readings.{IsReading}
 use Rattle.oca_model.specs.declared.request.Request.{Request}
 use Rattle.oca_model.specs.declared.request.Request.TheVariants as asked
@@ -53,6 +54,7 @@ use Rattle.oca_tree.specs.Typed.{reading_held, answer_given, member_of, descenda
 use Rattle.oca_tree.specs.Execution.{kind_at, asked_at, is_failing, status_of, by_status, refused, execution}
 use Rattle.oca_tree.specs.Written.{is_ok}
 use Rattle.oca_tree.specs.Trees.{IsTree, IsSoundValue, is_position_reading}
+use Rattle.oca_tree.specs.Copies.{names_in}
 use Rattle.oca_tree.specs.Building.{add_fault, object_of_spec, value_of, is_bad_value}
 use Rattle.oca_tree.specs.Starts.{with_flags, has_other_flags, restored, start_fault}
 
@@ -201,7 +203,7 @@ Executes (Err s) old new out peer c = (execution old peer c ≡ refused old s) �
 -- A value is made where it is in range.
 abbrev pub MakesValue : Option Value → Value → Type 0
 MakesValue None value = is_bad_value value ≡ true
-MakesValue (Some v) value = (v ≡ value) × (is_bad_value value ≡ false) × IsSoundValue v
+MakesValue (Some v) value = (v ≡ value) × (is_bad_value value ≡ false) × IsSoundValue v × Each IsText (names_in v)
 
 -- whether an object of the kind holds a reading: it is no block and no switch
 abbrev pub holds_reading : Kind → Bool
@@ -231,5 +233,5 @@ RestoresFlags (Err e) old new flags = (e ≡ BadFlags) × (has_other_flags (Some
 -- What was stored was put into an object, or does not fit it.
 abbrev pub Restores : {X : Type 0} → Result X StartFault → Object → Object → Start → Type 0
 Restores (Ok _) old new start =
-    (start_fault old.value start ≡ None) × (new ≡ restored start old) × IsSoundValue new.value
+    (start_fault old.value start ≡ None) × (new ≡ restored start old) × IsSoundValue new.value × IsText start.label.now
 Restores (Err e) old new start = start_fault old.value start ≡ Some e

@@ -1,7 +1,9 @@
 //! Building a tree, object by object.
 ghost use Rattle.std.specs.Prelude.{◌≡◌, ◌≤◌, ◌<◌, [], ◌∷◌, length, map, replicate, true, false, Some, None, IfOk};
-ghost use Rattle.std.specs.Prelude.{IfErr, OnOk};
-ghost use Rattle.std.specs.List.{list_any};
+ghost use Rattle.std.specs.Prelude.{IfErr, OnOk, IfSome, IsSome, ◌↔◌};
+ghost use Rattle.std.specs.List.{All, list_any};
+ghost use Rattle.oca_model.specs.Lists.{IsText, Each};
+ghost use Rattle.oca_tree.specs.TypedLaws.{IsOfItsTypes};
 ghost use Rattle.oca_tree.specs.Building.{Adds, value_of, switch, has_bad_name, is_long, root};
 ghost use Rattle.oca_tree.specs.Objects.{object_of};
 ghost use Rattle.oca_tree.specs.Room.{room_size};
@@ -211,15 +213,25 @@ fn has_bad_name(kind: &Kind<'_>) -> bool
     }
 }
 
+/// The text with these bytes, where they are not too many.
+pub(crate) fn text_of(text: &str) -> Option<Text>
+    ensures variant { IsSome result ↔ (length text.now ≤ 64) }
+    ensures value { IfSome result (λ t. t ≡ text.now) }
+    ensures typed { IfSome result IsText }
+{
+    Text::new(text)
+}
+
 /// The texts of these names.
 fn texts_of(names: &[&str]) -> ArrayVec<Text, 16>
     requires few { length names.now ≤ 16 }
     requires short { list_any (λ name. is_long name.now) names.now ≡ false }
-    ensures { result.items ≡ map (λ name. name.now) names.now }
+    ensures texts { result.items ≡ map (λ name. name.now) names.now }
+    ensures typed { Each IsText result.items }
 {
     let mut texts = ArrayVec::new();
     for name in names {
-        match Text::new(name) {
+        match text_of(name) {
             Some(text) => texts.push(text),
             None => unreachable!(),
         }
@@ -240,7 +252,7 @@ fn truths(number: usize) -> ArrayVec<bool, 16>
 }
 
 /// A switch with these positions, all enabled.
-#[tactic(auto, unfolding(crate::specs::Building::is_bad_value, crate::specs::Trees::IsSoundValue))]
+#[tactic(auto, unfolding(crate::specs::Building::is_bad_value, crate::specs::Trees::IsSoundValue, crate::specs::Copies::names_in))]
 fn switch_of(names: &[&str], position: u16) -> Option<Value>
     requires { list_any (λ name. is_long name.now) names.now ≡ false }
     ensures { MakesValue result (switch (map (λ name. name.now) names.now) position) }
@@ -266,6 +278,17 @@ fn ranged<N: Copy>(setting: N, least: N, greatest: N) -> Ranged<N>
     }
 }
 
+/// An integer of this class, with its setting and its limits.
+macro_rules! integer {
+    ($class:ident, $setting:ident, $least:ident, $greatest:ident) => {
+        Kind::$class {
+            setting: $setting,
+            least: $least,
+            greatest: $greatest,
+        }
+    };
+}
+
 /// What an object of a kind reads as that is no block and no switch.
 #[tactic(auto, unfolding(crate::specs::Building::value_of))]
 fn reading_of(kind: &Kind<'_>) -> Reading
@@ -276,52 +299,20 @@ fn reading_of(kind: &Kind<'_>) -> Reading
         Kind::Mute(state) => Reading::Mute(*state),
         Kind::Polarity(state) => Reading::Polarity(*state),
         Kind::Boolean(truth) => Reading::Boolean(*truth),
-        Kind::Int8 {
-            setting,
-            least,
-            greatest,
-        } => Reading::Int8(ranged(*setting, *least, *greatest)),
-        Kind::Int16 {
-            setting,
-            least,
-            greatest,
-        } => Reading::Int16(ranged(*setting, *least, *greatest)),
-        Kind::Int32 {
-            setting,
-            least,
-            greatest,
-        } => Reading::Int32(ranged(*setting, *least, *greatest)),
-        Kind::Int64 {
-            setting,
-            least,
-            greatest,
-        } => Reading::Int64(ranged(*setting, *least, *greatest)),
-        Kind::Uint8 {
-            setting,
-            least,
-            greatest,
-        } => Reading::Uint8(ranged(*setting, *least, *greatest)),
-        Kind::Uint16 {
-            setting,
-            least,
-            greatest,
-        } => Reading::Uint16(ranged(*setting, *least, *greatest)),
-        Kind::Uint32 {
-            setting,
-            least,
-            greatest,
-        } => Reading::Uint32(ranged(*setting, *least, *greatest)),
-        Kind::Uint64 {
-            setting,
-            least,
-            greatest,
-        } => Reading::Uint64(ranged(*setting, *least, *greatest)),
+        integer!(Int8, s, l, g) => Reading::Int8(ranged(*s, *l, *g)),
+        integer!(Int16, s, l, g) => Reading::Int16(ranged(*s, *l, *g)),
+        integer!(Int32, s, l, g) => Reading::Int32(ranged(*s, *l, *g)),
+        integer!(Int64, s, l, g) => Reading::Int64(ranged(*s, *l, *g)),
+        integer!(Uint8, s, l, g) => Reading::Uint8(ranged(*s, *l, *g)),
+        integer!(Uint16, s, l, g) => Reading::Uint16(ranged(*s, *l, *g)),
+        integer!(Uint32, s, l, g) => Reading::Uint32(ranged(*s, *l, *g)),
+        integer!(Uint64, s, l, g) => Reading::Uint64(ranged(*s, *l, *g)),
         _ => unreachable!(),
     }
 }
 
 /// What reads so, where it is within its limits.
-#[tactic(auto, unfolding(crate::specs::Building::is_bad_value, crate::specs::Trees::IsSoundValue))]
+#[tactic(auto, unfolding(crate::specs::Building::is_bad_value, crate::specs::Trees::IsSoundValue, crate::specs::Copies::names_in))]
 fn value_reading(reading: Reading) -> Option<Value>
     requires typed { IsReading reading }
     requires other { is_position_reading reading ≡ false }
@@ -335,7 +326,7 @@ fn value_reading(reading: Reading) -> Option<Value>
 }
 
 /// The value of a kind, where it is in range.
-#[tactic(auto, unfolding(crate::specs::Building::value_of, crate::specs::Building::is_bad_value, crate::specs::Trees::IsSoundValue))]
+#[tactic(auto, unfolding(crate::specs::Building::value_of, crate::specs::Building::is_bad_value, crate::specs::Trees::IsSoundValue, crate::specs::Copies::names_in))]
 fn value_of(kind: &Kind<'_>) -> Option<Value>
     requires { has_bad_name kind.now ≡ false }
     ensures { MakesValue result (value_of kind.now) }
@@ -360,6 +351,7 @@ fn object_for(
     ensures makes { Makes result objects.now container.0 ono.0 spec.now }
     ensures room { OnOk result (length objects.now.list < objects.now.room) }
     ensures free { IfOk result (λ o. object_of objects.now.list o.ono.0 ≡ None) }
+    ensures typed { IfOk result IsOfItsTypes }
 {
     if objects.len() >= objects.room() {
         return Err(AddFault::Full);
@@ -379,7 +371,7 @@ fn object_for(
     if spec.role.is_empty() || has_bad_name(&spec.kind) {
         return Err(AddFault::BadText);
     }
-    let Some(role) = Text::new(spec.role) else {
+    let Some(role) = text_of(spec.role) else {
         return Err(AddFault::BadText);
     };
     let Some(value) = value_of(&spec.kind) else {
@@ -400,9 +392,10 @@ fn object_for(
 
 /// The root: a block of the number 100 with the role `root`, lockable.
 fn root_object() -> Object
-    ensures { result ≡ root }
+    ensures root { result ≡ root }
+    ensures typed { IsOfItsTypes result }
 {
-    let Some(role) = Text::new("root") else {
+    let Some(role) = text_of("root") else {
         unreachable!()
     };
     Object {
@@ -439,14 +432,16 @@ pub struct TreeBuilder {
 
 impl Model for TreeBuilder {
     ghost use Rattle.std.specs.Prelude.{◌≤◌};
+    ghost use Rattle.std.specs.List.{All};
     ghost use Rattle.oca_tree.specs.Objects.{Store};
     ghost use Rattle.oca_tree.specs.Trees.{IsTree};
+    ghost use Rattle.oca_tree.specs.TypedLaws.{IsOfItsTypes};
 
     ghost Value = { Store };
 
     ghost view = { λ t. t.objects };
 
-    ghost invariant = { λ t. IsTree t.objects.list × (t.objects.room ≤ 4096) };
+    ghost invariant = { λ t. IsTree t.objects.list × (t.objects.room ≤ 4096) × All IsOfItsTypes t.objects.list };
 }
 
 impl fmt::Debug for TreeBuilder {
@@ -506,6 +501,7 @@ impl TreeBuilder {
     fn holding(alloc: Global, room: Room, object: Object) -> Result<TreeBuilder, AddFault>
         requires place { place_of object ≡ place_of root }
         requires sound { IsSound object }
+        requires typed { IsOfItsTypes object }
         ensures ok { IfOk result (λ builder. builder ≡ record { room = room_size room; list = object ∷ [] }) }
         ensures err { IfErr result (λ e. e ≡ NoMemory) }
     {

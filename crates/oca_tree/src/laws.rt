@@ -86,7 +86,8 @@ pub fn law_of_copies()
 ///   not get the status OK, and changed nothing.
 /// - After a value of the object's class was set, reading returns this value, with the limits that the object had.
 /// - An answer that fits into a response is an answer of the object's class and of the kind of its method. The premise
-///   is that texts and numbers are of their types, since a contract has them of any size. In Rust that is always true.
+///   is that texts and numbers are of their types, since a contract has them of any size. [`Tree::len`](Tree::len)
+///   ensures this of each tree.
 pub fn law_of_typed_requests()
     ensures did { CommandsAreTyped }
     ensures refused { RefusedKeepsTree }

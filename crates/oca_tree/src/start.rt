@@ -3,11 +3,10 @@ ghost use Rattle.std.specs.Prelude.{◌≡◌, ◌≤◌, length, Some};
 ghost use Rattle.oca_tree.specs.Trees.{IsSoundValue};
 ghost use Rattle.oca_tree.specs.PrivateSteps.{Restores, RestoresFlags};
 
-use crate::builder::AddFault;
+use crate::builder::{AddFault, text_of};
 use crate::object::{Object, Value};
 use crate::request::positions;
 use arrayvec::ArrayVec;
-use oca_types::Text;
 use std::error::Error;
 use std::fmt;
 
@@ -116,7 +115,7 @@ pub(crate) fn restore(object: &mut Object, start: &Start<'_>) -> Result<(), Star
     requires { IsSoundValue object.old.value }
     ensures { Restores result object.old object.new start.now }
 {
-    let Some(label) = Text::new(start.label) else {
+    let Some(label) = text_of(start.label) else {
         return Err(StartFault::BadLabel);
     };
     if let Some(flags) = start.position_enableds {

@@ -1,10 +1,12 @@
 //! The tree: executing commands, taking locks off, and reading its objects.
 ghost use Rattle.std.specs.Prelude.{◌≡◌, [], length, OnErr, map, slice_get, IsTrue, Some};
+ghost use Rattle.std.specs.List.{All};
 ghost use Rattle.std.specs.Option.{option_and_then, option_map};
 ghost use Rattle.oca_types.specs.Peers.{fields_of};
 ghost use Rattle.std.specs.Result.{result_err};
 ghost use Rattle.oca_tree.specs.Locks.{released, lock_count};
 ghost use Rattle.oca_tree.specs.Trees.{IsTree};
+ghost use Rattle.oca_tree.specs.TypedLaws.{IsOfItsTypes};
 ghost use Rattle.oca_tree.specs.Execution.{execution};
 ghost use Rattle.oca_tree.specs.Written.{wrote};
 ghost use Rattle.oca_tree.specs.Settings.{after_set, set_fault};
@@ -90,15 +92,18 @@ pub struct Tree {
 
 impl Model for Tree {
     ghost use Rattle.std.specs.Prelude.{List, ◌≡◌};
+    ghost use Rattle.std.specs.List.{All};
     ghost use Rattle.oca_tree.specs.declared.object.Object.{Object as Item};
     ghost use Rattle.oca_tree.specs.Locks.{lock_count};
     ghost use Rattle.oca_tree.specs.Trees.{IsTree};
+    ghost use Rattle.oca_tree.specs.TypedLaws.{IsOfItsTypes};
 
     ghost Value = { List Item };
 
     ghost view = { λ t. t.objects.list };
 
-    ghost invariant = { λ t. IsTree t.objects.list × (t.marks.locks ≡ lock_count t.objects.list) };
+    ghost invariant = { λ t. IsTree t.objects.list × (t.marks.locks ≡ lock_count t.objects.list)
+        × All IsOfItsTypes t.objects.list };
 }
 
 impl fmt::Debug for Tree {
@@ -114,7 +119,8 @@ impl fmt::Debug for Tree {
 impl Tree {
     /// The tree of these objects.
     pub(crate) fn of(objects: Objects) -> Tree
-        requires { IsTree objects.list }
+        requires tree { IsTree objects.list }
+        requires typed { All IsOfItsTypes objects.list }
         ensures { result ≡ objects.list }
     {
         let locks = count_locks(objects.as_slice());
@@ -249,10 +255,12 @@ impl Tree {
 
     /// Returns the number of objects of the tree, the root counted: from 1 to 4,096 (*profile*). The contract also
     /// states what holds for every tree. The object numbers are distinct, blocks come before the objects in them,
-    /// settings are within their limits, and only lockable objects are locked.
+    /// settings are within their limits, and only lockable objects are locked (`sound`). Roles, labels and names of
+    /// positions are UTF-8 of at most 64 bytes, and object numbers have 32 bits (`typed`).
     pub fn len(&self) -> usize
         ensures len { result ≡ length self.now }
         ensures sound { IsTree self.now }
+        ensures typed { All IsOfItsTypes self.now }
     {
         self.objects.len()
     }

@@ -12,8 +12,16 @@ use Rattle.oca_program.specs.declared.fault.RunFault.TheVariants.{NoMemory, Writ
 use Rattle.oca_panel.specs.Panels.{PanelState}
 use Rattle.ocactl_cli.specs.declared.object_line.ObjectLine.{ObjectLine}
 use Rattle.ocactl_cli.specs.Objects.{LocksInTime, HoldsInTime, AsksAll, HoldsAll, HoldsPart, StopsHolding, StopsLocking, StopsUnlocking, reported_line, reported_lines, KeepsHeld, KeepsUntilEnd, LooksAlways, LooksWhileHeld, Locks, NoneAsked, OneAsked, max_severity, held_if, held_of, held_one}
-use Rattle.ocactl_cli.specs.PrivateObjects.{KeepsOrFails, LocksEach, LocksNext, ReportsAll, ReportsOne, ReportsNext, ono_number}
+use Rattle.ocactl_cli.specs.PrivateObjects.{KeepsOrFails, ListsHeld, LocksEach, LocksNext, LocksNextOr, ReportsAll, ReportsOne, ReportsNext, ono_number}
 use Rattle.ocactl_cli.proofs.ObjectLemmas.{line-reported, map-split, map-take, reports-next, writes-none, writes-then}
+
+-- one more was locked, and listed or not
+pub listed-or : (target : ℕ) (s t : PanelState) (status own : ℕ) (r : Result ℕ Failure) (held more : List Ono) (a b : Output)
+    → ReportsOne (Locks true) target s t (Ok own) a b → IfOk r (λ now. ListsHeld target own status now held more)
+    → IfErr r (λ failure. (failure.fault ≡ NoMemory) × (own ≡ 0)) → LocksNextOr target s t status r held more a b
+listed-or target s t status own (Ok now) held more a b reports lists fails = record { own = own; reports = reports; lists = lists }
+listed-or target s t status own (Err failure) held more a b reports lists fails =
+    inr (fails.0, subst (λ (n : ℕ). ReportsOne (Locks true) target s t (Ok n) a b) fails.1 reports)
 
 pub locked-none : (held : List Ono) (s : PanelState) (a b : Output) → held ≡ [] → PrintsAll a b [] → b.held ≡ [] → LocksEach [] s s 0 held a b
 locked-none held s a b none h empty =

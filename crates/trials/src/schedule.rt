@@ -9,9 +9,12 @@
 //!     N to-device K                                N to-link K
 //!     N other P HEX                                N tick
 //!     take LINK H                                  set ONO CLASS VALUE
+//!     label ONO HEX                                enabled ONO 0|1
+//!     unlock ONO                                   failing ONO 0|1
 //!
-//! The last sets an object at the local front panel: CLASS is `mute`, `polarity`, `switch`, `boolean`, `int8` and so on
-//! to `uint64`, and VALUE the number of a state, a position, 0 or 1, or an integer of the type.
+//! `set` sets an object at the local front panel: CLASS is `mute`, `polarity`, `switch`, `boolean`, `int8` and so on to
+//! `uint64`, and VALUE the number of a state, a position, 0 or 1, or an integer of the type. `label`, `enabled`, `unlock`
+//! and `failing` are the other changes there; HEX are the bytes of a text in UTF-8.
 use crate::fields::{Fields, LARGEST_32, LineFault};
 use oca_pair::{Start, Step};
 use oca_script::field::split_at_byte;
@@ -97,6 +100,12 @@ fn step<'a>(first: &[u8], fields: &mut Fields<'a>) -> (Step<'static>, &'a [u8]) 
         let (ono, value) = fields.local();
         return (Step::Local { ono, value }, NO_BYTES);
     }
+    if first == b"label".as_slice() {
+        return labelled(fields);
+    }
+    if let Some(change) = change_with(first) {
+        return (changed(change, fields), NO_BYTES);
+    }
     let word = fields.next();
     let now = fields.moment(first);
     if word == b"submit".as_slice() {
@@ -113,6 +122,51 @@ fn taken(fields: &mut Fields<'_>) -> Step<'static> {
     let link = fields.number() as usize;
     let handle = Handle(fields.number());
     Step::Take { link, handle }
+}
+
+/// A label that is given at the front, and the text of its bytes.
+fn labelled<'a>(fields: &mut Fields<'a>) -> (Step<'static>, &'a [u8]) {
+    let ono = Ono(fields.number());
+    let text = fields.hex();
+    (Step::Label { ono, label: "" }, text)
+}
+
+/// What is changed at the front besides a value and a label.
+#[derive(Clone, Copy)]
+enum Change {
+    Enabled,
+    Unlocked,
+    Failing,
+}
+
+/// The change that this word names.
+fn change_with(word: &[u8]) -> Option<Change> {
+    if word == b"enabled".as_slice() {
+        return Some(Change::Enabled);
+    }
+    if word == b"unlock".as_slice() {
+        return Some(Change::Unlocked);
+    }
+    if word == b"failing".as_slice() {
+        return Some(Change::Failing);
+    }
+    None
+}
+
+/// A change at the front.
+fn changed(change: Change, fields: &mut Fields<'_>) -> Step<'static> {
+    let ono = Ono(fields.number());
+    match change {
+        Change::Enabled => Step::Enable {
+            ono,
+            enabled: fields.truth(),
+        },
+        Change::Unlocked => Step::Unlock { ono },
+        Change::Failing => Step::Fail {
+            ono,
+            failing: fields.truth(),
+        },
+    }
 }
 
 /// A step that names a link or a datagram, or none, of which the word was read.

@@ -7,6 +7,7 @@ use oca_pair::{Outcome, PairFault, Sent, Start, Step, Transcript, run_pair_with_
 use oca_tree::bench;
 use oca_types::{Sizes, Span};
 use std::alloc::Global;
+use std::str;
 
 /// A step with its own bytes.
 #[derive(Drop)]
@@ -43,8 +44,28 @@ impl HeldStep {
                 bytes: self.bytes.as_slice(),
                 now,
             },
+            Step::Label { ono, label: _ } => Step::Label {
+                ono,
+                label: text_of(self.bytes.as_slice()),
+            },
             other => other,
         }
+    }
+
+    /// Whether its bytes are a text, where it has a text.
+    fn has_text(&self) -> bool {
+        match self.step {
+            Step::Label { .. } => str::from_utf8(self.bytes.as_slice()).is_ok(),
+            _ => true,
+        }
+    }
+}
+
+/// The text of these bytes, which are one.
+fn text_of(bytes: &[u8]) -> &str {
+    match str::from_utf8(bytes) {
+        Ok(text) => text,
+        Err(_) => "",
     }
 }
 
@@ -111,17 +132,28 @@ fn take_line<R: Print>(
 ) -> Result<(), RunFault> {
     match line {
         Line::Begins(sizes, span) => begin(rt, sizes, span, pending),
-        Line::Step(step, text) if pending.begun.is_some() => add_step(pending, step, text),
+        Line::Step(step, text) if pending.begun.is_some() => {
+            add_step(pending, number, step, text)
+        }
         Line::Step(..) => Err(RunFault::Line(number, LineFault::Form)),
     }
 }
 
-/// Adds a step whose bytes have this text.
-fn add_step(pending: &mut Pending, step: Step<'static>, text: &[u8]) -> Result<(), RunFault> {
+/// Adds a step whose bytes have this text, from the line of this number.
+fn add_step(
+    pending: &mut Pending,
+    number: u64,
+    step: Step<'static>,
+    text: &[u8],
+) -> Result<(), RunFault> {
     let Some(bytes) = bytes_of(pending.alloc, text) else {
         return Err(RunFault::NoMemory);
     };
-    match pending.steps.push(HeldStep { step, bytes }) {
+    let held = HeldStep { step, bytes };
+    if !held.has_text() {
+        return Err(RunFault::Line(number, LineFault::Hex));
+    }
+    match pending.steps.push(held) {
         Ok(()) => Ok(()),
         Err(_) => Err(RunFault::NoMemory),
     }

@@ -10,6 +10,7 @@ mod links;
 mod questions;
 mod reports;
 mod sending;
+mod small;
 mod standstill;
 
 use oca_types::Peer;

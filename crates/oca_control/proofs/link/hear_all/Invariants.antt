@@ -4,5 +4,5 @@ use Rattle.oca_control.proofs.link.hear_all.Given as goal
 
 -- what is heard, and what is left, is all
 abbrev pub invariant-loop-message : goal.invariant-loop-message
-invariant-loop-message l =
-    HearsOn (messages_left l.message-iterator) l.table.untaken l.table.next l.answered (messages_left l.fn.messages) l.fn.table.untaken l.fn.table.next
+invariant-loop-message g l =
+    HearsOn g.row.ANSWER (messages_left l.message-iterator) l.table.untaken l.table.next l.answered (messages_left l.fn.messages) l.fn.table.untaken l.fn.table.next

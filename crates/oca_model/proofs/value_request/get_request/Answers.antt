@@ -1,4 +1,4 @@
-use Rattle.std.proofs.Common.{◌≡◌, sym, ◌∙◌}
+use Rattle.std.proofs.Common.{sym}
 use Rattle.oca_model.proofs.Pairs.{has_get}
 use Rattle.oca_model.proofs.value_request.get_request.Goals as goal
 

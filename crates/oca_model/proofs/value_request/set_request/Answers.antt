@@ -1,4 +1,3 @@
-use Rattle.std.proofs.Common.{◌≡◌}
 use Rattle.oca_model.proofs.Pairs.{has_set}
 use Rattle.oca_model.proofs.value_request.set_request.Goals as goal
 

@@ -18,19 +18,19 @@ unequal a b x p = ap (λ t. t || x) (is_unequal a b p)
     is_unequal a b p = grind (arith, nat_tests)
 
 pub returns-then-self-clause-room : goal.returns-then-self-clause-room
-returns-then-self-clause-room c =
+returns-then-self-clause-room g c =
     let a = c.self.inside in
     let room = room_by_lowest c.args.span a.next a.low a.next a.slots c.self.invariant.ordered c.self.invariant.lowest in
     rw (← c.self.view_is) (sym (room ∙ equal a.low a.next (nat_lt a.next (a.low + c.args.span)) c.if-self.true))
 
 pub returns-else-self-clause-room : goal.returns-else-self-clause-room
-returns-else-self-clause-room c =
+returns-else-self-clause-room g c =
     let a = c.self.inside in
     let room = room_by_lowest c.args.span a.next a.low a.next a.slots c.self.invariant.ordered c.self.invariant.lowest in
     rw (← c.self.view_is) (sym (room ∙ unequal a.low a.next (nat_lt a.next (a.low + c.args.span)) c.if-self.false ∙ ap (λ s. nat_lt a.next (a.low + s)) (sym c.from.ensures)))
 
 pub returns-then-self-clause-few : goal.returns-then-self-clause-few
-returns-then-self-clause-few c =
+returns-then-self-clause-few g c =
     let a = c.self.inside in
     rw (← c.self.view_is) (λ _ some. below (length (untaken_from a.low (a.next - a.low) a.slots)) a.next a.low c.args.span (length_from a.low (a.next - a.low) a.slots) c.if-self.true some)
   where
@@ -38,7 +38,7 @@ returns-then-self-clause-few c =
     below n hi lo s p q some = omega arith
 
 pub returns-else-self-clause-few : goal.returns-else-self-clause-few
-returns-else-self-clause-few c =
+returns-else-self-clause-few g c =
     let a = c.self.inside in
     rw (← c.self.view_is) (λ fits _. below (length (untaken_from a.low (a.next - a.low) a.slots)) a.next a.low c.args.span c.from.result (length_from a.low (a.next - a.low) a.slots) c.self.invariant.ordered c.from.ensures fits)
   where

@@ -10,4 +10,4 @@ made a b first slots e f =
     ∙ ap (λ n. let t : TableState = record { next = n; untaken = [] } in t) f
 
 pub returns : goal.returns
-returns c = made c.from.result c.from-2.result c.args.first.0 c.default.result c.from.ensures c.from-2.ensures
+returns g c = made c.from.result c.from-2.result c.args.first.0 c.default.result c.from.ensures c.from-2.ensures

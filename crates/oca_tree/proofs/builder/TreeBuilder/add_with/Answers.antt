@@ -1,7 +1,9 @@
 use Rattle.std.proofs.Common.{ap, ◌∙◌, arith}
+use Rattle.std.proofs.lemmas.List.Elements.{All-push}
 use Rattle.oca_tree.specs.Objects.{Store}
 use Rattle.oca_tree.specs.Places.{place_of}
-use Rattle.oca_tree.proofs.Starting.{restored_place, restored_sound, replaced_tree}
+use Rattle.oca_tree.specs.TypedLaws.{IsOfItsTypes}
+use Rattle.oca_tree.proofs.Starting.{restored_place, restored_sound, restored_typed, replaced_tree}
 use Rattle.oca_tree.proofs.builder.TreeBuilder.add_with.Goals as goal
 
 pub push-requires-clause-tree : goal.push-requires-clause-tree
@@ -17,4 +19,9 @@ pub invariant_of-self : goal.invariant_of-self
 invariant_of-self c =
     let list = ap (λ (h : Store). h.list) c.push.ensures in
     let room = ap (λ (h : Store). h.room) c.push.ensures in
-    (rw list (push-requires-clause-tree c.before), omega (arith, room, c.self.invariant.1))
+    let put = c.in_ok-restore.ensures in
+    let typed = restored_typed c.args.start.now c.in_ok-restored.restored c.restore.new.object put.1 put.3 c.in_ok-restored.ensures.typed in (
+      rw list (push-requires-clause-tree c.before),
+      omega (arith, room, c.self.invariant.1),
+      rw list (All-push IsOfItsTypes c.self.inside.objects.list c.restore.new.object c.self.invariant.2 typed),
+    )
