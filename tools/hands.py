@@ -312,11 +312,11 @@ class Terminal:
     def write(self, text):
         os.write(self.file, text)
 
-    def says(self, text, seconds=10):
+    def says(self, text, seconds=60):
         self.said += read_until(self.file, lambda said: text in self.said + said, seconds)
         return text in self.said
 
-    def ends(self, seconds=10):
+    def ends(self, seconds=60):
         until = time.monotonic() + seconds
         while time.monotonic() < until:
             pid, status = os.waitpid(self.pid, os.WNOHANG)
@@ -364,7 +364,7 @@ def at_a_terminal_alone(checks):
         checks.same("run at a terminal, its output in a file: its end", run.ends(), 0)
 
 
-def says_in(path, wanted, seconds=10):
+def says_in(path, wanted, seconds=60):
     has = lambda: Path(path).read_text() if Path(path).exists() else None
     checks.waited(lambda: has() == wanted, seconds, 0.02)
     return has()
