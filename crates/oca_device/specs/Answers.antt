@@ -2,7 +2,7 @@
 -- decides).
 use Rattle.std.specs.Prelude.{ℕ, ◌+◌, max, if◌then◌else◌, List, [], ◌∷◌, ◌++◌, Result, Ok, Err}
 use Rattle.oca_types.specs.declared.words.Peer.{Peer}
-use Rattle.oca_types.specs.declared.words.Reply.{Reply}
+use Rattle.oca_types.specs.Replies.{Reply}
 use Rattle.oca_types.specs.Status.{status_number}
 use Rattle.oca_types.specs.Peers.{CommandFields}
 use Rattle.oca_types.specs.Sizes.{DeviceSizes}

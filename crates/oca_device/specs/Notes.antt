@@ -2,7 +2,7 @@
 -- notes of its peer say (profile). In a list of notes the latest stands first, and in a list of peers or commands last.
 use Rattle.std.specs.Prelude.{ℕ, ◌*◌, ◌-◌, nat_le, nat_lt, Bool, false, not, if◌then◌else◌, List, [], ◌∷◌, ◌++◌, filter}
 use Rattle.oca_types.specs.declared.words.Peer.{Peer}
-use Rattle.oca_types.specs.declared.words.Reply.{Reply}
+use Rattle.oca_types.specs.Replies.{Reply}
 use Rattle.oca_types.specs.Peers.{same_peer, CommandFields}
 use Rattle.oca_pdu.specs.Messages.{Msg}
 use Rattle.oca_tree.specs.declared.object.Object.{Object}

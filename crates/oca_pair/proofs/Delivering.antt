@@ -7,7 +7,7 @@ use Rattle.std.proofs.lemmas.List.{append_assoc, map-append}
 use Rattle.std.proofs.lemmas.List.Elements.{filter-append}
 use Rattle.oca_types.specs.declared.words.Peer.{Peer}
 use Rattle.oca_types.specs.declared.words.Handle.{Handle}
-use Rattle.oca_types.specs.declared.words.Reply.{Reply}
+use Rattle.oca_types.specs.Replies.{Reply}
 use Rattle.oca_types.specs.Peers.{same_peer, CommandFields}
 use Rattle.oca_types.specs.Sizes.{DeviceSizes, most_command_parameter_bytes}
 use Rattle.oca_pdu.specs.declared.message.Form.TheVariants.{Seconds}

@@ -5,7 +5,7 @@ use Rattle.std.specs.List.{AllByRecursion, slice_get, IsDistinct}
 use Rattle.std.proofs.Math.Dec.{eqb}
 use Rattle.std.proofs.lemmas.Bool.Decides.{nat_tests}
 use Rattle.oca_types.specs.declared.words.Peer.{Peer}
-use Rattle.oca_types.specs.declared.words.Reply.{Reply}
+use Rattle.oca_types.specs.Replies.{Reply}
 use Rattle.oca_types.specs.Peers.{CommandFields}
 use Rattle.oca_types.specs.Sizes.{DeviceSizes}
 use Rattle.oca_pdu.specs.Messages.{Msg, Command, Commands}

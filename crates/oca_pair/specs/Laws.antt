@@ -3,7 +3,7 @@ use Rattle.std.specs.Prelude.{◌≡◌, ◌==◌, ◌⊎◌, ℕ, ◌+◌, ◌*
 use Rattle.std.specs.Prelude.{filter, Some}
 use Rattle.std.specs.List.{slice_get, Contains, IsDistinct}
 use Rattle.oca_types.specs.declared.words.Peer.{Peer}
-use Rattle.oca_types.specs.declared.words.Reply.{Reply}
+use Rattle.oca_types.specs.Replies.{Reply}
 use Rattle.oca_types.specs.Peers.{CommandFields, same_peer}
 use Rattle.oca_types.specs.Status.{status_number}
 use Rattle.oca_types.specs.Sizes.{DeviceSizes}

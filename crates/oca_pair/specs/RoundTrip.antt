@@ -3,7 +3,7 @@
 use Rattle.std.specs.Prelude.{◌≡◌, ◌⊎◌, ℕ, ◌+◌, ◌*◌, ◌<◌, ◌≤◌, true, List, [], ◌∷◌, ◌++◌, length, Some}
 use Rattle.std.specs.List.{slice_get, AllByRecursion, Contains}
 use Rattle.oca_types.specs.declared.words.Peer.{Peer}
-use Rattle.oca_types.specs.declared.words.Reply.{Reply}
+use Rattle.oca_types.specs.Replies.{Reply}
 use Rattle.oca_types.specs.Peers.{CommandFields}
 use Rattle.oca_types.specs.Sizes.{DeviceSizes}
 use Rattle.oca_pdu.specs.Encoding.{pdu_encoding}

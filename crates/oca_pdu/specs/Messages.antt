@@ -1,7 +1,7 @@
 -- Messages and PDUs, without where their parameters lie in memory (AES70-3).
 use Rattle.std.specs.Prelude.{ℕ, Bool, List, [], ◌∷◌, map}
 use Rattle.oca_types.specs.declared.words.Handle.{Handle}
-use Rattle.oca_types.specs.declared.words.Reply.{Reply}
+use Rattle.oca_types.specs.Replies.{Reply}
 use Rattle.oca_types.specs.Peers.{CommandFields, fields_of}
 use Rattle.oca_types.specs.Status.{status_number}
 use Rattle.oca_pdu.specs.declared.message.Form.{Form}

@@ -15,7 +15,7 @@ ghost use Rattle.oca_pdu.specs.Writing.{AddsPdu, IsResponses, HoldsResponses, is
 use crate::fault::WriteFault;
 use crate::fields;
 use crate::message::{COMMAND_BYTES, Form, HEADER_BYTES, RESPONSE_BYTES, SYNC};
-use oca_types::{Command, Handle, MOST_BYTES, Packet, Reply, write_over};
+use oca_types::{Command, Handle, MOST_BYTES, Packet, Reply, ReplyOf, write_over};
 
 /// Where a PDU has its PduType (AES70-3).
 const PDU_TYPE_AT: usize = 7;
@@ -111,7 +111,11 @@ pub fn write_response(packet: &mut Packet, handle: Handle, reply: &Reply) -> Res
 /// a well-formed datagram. There is always room, since a reply has at most 1,452 bytes of parameters. The call refuses
 /// nothing, sends nothing and takes no memory.
 #[inline(always)]
-pub fn replace_response(packet: &mut Packet, handle: Handle, reply: &Reply)
+pub fn replace_response<const ANSWER: usize>(
+    packet: &mut Packet,
+    handle: Handle,
+    reply: &ReplyOf<ANSWER>,
+)
     ensures bytes { packet.new.items ≡ pdu_encoding (Responses (response_with handle reply.now ∷ [])) }
     ensures datagram { IsDatagram (Responses (response_with handle reply.now ∷ []) ∷ []) packet.new.items }
 {
@@ -125,7 +129,7 @@ pub fn replace_response(packet: &mut Packet, handle: Handle, reply: &Reply)
 /// Apart from `replace_response`, since `clear` overwrites what there was by a call: writes a PDU of one response in
 /// the place of more bytes, or of fewer.
 #[inline(never)]
-fn write_anew(packet: &mut Packet, handle: Handle, reply: &Reply)
+fn write_anew<const ANSWER: usize>(packet: &mut Packet, handle: Handle, reply: &ReplyOf<ANSWER>)
     ensures fits { ResponseFits (response_with handle reply.now) }
     ensures bytes { packet.new.items ≡ pdu_encoding (Responses (response_with handle reply.now ∷ [])) }
 {
@@ -135,7 +139,7 @@ fn write_anew(packet: &mut Packet, handle: Handle, reply: &Reply)
 }
 
 /// Writes a PDU of one response over as many bytes.
-fn write_over_response(pdu: &mut [u8], handle: Handle, reply: &Reply)
+fn write_over_response<const ANSWER: usize>(pdu: &mut [u8], handle: Handle, reply: &ReplyOf<ANSWER>)
     requires { length pdu.old ≡ 20 + array_vec_len reply.now.params }
     ensures fits { ResponseFits (response_with handle reply.now) }
     ensures bytes { pdu.new ≡ pdu_encoding (Responses (response_with handle reply.now ∷ [])) }
@@ -146,7 +150,7 @@ fn write_over_response(pdu: &mut [u8], handle: Handle, reply: &Reply)
 }
 
 /// A response up to its parameters.
-fn response_head(handle: Handle, reply: &Reply) -> [u8; 10]
+fn response_head<const ANSWER: usize>(handle: Handle, reply: &ReplyOf<ANSWER>) -> [u8; 10]
     ensures bytes { result ++ reply.now.params.items ≡ response_encoding (response_with handle reply.now) }
     ensures fits { ResponseFits (response_with handle reply.now) }
 {
@@ -161,7 +165,7 @@ fn response_head(handle: Handle, reply: &Reply) -> [u8; 10]
 }
 
 /// The header of a PDU of this response, and the response up to its parameters.
-fn response_front(handle: Handle, reply: &Reply) -> [u8; 20]
+fn response_front<const ANSWER: usize>(handle: Handle, reply: &ReplyOf<ANSWER>) -> [u8; 20]
     ensures bytes { result ++ reply.now.params.items ≡ pdu_encoding (Responses (response_with handle reply.now ∷ [])) }
     ensures fits { ResponseFits (response_with handle reply.now) }
 {
@@ -202,7 +206,11 @@ pub fn holds_responses(packet: &Packet) -> bool
 /// parameters. The packet grows by 10 bytes and the bytes of the parameters. The only refusal is `TooLong`, if the
 /// packet would have more than 1,472 bytes; the packet is then unchanged. The call sends nothing and takes no memory.
 #[inline(always)]
-pub fn extend_response(packet: &mut Packet, handle: Handle, reply: &Reply) -> Result<(), WriteFault>
+pub fn extend_response<const ANSWER: usize>(
+    packet: &mut Packet,
+    handle: Handle,
+    reply: &ReplyOf<ANSWER>,
+) -> Result<(), WriteFault>
     requires { HoldsResponses packet.old.items }
     ensures room { IsOk result
         ↔ (length packet.old.items + length (response_encoding (response_with handle reply.now)) ≤ largest_datagram) }

@@ -8,23 +8,22 @@ use Rattle.std.proofs.lemmas.Option.{get_or_from_slice_get, slice_get-get_or, sa
 use Rattle.std.specs.List.{All, AllPairs, find}
 use Rattle.std.specs.Prelude.{max, nat_lt, option_map}
 use Rattle.oca_types.specs.Peers.{CommandFields}
-use Rattle.oca_session.specs.declared.cell.Cell.{Cell}
 use Rattle.oca_session.specs.declared.window.Held.{Held}
 use Rattle.oca_session.specs.Accepted.{Entry, Fresh, Duplicate, Reused, Old, asks_the_same, duplicate_or_reused, Retained, entry_under, higher_of, greatest}
 use Rattle.oca_session.specs.Judging.{judgement_by_window, judge_entry, is_above, retained_after}
-use Rattle.oca_session.specs.PrivateCells.{AreApart, AreHeld, IsCellOfOldest, judge_cell, entry_in, entries_of, floor_before, is_under}
+use Rattle.oca_session.specs.PrivateCells.{CellState, AreApart, AreHeld, IsCellOfOldest, judge_cell, entry_in, entries_of, floor_before, is_under}
 
 -- ---- cells
 
-there : (cs : List Cell) (i : ℕ) → i < length cs → (a : Cell) × (slice_get cs i ≡ Some a)
+there : (cs : List CellState) (i : ℕ) → i < length cs → (a : CellState) × (slice_get cs i ≡ Some a)
 there [] i within = absurd (omega (arith, within))
 there (a ∷ cs) zero within = (a, refl)
 there (a ∷ cs) (suc i) within = there cs i (omega (arith, within))
 
-cell_set : (cs : List Cell) (i : ℕ) (a : Cell) → i < length cs → slice_get (slice_set cs i a) i ≡ Some a
+cell_set : (cs : List CellState) (i : ℕ) (a : CellState) → i < length cs → slice_get (slice_set cs i a) i ≡ Some a
 cell_set cs i a within = slice_get-get_or (slice_set cs i a) i a (rw length-set within) ∙ ap Some (get_or-set_same cs i a a within)
 
-other_cell_set : (cs : List Cell) (i j : ℕ) (a : Cell) → j < length cs → (j == i) ≡ false → slice_get (slice_set cs i a) j ≡ slice_get cs j
+other_cell_set : (cs : List CellState) (i j : ℕ) (a : CellState) → j < length cs → (j == i) ≡ false → slice_get (slice_set cs i a) j ≡ slice_get cs j
 other_cell_set [] i j a within other = absurd (omega (arith, within))
 other_cell_set (c ∷ cs) zero zero a within other = cc
 other_cell_set (c ∷ cs) zero (suc j) a within other = refl
@@ -34,11 +33,11 @@ other_cell_set (c ∷ cs) (suc i) (suc j) a within other = other_cell_set cs i j
     one_less : (i j : ℕ) → (suc j == suc i) ≡ false → (j == i) ≡ false
     one_less i j other = grind (arith, nat_tests)
 
-cell_pushed : (cs : List Cell) (a : Cell) → slice_get (cs ++ a ∷ []) (length cs) ≡ Some a
+cell_pushed : (cs : List CellState) (a : CellState) → slice_get (cs ++ a ∷ []) (length cs) ≡ Some a
 cell_pushed [] a = refl
 cell_pushed (c ∷ cs) a = cell_pushed cs a
 
-other_cell_pushed : (cs : List Cell) (j : ℕ) (a : Cell) → j < length cs → slice_get (cs ++ a ∷ []) j ≡ slice_get cs j
+other_cell_pushed : (cs : List CellState) (j : ℕ) (a : CellState) → j < length cs → slice_get (cs ++ a ∷ []) j ≡ slice_get cs j
 other_cell_pushed [] j a within = absurd (omega (arith, within))
 other_cell_pushed (c ∷ cs) zero a within = refl
 other_cell_pushed (c ∷ cs) (suc j) a within = other_cell_pushed cs j a (omega (arith, within))
@@ -46,32 +45,32 @@ other_cell_pushed (c ∷ cs) (suc j) a within = other_cell_pushed cs j a (omega 
 -- ---- the commands of what is held
 
 -- the cell of each is one of these
-abbrev pub Within : List Cell → List Held → Type 0
+abbrev pub Within : List CellState → List Held → Type 0
 Within cs hs = All (λ g. g.cell < length cs) hs
 
-within_tail : (g : Held) (hs : List Held) (cs : List Cell) → Within cs (g ∷ hs) → Within cs hs
+within_tail : (g : Held) (hs : List Held) (cs : List CellState) → Within cs (g ∷ hs) → Within cs hs
 within_tail g hs cs within = All-tail (λ g. g.cell < length cs) g hs within
 
-first_within : (g : Held) (hs : List Held) (cs : List Cell) → Within cs (g ∷ hs) → g.cell < length cs
+first_within : (g : Held) (hs : List Held) (cs : List CellState) → Within cs (g ∷ hs) → g.cell < length cs
 first_within g hs cs within = within 0 g (omega arith)
 
-length-entries : (hs : List Held) (cs : List Cell) → Within cs hs → length (entries_of hs cs) ≡ length hs
+length-entries : (hs : List Held) (cs : List CellState) → Within cs hs → length (entries_of hs cs) ≡ length hs
 length-entries [] cs within = refl
 length-entries (g ∷ hs) cs within =
     let a = there cs g.cell (first_within g hs cs within) in
     rw a.1 (ap suc (length-entries hs cs (within_tail g hs cs within)))
 
 -- the same in the same cells
-abbrev Same : List Cell → List Cell → List Held → Type 0
+abbrev Same : List CellState → List CellState → List Held → Type 0
 Same cs ds hs = All (λ g. slice_get ds g.cell ≡ slice_get cs g.cell) hs
 
-entries_same : (hs : List Held) (cs ds : List Cell) → Same cs ds hs → entries_of hs ds ≡ entries_of hs cs
+entries_same : (hs : List Held) (cs ds : List CellState) → Same cs ds hs → entries_of hs ds ≡ entries_of hs cs
 entries_same [] cs ds same = refl
 entries_same (g ∷ hs) cs ds same =
     let first : slice_get ds g.cell ≡ slice_get cs g.cell = same 0 g (omega arith) in
     rw (first, entries_same hs cs ds (All-tail (λ g. slice_get ds g.cell ≡ slice_get cs g.cell) g hs same)) refl
 
-entries_push : (hs : List Held) (n : Held) (cs ds : List Cell) (a : Cell) → Same cs ds hs → slice_get ds n.cell ≡ Some a
+entries_push : (hs : List Held) (n : Held) (cs ds : List CellState) (a : CellState) → Same cs ds hs → slice_get ds n.cell ≡ Some a
     → entries_of (hs ++ n ∷ []) ds ≡ entries_of hs cs ++ entry_in n.handle a ∷ []
 entries_push hs n cs ds a same is =
     filter_map-append (λ (g : Held). option_map (entry_in g.handle) (slice_get ds g.cell)) hs (n ∷ [])
@@ -104,7 +103,7 @@ floor_raised zero h = let e : max zero (h + 1) ≡ suc h = omega arith in ap flo
 floor_raised (suc f) h = let e : max (suc f) (h + 1) ≡ suc (max f h) = omega arith in ap floor_before e
 
 -- A window that is not full takes one more.
-pub kept_more : (hs : List Held) (cs : List Cell) (above size : ℕ) (floor : Option ℕ) (n : Held) (a : Cell) → AreHeld hs cs above → length hs < size → n.cell ≡ length hs
+pub kept_more : (hs : List Held) (cs : List CellState) (above size : ℕ) (floor : Option ℕ) (n : Held) (a : CellState) → AreHeld hs cs above → length hs < size → n.cell ≡ length hs
     → record { size = size; entries = entries_of (hs ++ n ∷ []) (cs ++ a ∷ []); floor = floor }
     ≡ retained_after (record { size = size; entries = entries_of hs cs; floor = floor }) (entry_in n.handle a)
 kept_more hs cs above size floor n a held room at =
@@ -115,7 +114,7 @@ kept_more hs cs above size floor n a held room at =
     (entries_push hs n cs (cs ++ a ∷ []) a same new) (no_higher floor)
 
 -- A full window takes one more: the oldest goes out, may raise the floor, and leaves its cell.
-pub kept_full : (o : Held) (hs : List Held) (cs : List Cell) (above size end : ℕ) (n : Held) (a : Cell) → AreHeld (o ∷ hs) cs above → length (o ∷ hs) ≡ size → n.cell ≡ o.cell
+pub kept_full : (o : Held) (hs : List Held) (cs : List CellState) (above size end : ℕ) (n : Held) (a : CellState) → AreHeld (o ∷ hs) cs above → length (o ∷ hs) ≡ size → n.cell ≡ o.cell
     → record { size = size; entries = entries_of (hs ++ n ∷ []) (slice_set cs n.cell a); floor = floor_before (max end (o.handle.0 + 1)) }
     ≡ retained_after (record { size = size; entries = entries_of (o ∷ hs) cs; floor = floor_before end }) (entry_in n.handle a)
 kept_full o hs cs above size end n a held full at =
@@ -138,7 +137,7 @@ below_more : (hs : List Held) (above more : ℕ) → All (λ g. g.handle.0 < abo
 below_more hs above more below le = λ k d within. let low = below k d within in omega (arith, low, le)
 
 -- one more command is held, in a cell of its own
-pub held_more : (hs : List Held) (cs : List Cell) (above more : ℕ) (n : Held) (a : Cell) → AreHeld hs cs above → All (λ g. is_under n.handle.0 g ≡ false) hs
+pub held_more : (hs : List Held) (cs : List CellState) (above more : ℕ) (n : Held) (a : CellState) → AreHeld hs cs above → All (λ g. is_under n.handle.0 g ≡ false) hs
     → above ≤ more → n.handle.0 < more → n.cell ≡ length hs → AreHeld (hs ++ n ∷ []) (cs ++ a ∷ []) more
 held_more hs cs above more n a held none le lt at =
     let long : length (cs ++ a ∷ []) ≡ length cs + 1 = length-append cs (a ∷ []) in
@@ -154,7 +153,7 @@ held_more hs cs above more n a held none le lt at =
     below a b lt = grind (arith, nat_tests)
 
 -- where the window is full, the command is held in the cell of the oldest
-pub held_full : (o : Held) (hs : List Held) (cs : List Cell) (above more : ℕ) (n : Held) (a : Cell) → AreHeld (o ∷ hs) cs above → All (λ g. is_under n.handle.0 g ≡ false) (o ∷ hs)
+pub held_full : (o : Held) (hs : List Held) (cs : List CellState) (above more : ℕ) (n : Held) (a : CellState) → AreHeld (o ∷ hs) cs above → All (λ g. is_under n.handle.0 g ≡ false) (o ∷ hs)
     → above ≤ more → n.handle.0 < more → n.cell ≡ o.cell → AreHeld (hs ++ n ∷ []) (slice_set cs n.cell a) more
 held_full o hs cs above more n a held none le lt at =
     let long : length (slice_set cs n.cell a) ≡ length cs = length-set cs n.cell a in
@@ -258,26 +257,26 @@ found_back h xs ys zs all none = rw (← all) (past_front xs none)
         by_test false none rest = rest none
 
 -- the command under a handle, by what is held under it
-pub under_none : (h : ℕ) (hs : List Held) (cs : List Cell) → Within cs hs → find (is_under h) hs ≡ None → entry_under h (entries_of hs cs) ≡ None
+pub under_none : (h : ℕ) (hs : List Held) (cs : List CellState) → Within cs hs → find (is_under h) hs ≡ None → entry_under h (entries_of hs cs) ≡ None
 under_none h [] cs within none = refl
 under_none h (x ∷ hs) cs within none =
     let a = there cs x.cell (first_within x hs cs within) in
     rw a.1 (by_test (is_under h x) a.0 none (under_none h hs cs (within_tail x hs cs within)))
   where
-    by_test : (b : Bool) (a : Cell) → cond b (Some x) (find (is_under h) hs) ≡ None → (find (is_under h) hs ≡ None → entry_under h (entries_of hs cs) ≡ None)
+    by_test : (b : Bool) (a : CellState) → cond b (Some x) (find (is_under h) hs) ≡ None → (find (is_under h) hs ≡ None → entry_under h (entries_of hs cs) ≡ None)
         → cond b (Some (entry_in x.handle a)) (entry_under h (entries_of hs cs)) ≡ None
     by_test true a none rest = cc
     by_test false a none rest = rest none
 
 -- a command that is found under its handle has a cell
-pub under_some : (h : ℕ) (hs : List Held) (cs : List Cell) (g : Held) (a : Cell) → Within cs hs → find (is_under h) hs ≡ Some g → slice_get cs g.cell ≡ Some a
+pub under_some : (h : ℕ) (hs : List Held) (cs : List CellState) (g : Held) (a : CellState) → Within cs hs → find (is_under h) hs ≡ Some g → slice_get cs g.cell ≡ Some a
     → entry_under h (entries_of hs cs) ≡ Some (entry_in g.handle a)
 under_some h [] cs g a within found is = cc
 under_some h (x ∷ hs) cs g a within found is =
     let b = there cs x.cell (first_within x hs cs within) in
     rw b.1 (by_test (is_under h x) b.0 b.1 found (λ rest. under_some h hs cs g a (within_tail x hs cs within) rest is))
   where
-    by_test : (t : Bool) (b : Cell) → slice_get cs x.cell ≡ Some b → cond t (Some x) (find (is_under h) hs) ≡ Some g
+    by_test : (t : Bool) (b : CellState) → slice_get cs x.cell ≡ Some b → cond t (Some x) (find (is_under h) hs) ≡ Some g
         → (find (is_under h) hs ≡ Some g → entry_under h (entries_of hs cs) ≡ Some (entry_in g.handle a))
         → cond t (Some (entry_in x.handle b)) (entry_under h (entries_of hs cs)) ≡ Some (entry_in g.handle a)
     by_test true b has found rest =
@@ -291,14 +290,14 @@ none_found h [] none = refl
 none_found h (x ∷ hs) none = rw (none 0 x (omega arith)) (none_found h hs (All-tail (λ g. is_under h g ≡ false) x hs none))
 
 -- no command is under a handle that nothing is held under, and the other way round
-pub not_retained : (h : ℕ) (hs : List Held) (cs : List Cell) → Within cs hs → entry_under h (entries_of hs cs) ≡ None → All (λ g. is_under h g ≡ false) hs
+pub not_retained : (h : ℕ) (hs : List Held) (cs : List CellState) → Within cs hs → entry_under h (entries_of hs cs) ≡ None → All (λ g. is_under h g ≡ false) hs
 not_retained h [] cs within none = λ k d inside. absurd (omega (arith, inside))
 not_retained h (x ∷ hs) cs within none =
     let a = there cs x.cell (first_within x hs cs within) in
     let parts = by_test (is_under h x) a.0 (rw a.1 at none) in
     All-cons (λ g. is_under h g ≡ false) x hs parts.0 (not_retained h hs cs (within_tail x hs cs within) parts.1)
   where
-    by_test : (b : Bool) (a : Cell) → cond b (Some (entry_in x.handle a)) (entry_under h (entries_of hs cs)) ≡ None → (b ≡ false) × (entry_under h (entries_of hs cs) ≡ None)
+    by_test : (b : Bool) (a : CellState) → cond b (Some (entry_in x.handle a)) (entry_under h (entries_of hs cs)) ≡ None → (b ≡ false) × (entry_under h (entries_of hs cs) ≡ None)
     by_test true a e = cc
     by_test false a e = (refl, e)
 
@@ -332,7 +331,7 @@ before_end zero h lt = absurd (omega (arith, lt))
 before_end (suc f) h lt = grind (arith, nat_tests)
 
 -- a handle above all is fresh
-pub fresh_above : (above size end : ℕ) (c : CommandFields) (hs : List Held) (cs : List Cell) → AreHeld hs cs above → end ≤ above → above ≤ c.handle
+pub fresh_above : (above size end : ℕ) (c : CommandFields) (hs : List Held) (cs : List CellState) → AreHeld hs cs above → end ≤ above → above ≤ c.handle
     → judgement_by_window (record { size = size; entries = entries_of hs cs; floor = floor_before end }) c ≡ Fresh
 fresh_above above size end c hs cs held low high =
     let none : All (λ g. is_under c.handle g ≡ false) hs = λ k d inside. let below = held.3 k d inside in other (get_or hs k d).handle.0 c.handle (omega (arith, below, high)) in
@@ -342,7 +341,7 @@ fresh_above above size end c hs cs held low high =
     other a b lt = grind (arith, nat_tests)
 
 -- a command that is held is judged by its cell
-pub judged_by_cell : (k : Retained) (c : CommandFields) (a : Cell)
+pub judged_by_cell : (k : Retained) (c : CommandFields) (a : CellState)
     → option_map (λ (e : Entry). duplicate_or_reused e c) (entry_under c.handle k.entries) ≡ Some (judge_cell a c) → judgement_by_window k c ≡ judge_cell a c
 judged_by_cell k c a h = by_found (entry_under c.handle k.entries) h
   where
@@ -372,3 +371,19 @@ fresh_not_retained k c fresh = by_found (entry_under c.handle k.entries) fresh
     by_found : (o : Option Entry) → judge_entry o (is_above k.floor c.handle) c ≡ Fresh → o ≡ None
     by_found None is = refl
     by_found (Some e) is = absurd (repeated (asks_the_same e.command c) e is)
+
+-- what is held under its handle has a cell, which judges it
+pub judged_where_held : (k : Retained) (c : CommandFields) (size : ℕ) (floor : Option ℕ) (hs : List Held) (cs : List CellState) (g : Held) (a : CellState)
+    → record { size = size; entries = entries_of hs cs; floor = floor } ≡ k → Within cs hs → find (is_under c.handle) hs ≡ Some g → slice_get cs g.cell ≡ Some a
+    → judgement_by_window k c ≡ judge_cell a c
+judged_where_held k c size floor hs cs g a is within found there =
+    rw (← is) (judged_by_cell (record { size = size; entries = entries_of hs cs; floor = floor }) c a
+    (ap (option_map (λ (e : Entry). duplicate_or_reused e c)) (under_some c.handle hs cs g a within found there)))
+
+-- where nothing is, the floor does
+pub judged_where_none : (k : Retained) (c : CommandFields) (above : Bool) (size : ℕ) (floor : Option ℕ) (hs : List Held) (cs : List CellState)
+    → record { size = size; entries = entries_of hs cs; floor = floor } ≡ k → Within cs hs → find (is_under c.handle) hs ≡ None → is_above floor c.handle ≡ above
+    → judgement_by_window k c ≡ cond above Fresh Old
+judged_where_none k c above size floor hs cs is within none so =
+    rw (← is) (judged_by_floor (record { size = size; entries = entries_of hs cs; floor = floor }) c above
+    (ap (option_map (λ (e : Entry). duplicate_or_reused e c)) (under_none c.handle hs cs within none)) so)

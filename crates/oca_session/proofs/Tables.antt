@@ -4,11 +4,13 @@ use Rattle.std.specs.Prelude.{nat_lt, not, ◌||◌, is_some, IfSome, IsSome, fi
 use Rattle.std.specs.List.{find, list_any, position_or_len}
 use Rattle.std.proofs.Math.ListN.{set}
 use Rattle.std.proofs.Math.Seq.{take-set-lt}
-use Rattle.std.proofs.lemmas.List.{get_or-take, length-take, take_more_set, take-set-le}
+use Rattle.std.proofs.lemmas.List.{get_or-take, get_or_default, length-take, take_more_set, take-set-le}
 use Rattle.std.proofs.lemmas.List.Elements.{All-set}
 use Rattle.std.proofs.lemmas.List.Quantifiers.{position-Some}
 use Rattle.std.proofs.lemmas.Bool.{ltb-true}
 use Rattle.std.proofs.lemmas.Bool.Decides.{nat_tests}
+use Rattle.std.proofs.lemmas.Grind.{common_steps}
+use Rattle.std.proofs.lemmas.List.Sums.{position_or_len_is}
 use Rattle.oca_types.specs.declared.words.Peer.{Peer}
 use Rattle.oca_types.specs.Peers.{same_peer}
 use Rattle.oca_session.specs.Accepted.{Entry, AgreesWithAccepted}
@@ -451,3 +453,28 @@ lapsed_few moment (s ∷ ss) = by_test (is_lapsed moment s) (lapsed_few moment s
         length (peers_of (cond b (s ∷ filter (is_lapsed moment) ss) (filter (is_lapsed moment) ss))) ≤ length (s ∷ ss)
     by_test true h = omega (arith, h)
     by_test false h = omega (arith, h)
+
+-- ---- the first that is of a peer
+
+pub placed_first : (p : Peer) (ss : List Session) (i : ℕ) (d : Session) → i < length ss → ((k : ℕ) → k < i → is_of p (get_or ss k d) ≡ false) → is_of p (get_or ss i d) ≡ true
+    → position (is_of p) ss ≡ Some i
+placed_first p ss i d within others here =
+    let at : position_or_len (is_of p) ss ≡ i = position_or_len_is (is_of p) ss i d (omega (arith, within)) others (λ _. here) in
+    grind (arith, common_steps)
+
+pub one_more_not : (p : Peer) (ss : List Session) (i : ℕ) (e : Session) → i < length ss → ((d : Session) (k : ℕ) → k < i → is_of p (get_or ss k d) ≡ false) → is_of p (get_or ss i e) ≡ false
+    → (d : Session) (k : ℕ) → k < i + 1 → is_of p (get_or ss k d) ≡ false
+one_more_not p ss i e within none here d k lt = by (nat_lt k i) refl
+  where
+    by : (b : Bool) → nat_lt k i ≡ b → is_of p (get_or ss k d) ≡ false
+    by true below = none d k (ltb-true k i below)
+    by false above =
+        let same : k ≡ i = grind (arith, common_steps) in
+        rw same (ap (is_of p) (get_or_default ss i d e within) ∙ here)
+
+pub placed_nowhere : (p : Peer) (ss : List Session) (i : ℕ) → length ss ≤ i → ((d : Session) (k : ℕ) → k < i → is_of p (get_or ss k d) ≡ false) → position (is_of p) ss ≡ None
+placed_nowhere p [] i past none = refl
+placed_nowhere p (s ∷ ss) i past none =
+    let at : position_or_len (is_of p) (s ∷ ss) ≡ length (s ∷ ss) =
+    position_or_len_is (is_of p) (s ∷ ss) (length (s ∷ ss)) s (omega arith) (λ k lt. none s k (omega (arith, lt, past))) (λ lt. absurd (omega (arith, lt))) in
+    grind (arith, common_steps)

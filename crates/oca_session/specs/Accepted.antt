@@ -4,7 +4,7 @@ use Rattle.std.specs.Prelude.{◌≡◌, ℕ, ◌-◌, ◌==◌, nat_eq, nat_lt,
 use Rattle.std.specs.Prelude.{take, drop, length, Option, Some, None}
 use Rattle.std.specs.List.{list_any, list_all, find}
 use Rattle.std.specs.Cmp.Lexicographic.{pointwise}
-use Rattle.oca_types.specs.declared.words.Reply.{Reply}
+use Rattle.oca_types.specs.Replies.{Reply}
 use Rattle.oca_types.specs.Peers.{CommandFields}
 
 -- An accepted command, and the reply that executing it gave (profile).

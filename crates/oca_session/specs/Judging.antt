@@ -2,13 +2,14 @@
 -- stands last.
 use Rattle.std.specs.Prelude.{ℕ, nat_lt, Bool, true, if◌then◌else◌, [], ◌∷◌, ◌++◌, Option, Some, None}
 use Rattle.oca_types.specs.Peers.{CommandFields}
-use Rattle.oca_session.specs.declared.window.Judged.{Judged}
-use Rattle.oca_session.specs.declared.window.Judged.TheVariants as judged
+use Rattle.oca_types.specs.Replies.{Reply}
+use Rattle.oca_session.specs.declared.window.JudgedOf.{JudgedOf}
+use Rattle.oca_session.specs.declared.window.JudgedOf.TheVariants as judged
 use Rattle.oca_session.specs.Accepted.{Entry, Judgement, Fresh, Duplicate, Reused, Old, Retained, duplicate_or_reused}
 use Rattle.oca_session.specs.Accepted.{entry_under, window, outside, higher_of, greatest}
 
 -- the judgement that the result of `judge` tells (profile)
-abbrev pub as_judgement : Judged → Judgement
+abbrev pub as_judgement : JudgedOf Reply → Judgement
 as_judgement judged.Fresh = Fresh
 as_judgement (judged.Kept reply) = Duplicate reply.now
 as_judgement judged.Reused = Reused

@@ -3,27 +3,36 @@ use Rattle.std.specs.Prelude.{◌≡◌, ℕ, zero, suc, ◌<◌, ◌==◌, Bool
 use Rattle.std.specs.Prelude.{filter_map, option_map, Option, Some, None, All, AllPairs}
 use Rattle.oca_types.specs.declared.words.Handle.{Handle}
 use Rattle.oca_types.specs.Peers.{CommandFields}
-use Rattle.oca_session.specs.declared.cell.Cell.{Cell}
+use Rattle.oca_types.specs.Replies.{Reply}
 use Rattle.oca_session.specs.declared.window.Held.{Held}
 use Rattle.oca_session.specs.Accepted.{Entry, Judgement, duplicate_or_reused}
 
+-- what a cell holds: a command without its handle, and its reply (profile)
+pub record CellState : Type 0 where
+  pub target : ℕ
+  pub level : ℕ
+  pub index : ℕ
+  pub count : ℕ
+  pub params : List ℕ
+  pub reply : Reply
+
 -- the accepted command of a handle, from what its cell holds (profile)
-abbrev pub entry_in : Handle → Cell → Entry
+abbrev pub entry_in : Handle → CellState → Entry
 entry_in x a =
     record {
       command = record {
         handle = x.0;
-        target = a.target.0;
-        level = a.method.level;
-        index = a.method.index;
+        target = a.target;
+        level = a.level;
+        index = a.index;
         count = a.count;
-        params = a.params.items;
+        params = a.params;
       };
       reply = a.reply;
     }
 
 -- the accepted commands of what is held, in its order: the handle of each with what its cell holds (profile)
-abbrev pub entries_of : List Held → List Cell → List Entry
+abbrev pub entries_of : List Held → List CellState → List Entry
 entries_of hs cs = filter_map (λ g. option_map (entry_in g.handle) (slice_get cs g.cell)) hs
 
 -- what is held has this handle (profile)
@@ -36,7 +45,7 @@ AreApart g h = (is_under h.handle.0 g ≡ false) × ((g.cell == h.cell) ≡ fals
 
 -- There are as many cells as commands are held, each has a cell of its own, and its handle is another's nowhere and
 -- below this number (profile).
-abbrev pub AreHeld : List Held → List Cell → ℕ → Type 0
+abbrev pub AreHeld : List Held → List CellState → ℕ → Type 0
 AreHeld hs cs above =
     (length cs ≡ length hs) × All (λ g. g.cell < length cs) hs × AllPairs AreApart hs × All (λ g. g.handle.0 < above) hs
 
@@ -57,11 +66,11 @@ pub record IsCellOfOldest (hs : List Held) (size cell : ℕ) : Type 0 where
   pub full : length hs ≡ size
 
 -- a cell of this handle, with this accepted command, was added after the others (profile)
-pub record AddsCell (x : Handle) (e : Entry) (old new : List Cell) : Type 0 where
-  pub cell : Cell
+pub record AddsCell (x : Handle) (e : Entry) (old new : List CellState) : Type 0 where
+  pub cell : CellState
   pub holds : entry_in x cell ≡ e
   pub added : new ≡ old ++ cell ∷ []
 
 -- what a cell says of a command under its handle (profile)
-abbrev pub judge_cell : Cell → CommandFields → Judgement
+abbrev pub judge_cell : CellState → CommandFields → Judgement
 judge_cell a c = duplicate_or_reused (entry_in (record { 0 = c.handle }) a) c

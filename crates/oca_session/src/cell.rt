@@ -2,29 +2,46 @@
 ghost use Rattle.std.specs.Prelude.{◌≡◌, ◌≤◌, length, nat_eq};
 ghost use Rattle.std.specs.Cmp.Lexicographic.{pointwise};
 ghost use Rattle.oca_types.specs.Peers.{fields_of};
-ghost use Rattle.oca_types.specs.Sizes.{most_command_parameter_bytes};
 ghost use Rattle.oca_session.specs.Accepted.{asks_the_same};
 ghost use Rattle.oca_session.specs.PrivateCells.{entry_in};
 
 use arrayvec::ArrayVec;
-use oca_types::{Command, MOST_COMMAND_PARAMETER_BYTES, MethodId, Ono, Params, Reply, write_over};
+use oca_types::{Command, MethodId, Ono, ReplyOf, write_over};
+use std::marker::Model;
 
-/// A command in a reply window, without its handle, and the reply that the command got.
+/// A command in a reply window, without its handle, and the reply that the command got: with room for `COMMAND` bytes of
+/// parameters of the command, and for `ANSWER` bytes of parameters of the reply.
 #[derive(Drop)]
-pub struct Cell {
+pub struct Cell<const COMMAND: usize, const ANSWER: usize> {
     target: Ono,
     method: MethodId,
     count: u8,
-    params: ArrayVec<u8, MOST_COMMAND_PARAMETER_BYTES>,
-    reply: Reply,
+    params: ArrayVec<u8, COMMAND>,
+    reply: ReplyOf<ANSWER>,
 }
 
-impl Cell {
+impl<const COMMAND: usize, const ANSWER: usize> Model for Cell<COMMAND, ANSWER> {
+    ghost use Rattle.oca_session.specs.PrivateCells.{CellState};
+
+    ghost Value = { CellState };
+
+    ghost view = { λ a. record {
+      target = a.target.0;
+      level = a.method.level;
+      index = a.method.index;
+      count = a.count;
+      params = a.params.items;
+      reply = a.reply;
+    } };
+}
+
+impl<const COMMAND: usize, const ANSWER: usize> Cell<COMMAND, ANSWER> {
     /// Returns a cell with copies of this command, without its handle, and of its reply (*profile*). The command must
-    /// have at most 1,445 bytes of parameters (a premise, which the caller must prove). The call refuses nothing and
-    /// takes no memory.
-    pub fn new(command: &Command<'_>, reply: &Reply) -> Cell
-        requires { length command.now.params.now ≤ most_command_parameter_bytes }
+    /// have at most `COMMAND` bytes of parameters, and the reply at most `ANSWER` (premises, which the caller must
+    /// prove). The call refuses nothing and takes no memory.
+    pub fn new<const N: usize>(command: &Command<'_>, reply: &ReplyOf<N>) -> Self
+        requires command { length command.now.params.now ≤ COMMAND }
+        requires reply { length reply.now.params.items ≤ ANSWER }
         ensures { entry_in command.now.handle result ≡ record { command = fields_of command.now; reply = reply.now } }
     {
         let mut cell = Cell {
@@ -32,10 +49,10 @@ impl Cell {
             method: command.method,
             count: command.count,
             params: ArrayVec::new(),
-            reply: Reply {
+            reply: ReplyOf {
                 status: reply.status,
                 count: reply.count,
-                params: Params::new(),
+                params: ArrayVec::new(),
             },
         };
         copy_bytes(&mut cell.params, command.params);
@@ -44,10 +61,11 @@ impl Cell {
     }
 
     /// Replaces the command and the reply in the cell by copies of these (*profile*). The handle is not stored. The
-    /// command must have at most 1,445 bytes of parameters (a premise, which the caller must prove). The call refuses
-    /// nothing and takes no memory.
-    pub fn set(&mut self, command: &Command<'_>, reply: &Reply)
-        requires { length command.now.params.now ≤ most_command_parameter_bytes }
+    /// command must have at most `COMMAND` bytes of parameters, and the reply at most `ANSWER` (premises, which the
+    /// caller must prove). The call refuses nothing and takes no memory.
+    pub fn set<const N: usize>(&mut self, command: &Command<'_>, reply: &ReplyOf<N>)
+        requires command { length command.now.params.now ≤ COMMAND }
+        requires reply { length reply.now.params.items ≤ ANSWER }
         ensures { entry_in command.now.handle self.new ≡ record { command = fields_of command.now; reply = reply.now } }
     {
         let params = reply.params.as_slice();
@@ -69,8 +87,9 @@ impl Cell {
     /// Apart from `set`, since its calls would leave the callers of `set` few registers: writes a command and its reply
     /// over those that the cell held, whatever their lengths.
     #[inline(never)]
-    fn set_other(&mut self, command: &Command<'_>, reply: &Reply)
-        requires { length command.now.params.now ≤ most_command_parameter_bytes }
+    fn set_other<const N: usize>(&mut self, command: &Command<'_>, reply: &ReplyOf<N>)
+        requires command { length command.now.params.now ≤ COMMAND }
+        requires reply { length reply.now.params.items ≤ ANSWER }
         ensures { entry_in command.now.handle self.new ≡ record { command = fields_of command.now; reply = reply.now } }
     {
         self.target = command.target;
@@ -95,7 +114,7 @@ impl Cell {
     }
 
     /// Returns the reply in the cell, without copying it (*profile*).
-    pub fn reply(&self) -> &Reply
+    pub fn reply(&self) -> &ReplyOf<ANSWER>
         ensures { result.now ≡ self.now.reply }
     {
         &self.reply

@@ -18,5 +18,5 @@ mod slot;
 mod window;
 
 pub use oca_types::sooner;
-pub use sessions::{Admission, Sessions};
-pub use window::Judged;
+pub use sessions::{Admission, Sessions, SessionsOf};
+pub use window::{Judged, JudgedOf};

@@ -3,7 +3,7 @@ ghost use Rattle.std.specs.Prelude.{◌≡◌, ℕ, ◌<◌, ◌≤◌, List, []
 ghost use Rattle.std.specs.Prelude.{vec_len, take, position, All, Contains, ◌==◌, slice_get};
 ghost use Rattle.oca_types.specs.declared.words.Peer.{Peer};
 ghost use Rattle.oca_types.specs.Peers.{fields_of};
-ghost use Rattle.oca_types.specs.Sizes.{most_command_parameter_bytes, window_size, sizes_of};
+ghost use Rattle.oca_types.specs.Sizes.{most_command_parameter_bytes, most_parameter_bytes, window_size, sizes_of};
 ghost use Rattle.oca_session.specs.Accepted.{Entry, judgement, Fresh};
 ghost use Rattle.oca_session.specs.Judging.{as_judgement, judgement_by_window};
 ghost use Rattle.oca_session.specs.Table.{is_of, session_of, peers_of, lapsed, staying, forgotten};
@@ -13,14 +13,17 @@ ghost use Rattle.oca_session.specs.Sound.{IsSession, IsOnePerPeer};
 ghost use Rattle.oca_session.specs.PrivateQuiet.{latest_quiet};
 
 use crate::slot::Slot;
-use crate::window::Judged;
+use crate::window::JudgedOf;
 use arrayvec::ArrayVec;
-use oca_types::{Command, MOST_PEERS, NoMemory, Peer, Peers, Reply, Sizes, Window, sooner};
+use oca_types::{
+    Command, MOST_COMMAND_PARAMETER_BYTES, MOST_PARAMETER_BYTES, MOST_PEERS, NoMemory, Peer, Peers,
+    ReplyOf, Sizes, Window, sooner,
+};
 use std::alloc::{AllocError, Global};
 use std::fmt;
 use std::marker::Model;
 
-/// What [`Sessions::hear`] did with a peer that was heard.
+/// What [`SessionsOf::hear`] did with a peer that was heard.
 #[derive(Clone, Copy, Debug, PartialEq, Eq)]
 pub enum Admission {
     /// The peer already had a session, and its silence ended.
@@ -36,14 +39,17 @@ pub enum Admission {
 /// its reply window.
 ///
 /// A peer is *known* while it has a session. The *reply window* of a session contains its last accepted commands with
-/// their replies; [`keep`](Sessions::keep) stores an accepted command. The *heartbeat* of a peer is the interval, in
+/// their replies; [`keep`](SessionsOf::keep) stores an accepted command. The *heartbeat* of a peer is the interval, in
 /// milliseconds, at which it said that it would send: 5,000 ms at first, and from 250 to 30,000 ms. Moments are in
 /// milliseconds of one clock, which the caller reads. The present moment is the latest that
-/// [`advance`](Sessions::advance), [`advance_into`](Sessions::advance_into) and [`hear`](Sessions::hear) were given,
+/// [`advance`](SessionsOf::advance), [`advance_into`](SessionsOf::advance_into) and [`hear`](SessionsOf::hear) were given,
 /// and 0 at first. The *silence* of a session is the time from the moment when its peer was last heard to the present
 /// moment. A session is *forgotten* when it is removed, after a silence of more than 120,000 ms.
+///
+/// Each command in a reply window has room for `COMMAND` bytes of parameters, and its reply for `ANSWER`.
+/// [`Sessions`] has room for each command and each reply.
 #[derive(Drop)]
-pub struct Sessions {
+pub struct SessionsOf<const COMMAND: usize, const ANSWER: usize> {
     sizes: Sizes,
     moment: u64,
     /// Up to this moment no session lapses, and so none is forgotten.
@@ -52,12 +58,16 @@ pub struct Sessions {
     /// Where a session stands, if there is one: that which was heard last, unless one was forgotten since. It
     /// is looked at first.
     recent: usize,
-    slots: Vec<Slot>,
+    slots: Vec<Slot<COMMAND, ANSWER>>,
 }
 
-impl Model for Sessions {
+/// A table of sessions with room for each command and each reply: commands with 1,445 bytes of parameters, and replies
+/// with 1,452. [`SessionsOf`] has its calls, and explains their words.
+pub type Sessions = SessionsOf<MOST_COMMAND_PARAMETER_BYTES, MOST_PARAMETER_BYTES>;
+
+impl<const COMMAND: usize, const ANSWER: usize> Model for SessionsOf<COMMAND, ANSWER> {
     ghost use Rattle.std.specs.Prelude.{◌≡◌, ◌<◌, ◌≤◌, length, take, All};
-    ghost use Rattle.oca_types.specs.Sizes.{window_size, sizes_of};
+    ghost use Rattle.oca_types.specs.Sizes.{most_command_parameter_bytes, most_parameter_bytes, sizes_of};
     ghost use Rattle.oca_session.specs.Table.{Table};
     ghost use Rattle.oca_session.specs.Sound.{IsSession, IsOnePerPeer};
     ghost use Rattle.oca_session.specs.PrivateQuiet.{IsQuietUntil};
@@ -68,10 +78,11 @@ impl Model for Sessions {
 
     ghost invariant = { λ a. (a.count ≤ (sizes_of a.sizes).peers) × (length a.slots.items ≡ (sizes_of a.sizes).peers)
         × All (IsSession (sizes_of a.sizes).window) a.slots.items × IsOnePerPeer (take a.count a.slots.items)
-        × IsQuietUntil a.quiet_until (take a.count a.slots.items) × (0 < a.count → a.recent < a.count) };
+        × IsQuietUntil a.quiet_until (take a.count a.slots.items) × (0 < a.count → a.recent < a.count)
+        × (COMMAND ≤ most_command_parameter_bytes) × (ANSWER ≤ most_parameter_bytes) };
 }
 
-impl Sessions {
+impl<const COMMAND: usize, const ANSWER: usize> SessionsOf<COMMAND, ANSWER> {
     ghost use Rattle.oca_session.specs.Table.{with_moment_and_sessions, with_sessions, present, with_changed};
     ghost use Rattle.oca_session.specs.Table.{with_heartbeat, with_entry, with_accepted, Hears, IsKnownAfter, AgreesAt};
     ghost use Rattle.oca_session.specs.Sound.{IsTable};
@@ -81,14 +92,14 @@ impl Sessions {
     /// contains the last accepted commands of the peer with their replies. The call takes from `alloc` all the memory
     /// that the sessions will need: no later call takes any. The only refusal is `NoMemory` if the allocator refused
     /// memory. No table is then returned.
-    pub fn new(alloc: Global, window: Window) -> Result<Sessions, NoMemory>
+    pub fn new(alloc: Global, window: Window) -> Result<Self, NoMemory>
         ensures { IfOk result (λ t. t ≡ record {
           sizes = record { window = window_size window; peers = 16 };
           moment = 0;
           sessions = [];
         }) }
     {
-        Sessions::with_sizes(
+        SessionsOf::with_sizes(
             alloc,
             Sizes {
                 window,
@@ -103,17 +114,20 @@ impl Sessions {
     ///   accepted commands of the peer with their replies.
     ///
     /// [`Sizes`] can't have a number outside these ranges. The call takes from `alloc` all the memory that the sessions
-    /// will need: no later call takes any. The only refusal is `NoMemory` if the allocator refused memory. No table is
-    /// then returned.
-    pub fn with_sizes(alloc: Global, sizes: Sizes) -> Result<Sessions, NoMemory>
+    /// will need: no later call takes any. The only refusal is `NoMemory` if the allocator refused memory, or if
+    /// `COMMAND` is above 1,445 or `ANSWER` above 1,452, as in no [`Sessions`]. No table is then returned.
+    pub fn with_sizes(alloc: Global, sizes: Sizes) -> Result<Self, NoMemory>
         ensures { IfOk result (λ t. t ≡ record { sizes = sizes_of sizes; moment = 0; sessions = [] }) }
     {
+        if COMMAND > MOST_COMMAND_PARAMETER_BYTES || ANSWER > MOST_PARAMETER_BYTES {
+            return Err(NoMemory);
+        }
         let (window, peers) = (
             usize::from(sizes.window.get()),
             usize::from(sizes.peers.get()),
         );
         match spare_slots(alloc, window, peers) {
-            Ok(slots) => Ok(Sessions {
+            Ok(slots) => Ok(SessionsOf {
                 sizes,
                 moment: 0,
                 quiet_until: 0,
@@ -126,8 +140,8 @@ impl Sessions {
     }
 
     /// Returns the number of sessions: from 0, as at first, to the number of peers for which the table was made, at
-    /// most 64 (*profile*). A session that is due to be forgotten counts until the next [`advance`](Sessions::advance)
-    /// or [`advance_into`](Sessions::advance_into). The call refuses nothing.
+    /// most 64 (*profile*). A session that is due to be forgotten counts until the next [`advance`](SessionsOf::advance)
+    /// or [`advance_into`](SessionsOf::advance_into). The call refuses nothing.
     pub fn len(&self) -> usize
         ensures len { result ≡ length self.now.sessions }
         ensures sound { IsTable self.now }
@@ -155,8 +169,8 @@ impl Sessions {
     }
 
     /// Returns whether the peer (the same address and port) has a session. A session begins when
-    /// [`hear`](Sessions::hear) opens it, and ends when [`advance`](Sessions::advance) or
-    /// [`advance_into`](Sessions::advance_into) forgets it (*profile*). The table is unchanged.
+    /// [`hear`](SessionsOf::hear) opens it, and ends when [`advance`](SessionsOf::advance) or
+    /// [`advance_into`](SessionsOf::advance_into) forgets it (*profile*). The table is unchanged.
     #[tactic(auto, using(crate::proofs::Tables::known_by_place))]
     pub fn is_known(&self, peer: Peer) -> bool
         ensures { result ≡ is_some (session_of peer self.now.sessions) }
@@ -168,7 +182,7 @@ impl Sessions {
     /// milliseconds of the caller's clock; an earlier moment than the present one counts as the present one. The result
     /// is the peers whose silence is more than three of their heartbeats, in order of opening. Sessions with a silence
     /// of more than 120,000 ms are then forgotten; their peers are in the result too. The result has at most the first
-    /// 16 peers: these are all if the table has room for at most 16 sessions. [`advance_into`](Sessions::advance_into)
+    /// 16 peers: these are all if the table has room for at most 16 sessions. [`advance_into`](SessionsOf::advance_into)
     /// returns all. Each later call returns the peer again, until the peer is heard or forgotten. The call refuses
     /// nothing and takes no memory.
     pub fn advance(&mut self, now: u64) -> ArrayVec<Peer, 16>
@@ -256,7 +270,7 @@ impl Sessions {
 
     /// Sets the heartbeat of a known peer to `ms` milliseconds (*profile*). The heartbeat becomes 250 ms if `ms` is
     /// below 250, and 30,000 ms if `ms` is above 30,000. The peer must be known (a premise, which the caller must
-    /// prove; [`is_known`](Sessions::is_known)). Nothing else is changed: in particular the silence of the peer does
+    /// prove; [`is_known`](SessionsOf::is_known)). Nothing else is changed: in particular the silence of the peer does
     /// not end. The call refuses nothing and takes no memory.
     pub fn beat(&mut self, peer: Peer, ms: u64)
         requires { IsSome (session_of peer self.old.sessions) }
@@ -282,7 +296,7 @@ impl Sessions {
 
     /// Returns the first moment at which a session is forgotten, if no peer is heard before (*profile*). The moment is
     /// in milliseconds of the caller's clock: a peer was then silent for more than 120,000 ms. The moment can be past,
-    /// since only [`advance`](Sessions::advance) and [`advance_into`](Sessions::advance_into) forget sessions. The
+    /// since only [`advance`](SessionsOf::advance) and [`advance_into`](SessionsOf::advance_into) forget sessions. The
     /// result is `None` if there is no session, or the moment does not fit 64 bits. The table is unchanged.
     pub fn forgotten_from(&self) -> Option<u64>
         ensures { HoldsFrom (forgets self.now.sessions) result }
@@ -304,14 +318,14 @@ impl Sessions {
 
     /// Judges a command of a known peer by the reply window of its session (*profile*). The window contains the last
     /// accepted commands of the session with their replies. The call changes nothing and takes no memory. The peer must
-    /// be known (a premise, which the caller must prove; [`is_known`](Sessions::is_known)). The result is:
+    /// be known (a premise, which the caller must prove; [`is_known`](SessionsOf::is_known)). The result is:
     /// - `Kept` with the reply, if the window has a command with this handle that asks the same: the same target,
     ///   DefLevel, MethodIndex, ParamCount and parameter bytes. The command is a duplicate.
     /// - `Reused` if the window has a command with this handle that asks something else.
     /// - `Old` if no command in the window has this handle, and the handle is at most the highest handle of the
-    ///   commands that the window pushed out ([`keep`](Sessions::keep)).
+    ///   commands that the window pushed out ([`keep`](SessionsOf::keep)).
     /// - `Fresh` otherwise.
-    pub fn judge(&self, peer: Peer, command: &Command<'_>) -> Judged<'_>
+    pub fn judge(&self, peer: Peer, command: &Command<'_>) -> JudgedOf<'_, ReplyOf<ANSWER>>
         requires { IsSome (session_of peer self.now.sessions) }
         ensures retained { IfSome (session_of peer self.now.sessions)
             (λ s. as_judgement result ≡ judgement_by_window s.retained (fields_of command.now)) }
@@ -322,16 +336,48 @@ impl Sessions {
     }
 
     /// Stores a fresh command of a known peer, with its reply, in the reply window of its session (*profile*). A full
-    /// window pushes its oldest command out. From then on [`judge`](Sessions::judge) says `Old` for each handle up to
+    /// window pushes its oldest command out. From then on [`judge`](SessionsOf::judge) says `Old` for each handle up to
     /// that command's, if the handle is not in the window. The command and the reply are copied. Premises, which the
-    /// caller must prove: the peer is known ([`is_known`](Sessions::is_known)), [`judge`](Sessions::judge) says `Fresh`
-    /// for the command, and the command has at most 1,445 bytes of parameters. The call refuses nothing and takes no
-    /// memory.
-    pub fn keep(&mut self, peer: Peer, command: &Command<'_>, reply: &Reply)
+    /// caller must prove: the peer is known ([`is_known`](SessionsOf::is_known)), [`judge`](SessionsOf::judge) says
+    /// `Fresh` for the command, and the command has at most `COMMAND` bytes of parameters: in [`Sessions`] at most
+    /// 1,445. The call refuses nothing and takes no memory.
+    pub fn keep(&mut self, peer: Peer, command: &Command<'_>, reply: &ReplyOf<ANSWER>)
         requires known { IsSome (session_of peer self.old.sessions) }
         requires fresh { IfSome (session_of peer self.old.sessions)
             (λ s. judgement_by_window s.retained (fields_of command.now) ≡ Fresh) }
-        requires room { length command.now.params.now ≤ most_command_parameter_bytes }
+        requires room { length command.now.params.now ≤ COMMAND }
+        ensures retained { self.new ≡ with_sessions self.old
+            (with_changed peer
+            (with_entry (record { command = fields_of command.now; reply = reply.now })) self.old.sessions) }
+        ensures accepted { (w : ℕ) (A : List Entry) → AgreesAt peer w A self.old.sessions →
+            self.new ≡ with_sessions self.old
+            (with_changed peer
+            (with_accepted w (A ++ record { command = fields_of command.now; reply = reply.now } ∷ []))
+            self.old.sessions) }
+        ensures peers { peers_of self.new.sessions ≡ peers_of self.old.sessions }
+        ensures known { (p : Peer) →
+            is_some (session_of p self.new.sessions) ≡ is_some (session_of p self.old.sessions) }
+    {
+        // Read so that the proof knows how long the reply is, and how much room there is.
+        let _ = &self.sizes;
+        let _ = &reply.params;
+        self.keep_short(peer, command, reply);
+    }
+
+    /// Stores a fresh command of a known peer, with a reply of any room, as [`keep`](SessionsOf::keep) does (*profile*).
+    /// Beside the premises of `keep`, the reply must have at most `ANSWER` bytes of parameters (a premise, which the
+    /// caller must prove). The call refuses nothing and takes no memory.
+    pub fn keep_short<const N: usize>(
+        &mut self,
+        peer: Peer,
+        command: &Command<'_>,
+        reply: &ReplyOf<N>,
+    )
+        requires known { IsSome (session_of peer self.old.sessions) }
+        requires fresh { IfSome (session_of peer self.old.sessions)
+            (λ s. judgement_by_window s.retained (fields_of command.now) ≡ Fresh) }
+        requires room { length command.now.params.now ≤ COMMAND }
+        requires short { length reply.now.params.items ≤ ANSWER }
         ensures retained { self.new ≡ with_sessions self.old
             (with_changed peer
             (with_entry (record { command = fields_of command.now; reply = reply.now })) self.old.sessions) }
@@ -375,11 +421,12 @@ impl Sessions {
 
     /// Apart from `keep`, which says beside it what follows for the accepted commands and for the peers: adds a fresh
     /// command of a known peer, with its reply.
-    fn put(&mut self, peer: Peer, command: &Command<'_>, reply: &Reply)
+    fn put<const N: usize>(&mut self, peer: Peer, command: &Command<'_>, reply: &ReplyOf<N>)
         requires known { IsSome (session_of peer self.old.sessions) }
         requires fresh { IfSome (session_of peer self.old.sessions)
             (λ s. judgement_by_window s.retained (fields_of command.now) ≡ Fresh) }
-        requires room { length command.now.params.now ≤ most_command_parameter_bytes }
+        requires room { length command.now.params.now ≤ COMMAND }
+        requires short { length reply.now.params.items ≤ ANSWER }
         ensures retained { self.new ≡ with_sessions self.old
             (with_changed peer
             (with_entry (record { command = fields_of command.now; reply = reply.now })) self.old.sessions) }
@@ -391,7 +438,11 @@ impl Sessions {
 }
 
 /// Where the session of a peer stands, which may have none. The recent slot is looked at first.
-fn index_of(slots: &[Slot], recent: usize, peer: Peer) -> Option<usize>
+fn index_of<const COMMAND: usize, const ANSWER: usize>(
+    slots: &[Slot<COMMAND, ANSWER>],
+    recent: usize,
+    peer: Peer,
+) -> Option<usize>
     requires { IsOnePerPeer slots.now }
     ensures { result ≡ position (is_of peer) slots.now }
 {
@@ -403,10 +454,18 @@ fn index_of(slots: &[Slot], recent: usize, peer: Peer) -> Option<usize>
 
 /// Apart from `index_of`, so that the look at the recent slot is inlined: looks in all slots for the session of a peer.
 #[inline(never)]
-fn search(slots: &[Slot], peer: Peer) -> Option<usize>
+fn search<const COMMAND: usize, const ANSWER: usize>(
+    slots: &[Slot<COMMAND, ANSWER>],
+    peer: Peer,
+) -> Option<usize>
     ensures { result ≡ position (is_of peer) slots.now }
 {
-    slots.iter().position(|slot| slot.is_of(peer))
+    for at in 0..slots.len() {
+        if slots[at].is_of(peer) {
+            return Some(at);
+        }
+    }
+    None
 }
 
 /// Takes all peers out. Clearing is a call that overwrites the cells, so an empty list, the common case here, is left
@@ -421,7 +480,11 @@ fn empty(peers: &mut ArrayVec<Peer, MOST_PEERS>)
 
 /// Puts the peers of the sessions that are lapsed at a moment into `peers`, in their order, in the place of what it
 /// held.
-fn put_lapsed(slots: &[Slot], moment: u64, peers: &mut ArrayVec<Peer, MOST_PEERS>)
+fn put_lapsed<const COMMAND: usize, const ANSWER: usize>(
+    slots: &[Slot<COMMAND, ANSWER>],
+    moment: u64,
+    peers: &mut ArrayVec<Peer, MOST_PEERS>,
+)
     requires { length slots.now ≤ 64 }
     ensures { peers.new.items ≡ lapsed moment slots.now }
 {
@@ -435,7 +498,7 @@ fn put_lapsed(slots: &[Slot], moment: u64, peers: &mut ArrayVec<Peer, MOST_PEERS
 
 /// The latest moment up to which none of the sessions lapses: that before the first lapse, or the latest of all.
 #[tactic(auto, using(crate::proofs::Quiet::latest_first), unfolding(crate::specs::PrivateQuiet::latest_quiet))]
-fn quiet_until(slots: &[Slot]) -> u64
+fn quiet_until<const COMMAND: usize, const ANSWER: usize>(slots: &[Slot<COMMAND, ANSWER>]) -> u64
     ensures { result ≡ latest_quiet slots.now }
 {
     let mut until = u64::MAX;
@@ -447,7 +510,9 @@ fn quiet_until(slots: &[Slot]) -> u64
 
 /// Apart from the method, since a loop over a slice leaves the sessions closed: from which moment on one of them is
 /// forgotten.
-fn forgotten_from(slots: &[Slot]) -> Option<u64>
+fn forgotten_from<const COMMAND: usize, const ANSWER: usize>(
+    slots: &[Slot<COMMAND, ANSWER>],
+) -> Option<u64>
     ensures { HoldsFrom (forgets slots.now) result }
 {
     let mut first = None;
@@ -459,7 +524,11 @@ fn forgotten_from(slots: &[Slot]) -> Option<u64>
 
 /// Moves the sessions that stay to the front, in their order, and returns how many they are. The slots of
 /// the others come behind them.
-fn forget(slots: &mut Vec<Slot>, count: usize, moment: u64) -> usize
+fn forget<const COMMAND: usize, const ANSWER: usize>(
+    slots: &mut Vec<Slot<COMMAND, ANSWER>>,
+    count: usize,
+    moment: u64,
+) -> usize
     requires { count ≤ vec_len slots.old }
     ensures front { take result slots.new.items ≡ staying moment (take count slots.old.items) }
     ensures fewer { result ≤ count }
@@ -477,8 +546,13 @@ fn forget(slots: &mut Vec<Slot>, count: usize, moment: u64) -> usize
 }
 
 /// So many slots for sessions with windows of this size.
-fn spare_slots(alloc: Global, window: usize, count: usize) -> Result<Vec<Slot>, AllocError>
-    requires { (0 < window) × (window ≤ 64) }
+fn spare_slots<const COMMAND: usize, const ANSWER: usize>(
+    alloc: Global,
+    window: usize,
+    count: usize,
+) -> Result<Vec<Slot<COMMAND, ANSWER>>, AllocError>
+    requires size { (0 < window) × (window ≤ 64) }
+    requires rooms { (COMMAND ≤ most_command_parameter_bytes) × (ANSWER ≤ most_parameter_bytes) }
     ensures { IfOk result (λ v. (length v.items ≡ count) × All (IsSession window) v.items) }
 {
     let mut slots = Vec::with_capacity(alloc, count)?;
@@ -488,7 +562,7 @@ fn spare_slots(alloc: Global, window: usize, count: usize) -> Result<Vec<Slot>, 
     Ok(slots)
 }
 
-impl fmt::Debug for Sessions {
+impl<const COMMAND: usize, const ANSWER: usize> fmt::Debug for SessionsOf<COMMAND, ANSWER> {
     /// The sizes, the number of sessions, and the present moment.
     fn fmt<W: fmt::Write>(&self, f: &mut fmt::Formatter<W>) -> fmt::Result {
         f.debug_struct("Sessions")

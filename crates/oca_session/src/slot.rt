@@ -1,7 +1,7 @@
 //! One session.
 ghost use Rattle.std.specs.Prelude.{◌≡◌, ℕ, ◌+◌, ◌*◌, ◌<◌, ◌≤◌, not, List, length, IfOk};
 ghost use Rattle.oca_types.specs.Peers.{fields_of};
-ghost use Rattle.oca_types.specs.Sizes.{most_command_parameter_bytes};
+ghost use Rattle.oca_types.specs.Sizes.{most_command_parameter_bytes, most_parameter_bytes};
 ghost use Rattle.oca_session.specs.Accepted.{Entry, AgreesWithAccepted, judgement, Fresh};
 ghost use Rattle.oca_session.specs.Judging.{as_judgement, judgement_by_window};
 ghost use Rattle.oca_session.specs.PrivateKeys.{key_of as number_of};
@@ -11,8 +11,8 @@ ghost use Rattle.oca_session.specs.PrivateQuiet.{latest_of};
 ghost use Rattle.oca_types.specs.Moments.{HoldsFrom};
 
 use crate::moments::passes_from;
-use crate::window::{Judged, ReplyWindow};
-use oca_types::{Command, Peer, Reply};
+use crate::window::{JudgedOf, ReplyWindow};
+use oca_types::{Command, Peer, ReplyOf};
 use std::alloc::{AllocError, Global};
 use std::marker::Model;
 
@@ -30,16 +30,16 @@ const LONGEST_SILENCE: u64 = 120_000;
 
 /// Memory for one session: for a session that a peer has, or for a later one.
 #[derive(Drop)]
-pub struct Slot {
+pub struct Slot<const COMMAND: usize, const ANSWER: usize> {
     peer: Peer,
     /// The key of the peer.
     key: u64,
     heard: u64,
     heartbeat: u32,
-    window: ReplyWindow,
+    window: ReplyWindow<COMMAND, ANSWER>,
 }
 
-impl Model for Slot {
+impl<const COMMAND: usize, const ANSWER: usize> Model for Slot<COMMAND, ANSWER> {
     ghost use Rattle.std.specs.Prelude.{◌≡◌, ◌<◌};
     ghost use Rattle.oca_session.specs.PrivateKeys.{key_of};
     ghost use Rattle.oca_session.specs.Table.{Session};
@@ -51,12 +51,14 @@ impl Model for Slot {
     ghost invariant = { λ a. (a.key ≡ key_of a.peer) × (a.peer.port < 65536) };
 }
 
-impl Slot {
+impl<const COMMAND: usize, const ANSWER: usize> Slot<COMMAND, ANSWER> {
     /// Returns a slot that no session has had yet, with an empty reply window of `size` commands, 1 to 64 (a premise,
-    /// which the caller must prove; *profile*). The call takes from `alloc` the memory for the window. The only refusal
-    /// is `AllocError`, if the allocator refused memory.
-    pub fn spare(alloc: Global, size: usize) -> Result<Slot, AllocError>
-        requires { (0 < size) × (size ≤ 64) }
+    /// which the caller must prove; *profile*). `COMMAND` must be at most 1,445, and `ANSWER` at most 1,452 (premises,
+    /// too). The call takes from `alloc` the memory for the window. The only refusal is `AllocError`, if the allocator
+    /// refused memory.
+    pub fn spare(alloc: Global, size: usize) -> Result<Self, AllocError>
+        requires size { (0 < size) × (size ≤ 64) }
+        requires rooms { (COMMAND ≤ most_command_parameter_bytes) × (ANSWER ≤ most_parameter_bytes) }
         ensures { IfOk result (λ s. s ≡ opened_session size (record { ip = 0; port = 0 }) 0) }
     {
         let window = ReplyWindow::new(alloc, size)?;
@@ -161,7 +163,7 @@ impl Slot {
     /// - `Old` if no command in the window has this handle, and the handle is not above a handle that the window pushed
     ///   out.
     /// - `Fresh` otherwise.
-    pub fn judge(&self, command: &Command<'_>) -> Judged<'_>
+    pub fn judge(&self, command: &Command<'_>) -> JudgedOf<'_, ReplyOf<ANSWER>>
         ensures exact { as_judgement result ≡ judgement_by_window self.now.retained (fields_of command.now) }
         ensures accepted { (w : ℕ) (A : List Entry) → AgreesWithAccepted w A self.now.retained →
             as_judgement result ≡ judgement w A (fields_of command.now) }
@@ -171,11 +173,12 @@ impl Slot {
 
     /// Stores a fresh command, with its reply, in the session's reply window (*profile*). A full window pushes its
     /// oldest command out. Handles up to the handle of that command, which are not in the window, then count as `Old`.
-    /// The command must be fresh ([`judge`](Slot::judge)) and have at most 1,445 bytes of parameters (premises, which
-    /// the caller must prove). The call refuses nothing and takes no memory.
-    pub fn keep(&mut self, command: &Command<'_>, reply: &Reply)
+    /// The command must be fresh ([`judge`](Slot::judge)) and have at most `COMMAND` bytes of parameters, and the reply
+    /// at most `ANSWER` (premises, which the caller must prove). The call refuses nothing and takes no memory.
+    pub fn keep<const N: usize>(&mut self, command: &Command<'_>, reply: &ReplyOf<N>)
         requires fresh { judgement_by_window self.old.retained (fields_of command.now) ≡ Fresh }
-        requires room { length command.now.params.now ≤ most_command_parameter_bytes }
+        requires room { length command.now.params.now ≤ COMMAND }
+        requires short { length reply.now.params.items ≤ ANSWER }
         ensures { self.new ≡ with_entry (record { command = fields_of command.now; reply = reply.now }) self.old }
     {
         self.window.keep(command, reply);

@@ -3,7 +3,7 @@ ghost use Rattle.std.specs.Prelude.{◌≡◌, ℕ, ◌+◌, ◌<◌, ◌≤◌,
 ghost use Rattle.std.specs.Prelude.{option_map, option_copied, IfOk, MatchOption, AllPairs, find};
 ghost use Rattle.circular_buffer.specs.Buffer.{buffer};
 ghost use Rattle.oca_types.specs.Peers.{CommandFields, fields_of};
-ghost use Rattle.oca_types.specs.Sizes.{most_command_parameter_bytes};
+ghost use Rattle.oca_types.specs.Sizes.{most_command_parameter_bytes, most_parameter_bytes};
 ghost use Rattle.oca_session.specs.Accepted.{Entry, retained_of, AgreesWithAccepted, judgement, Fresh, entry_under};
 ghost use Rattle.oca_session.specs.Accepted.{duplicate_or_reused};
 ghost use Rattle.oca_session.specs.Judging.{as_judgement, judgement_by_window, retained_after};
@@ -11,24 +11,28 @@ ghost use Rattle.oca_session.specs.PrivateCells.{is_under, held_in, judge_cell, 
 
 use crate::cell::Cell;
 use circular_buffer::HeapCircularBuffer;
-use oca_types::{Command, Handle, Reply};
+use oca_types::{Command, Handle, Reply, ReplyOf};
 use std::alloc::{AllocError, Global};
 use std::marker::Model;
 
 /// What the reply window of a session says of a command (*profile*). The window contains the last accepted commands of
-/// the session, each with its reply.
+/// the session, each with its reply, of type `R`: a [`ReplyOf`] with the room that the table of sessions has for it.
 #[derive(Clone, Copy, Debug)]
-pub enum Judged<'a> {
+pub enum JudgedOf<'a, R: 'a> {
     /// No command in the window has this handle, and the handle is above all handles that the window pushed out:
     /// execute the command.
     Fresh,
     /// The command is a duplicate of a command in the window, which got this reply: send the reply again.
-    Kept(&'a Reply),
+    Kept(&'a R),
     /// A command in the window has this handle, but asks something else.
     Reused,
     /// No command in the window has this handle, and the handle is not above a handle that the window pushed out.
     Old,
 }
+
+/// What the reply window of a session of [`Sessions`](crate::Sessions) says of a command (*profile*): the replies have
+/// room for 1,452 bytes of parameters ([`JudgedOf`]).
+pub type Judged<'a> = JudgedOf<'a, Reply>;
 
 /// A command in a window: its handle, and the index of the cell with the rest of the command and its reply.
 #[derive(Clone, Copy)]
@@ -47,21 +51,22 @@ impl Held {
 }
 
 /// The last accepted commands of a session with their replies, and the *floor*: the greatest handle that was pushed out
-/// of the window.
+/// of the window. Each command has room for `COMMAND` bytes of parameters, and each reply for `ANSWER`.
 #[derive(Drop)]
-pub struct ReplyWindow {
+pub struct ReplyWindow<const COMMAND: usize, const ANSWER: usize> {
     /// The commands, oldest first. A command that is pushed to it when it is full pushes the oldest out.
     held: HeapCircularBuffer<Held>,
     /// The rest of each command and its reply. The cell of a command that is pushed out is that of the next.
-    cells: Vec<Cell>,
+    cells: Vec<Cell<COMMAND, ANSWER>>,
     /// The number after the floor; 0 where there is no floor.
     floor_end: u64,
     /// Above each handle that was accepted.
     above: u64,
 }
 
-impl Model for ReplyWindow {
+impl<const COMMAND: usize, const ANSWER: usize> Model for ReplyWindow<COMMAND, ANSWER> {
     ghost use Rattle.std.specs.Prelude.{◌<◌, ◌≤◌, length, vec_capacity};
+    ghost use Rattle.oca_types.specs.Sizes.{most_command_parameter_bytes, most_parameter_bytes};
     ghost use Rattle.oca_session.specs.Accepted.{Retained};
     ghost use Rattle.oca_session.specs.PrivateCells.{AreHeld, entries_of, floor_before};
 
@@ -75,15 +80,17 @@ impl Model for ReplyWindow {
 
     ghost invariant = { λ a. AreHeld a.held.items a.cells.items a.above × (a.floor_end ≤ a.above)
         × (length a.held.items ≤ a.held.capacity) × (0 < a.held.capacity) × (a.held.capacity ≤ 64)
-        × (a.held.capacity ≤ vec_capacity a.cells) };
+        × (a.held.capacity ≤ vec_capacity a.cells) × (COMMAND ≤ most_command_parameter_bytes)
+        × (ANSWER ≤ most_parameter_bytes) };
 }
 
-impl ReplyWindow {
+impl<const COMMAND: usize, const ANSWER: usize> ReplyWindow<COMMAND, ANSWER> {
     /// Returns an empty reply window of `size` commands, 1 to 64 (a premise, which the caller must prove; *profile*).
-    /// The call takes from `alloc` the memory for all that the window will contain. The only refusal is `AllocError`,
-    /// if the allocator refused memory.
-    pub fn new(alloc: Global, size: usize) -> Result<ReplyWindow, AllocError>
-        requires { (0 < size) × (size ≤ 64) }
+    /// `COMMAND` must be at most 1,445, and `ANSWER` at most 1,452 (premises, too). The call takes from `alloc` the
+    /// memory for all that the window will contain. The only refusal is `AllocError`, if the allocator refused memory.
+    pub fn new(alloc: Global, size: usize) -> Result<Self, AllocError>
+        requires size { (0 < size) × (size ≤ 64) }
+        requires rooms { (COMMAND ≤ most_command_parameter_bytes) × (ANSWER ≤ most_parameter_bytes) }
         ensures { IfOk result (λ k. k ≡ retained_of size []) }
     {
         let held = HeapCircularBuffer::with_capacity(alloc, size)?;
@@ -114,7 +121,7 @@ impl ReplyWindow {
     /// - `Old` if no command in the window has this handle, and the handle is not above a handle that the window pushed
     ///   out.
     /// - `Fresh` otherwise.
-    pub fn judge(&self, command: &Command<'_>) -> Judged<'_>
+    pub fn judge(&self, command: &Command<'_>) -> JudgedOf<'_, ReplyOf<ANSWER>>
         ensures exact { as_judgement result ≡ judgement_by_window self.now (fields_of command.now) }
         ensures accepted { (w : ℕ) (A : List Entry) → AgreesWithAccepted w A self.now →
             as_judgement result ≡ judgement w A (fields_of command.now) }
@@ -122,22 +129,12 @@ impl ReplyWindow {
         self.judge_retained(command)
     }
 
-    /// The cell of the command that is retained under a handle.
-    fn find(&self, handle: Handle) -> Option<&Cell>
-        ensures { (c : CommandFields) →
-            option_map (λ e. duplicate_or_reused e c) (entry_under handle.0 self.now.entries)
-            ≡ option_map (λ a. judge_cell a.now c) result }
-    {
-        let held = held_under(&self.held, handle)?;
-        Some(&self.cells[held.cell as usize])
-    }
-
     /// Apart from `judge`, which says beside it what the accepted commands do: what the retained ones say of a command.
-    fn judge_retained(&self, command: &Command<'_>) -> Judged<'_>
+    fn judge_retained(&self, command: &Command<'_>) -> JudgedOf<'_, ReplyOf<ANSWER>>
         ensures { as_judgement result ≡ judgement_by_window self.now (fields_of command.now) }
     {
         if u64::from(command.handle.0) >= self.above {
-            return Judged::Fresh;
+            return JudgedOf::Fresh;
         }
         self.judge_accepted(command)
     }
@@ -145,25 +142,30 @@ impl ReplyWindow {
     /// Apart from `judge_retained`, since most commands are above each handle that was accepted: what the retained
     /// commands say of a command, by the one under its handle and by the floor.
     #[inline(never)]
-    fn judge_accepted(&self, command: &Command<'_>) -> Judged<'_>
+    fn judge_accepted(&self, command: &Command<'_>) -> JudgedOf<'_, ReplyOf<ANSWER>>
         ensures { as_judgement result ≡ judgement_by_window self.now (fields_of command.now) }
     {
-        if let Some(cell) = self.find(command.handle) {
-            return judge_by_cell(cell, command);
+        if let Some(held) = held_under(&self.held, command.handle) {
+            let cell = &self.cells[held.cell as usize];
+            if cell.asks_the_same(command) {
+                return JudgedOf::Kept(cell.reply());
+            }
+            return JudgedOf::Reused;
         }
         if u64::from(command.handle.0) < self.floor_end {
-            return Judged::Old;
+            return JudgedOf::Old;
         }
-        Judged::Fresh
+        JudgedOf::Fresh
     }
 
     /// Stores a fresh command, with its reply, in the window (*profile*). A full window pushes its oldest command out.
     /// Handles up to the handle of that command, which are not in the window, then count as `Old`. The command must be
-    /// fresh ([`judge`](ReplyWindow::judge)) and have at most 1,445 bytes of parameters (premises, which the caller
-    /// must prove). The call refuses nothing and takes no memory.
-    pub fn keep(&mut self, command: &Command<'_>, reply: &Reply)
+    /// fresh ([`judge`](ReplyWindow::judge)) and have at most `COMMAND` bytes of parameters, and the reply at most `ANSWER`
+    /// (premises, which the caller must prove). The call refuses nothing and takes no memory.
+    pub fn keep<const N: usize>(&mut self, command: &Command<'_>, reply: &ReplyOf<N>)
         requires fresh { judgement_by_window self.old (fields_of command.now) ≡ Fresh }
-        requires room { length command.now.params.now ≤ most_command_parameter_bytes }
+        requires room { length command.now.params.now ≤ COMMAND }
+        requires short { length reply.now.params.items ≤ ANSWER }
         ensures exact { self.new
             ≡ retained_after self.old (record { command = fields_of command.now; reply = reply.now }) }
         ensures accepted { (w : ℕ) (A : List Entry) → AgreesWithAccepted w A self.old →
@@ -174,9 +176,10 @@ impl ReplyWindow {
 
     /// Apart from `keep`, which says beside it of which accepted commands the window is then: retains a fresh command
     /// with its reply.
-    fn put(&mut self, command: &Command<'_>, reply: &Reply)
+    fn put<const N: usize>(&mut self, command: &Command<'_>, reply: &ReplyOf<N>)
         requires fresh { judgement_by_window self.old (fields_of command.now) ≡ Fresh }
-        requires room { length command.now.params.now ≤ most_command_parameter_bytes }
+        requires room { length command.now.params.now ≤ COMMAND }
+        requires short { length reply.now.params.items ≤ ANSWER }
         ensures { self.new ≡ retained_after self.old (record { command = fields_of command.now; reply = reply.now }) }
     {
         raise(&mut self.above, command.handle);
@@ -220,13 +223,14 @@ fn cell_of_oldest(held: &HeapCircularBuffer<Held>) -> Option<u32>
 /// Apart from `put`, since a local of a cell's size would be cleared at each call there: adds a command and its reply
 /// while there is room, with a cell of its own.
 #[inline(never)]
-fn add(
+fn add<const COMMAND: usize, const ANSWER: usize, const N: usize>(
     held: &mut HeapCircularBuffer<Held>,
-    cells: &mut Vec<Cell>,
+    cells: &mut Vec<Cell<COMMAND, ANSWER>>,
     command: &Command<'_>,
-    reply: &Reply,
+    reply: &ReplyOf<N>,
 )
-    requires params { length command.now.params.now ≤ most_command_parameter_bytes }
+    requires params { length command.now.params.now ≤ COMMAND }
+    requires short { length reply.now.params.items ≤ ANSWER }
     requires room { (length held.old.items < held.old.capacity) × (held.old.capacity ≤ 64)
         × (vec_len cells.old < vec_capacity cells.old) }
     ensures capacity { vec_capacity cells.new ≡ vec_capacity cells.old }
@@ -265,15 +269,4 @@ fn first_under(all: &[Held], handle: Handle) -> Option<&Held>
     ensures { option_copied result ≡ find (is_under handle.0) all.now }
 {
     all.iter().find(|held| held.is_under(handle))
-}
-
-/// What the command in a cell says of another under its handle.
-fn judge_by_cell<'a>(cell: &'a Cell, command: &Command<'_>) -> Judged<'a>
-    ensures { as_judgement result ≡ judge_cell cell.now (fields_of command.now) }
-{
-    if cell.asks_the_same(command) {
-        Judged::Kept(cell.reply())
-    } else {
-        Judged::Reused
-    }
 }

@@ -8,6 +8,7 @@ pub mod Taking
 pub mod Putting
 pub mod Status
 pub mod Peers
+pub mod Replies
 pub mod Addresses
 pub mod Sizes
 pub mod Moments

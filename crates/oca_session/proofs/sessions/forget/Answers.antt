@@ -5,7 +5,7 @@ use Rattle.oca_session.proofs.sessions.forget.Goals as goal
 use Rattle.oca_session.proofs.sessions.forget.Goals.{then-stays, else-stays}
 
 pub loop-i-preserved : goal.loop-i-preserved
-loop-i-preserved c =
+loop-i-preserved g c =
     let inv = c.loop-i.invariant in
     let within : c.loop-i.i < length c.loop-i.slots.items = omega (arith, inv.filters.long, c.args.slots.now.ok, c.requires) in
     elim c.if-stays.branch [

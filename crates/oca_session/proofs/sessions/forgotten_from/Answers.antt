@@ -7,7 +7,7 @@ use Rattle.oca_session.proofs.Lapses.{forgets_more}
 use Rattle.oca_session.proofs.sessions.forgotten_from.Goals as goal
 
 pub loop-slot-preserved : goal.loop-slot-preserved
-loop-slot-preserved c =
+loop-slot-preserved g c =
     let ss = c.args.slots.now in
     let i = c.loop-slot.slot-index in
     let x = c.slot-item.result in

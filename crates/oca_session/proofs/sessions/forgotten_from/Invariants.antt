@@ -5,4 +5,4 @@ use Rattle.oca_session.proofs.sessions.forgotten_from.Given as goal
 
 -- of the sessions so far
 abbrev pub invariant-loop-slot : goal.invariant-loop-slot
-invariant-loop-slot l = HoldsFrom (forgets (take l.slot-index l.slots)) l.first
+invariant-loop-slot g l = HoldsFrom (forgets (take l.slot-index l.slots)) l.first

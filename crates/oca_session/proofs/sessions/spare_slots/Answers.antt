@@ -5,7 +5,7 @@ use Rattle.oca_session.proofs.Tables.{All-push, opened_sound}
 use Rattle.oca_session.proofs.sessions.spare_slots.Goals as goal
 
 pub loop-i-preserved : goal.loop-i-preserved
-loop-i-preserved c =
+loop-i-preserved g c =
     let inv = c.loop-i.invariant in
     let here : IsSession c.args.window c.in_ok-spare.field-0 = subst (IsSession c.args.window) (sym c.in_ok-spare.ensures) (opened_sound c.args.window _ 0) in (
       ap length c.push_reserved.ensures.items ∙ length-append c.loop-i.slots.items _ ∙ ap (λ n. n + 1) inv.0,

@@ -1,4 +1,4 @@
-use Rattle.std.proofs.Common.{◌≡◌, ◌+◌, ◌≤◌, ◌<◌, ◌∷◌, [], ◌++◌, List, length, length-append, sym, subst, ap, ◌∙◌, arith, refl}
+use Rattle.std.proofs.Common.{◌≡◌, ℕ, ◌+◌, ◌≤◌, ◌<◌, ◌∷◌, [], ◌++◌, List, length, length-append, sym, subst, ap, ◌∙◌, arith, refl}
 use Rattle.std.specs.Prelude.{All, false}
 use Rattle.circular_buffer.specs.Buffer.{buffer}
 use Rattle.oca_types.specs.declared.words.Command.{Command}
@@ -12,14 +12,14 @@ use Rattle.oca_session.proofs.HeldCells.{Within, cell_is, first_out, fresh_not_r
 use Rattle.oca_session.proofs.window.ReplyWindow.put.Goals as goal
 
 -- nothing is held under the handle of the fresh command
-none : (a : Inside) (k : Retained) → record { size = a.held.capacity; entries = entries_of a.held.items a.cells.items; floor = floor_before a.floor_end } ≡ k → (q : Command)
+none : {C A : ℕ} (a : Inside C A) (k : Retained) → record { size = a.held.capacity; entries = entries_of a.held.items a.cells.items; floor = floor_before a.floor_end } ≡ k → (q : Command)
     → Within a.cells.items a.held.items → judgement_by_window k (fields_of q) ≡ Fresh → All (λ g. is_under q.handle.0 g ≡ false) a.held.items
 none a k is q within fresh =
     not_retained q.handle.0 a.held.items a.cells.items within
     (ap (λ (r : Retained). entry_under q.handle.0 r.entries) is ∙ fresh_not_retained k (fields_of q) fresh)
 
 pub invariant_of-self : goal.invariant_of-self
-invariant_of-self c =
+invariant_of-self g c =
     let a = c.self.inside in
     let hs = a.held.items in
     let x = c.args.command.now.handle in
@@ -35,10 +35,12 @@ invariant_of-self c =
       c.self.invariant.3,
       c.self.invariant.4,
       omega (arith, c.self.invariant.5, c.add.ensures.capacity),
+      c.self.invariant.6,
+      c.self.invariant.7,
     )
 
 pub returns-in_default : goal.returns-in_default
-returns-in_default c =
+returns-in_default g c =
     let a = c.self.inside in
     let hs = a.held.items in
     let n = held_in c.args.command.now.handle (length hs) in
@@ -47,7 +49,7 @@ returns-in_default c =
     ∙ ap (retained_after _) c.add.ensures.items.holds)
 
 pub invariant_of-self-2 : goal.invariant_of-self-2
-invariant_of-self-2 c =
+invariant_of-self-2 g c =
     let a = c.self.inside in
     let hs = a.held.items in
     let cs = a.cells.items in
@@ -72,10 +74,12 @@ invariant_of-self-2 c =
       c.self.invariant.3,
       c.self.invariant.4,
       c.self.invariant.5,
+      c.self.invariant.6,
+      c.self.invariant.7,
     )
 
 pub returns : goal.returns
-returns c =
+returns g c =
     let a = c.self.inside in
     let hs = a.held.items in
     let cs = a.cells.items in

@@ -2,10 +2,10 @@ use Rattle.std.proofs.Common.{◌<◌, take, sym, ap, ◌∙◌, arith}
 use Rattle.std.proofs.lemmas.List.{length-take, get_or-take}
 use Rattle.oca_session.specs.Table.{is_of}
 use Rattle.oca_session.proofs.Tables.{placed_at, some_known}
-use Rattle.oca_session.proofs.sessions.Sessions.index_of_known.Goals as goal
+use Rattle.oca_session.proofs.sessions.SessionsOf.index_of_known.Goals as goal
 
 pub returns-then-is_of-clause-place : goal.returns-then-is_of-clause-place
-returns-then-is_of-clause-place c =
+returns-then-is_of-clause-place g c =
     let a = c.self.inside in
     let s = c.index.result.now in
     let long = length-take a.count a.slots.items in

@@ -6,10 +6,10 @@ use Rattle.oca_types.specs.Sizes.{sizes_of}
 use Rattle.oca_session.specs.Table.{Session, Table, is_of, session_of, heard_at, with_changed, opened_session}
 use Rattle.oca_session.specs.Sound.{IsSession, IsOnePerPeer}
 use Rattle.oca_session.proofs.Tables.{changed_in, one_in, sound_in, heard_sound, known_by_place, known_same, peers_of-changed, none_known, opened_in, opened_sound, known-push, same_peer-self, IsOnePerPeer-push, quiet_in, quiet_push, placed_within}
-use Rattle.oca_session.proofs.sessions.Sessions.hear.Goals as goal
+use Rattle.oca_session.proofs.sessions.SessionsOf.hear.Goals as goal
 
 pub invariant_of-self : goal.invariant_of-self
-invariant_of-self c =
+invariant_of-self g c =
     let a = c.self.inside in
     let m = c.max-self-inside.result in
     let at = c.in-Some.at in
@@ -23,10 +23,12 @@ invariant_of-self c =
           c.self.invariant.3 c.deref.ensures.value placed c.index_mut-slot.ensures.value c.note.ensures,
       quiet_in a.quiet_until c.min-self-inside.result a.slots.items a.count at _ c.self.invariant.4 (omega arith) (omega (arith, c.quiet_until.ensures)),
       λ some. placed_within c.args.peer a.slots.items c.deref.result.now a.count at c.deref.ensures.value placed,
+      c.self.invariant.6,
+      c.self.invariant.7,
     )
 
 pub returns-in-Some-clause-hears : goal.returns-in-Some-clause-hears
-returns-in-Some-clause-hears c =
+returns-in-Some-clause-hears g c =
     let a = c.self.inside in
     let m = c.max-self-inside in
     let at = c.in-Some.at in
@@ -41,7 +43,7 @@ returns-in-Some-clause-hears c =
     )
 
 pub returns-in-Some-clause-known : goal.returns-in-Some-clause-known
-returns-in-Some-clause-known c =
+returns-in-Some-clause-known g c =
     let a = c.self.inside in
     let m = c.max-self-inside.result in
     let at = c.in-Some.at in
@@ -53,7 +55,7 @@ returns-in-Some-clause-known c =
     ∙ sym (known_by_place c.args.peer (take a.count a.slots.items)) ∙ ap is_some there
 
 pub returns-then-self-len-clause-hears : goal.returns-then-self-len-clause-hears
-returns-then-self-len-clause-hears c =
+returns-then-self-len-clause-hears g c =
     let a = c.self.inside in
     let m = c.max-self-inside in
     let ss = take a.count a.slots.items in
@@ -66,13 +68,13 @@ returns-then-self-len-clause-hears c =
     )
 
 pub returns-then-self-len-clause-known : goal.returns-then-self-len-clause-known
-returns-then-self-len-clause-known c =
+returns-then-self-len-clause-known g c =
     let a = c.self.inside in
     let unplaced : position (is_of c.args.peer) (take a.count a.slots.items) ≡ None = rw (← c.deref.ensures.value) (sym c.index_of.ensures ∙ c.in_default.is) in
     none_known c.args.peer (take a.count a.slots.items) unplaced
 
 pub invariant_of-self-2 : goal.invariant_of-self-2
-invariant_of-self-2 c =
+invariant_of-self-2 g c =
     let a = c.self.inside in
     let m = c.max-self-inside.result in
     let ss = take a.count a.slots.items in
@@ -90,10 +92,12 @@ invariant_of-self-2 c =
       subst IsOnePerPeer (sym last) (IsOnePerPeer-push ss (opened_session a.sizes.window.size c.args.peer m) (none_known c.args.peer ss unplaced) c.self.invariant.3),
       quiet_push a.quiet_until c.min-self-inside-2.result ss _ (opened_session a.sizes.window.size c.args.peer m) last c.self.invariant.4 (omega arith) (omega (arith, latest)),
       λ some. omega arith,
+      c.self.invariant.6,
+      c.self.invariant.7,
     )
 
 pub returns-clause-hears : goal.returns-clause-hears
-returns-clause-hears c =
+returns-clause-hears g c =
     let a = c.self.inside in
     let m = c.max-self-inside in
     let ss = take a.count a.slots.items in
@@ -109,7 +113,7 @@ returns-clause-hears c =
     )
 
 pub returns-clause-known : goal.returns-clause-known
-returns-clause-known c =
+returns-clause-known g c =
     let a = c.self.inside in
     let m = c.max-self-inside.result in
     let below : a.count < length a.slots.items = omega (arith, c.self.invariant.0, c.self.invariant.1, c.if-self-len.false) in

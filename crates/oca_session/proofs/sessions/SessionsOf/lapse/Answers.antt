@@ -8,10 +8,10 @@ use Rattle.oca_session.specs.PrivateQuiet.{IsQuietUntil}
 use Rattle.oca_session.specs.Sound.{IsSession, IsOnePerPeer}
 use Rattle.oca_session.proofs.Tables.{forgotten_lapsed}
 use Rattle.oca_session.proofs.Quiet.{latest_is_quiet}
-use Rattle.oca_session.proofs.sessions.Sessions.lapse.Goals as goal
+use Rattle.oca_session.proofs.sessions.SessionsOf.lapse.Goals as goal
 
 pub invariant_of-self : goal.invariant_of-self
-invariant_of-self c =
+invariant_of-self g c =
     let after = c.forget-self-inside.ensures in (
       omega (arith, after.fewer),
       omega (arith, after.length, c.self.invariant.1),
@@ -20,10 +20,12 @@ invariant_of-self c =
           (AllPairs-filter (λ s t. same_peer s.peer t.peer ≡ false) (stays c.self.inside.moment) (take c.self.inside.count c.self.inside.slots.items) c.self.invariant.3),
       subst (IsQuietUntil c.quiet_until-self-inside.result) (ap (take c.forget-self-inside.result) c.deref-2.ensures.value) (latest_is_quiet c.quiet_until-self-inside.result _ c.quiet_until-self-inside.ensures),
       λ some. (omega (arith, some)),
+      c.self.invariant.6,
+      c.self.invariant.7,
     )
 
 pub returns-clause-forgotten : goal.returns-clause-forgotten
-returns-clause-forgotten c =
+returns-clause-forgotten g c =
     let a = c.self.inside in
     let ss = take a.count a.slots.items in
     let among = forgotten_lapsed a.sizes.window.size a.moment ss (All-take (IsSession a.sizes.window.size) a.count a.slots.items c.self.invariant.2) in
