@@ -1,5 +1,6 @@
 -- How many answers messages have at most, and how long their commands are.
 use Rattle.std.proofs.Common.{◌≡◌, ℕ, ◌+◌, ◌≤◌, Bool, true, false, cond, List, [], ◌∷◌, ◌++◌, length, refl, sym, ap, ◌∙◌, arith, subst}
+use Rattle.std.proofs.lemmas.Bool.{leb-true}
 use Rattle.std.proofs.lemmas.List.{length-append}
 use Rattle.std.specs.List.{flat_map, AllByRecursion}
 use Rattle.std.specs.Prelude.{map}
@@ -9,7 +10,7 @@ use Rattle.oca_types.specs.Peers.{CommandFields}
 use Rattle.oca_pdu.specs.Messages.{ResponseFields, Msg, Command, Response, KeepAlive, Pdu, Commands, Responses, OneKeepAlive, messages_of}
 use Rattle.oca_pdu.specs.Encoding.{command_encoding, command_type, pdu_frame, pdu_encoding, IsDatagram}
 use Rattle.oca_pdu.specs.Limits.{is_command, is_response}
-use Rattle.std.specs.Prelude.{nat_le, Ok}
+use Rattle.std.specs.Prelude.{nat_le, ◌||◌, Ok}
 use Rattle.oca_types.specs.declared.words.Peer.{Peer}
 use Rattle.oca_types.specs.Sizes.{DeviceSizes}
 use Rattle.oca_session.specs.Accepted.{Judgement, Fresh, Duplicate, Reused, Old}
@@ -17,6 +18,8 @@ use Rattle.oca_device.specs.Notes.{Admitted}
 use Rattle.oca_device.specs.States.{State, noted, admits, judged_in, after_message}
 use Rattle.oca_device.specs.Groups.{last_with, from_with, with_answer, with_answers, encodings}
 use Rattle.oca_device.specs.Answers.{answer_to_command, answer_to, answers_to_messages, answers_to_reading, packets_of}
+use Rattle.oca_device.specs.Rooms.{fits, shortened_answers}
+use Rattle.oca_device.proofs.Rooms.{as_many}
 use Rattle.oca_device.specs.PrivateServing.{IsShort, may_answer, most_answers, commands_of, all_commands}
 
 abbrev counted : Msg → ℕ
@@ -43,7 +46,7 @@ commands_counted (m ∷ ms) =
     ap (λ (n : ℕ). n + all_commands ms) (one_command m) ∙ ap (λ (n : ℕ). cond (is_command m) 1 0 + n) (commands_counted ms)
     ∙ sym (sum_by-cons (λ (x : Msg). cond (is_command x) 1 0) m ms)
 
--- ---- a command in 1,472 bytes has at most 1,445 bytes of parameters
+-- ---- a command in a datagram has at most so many bytes of parameters as the datagram without 27
 
 command_long : (c : CommandFields) → length (command_encoding c) ≡ 17 + length c.params
 command_long c = omega arith
@@ -51,34 +54,38 @@ command_long c = omega arith
 frame_long : (type count : ℕ) (body : List ℕ) → length (pdu_frame type count body) ≡ 10 + length body
 frame_long type count body = omega arith
 
-commands_short : (respond : Bool) (cs : List CommandFields) (n : ℕ) → length (flat_map command_encoding cs) ≤ n → n ≤ 1462 → AllByRecursion IsShort (map (λ c. Command respond c) cs)
-commands_short respond [] n h few = tt
-commands_short respond (c ∷ cs) n h few =
+commands_short : (most : ℕ) (respond : Bool) (cs : List CommandFields) (n : ℕ) → length (flat_map command_encoding cs) ≤ n → n ≤ most + 17 → AllByRecursion (IsShort most) (map (λ c. Command respond c) cs)
+commands_short most respond [] n h few = tt
+commands_short most respond (c ∷ cs) n h few =
     let parts = length-append (command_encoding c) (flat_map command_encoding cs) in
-    (omega (arith, parts, command_long c), commands_short respond cs n (omega (arith, parts)) few)
+    (omega (arith, parts, command_long c), commands_short most respond cs n (omega (arith, parts)) few)
 
-responses_short : (rs : List ResponseFields) → AllByRecursion IsShort (map (λ r. Response r) rs)
-responses_short [] = tt
-responses_short (r ∷ rs) = (tt, responses_short rs)
+responses_short : (most : ℕ) (rs : List ResponseFields) → AllByRecursion (IsShort most) (map (λ r. Response r) rs)
+responses_short most [] = tt
+responses_short most (r ∷ rs) = (tt, responses_short most rs)
 
-pdu_short : (p : Pdu) → length (pdu_encoding p) ≤ 1472 → AllByRecursion IsShort (messages_of p)
-pdu_short (Commands respond cs) h =
-    commands_short respond cs (length (flat_map command_encoding cs)) (omega arith) (omega (arith, h, frame_long (command_type respond) (length cs) (flat_map command_encoding cs)))
-pdu_short (Responses rs) h = responses_short rs
-pdu_short (OneKeepAlive form) h = (tt, tt)
+pdu_short : (most : ℕ) (p : Pdu) → length (pdu_encoding p) ≤ most + 27 → AllByRecursion (IsShort most) (messages_of p)
+pdu_short most (Commands respond cs) h =
+    commands_short most respond cs (length (flat_map command_encoding cs)) (omega arith) (omega (arith, h, frame_long (command_type respond) (length cs) (flat_map command_encoding cs)))
+pdu_short most (Responses rs) h = responses_short most rs
+pdu_short most (OneKeepAlive form) h = (tt, tt)
 
-both_short : (xs ys : List Msg) → AllByRecursion IsShort xs → AllByRecursion IsShort ys → AllByRecursion IsShort (xs ++ ys)
-both_short [] ys h k = k
-both_short (x ∷ xs) ys h k = (h.0, both_short xs ys h.1 k)
+both_short : (most : ℕ) (xs ys : List Msg) → AllByRecursion (IsShort most) xs → AllByRecursion (IsShort most) ys → AllByRecursion (IsShort most) (xs ++ ys)
+both_short most [] ys h k = k
+both_short most (x ∷ xs) ys h k = (h.0, both_short most xs ys h.1 k)
 
-pdus_short : (ps : List Pdu) (n : ℕ) → length (flat_map pdu_encoding ps) ≤ n → n ≤ 1472 → AllByRecursion IsShort (flat_map messages_of ps)
-pdus_short [] n h few = tt
-pdus_short (p ∷ ps) n h few =
+pdus_short : (most : ℕ) (ps : List Pdu) (n : ℕ) → length (flat_map pdu_encoding ps) ≤ n → n ≤ most + 27 → AllByRecursion (IsShort most) (flat_map messages_of ps)
+pdus_short most [] n h few = tt
+pdus_short most (p ∷ ps) n h few =
     let parts = length-append (pdu_encoding p) (flat_map pdu_encoding ps) in
-    both_short (messages_of p) (flat_map messages_of ps) (pdu_short p (omega (arith, parts))) (pdus_short ps n (omega (arith, parts)) few)
+    both_short most (messages_of p) (flat_map messages_of ps) (pdu_short most p (omega (arith, parts))) (pdus_short most ps n (omega (arith, parts)) few)
 
-pub all_short : (ps : List Pdu) (bytes : List ℕ) → IsDatagram ps bytes → AllByRecursion IsShort (flat_map messages_of ps)
-all_short ps bytes h = pdus_short ps (length bytes) (omega (arith, ap length h.bytes_are)) h.within_limit
+pub all_short : (most : ℕ) (ps : List Pdu) (bytes : List ℕ) → IsDatagram ps bytes → fits most bytes ≡ true → AllByRecursion (IsShort most) (flat_map messages_of ps)
+all_short most ps bytes h room = pdus_short most ps (length bytes) (omega (arith, ap length h.bytes_are)) (within (nat_le 1445 most) refl (length bytes) room h.within_limit)
+  where
+    within : (b : Bool) → nat_le 1445 most ≡ b → (n : ℕ) → (b || nat_le n (most + 27)) ≡ true → n ≤ 1472 → n ≤ most + 27
+    within true roomy n e le = let much : 1445 ≤ most = leb-true 1445 most roomy in omega (arith, much, le)
+    within false narrow n e le = leb-true n (most + 27) e
 
 -- ---- a datagram is answered with at most as many packets as it has messages that are answered
 
@@ -125,14 +132,22 @@ all_answers w p [] s = omega arith
 all_answers w p (m ∷ ms) s =
     omega (arith, length-append (answer_to w p m s) (answers_to_messages w p ms (after_message w p m s)), message_answers w p m s, all_answers w p ms (after_message w p m s))
 
-pub few_packets : (w : DeviceSizes) (p : Peer) (ms : List Msg) (s : State) (n : ℕ) → most_answers ms ≤ n → length (packets_of (answers_to_reading w p (Ok ms) s)) ≤ n
-few_packets w p ms s n few = by (admits w s p)
+packets_few : (ms : List Msg) → length (packets_of ms) ≤ length ms
+packets_few ms = omega (arith, answers_grow [] ms)
+
+pub few_packets : (most : ℕ) (w : DeviceSizes) (p : Peer) (ms : List Msg) (s : State) (n : ℕ) → most_answers ms ≤ n →
+    length (packets_of (shortened_answers most (answers_to_reading w p (Ok ms) s))) ≤ n
+few_packets most w p ms s n few = by (admits w s p)
   where
-    by : (b : Bool) → length (packets_of (cond b (answers_to_messages w p ms (noted p (Admitted ms) s)) [])) ≤ n
-    by true = omega (arith, few, answers_grow [] (answers_to_messages w p ms (noted p (Admitted ms) s)), all_answers w p ms (noted p (Admitted ms) s))
-    by false = omega arith
+    by : (b : Bool) → length (packets_of (shortened_answers most (cond b (answers_to_messages w p ms (noted p (Admitted ms) s)) []))) ≤ n
+    by true =
+        let xs = answers_to_messages w p ms (noted p (Admitted ms) s) in
+        omega (arith, few, packets_few (shortened_answers most xs), as_many most xs, all_answers w p ms (noted p (Admitted ms) s))
+    by false = omega (arith, packets_few (shortened_answers most []), as_many most [])
 
 -- a datagram that is not admitted is not answered
-pub no_packets : (w : DeviceSizes) (p : Peer) (ms : List Msg) (s : State) (n : ℕ) → admits w s p ≡ false → length (packets_of (answers_to_reading w p (Ok ms) s)) ≤ n
-no_packets w p ms s n out =
-    subst (λ (b : Bool). length (packets_of (cond b (answers_to_messages w p ms (noted p (Admitted ms) s)) [])) ≤ n) (sym out) (omega arith)
+pub no_packets : (most : ℕ) (w : DeviceSizes) (p : Peer) (ms : List Msg) (s : State) (n : ℕ) → admits w s p ≡ false →
+    length (packets_of (shortened_answers most (answers_to_reading w p (Ok ms) s))) ≤ n
+no_packets most w p ms s n out =
+    subst (λ (b : Bool). length (packets_of (shortened_answers most (cond b (answers_to_messages w p ms (noted p (Admitted ms) s)) []))) ≤ n) (sym out)
+    (omega (arith, packets_few (shortened_answers most []), as_many most []))

@@ -15,8 +15,9 @@ use Rattle.oca_session.specs.Table.{Session, Table, stays, staying, lapsed}
 use Rattle.oca_types.specs.Moments.{HoldsFrom}
 use Rattle.oca_types.proofs.MomentTests.{same_test}
 use Rattle.oca_session.specs.Lapses.{forgets, lapses}
+use Rattle.oca_device.specs.Notes.{noted_peers}
 use Rattle.oca_device.specs.States.{State, released_all, lapsed_at, moved_to}
-use Rattle.oca_device.specs.Devices.{table_of}
+use Rattle.oca_device.specs.Devices.{session_within, table_within, table_of}
 use Rattle.oca_device.specs.Lapses.{TickKeeps, IsNextLapse, NeverLapses}
 use Rattle.oca_device.specs.PrivateLapses.{frees, releases}
 use Rattle.oca_device.proofs.Peers.{same_turned}
@@ -210,13 +211,13 @@ module _ (w : DeviceSizes) (s : State) where
   objects_at : (t : ℕ) → s.moment ≤ t → (moved_to (max s.moment t) s).tree ≡ map (freed (lapsed t ss)) s.tree
   objects_at t own =
       ap (λ (u : ℕ). released_all (lapsed_at u s) s.tree) (max_is s.moment t own)
-      ∙ ap (λ (ps : List Peer). released_all ps s.tree) (sym (lapsed_moved w t s))
+      ∙ ap (λ (ps : List Peer). released_all ps s.tree) (sym (lapsed_moved 1452 w t s))
       ∙ released_each (lapsed t ss) s.tree
 
   sessions_at : (t : ℕ) → s.moment ≤ t → (table_of w (moved_to (max s.moment t) s)).sessions ≡ staying t ss
   sessions_at t own =
       ap (λ (u : ℕ). (table_of w (moved_to u s)).sessions) (max_is s.moment t own)
-      ∙ ap (λ (x : Table). x.sessions) (sym (table_moved w t s own))
+      ∙ ap (λ (x : Table). x.sessions) (sym (table_moved 1452 w t s own))
 
   keeps : (t : ℕ) → s.moment ≤ t → changes_at t ≡ false → TickKeeps w s t
   keeps t own none =
@@ -247,12 +248,29 @@ module _ (w : DeviceSizes) (s : State) where
   no_lapse : HoldsFrom changes_at None → NeverLapses w s
   no_lapse h = record { never = λ t own fits. keeps t own (h t fits) }
 
--- what a device is in this state
-module _ (w : DeviceSizes) (s : State) (tree : List Object) (table : Table) (tree_is : tree ≡ s.tree) (table_is : table ≡ table_of w s) where
+-- what a device is in this state: which replies it retains changes nothing of when its sessions lapse
+module _ (most : ℕ) (w : DeviceSizes) (s : State) (tree : List Object) (table : Table) (tree_is : tree ≡ s.tree) (table_is : table ≡ table_within most w s) where
+  abbrev its : List Session
+  its = (table_within most w s).sessions
+
+  same_lapsed : (t : ℕ) → lapsed t its ≡ lapsed t (ss w s)
+  same_lapsed t = lapsed_moved most w t s ∙ sym (lapsed_moved 1452 w t s)
+
+  same_forgets : (t : ℕ) (ps : List Peer) → forgets (map (session_within most w s.notes) ps) t ≡ forgets (map (session_within 1452 w s.notes) ps) t
+  same_forgets t [] = refl
+  same_forgets t (p ∷ ps) = ap (λ b. not (stays t (session_within 1452 w s.notes p)) || b) (same_forgets t ps)
+
+  same_changes : (t : ℕ) → (forgets its t || releases s.tree its t) ≡ changes_at w s t
+  same_changes t =
+      ap (λ b. b || releases s.tree its t) (same_forgets t (noted_peers s.moment s.notes))
+      ∙ ap (λ b. forgets (ss w s) t || b)
+      (releases_where its t s.tree ∙ ap (λ (ps : List Peer). list_any (held ps) s.tree) (same_lapsed t) ∙ sym (releases_where (ss w s) t s.tree))
+
   in_state : (o : Option ℕ) → HoldsFrom (λ t. forgets table.sessions t || releases tree table.sessions t) o → HoldsFrom (changes_at w s) o
   in_state o h =
-      subst (λ (x : List Object). HoldsFrom (λ t. forgets (table_of w s).sessions t || releases x (table_of w s).sessions t) o) tree_is
-      (subst (λ (x : Table). HoldsFrom (λ t. forgets x.sessions t || releases tree x.sessions t) o) table_is h)
+      subst (λ (f : ℕ → Bool). HoldsFrom f o) (λ i t. same_changes t i)
+      (subst (λ (x : List Object). HoldsFrom (λ t. forgets its t || releases x its t) o) tree_is
+      (subst (λ (x : Table). HoldsFrom (λ t. forgets x.sessions t || releases tree x.sessions t) o) table_is h))
 
   pub next_some : (first t : ℕ) → HoldsFrom (λ t. forgets table.sessions t || releases tree table.sessions t) (Some first) → t ≡ max first table.moment →
       t < 2 ^ 64 → IsNextLapse w s t

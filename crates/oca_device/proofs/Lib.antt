@@ -1,6 +1,7 @@
 pub mod Lists
 pub mod Peers
 pub mod Grouping
+pub mod Rooms
 pub mod Runs
 pub mod Opened
 pub mod Steps

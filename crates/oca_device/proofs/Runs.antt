@@ -7,12 +7,14 @@ use Rattle.oca_types.specs.declared.words.Peer.{Peer}
 use Rattle.oca_types.specs.Peers.{same_peer}
 use Rattle.oca_types.specs.Sizes.{DeviceSizes}
 use Rattle.oca_pdu.specs.Messages.{Msg}
-use Rattle.oca_session.specs.Accepted.{retained_of}
+use Rattle.oca_session.specs.Accepted.{Entry, retained_of}
 use Rattle.oca_session.specs.Table.{Session, Table, session_of, with_changed, lapsed, stays, is_lapsed, staying, with_moment_and_sessions}
 use Rattle.oca_session.specs.Table as table
 use Rattle.oca_device.specs.Notes.{Note, Noted, Admitted, notes_of, is_recent, unbroken, run, is_noted, peers_except, noted_order, noted_peers, last_noted, heartbeat_noted, accepted}
 use Rattle.oca_device.specs.States.{State, noted, moved_to, lapsed_at}
-use Rattle.oca_device.specs.Devices.{session_for, table_of}
+use Rattle.oca_device.specs.Rooms.{shortened_entries}
+use Rattle.oca_device.specs.Devices.{session_within, table_within}
+use Rattle.oca_device.proofs.Rooms.{none_retained}
 use Rattle.oca_device.proofs.Lists.{filter_same, filter_both, filter_mapped, filter_appended, map_appended, map_back}
 use Rattle.oca_device.proofs.Peers.{same_self, same_is, same_turned, is_in, in_filtered, session_made, made_alike, changed_made}
 
@@ -116,8 +118,8 @@ known_begins n ns k =
         ∙ ap (is_recent n.at) (other_notes n ns q s)
 
 -- who is known at a later moment
-known_later : (m t : ℕ) (ns : List Note) → m ≤ t → (w : DeviceSizes) → filter (λ q. stays t (session_for w ns q)) (noted_peers m ns) ≡ noted_peers t ns
-known_later m t ns le w = filter_both (λ q. stays t (session_for w ns q)) (is_noted m ns) (is_noted t ns) (λ q. by_notes (notes_of q ns)) (noted_order ns)
+known_later : (most m t : ℕ) (ns : List Note) → m ≤ t → (w : DeviceSizes) → filter (λ q. stays t (session_within most w ns q)) (noted_peers m ns) ≡ noted_peers t ns
+known_later most m t ns le w = filter_both (λ q. stays t (session_within most w ns q)) (is_noted m ns) (is_noted t ns) (λ q. by_notes (notes_of q ns)) (noted_order ns)
   where
     both_within : (a : ℕ) → (nat_le (m - a) 120000 && nat_le (t - a) 120000) ≡ nat_le (t - a) 120000
     both_within a = grind (arith, nat_tests)
@@ -127,48 +129,49 @@ known_later m t ns le w = filter_both (λ q. stays t (session_for w ns q)) (is_n
     by_notes (n ∷ own) = both_within n.at
 
 -- other peers' sessions stay
-other_session : (w : DeviceSizes) (n : Note) (ns : List Note) (q : Peer) → same_peer q n.peer ≡ false → session_for w ns q ≡ session_for w (n ∷ ns) q
-other_session w n ns q h =
-    ap (λ (own : List Note). let s : Session = record { peer = q; heard = last_noted (unbroken own); heartbeat = heartbeat_noted (unbroken own); retained = retained_of w.window (accepted (unbroken own)) } in s)
+other_session : (most : ℕ) (w : DeviceSizes) (n : Note) (ns : List Note) (q : Peer) → same_peer q n.peer ≡ false → session_within most w ns q ≡ session_within most w (n ∷ ns) q
+other_session most w n ns q h =
+    ap (λ (own : List Note). let s : Session = record { peer = q; heard = last_noted (unbroken own); heartbeat = heartbeat_noted (unbroken own); retained = retained_of w.window (shortened_entries most (accepted (unbroken own))) } in s)
     (sym (other_notes n ns q (same_turned n.peer q ∙ h)))
 
 -- The clock moves.
-pub table_moved : (w : DeviceSizes) (t : ℕ) (s : State) → s.moment ≤ t → with_moment_and_sessions (table_of w s) t (staying t (table_of w s).sessions) ≡ table_of w (moved_to t s)
-table_moved w t s le =
+pub table_moved : (most : ℕ) (w : DeviceSizes) (t : ℕ) (s : State) → s.moment ≤ t → with_moment_and_sessions (table_within most w s) t (staying t (table_within most w s).sessions) ≡ table_within most w (moved_to t s)
+table_moved most w t s le =
     ap (λ ss. let x : Table = record { sizes = w; moment = t; sessions = ss } in x)
-    (filter_mapped (stays t) (session_for w s.notes) (noted_peers s.moment s.notes)
-    ∙ ap (map (session_for w s.notes)) (known_later s.moment t s.notes le w))
+    (filter_mapped (stays t) (session_within most w s.notes) (noted_peers s.moment s.notes)
+    ∙ ap (map (session_within most w s.notes)) (known_later most s.moment t s.notes le w))
 
-pub lapsed_moved : (w : DeviceSizes) (t : ℕ) (s : State) → lapsed t (table_of w s).sessions ≡ lapsed_at t s
-lapsed_moved w t s =
-    ap (map (λ (x : Session). x.peer)) (filter_mapped (is_lapsed t) (session_for w s.notes) (noted_peers s.moment s.notes))
-    ∙ map_back (session_for w s.notes) (λ (x : Session). x.peer) (λ _. refl) (lapsed_at t s)
+pub lapsed_moved : (most : ℕ) (w : DeviceSizes) (t : ℕ) (s : State) → lapsed t (table_within most w s).sessions ≡ lapsed_at t s
+lapsed_moved most w t s =
+    ap (map (λ (x : Session). x.peer)) (filter_mapped (is_lapsed t) (session_within most w s.notes) (noted_peers s.moment s.notes))
+    ∙ map_back (session_within most w s.notes) (λ (x : Session). x.peer) (λ _. refl) (lapsed_at t s)
 
 -- The session of a known peer.
-pub session_known : (w : DeviceSizes) (s : State) (p : Peer) → session_of p (table_of w s).sessions ≡ cond (is_noted s.moment s.notes p) (Some (session_for w s.notes p)) None
-session_known w s p =
-    session_made (session_for w s.notes) (λ _. refl) p (noted_peers s.moment s.notes)
-    ∙ ap (λ b. cond b (Some (session_for w s.notes p)) None) (known_has s.moment s.notes p)
+pub session_known : (most : ℕ) (w : DeviceSizes) (s : State) (p : Peer) → session_of p (table_within most w s).sessions ≡ cond (is_noted s.moment s.notes p) (Some (session_within most w s.notes p)) None
+session_known most w s p =
+    session_made (session_within most w s.notes) (λ _. refl) p (noted_peers s.moment s.notes)
+    ∙ ap (λ b. cond b (Some (session_within most w s.notes p)) None) (known_has s.moment s.notes p)
 
 -- A note of a known peer changes its session alone.
-pub table_noted : (w : DeviceSizes) (s : State) (p : Peer) (what : Noted) (f : Session → Session) → is_noted s.moment s.notes p ≡ true →
-    f (session_for w s.notes p) ≡ session_for w (noted p what s).notes p →
-    with_changed p f (table_of w s).sessions ≡ (table_of w (noted p what s)).sessions
-table_noted w s p what f k e =
+pub table_noted : (most : ℕ) (w : DeviceSizes) (s : State) (p : Peer) (what : Noted) (f : Session → Session) → is_noted s.moment s.notes p ≡ true →
+    f (session_within most w s.notes p) ≡ session_within most w (noted p what s).notes p →
+    with_changed p f (table_within most w s).sessions ≡ (table_within most w (noted p what s)).sessions
+table_noted most w s p what f k e =
     let n : Note = record { peer = p; at = s.moment; what = what } in
-    changed_made (session_for w s.notes) (λ _. refl) (session_for w (n ∷ s.notes)) p f (other_session w n s.notes) e (noted_peers s.moment s.notes)
-    ∙ ap (map (session_for w (n ∷ s.notes))) (sym (known_goes_on n s.notes k))
+    changed_made (session_within most w s.notes) (λ _. refl) (session_within most w (n ∷ s.notes)) p f (other_session most w n s.notes) e (noted_peers s.moment s.notes)
+    ∙ ap (map (session_within most w (n ∷ s.notes))) (sym (known_goes_on n s.notes k))
 
 -- The first note of a run adds a session.
-pub table_opened : (w : DeviceSizes) (s : State) (p : Peer) (messages : List Msg) → is_noted s.moment s.notes p ≡ false →
-    (table_of w s).sessions ++ table.opened_session w.window p s.moment ∷ [] ≡ (table_of w (noted p (Admitted messages) s)).sessions
-table_opened w s p messages k =
+pub table_opened : (most : ℕ) (w : DeviceSizes) (s : State) (p : Peer) (messages : List Msg) → is_noted s.moment s.notes p ≡ false →
+    (table_within most w s).sessions ++ table.opened_session w.window p s.moment ∷ [] ≡ (table_within most w (noted p (Admitted messages) s)).sessions
+table_opened most w s p messages k =
     let n : Note = record { peer = p; at = s.moment; what = Admitted messages } in
     let ks = noted_peers s.moment s.notes in
-    let made = session_for w (n ∷ s.notes) in
+    let made = session_within most w (n ∷ s.notes) in
     let new : table.opened_session w.window p s.moment ≡ made p =
-    ap (λ (own : List Note). let x : Session = record { peer = p; heard = last_noted own; heartbeat = heartbeat_noted own; retained = retained_of w.window (accepted own) } in x) (sym (run_begins n s.notes k)) in
-    ap (λ x. map (session_for w s.notes) ks ++ x ∷ []) new
-    ∙ ap (λ xs. xs ++ made p ∷ []) (made_alike (session_for w s.notes) (λ _. refl) made p (other_session w n s.notes) ks (known_has s.moment s.notes p ∙ k))
+    ap (λ (A : List Entry). let x : Session = record { peer = p; heard = s.moment; heartbeat = 5000; retained = retained_of w.window A } in x) (sym (none_retained most))
+    ∙ ap (λ (own : List Note). let x : Session = record { peer = p; heard = last_noted own; heartbeat = heartbeat_noted own; retained = retained_of w.window (shortened_entries most (accepted own)) } in x) (sym (run_begins n s.notes k)) in
+    ap (λ x. map (session_within most w s.notes) ks ++ x ∷ []) new
+    ∙ ap (λ xs. xs ++ made p ∷ []) (made_alike (session_within most w s.notes) (λ _. refl) made p (other_session most w n s.notes) ks (known_has s.moment s.notes p ∙ k))
     ∙ sym (map_appended made ks (p ∷ []))
     ∙ ap (map made) (sym (known_begins n s.notes k))

@@ -1,7 +1,7 @@
 -- A device represents an opening tree and events where it is what they say (profile).
 use Rattle.std.specs.Prelude.{◌≡◌, ℕ, List, map}
 use Rattle.oca_types.specs.declared.words.Peer.{Peer}
-use Rattle.oca_types.specs.Sizes.{DeviceSizes}
+use Rattle.oca_types.specs.Sizes.{DeviceSizes, most_parameter_bytes}
 use Rattle.oca_tree.specs.declared.object.Object.{Object}
 use Rattle.oca_session.specs.Accepted.{retained_of}
 use Rattle.oca_session.specs.Table.{Session, Table}
@@ -11,6 +11,7 @@ use Rattle.oca_device.specs.Notes.{Note, run, noted_peers, last_noted, heartbeat
 use Rattle.oca_device.specs.States.{State, state_after}
 use Rattle.oca_device.specs.Written.{written}
 use Rattle.oca_device.specs.Effects.{effects}
+use Rattle.oca_device.specs.Rooms.{shortened_entries}
 
 -- What a device is: its objects, its clock and sessions, the numbers of the objects that the last datagram wrote to, and
 -- what became of each command of this datagram.
@@ -21,29 +22,46 @@ pub record DeviceState : Type 0 where
   pub effects : List Effect
 
 -- The session of a peer: the moment of its last datagram, its heartbeat, and what a reply window of its size retains of
--- its accepted commands: the last of them with their replies, and the greatest handle outside these.
-abbrev pub session_for : DeviceSizes → List Note → Peer → Session
-session_for w notes p =
+-- its accepted commands: the last of them with their replies, and the greatest handle outside these. A reply that the
+-- window has no room for is shortened.
+abbrev pub session_within : ℕ → DeviceSizes → List Note → Peer → Session
+session_within room w notes p =
     let own = run p notes in
     record {
       peer = p;
       heard = last_noted own;
       heartbeat = heartbeat_noted own;
-      retained = retained_of w.window (accepted own);
+      retained = retained_of w.window (shortened_entries room (accepted own));
     }
 
 -- the clock, and the sessions of the known peers in order of opening
+abbrev pub table_within : ℕ → DeviceSizes → State → Table
+table_within room w s =
+    record {
+      sizes = w;
+      moment = s.moment;
+      sessions = map (session_within room w s.notes) (noted_peers s.moment s.notes);
+    }
+
+-- where there is room for each reply
+abbrev pub session_for : DeviceSizes → List Note → Peer → Session
+session_for w notes p = session_within most_parameter_bytes w notes p
+
 abbrev pub table_of : DeviceSizes → State → Table
-table_of w s =
-    record { sizes = w; moment = s.moment; sessions = map (session_for w s.notes) (noted_peers s.moment s.notes) }
+table_of w s = table_within most_parameter_bytes w s
 
 -- the objects, the clock and the sessions of the device are what the state says
-pub record IsIn (w : DeviceSizes) (d : DeviceState) (s : State) : Type 0 where
+pub record IsIn (room : ℕ) (w : DeviceSizes) (d : DeviceState) (s : State) : Type 0 where
   pub tree : d.tree ≡ s.tree
-  pub sessions : d.sessions ≡ table_of w s
+  pub sessions : d.sessions ≡ table_within room w s
 
--- THE DEVICE REPRESENTS the tree and the events, with sizes w.
-pub record Represents (w : DeviceSizes) (d : DeviceState) (tree : List Object) (events : List Event) : Type 0 where
-  pub state : IsIn w d (state_after w tree events)
+-- THE DEVICE REPRESENTS the tree and the events, with sizes w and so much room for each reply that it retains.
+pub record RepresentsWithin (room : ℕ) (w : DeviceSizes) (d : DeviceState) (tree : List Object) (events : List Event)
+    : Type 0 where
+  pub state : IsIn room w d (state_after w tree events)
   pub written : d.written ≡ written w tree events
   pub effects : d.effects ≡ effects w tree events
+
+-- and where there is room for each reply
+abbrev pub Represents : DeviceSizes → DeviceState → List Object → List Event → Type 0
+Represents w d tree events = RepresentsWithin most_parameter_bytes w d tree events

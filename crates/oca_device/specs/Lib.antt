@@ -5,6 +5,7 @@ pub mod Groups
 pub mod Answers
 pub mod Written
 pub mod Effects
+pub mod Rooms
 pub mod Devices
 pub mod Lapses
 pub mod Outboxes

@@ -2,7 +2,7 @@
 -- at most.
 use Rattle.std.specs.Prelude.{◌≡◌, ℕ, ◌+◌, ◌≤◌, Bool, true, false, ⊤, List, [], ◌∷◌, ◌++◌, length}
 use Rattle.oca_types.specs.declared.words.Peer.{Peer}
-use Rattle.oca_types.specs.Sizes.{DeviceSizes, most_command_parameter_bytes}
+use Rattle.oca_types.specs.Sizes.{DeviceSizes}
 use Rattle.oca_pdu.specs.Messages.{Msg, Command, Response, KeepAlive, Pdu}
 use Rattle.oca_pdu.specs.Encoding.{pdu_encoding}
 use Rattle.oca_pdu.specs.Reading.{read_datagram}
@@ -15,6 +15,7 @@ use Rattle.oca_device.specs.Answers.{count_of_message, counts_of_messages, verdi
 use Rattle.oca_device.specs.Outboxes.{KeptPackets, first_packets}
 use Rattle.oca_device.specs.Written.{written_by_message, written_by_messages, written_by_reading}
 use Rattle.oca_device.specs.Effects.{effects_of_message, effects_of_messages, effects_of_reading}
+use Rattle.oca_device.specs.Rooms.{shortened_answers}
 use Rattle.oca_device.specs.Devices.{DeviceState, IsIn}
 
 -- the packets are those of some groups
@@ -44,11 +45,11 @@ JoinsLast true m before after = (length after ≡ length before)
 JoinsLast false m before after = (after ≡ before)
     × ((groups : List Pdu) → before ≡ encodings groups → with_answer groups m ≡ groups ++ pdu_of m ∷ [])
 
--- a command has at most 1,445 bytes of parameters, as each in a well-formed datagram has
-abbrev pub IsShort : Msg → Type 0
-IsShort (Command respond c) = length c.params ≤ most_command_parameter_bytes
-IsShort (Response r) = ⊤
-IsShort (KeepAlive form) = ⊤
+-- a command has at most so many bytes of parameters
+abbrev pub IsShort : ℕ → Msg → Type 0
+IsShort room (Command respond c) = length c.params ≤ room
+IsShort room (Response r) = ⊤
+IsShort room (KeepAlive form) = ⊤
 
 -- how many commands a message is
 abbrev pub commands_of : Msg → ℕ
@@ -65,32 +66,32 @@ abbrev pub commands_in : Counts → ℕ
 commands_in n = n.executed + n.kept + n.old + n.reused
 
 -- one message, where so many commands were counted before
-pub record ServesMessage (w : DeviceSizes) (old new : DeviceState) (p : Peer) (m : Msg) (s : State)
+pub record ServesMessage (room_for : ℕ) (w : DeviceSizes) (old new : DeviceState) (p : Peer) (m : Msg) (s : State)
     (before after : KeptPackets) (so_far n : Counts) : Type 0 where
-  pub device : IsIn w new (after_message w p m s)
+  pub device : IsIn room_for w new (after_message w p m s)
   pub written : new.written ≡ old.written ++ written_by_message w p m s
   pub effects : new.effects ≡ old.effects ++ effects_of_message w p m s
   pub packets : (room : ℕ) (groups : List Pdu) → before ≡ first_packets room (encodings groups) →
-      after ≡ first_packets room (encodings (with_answers groups (answer_to w p m s)))
+      after ≡ first_packets room (encodings (with_answers groups (shortened_answers room_for (answer_to w p m s))))
   pub counts : n ≡ plus so_far (count_of_message w p m s)
 
 -- several messages, where nothing was written and no command was served before
-pub record ServesMessages (w : DeviceSizes) (new : DeviceState) (p : Peer) (ms : List Msg) (s : State)
+pub record ServesMessages (room_for : ℕ) (w : DeviceSizes) (new : DeviceState) (p : Peer) (ms : List Msg) (s : State)
     (before after : KeptPackets) (n : Counts) : Type 0 where
-  pub device : IsIn w new (after_messages w p ms s)
+  pub device : IsIn room_for w new (after_messages w p ms s)
   pub written : new.written ≡ written_by_messages w p ms s
   pub effects : new.effects ≡ effects_of_messages w p ms s
   pub packets : (room : ℕ) (groups : List Pdu) → before ≡ first_packets room (encodings groups) →
-      after ≡ first_packets room (encodings (with_answers groups (answers_to_messages w p ms s)))
+      after ≡ first_packets room (encodings (with_answers groups (shortened_answers room_for (answers_to_messages w p ms s))))
   pub counts : n ≡ counts_of_messages w p ms s
 
 -- a datagram, when the clock has moved, nothing is written, no command is served and there is room for so many packets
-pub record TakesDatagram (w : DeviceSizes) (new : DeviceState) (p : Peer) (bytes : List ℕ) (s : State)
+pub record TakesDatagram (room_for : ℕ) (w : DeviceSizes) (new : DeviceState) (p : Peer) (bytes : List ℕ) (s : State)
     (room : ℕ) (after : KeptPackets) (verdict : Verdict) : Type 0 where
-  pub device : IsIn w new (after_reading w p (read_datagram bytes) s)
+  pub device : IsIn room_for w new (after_reading w p (read_datagram bytes) s)
   pub written : new.written ≡ written_by_reading w p (read_datagram bytes) s
   pub effects : new.effects ≡ effects_of_reading w p (read_datagram bytes) s
-  pub packets : after ≡ first_packets room (packets_of (answers_to_reading w p (read_datagram bytes) s))
+  pub packets : after ≡ first_packets room (packets_of (shortened_answers room_for (answers_to_reading w p (read_datagram bytes) s)))
   pub verdict_is : verdict ≡ verdict_of_reading w p (read_datagram bytes) s
 
 -- a message has one answer at most, and a response none

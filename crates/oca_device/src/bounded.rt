@@ -2,6 +2,8 @@
 ghost use Rattle.std.specs.Prelude.{◌≡◌, ◌+◌, ◌<◌, ◌≤◌, [], length, take, IfOk, slice_get};
 ghost use Rattle.std.specs.Prelude.{◌==◌, vec_capacity, false, true};
 ghost use Rattle.std.specs.Option.{option_map};
+ghost use Rattle.oca_types.specs.Replies.{reply_in};
+ghost use Rattle.oca_types.specs.Sizes.{most_parameter_bytes};
 ghost use Rattle.oca_pdu.specs.Messages.{KeepAlive, Pdu};
 ghost use Rattle.oca_pdu.specs.Encoding.{pdu_encoding};
 ghost use Rattle.oca_device.specs.Groups.{pdu_of};
@@ -9,8 +11,8 @@ ghost use Rattle.oca_device.specs.Answers.{response};
 ghost use Rattle.oca_device.specs.Outboxes.{bytes_of_packets, first_packets};
 ghost use Rattle.oca_device.specs.PrivateServing.{AreGrouped, AreEncodings, IsGrouped, Joins, JoinsLast};
 
-use oca_pdu::{Form, extend_response, holds_responses, replace_response, write_keepalive};
-use oca_types::{Handle, NoMemory, Packet, Reply};
+use oca_pdu::{Form, extend_response_of, holds_responses, replace_response_of, write_keepalive};
+use oca_types::{Handle, NoMemory, Packet, ReplyParts};
 use std::alloc::Global;
 use std::fmt;
 use std::marker::Model;
@@ -108,9 +110,10 @@ impl BoundedOutbox {
     /// Adds a response: to the last packet where that holds responses and has room for it, and else in a packet of its
     /// own. Where there is no room for that, or a packet was left out already, it is left out.
     #[inline(always)]
-    pub(crate) fn respond(&mut self, handle: Handle, reply: &Reply)
+    pub(crate) fn respond(&mut self, handle: Handle, reply: ReplyParts<'_>)
+        requires short { length reply.params.now ≤ most_parameter_bytes }
         requires groups { AreGrouped self.old }
-        ensures { IsGrouped (response handle.0 reply.now) self.old self.new }
+        ensures { IsGrouped (response handle.0 (reply_in reply.entry)) self.old self.new }
     {
         if self.is_cut {
             return;
@@ -123,7 +126,7 @@ impl BoundedOutbox {
             return;
         }
         make_place(&mut self.places, self.count, self.room);
-        replace_response(&mut self.places[self.count], handle, reply);
+        replace_response_of(&mut self.places[self.count], handle, reply);
         self.count += 1;
     }
 
@@ -155,10 +158,11 @@ impl fmt::Debug for BoundedOutbox {
 /// Adds a response to the last of the first `count` packets where that holds responses and has room for it, and returns
 /// whether it did.
 #[inline(always)]
-fn join_last(places: &mut Vec<Packet>, count: usize, handle: Handle, reply: &Reply) -> bool
+fn join_last(places: &mut Vec<Packet>, count: usize, handle: Handle, reply: ReplyParts<'_>) -> bool
+    requires short { length reply.params.now ≤ most_parameter_bytes }
     requires within { count ≤ length places.old.items }
     requires groups { AreEncodings (bytes_of_packets (take count places.old.items)) }
-    ensures joins { JoinsLast result (response handle.0 reply.now) (bytes_of_packets (take count places.old.items))
+    ensures joins { JoinsLast result (response handle.0 (reply_in reply.entry)) (bytes_of_packets (take count places.old.items))
         (bytes_of_packets (take count places.new.items)) }
     ensures length { length places.new.items ≡ length places.old.items }
     ensures room { vec_capacity places.new ≡ vec_capacity places.old }
@@ -171,12 +175,13 @@ fn join_last(places: &mut Vec<Packet>, count: usize, handle: Handle, reply: &Rep
 
 /// Adds a response to the PDU of a packet where that is of responses and has room for it, and returns whether it did.
 #[inline(always)]
-fn join(packet: &mut Packet, handle: Handle, reply: &Reply) -> bool
-    requires { (p : Pdu) × (packet.old.items ≡ pdu_encoding p) }
+fn join(packet: &mut Packet, handle: Handle, reply: ReplyParts<'_>) -> bool
+    requires short { length reply.params.now ≤ most_parameter_bytes }
+    requires holds { (p : Pdu) × (packet.old.items ≡ pdu_encoding p) }
     ensures { (p : Pdu) → packet.old.items ≡ pdu_encoding p →
-        Joins result p (response handle.0 reply.now) packet.old.items packet.new.items }
+        Joins result p (response handle.0 (reply_in reply.entry)) packet.old.items packet.new.items }
 {
-    holds_responses(packet) && extend_response(packet, handle, reply).is_ok()
+    holds_responses(packet) && extend_response_of(packet, handle, reply).is_ok()
 }
 
 /// Makes a place for one more packet after these, where none is left from earlier datagrams. It lies in memory that was

@@ -1,8 +1,10 @@
 //! The device: it takes events, and puts its answers into an outbox.
 ghost use Rattle.std.specs.Prelude.{◌≡◌, ◌+◌, ◌<◌, ◌≤◌, List, [], ◌∷◌, ◌++◌, length, max, IfOk, OnErr, MatchOption};
-ghost use Rattle.std.specs.Prelude.{IsTrue, IsSome, if◌then◌else◌, Ok, Err, slice_get};
+ghost use Rattle.std.specs.Prelude.{true, IsTrue, IsSome, if◌then◌else◌, Ok, Err, slice_get};
 ghost use Rattle.oca_types.specs.Peers.{fields_of};
-ghost use Rattle.oca_types.specs.Sizes.{most_command_parameter_bytes, window_size, sizes_of, DeviceSizes};
+ghost use Rattle.oca_types.specs.Replies.{reply_in};
+ghost use Rattle.oca_types.specs.Sizes.{most_command_parameter_bytes, most_parameter_bytes, window_size, sizes_of, DeviceSizes};
+ghost use Rattle.oca_pdu.specs.declared.fault.PduFaultKind.TheVariants.{TooLong};
 ghost use Rattle.std.specs.List.{AllByRecursion};
 ghost use Rattle.oca_pdu.specs.Messages.{Msg, Command as Commands, msg_of};
 ghost use Rattle.oca_pdu.specs.Limits.{most_answered, most_commands};
@@ -19,10 +21,12 @@ ghost use Rattle.oca_tree.specs.LocalChanges.{front_fault, ToValue, ToLabel, ToE
 ghost use Rattle.oca_tree.specs.Readers.{failing_at};
 ghost use Rattle.oca_model.specs.declared.request.Request.TheVariants as asked;
 ghost use Rattle.std.specs.Result.{result_err};
-ghost use Rattle.oca_device.specs.Answers.{packets, packets_of, verdict, answers_to_reading};
+ghost use Rattle.oca_device.specs.Answers.{packets_of, answers_to_reading};
+ghost use Rattle.oca_device.specs.Rooms.{shortened, shortened_answers, packets_within, told, fits, verdict_within};
 ghost use Rattle.oca_device.specs.Outboxes.{first_packets, may_be_answered};
 ghost use Rattle.oca_pdu.specs.Reading.{read_datagram};
-ghost use Rattle.oca_device.specs.Written.{numbers_of, written, written_by_execution};
+ghost use Rattle.oca_tree.specs.Written.{wrote};
+ghost use Rattle.oca_device.specs.Written.{numbers_of, written};
 ghost use Rattle.oca_device.specs.Effects.{effect_with, effects};
 
 use crate::bounded::BoundedOutbox;
@@ -32,15 +36,19 @@ use crate::lapse::released_from;
 use crate::outbox::Outbox;
 use crate::verdict::Verdict;
 use arrayvec::ArrayVec;
-use oca_pdu::{Form, Message, Messages, check};
-use oca_session::{Admission, Judged, Sessions};
-use oca_tree::{FrontFault, SetFault, Tree, Value};
+use oca_pdu::{Form, Message, Messages, PduFault, PduFaultKind, check};
+use oca_session::{Admission, JudgedOf, SessionsOf};
+use oca_tree::{Done, FrontFault, SetFault, Tree, Value};
 use oca_types::{
-    Command, MOST_PEERS, NoMemory, Ono, Params, Peer, Peers, Reply, Sizes, Status, Window, sooner,
+    Command, MOST_COMMAND_PARAMETER_BYTES, MOST_PARAMETER_BYTES, MOST_PEERS, NoMemory, Ono, Params,
+    Peer, Peers, ReplyParts, Sizes, Status, Window, sooner,
 };
 use std::alloc::Global;
 use std::fmt;
 use std::marker::Model;
+
+/// A datagram with one command has so many bytes beside those of its parameters.
+const BESIDE_PARAMETERS: usize = 27;
 
 /// A device: a tree of objects, and the sessions of its peers.
 ///
@@ -73,21 +81,42 @@ use std::marker::Model;
 /// The objects and the sessions of a device follow from its first tree and its events alone: datagrams, clock readings
 /// and changes at its local front panel. Moments are in milliseconds of the caller's clock. A moment that is earlier
 /// than the latest one so far is taken as the latest one: that is the *device's clock*.
+///
+/// [`Device`] has room for each command and each reply. In another one less memory is taken: a command in a reply window
+/// takes some 64 bytes, and the room for its parameters and for those of its reply.
+/// - `COMMAND` is the number of bytes of parameters that a command may have, at most 1,445. A datagram of more than
+///   `COMMAND` + 27 bytes is malformed, and so such a device has room for each command of a datagram. A datagram with
+///   several commands needs no more than one with a single command.
+/// - `ANSWER` is the number of bytes of parameters that a reply may have, at most 1,452. A command is executed as by a
+///   [`Device`]; but if its reply has more, the peer is answered with the status BufferOverflow (AES70-2) and without
+///   parameters, and so are the duplicates of the command. Only methods that read have parameters in their replies.
 #[derive(Drop)]
-pub struct Device {
+pub struct DeviceOf<const COMMAND: usize, const ANSWER: usize> {
     tree: Tree,
-    sessions: Sessions,
+    sessions: SessionsOf<COMMAND, ANSWER>,
     /// The peers that had lapsed when the clock moved last: a place for them, which is not made again at each datagram.
     lapsed: ArrayVec<Peer, MOST_PEERS>,
-    /// The room in which a command is executed: its reply is made here once, and read where it is needed.
-    reply: Reply,
+    /// The room in which a command is executed: the parameters of its reply are made here once, and read where they are
+    /// needed.
+    params: Params,
     /// The objects that the last datagram wrote to.
     written: ArrayVec<Ono, MOST_COMMANDS>,
     /// What became of each command of the last datagram.
     effects: Effects,
 }
 
-impl Model for Device {
+/// A device with room for each command and each reply: commands with 1,445 bytes of parameters, and replies with 1,452.
+/// [`DeviceOf`] has its calls, and explains their words.
+pub type Device = DeviceOf<MOST_COMMAND_PARAMETER_BYTES, MOST_PARAMETER_BYTES>;
+
+/// A device for short commands and replies, as of switches and faders alone: commands with 64 bytes of parameters, in
+/// datagrams of at most 91 bytes, and replies with 264. A command in a reply window takes 376 bytes. [`DeviceOf`] says
+/// what becomes of longer ones.
+pub type SmallDevice = DeviceOf<64, 264>;
+
+impl<const COMMAND: usize, const ANSWER: usize> Model for DeviceOf<COMMAND, ANSWER> {
+    ghost use Rattle.std.specs.Prelude.{◌≤◌};
+    ghost use Rattle.oca_types.specs.Sizes.{most_command_parameter_bytes, most_parameter_bytes};
     ghost use Rattle.oca_device.specs.Devices.{DeviceState};
     ghost use Rattle.oca_device.specs.Written.{numbers_of};
 
@@ -99,10 +128,12 @@ impl Model for Device {
       written = numbers_of d.written.items;
       effects = d.effects;
     } };
+
+    ghost invariant = { λ d. (COMMAND ≤ most_command_parameter_bytes) × (ANSWER ≤ most_parameter_bytes) };
 }
 
-impl Device {
-    ghost use Rattle.oca_device.specs.Devices.{Represents, IsIn};
+impl<const COMMAND: usize, const ANSWER: usize> DeviceOf<COMMAND, ANSWER> {
+    ghost use Rattle.oca_device.specs.Devices.{RepresentsWithin, IsIn};
     ghost use Rattle.oca_device.specs.Lapses.{IsNextLapse, NeverLapses};
     ghost use Rattle.oca_device.specs.PrivateServing.{ServesMessage, ServesMessages, TakesDatagram, AreGrouped};
     ghost use Rattle.oca_device.specs.PrivateServing.{IsShort, commands_in, commands_of, all_commands};
@@ -112,14 +143,15 @@ impl Device {
     /// device's clock is at 0.
     ///
     /// The call takes all the memory that the device will need beside `tree` and an outbox. Refusal: `NoMemory` if that
-    /// memory is refused; the objects are then lost.
-    pub fn new(alloc: Global, tree: Tree, window: Window) -> Result<Device, NoMemory>
-        ensures { IfOk result (λ device. Represents (record {
+    /// memory is refused, or for a [`DeviceOf`] with `COMMAND` above 1,445 or `ANSWER` above 1,452; the objects are then
+    /// lost.
+    pub fn new(alloc: Global, tree: Tree, window: Window) -> Result<Self, NoMemory>
+        ensures { IfOk result (λ device. RepresentsWithin ANSWER (record {
           window = window_size window;
           peers = 16;
         }) device tree []) }
     {
-        Device::with_sizes(
+        DeviceOf::with_sizes(
             alloc,
             tree,
             Sizes {
@@ -133,20 +165,17 @@ impl Device {
     /// sessions of 1 to 64 peers (*profile*). No peer has a session yet, and the device's clock is at 0.
     ///
     /// The call takes all the memory that the device will need beside `tree` and an outbox. Refusal: `NoMemory` if that
-    /// memory is refused; the objects are then lost.
-    pub fn with_sizes(alloc: Global, tree: Tree, sizes: Sizes) -> Result<Device, NoMemory>
-        ensures { IfOk result (λ device. Represents (sizes_of sizes) device tree []) }
+    /// memory is refused, or for a [`DeviceOf`] with `COMMAND` above 1,445 or `ANSWER` above 1,452; the objects are then
+    /// lost.
+    pub fn with_sizes(alloc: Global, tree: Tree, sizes: Sizes) -> Result<Self, NoMemory>
+        ensures { IfOk result (λ device. RepresentsWithin ANSWER (sizes_of sizes) device tree []) }
     {
-        let sessions = Sessions::with_sizes(alloc, sizes)?;
-        Ok(Device {
+        let sessions = SessionsOf::with_sizes(alloc, sizes)?;
+        Ok(DeviceOf {
             tree,
             sessions,
             lapsed: ArrayVec::new(),
-            reply: Reply {
-                status: Status::Ok,
-                count: 0,
-                params: Params::new(),
-            },
+            params: Params::new(),
             written: ArrayVec::new(),
             effects: Effects::new(),
         })
@@ -157,23 +186,25 @@ impl Device {
     /// memory is taken.
     ///
     /// First the clock moves on to `now` as [`tick`](Device::tick) does. Then the first that applies:
+    /// - `Malformed` with `TooLong` if there are more than `COMMAND` + 27 bytes ([`DeviceOf`]): for a [`Device`] that is
+    ///   no case of its own.
     /// - `Malformed` with the first fault if the bytes are no well-formed datagram (AES70-3).
     /// - `NoRoom` if the sender has no session, and there is no room for another session (*profile*).
     /// - `Served` with the numbers of commands that were served in each way. The messages are served in order. A new
     ///   command is executed, and a duplicate gets its retained reply; a command that asks for no response gets none
-    ///   (AES70-3). A command that is old, or that asks something else under the handle of a retained command, is
-    ///   ignored. A keep-alive sets the heartbeat and is returned (AES70-3). A response is ignored.
+    ///   (AES70-3). A reply with more than `ANSWER` bytes of parameters is answered as BufferOverflow. A command that is
+    ///   old, or that asks something else under the handle of a retained command, is ignored. A keep-alive sets the heartbeat and is returned (AES70-3). A response is ignored.
     ///
     /// After `Malformed` and `NoRoom` no object and no session is changed further, nothing is answered, and
     /// [`Device::written`] and [`Device::effects`] are empty. Neighbouring responses share a PDU of at most 1,472 bytes
     /// (*profile*).
     pub fn datagram(&mut self, from: Peer, bytes: &[u8], now: u64, outbox: &mut Outbox) -> Verdict
-        ensures represents { (w : DeviceSizes) (T : List Object) (E : List Event) → Represents w self.old T E →
-            Represents w self.new T (DatagramEvent from bytes.now now ∷ E) }
-        ensures packets { (w : DeviceSizes) (T : List Object) (E : List Event) → Represents w self.old T E →
-            outbox.new ≡ packets w T E (DatagramEvent from bytes.now now) }
-        ensures verdict { (w : DeviceSizes) (T : List Object) (E : List Event) → Represents w self.old T E →
-            result ≡ verdict w T E from bytes.now now }
+        ensures represents { (w : DeviceSizes) (T : List Object) (E : List Event) → RepresentsWithin ANSWER w self.old T E →
+            RepresentsWithin ANSWER w self.new T (DatagramEvent from (told COMMAND bytes.now) now ∷ E) }
+        ensures packets { (w : DeviceSizes) (T : List Object) (E : List Event) → RepresentsWithin ANSWER w self.old T E →
+            outbox.new ≡ packets_within ANSWER w T E (DatagramEvent from (told COMMAND bytes.now) now) }
+        ensures verdict { (w : DeviceSizes) (T : List Object) (E : List Event) → RepresentsWithin ANSWER w self.old T E →
+            result ≡ verdict_within COMMAND w T E from bytes.now now }
     {
         self.datagram_within(from, bytes, now, &mut outbox.first)
     }
@@ -195,21 +226,24 @@ impl Device {
         now: u64,
         outbox: &mut BoundedOutbox,
     ) -> Verdict
-        ensures represents { (w : DeviceSizes) (T : List Object) (E : List Event) → Represents w self.old T E →
-            Represents w self.new T (DatagramEvent from bytes.now now ∷ E) }
-        ensures packets { (w : DeviceSizes) (T : List Object) (E : List Event) → Represents w self.old T E →
-            outbox.new ≡ first_packets outbox.old.room (packets w T E (DatagramEvent from bytes.now now)) }
-        ensures verdict { (w : DeviceSizes) (T : List Object) (E : List Event) → Represents w self.old T E →
-            result ≡ verdict w T E from bytes.now now }
-        ensures few { (w : DeviceSizes) (T : List Object) (E : List Event) → Represents w self.old T E →
-            length (packets w T E (DatagramEvent from bytes.now now)) ≤ most_answered }
-        ensures each { (w : DeviceSizes) (T : List Object) (E : List Event) → Represents w self.old T E →
-            length (packets w T E (DatagramEvent from bytes.now now)) ≤ may_be_answered bytes.now }
+        ensures represents { (w : DeviceSizes) (T : List Object) (E : List Event) → RepresentsWithin ANSWER w self.old T E →
+            RepresentsWithin ANSWER w self.new T (DatagramEvent from (told COMMAND bytes.now) now ∷ E) }
+        ensures packets { (w : DeviceSizes) (T : List Object) (E : List Event) → RepresentsWithin ANSWER w self.old T E →
+            outbox.new ≡ first_packets outbox.old.room (packets_within ANSWER w T E (DatagramEvent from (told COMMAND bytes.now) now)) }
+        ensures verdict { (w : DeviceSizes) (T : List Object) (E : List Event) → RepresentsWithin ANSWER w self.old T E →
+            result ≡ verdict_within COMMAND w T E from bytes.now now }
+        ensures few { (w : DeviceSizes) (T : List Object) (E : List Event) → RepresentsWithin ANSWER w self.old T E →
+            length (packets_within ANSWER w T E (DatagramEvent from (told COMMAND bytes.now) now)) ≤ most_answered }
+        ensures each { (w : DeviceSizes) (T : List Object) (E : List Event) → RepresentsWithin ANSWER w self.old T E →
+            length (packets_within ANSWER w T E (DatagramEvent from (told COMMAND bytes.now) now)) ≤ may_be_answered bytes.now }
         ensures room { outbox.new.room ≡ outbox.old.room }
     {
         outbox.clear();
         self.begin_datagram();
         self.move_clock(now);
+        if !is_taken::<COMMAND>(bytes) {
+            return Verdict::Malformed(too_long::<COMMAND>());
+        }
         self.receive(from, bytes, now, outbox)
     }
 
@@ -220,8 +254,8 @@ impl Device {
     /// All locks of a peer are released if the device heard nothing from the peer for more than three of its heartbeats
     /// (AES70-3 has the heartbeat). A session is forgotten if its peer was silent for more than 120,000 ms (*profile*).
     pub fn tick(&mut self, now: u64)
-        ensures { (w : DeviceSizes) (T : List Object) (E : List Event) → Represents w self.old T E →
-            Represents w self.new T (Tick now ∷ E) }
+        ensures { (w : DeviceSizes) (T : List Object) (E : List Event) → RepresentsWithin ANSWER w self.old T E →
+            RepresentsWithin ANSWER w self.new T (Tick now ∷ E) }
     {
         self.move_clock(now);
     }
@@ -237,10 +271,10 @@ impl Device {
     /// - `OutOfRange` if a switch has no such position or the position is disabled, or a number is outside the object's
     ///   limits.
     pub fn set(&mut self, ono: Ono, value: Value) -> Result<(), SetFault>
-        ensures represents { (w : DeviceSizes) (T : List Object) (E : List Event) → Represents w self.old T E →
-            Represents w self.new T (Local ono.0 (ToValue value) ∷ E) }
+        ensures represents { (w : DeviceSizes) (T : List Object) (E : List Event) → RepresentsWithin ANSWER w self.old T E →
+            RepresentsWithin ANSWER w self.new T (Local ono.0 (ToValue value) ∷ E) }
         ensures fault { result_err result ≡ set_fault self.old.tree ono.0 value }
-        ensures represented { (w : DeviceSizes) (T : List Object) (E : List Event) → Represents w self.old T E →
+        ensures represented { (w : DeviceSizes) (T : List Object) (E : List Event) → RepresentsWithin ANSWER w self.old T E →
             result_err result ≡ set_fault (state_after w T E).tree ono.0 value }
         ensures refused { OnErr result (self.new ≡ self.old) }
     {
@@ -254,10 +288,10 @@ impl Device {
     /// Refusals, the first that applies, which change nothing: `NoObject` if no object has the number `ono`. `BadLabel`
     /// if the label has more than 64 bytes.
     pub fn set_label(&mut self, ono: Ono, label: &str) -> Result<(), FrontFault>
-        ensures represents { (w : DeviceSizes) (T : List Object) (E : List Event) → Represents w self.old T E →
-            Represents w self.new T (Local ono.0 (ToLabel label.now) ∷ E) }
+        ensures represents { (w : DeviceSizes) (T : List Object) (E : List Event) → RepresentsWithin ANSWER w self.old T E →
+            RepresentsWithin ANSWER w self.new T (Local ono.0 (ToLabel label.now) ∷ E) }
         ensures fault { result_err result ≡ front_fault self.old.tree ono.0 (asked.SetLabel label.now) }
-        ensures represented { (w : DeviceSizes) (T : List Object) (E : List Event) → Represents w self.old T E →
+        ensures represented { (w : DeviceSizes) (T : List Object) (E : List Event) → RepresentsWithin ANSWER w self.old T E →
             result_err result ≡ front_fault (state_after w T E).tree ono.0 (asked.SetLabel label.now) }
         ensures refused { OnErr result (self.new ≡ self.old) }
     {
@@ -269,10 +303,10 @@ impl Device {
     /// [`set_failing`](Device::set_failing). The clock and the sessions stay as they are, and no peer gets a message.
     /// Refusal: `NoObject` if no object has the number `ono`; then nothing is changed.
     pub fn set_enabled(&mut self, ono: Ono, enabled: bool) -> Result<(), FrontFault>
-        ensures represents { (w : DeviceSizes) (T : List Object) (E : List Event) → Represents w self.old T E →
-            Represents w self.new T (Local ono.0 (ToEnabled enabled) ∷ E) }
+        ensures represents { (w : DeviceSizes) (T : List Object) (E : List Event) → RepresentsWithin ANSWER w self.old T E →
+            RepresentsWithin ANSWER w self.new T (Local ono.0 (ToEnabled enabled) ∷ E) }
         ensures fault { result_err result ≡ front_fault self.old.tree ono.0 (asked.SetEnabled enabled) }
-        ensures represented { (w : DeviceSizes) (T : List Object) (E : List Event) → Represents w self.old T E →
+        ensures represented { (w : DeviceSizes) (T : List Object) (E : List Event) → RepresentsWithin ANSWER w self.old T E →
             result_err result ≡ front_fault (state_after w T E).tree ono.0 (asked.SetEnabled enabled) }
         ensures refused { OnErr result (self.new ≡ self.old) }
     {
@@ -286,10 +320,10 @@ impl Device {
     /// Refusals, the first that applies, which change nothing: `NoObject` if no object has the number `ono`.
     /// `NotLocked` if the object is not locked.
     pub fn unlock(&mut self, ono: Ono) -> Result<(), FrontFault>
-        ensures represents { (w : DeviceSizes) (T : List Object) (E : List Event) → Represents w self.old T E →
-            Represents w self.new T (Local ono.0 ToUnlocked ∷ E) }
+        ensures represents { (w : DeviceSizes) (T : List Object) (E : List Event) → RepresentsWithin ANSWER w self.old T E →
+            RepresentsWithin ANSWER w self.new T (Local ono.0 ToUnlocked ∷ E) }
         ensures fault { result_err result ≡ front_fault self.old.tree ono.0 asked.Unlock }
-        ensures represented { (w : DeviceSizes) (T : List Object) (E : List Event) → Represents w self.old T E →
+        ensures represented { (w : DeviceSizes) (T : List Object) (E : List Event) → RepresentsWithin ANSWER w self.old T E →
             result_err result ≡ front_fault (state_after w T E).tree ono.0 asked.Unlock }
         ensures refused { OnErr result (self.new ≡ self.old) }
     {
@@ -305,10 +339,10 @@ impl Device {
     /// front panel. The setting is not saved to a store. The clock and the sessions stay as they are. Refusal:
     /// `NoObject` if no object has the number `ono`; then nothing is changed.
     pub fn set_failing(&mut self, ono: Ono, failing: bool) -> Result<(), FrontFault>
-        ensures represents { (w : DeviceSizes) (T : List Object) (E : List Event) → Represents w self.old T E →
-            Represents w self.new T (Local ono.0 (ToFailing failing) ∷ E) }
+        ensures represents { (w : DeviceSizes) (T : List Object) (E : List Event) → RepresentsWithin ANSWER w self.old T E →
+            RepresentsWithin ANSWER w self.new T (Local ono.0 (ToFailing failing) ∷ E) }
         ensures fault { result_err result ≡ front_fault self.old.tree ono.0 (asked.SetEnabled failing) }
-        ensures represented { (w : DeviceSizes) (T : List Object) (E : List Event) → Represents w self.old T E →
+        ensures represented { (w : DeviceSizes) (T : List Object) (E : List Event) → RepresentsWithin ANSWER w self.old T E →
             result_err result ≡ front_fault (state_after w T E).tree ono.0 (asked.SetEnabled failing) }
         ensures refused { OnErr result (self.new ≡ self.old) }
     {
@@ -319,7 +353,7 @@ impl Device {
     /// before the first such call. `None` if no object has the number `ono`. Nothing is changed.
     pub fn is_failing(&self, ono: Ono) -> Option<bool>
         ensures failing { result ≡ failing_at self.now.tree ono.0 }
-        ensures represented { (w : DeviceSizes) (T : List Object) (E : List Event) → Represents w self.now T E →
+        ensures represented { (w : DeviceSizes) (T : List Object) (E : List Event) → RepresentsWithin ANSWER w self.now T E →
             result ≡ failing_at (state_after w T E).tree ono.0 }
     {
         self.tree.is_failing(ono)
@@ -329,7 +363,7 @@ impl Device {
     /// was given. They change only by commands of datagrams, by locks that are released, and at the local front panel.
     pub fn tree(&self) -> &Tree
         ensures tree { result.now ≡ self.now.tree }
-        ensures represented { (w : DeviceSizes) (T : List Object) (E : List Event) → Represents w self.now T E →
+        ensures represented { (w : DeviceSizes) (T : List Object) (E : List Event) → RepresentsWithin ANSWER w self.now T E →
             result.now ≡ (state_after w T E).tree }
     {
         &self.tree
@@ -341,7 +375,7 @@ impl Device {
     #[tactic(auto, using(crate::proofs::Steps::known_counted))]
     pub fn sessions(&self) -> usize
         ensures sessions { result ≡ length self.now.sessions.sessions }
-        ensures represented { (w : DeviceSizes) (T : List Object) (E : List Event) → Represents w self.now T E →
+        ensures represented { (w : DeviceSizes) (T : List Object) (E : List Event) → RepresentsWithin ANSWER w self.now T E →
             result ≡ length (known_after (state_after w T E)) }
     {
         self.sessions.len()
@@ -353,7 +387,7 @@ impl Device {
     #[tactic(auto, using(crate::proofs::Steps::known_at))]
     pub fn peer_at(&self, index: usize) -> Option<Peer>
         ensures peer { result ≡ slice_get (peers_of self.now.sessions.sessions) index }
-        ensures represented { (w : DeviceSizes) (T : List Object) (E : List Event) → Represents w self.now T E →
+        ensures represented { (w : DeviceSizes) (T : List Object) (E : List Event) → RepresentsWithin ANSWER w self.now T E →
             result ≡ slice_get (known_after (state_after w T E)) index }
     {
         self.sessions.peer_at(index)
@@ -368,7 +402,7 @@ impl Device {
     /// So read it after each datagram. Clock readings and changes at the local front panel leave the list as it is.
     pub fn written(&self) -> &[Ono]
         ensures written { numbers_of result.now ≡ self.now.written }
-        ensures represented { (w : DeviceSizes) (T : List Object) (E : List Event) → Represents w self.now T E →
+        ensures represented { (w : DeviceSizes) (T : List Object) (E : List Event) → RepresentsWithin ANSWER w self.now T E →
             numbers_of result.now ≡ written w T E }
     {
         self.written.as_slice()
@@ -380,7 +414,7 @@ impl Device {
     /// after each datagram. Clock readings and changes at the local front panel leave the list as it is.
     pub fn effects(&self) -> &[Effect]
         ensures effects { result.now ≡ self.now.effects }
-        ensures represented { (w : DeviceSizes) (T : List Object) (E : List Event) → Represents w self.now T E →
+        ensures represented { (w : DeviceSizes) (T : List Object) (E : List Event) → RepresentsWithin ANSWER w self.now T E →
             result.now ≡ effects w T E }
     {
         self.effects.as_slice()
@@ -391,7 +425,7 @@ impl Device {
     /// the device's present moment. `None` if there is no such moment within 64 bits, as without sessions. Nothing is
     /// changed.
     pub fn next_lapse(&self) -> Option<u64>
-        ensures { (w : DeviceSizes) (T : List Object) (E : List Event) → Represents w self.now T E →
+        ensures { (w : DeviceSizes) (T : List Object) (E : List Event) → RepresentsWithin ANSWER w self.now T E →
             let s = state_after w T E in MatchOption result (NeverLapses w s) (λ t. IsNextLapse w s t) }
     {
         match sooner(
@@ -405,7 +439,7 @@ impl Device {
 
     /// Forgets what the last datagram wrote to, and what became of its commands.
     fn begin_datagram(&mut self)
-        ensures same { (w : DeviceSizes) (s : State) → IsIn w self.old s → IsIn w self.new s }
+        ensures same { (w : DeviceSizes) (s : State) → IsIn ANSWER w self.old s → IsIn ANSWER w self.new s }
         ensures none { self.new.written ≡ [] }
         ensures unserved { self.new.effects ≡ [] }
     {
@@ -415,8 +449,8 @@ impl Device {
 
     /// Moves the clock.
     fn move_clock(&mut self, now: u64)
-        ensures moved { (w : DeviceSizes) (s : State) → IsIn w self.old s →
-            IsIn w self.new (moved_to (max s.moment now) s) }
+        ensures moved { (w : DeviceSizes) (s : State) → IsIn ANSWER w self.old s →
+            IsIn ANSWER w self.new (moved_to (max s.moment now) s) }
         ensures written { self.new.written ≡ self.old.written }
         ensures effects { self.new.effects ≡ self.old.effects }
         ensures moment { now ≤ self.new.sessions.moment }
@@ -429,15 +463,16 @@ impl Device {
     /// it moves nothing here.
     fn receive(&mut self, from: Peer, bytes: &[u8], now: u64, outbox: &mut BoundedOutbox) -> Verdict
         requires moment { now ≤ self.old.sessions.moment }
+        requires fits { fits COMMAND bytes.now ≡ true }
         requires empty { outbox.old ≡ first_packets outbox.old.room [] }
         requires none { self.old.written ≡ [] }
         requires unserved { self.old.effects ≡ [] }
-        ensures takes { (w : DeviceSizes) (s : State) → IsIn w self.old s →
-            TakesDatagram w self.new from bytes.now s outbox.old.room outbox.new result }
-        ensures few { (w : DeviceSizes) (s : State) → IsIn w self.old s →
-            length (packets_of (answers_to_reading w from (read_datagram bytes.now) s)) ≤ most_answered }
-        ensures each { (w : DeviceSizes) (s : State) → IsIn w self.old s →
-            length (packets_of (answers_to_reading w from (read_datagram bytes.now) s)) ≤ may_be_answered bytes.now }
+        ensures takes { (w : DeviceSizes) (s : State) → IsIn ANSWER w self.old s →
+            TakesDatagram ANSWER w self.new from bytes.now s outbox.old.room outbox.new result }
+        ensures few { (w : DeviceSizes) (s : State) → IsIn ANSWER w self.old s →
+            length (packets_of (shortened_answers ANSWER (answers_to_reading w from (read_datagram bytes.now) s))) ≤ most_answered }
+        ensures each { (w : DeviceSizes) (s : State) → IsIn ANSWER w self.old s →
+            length (packets_of (shortened_answers ANSWER (answers_to_reading w from (read_datagram bytes.now) s))) ≤ may_be_answered bytes.now }
         ensures room { outbox.new.room ≡ outbox.old.room }
     {
         match check(bytes) {
@@ -461,9 +496,9 @@ impl Device {
     /// Lets a peer in, where it is known or there is room for its session. `now` is not after the present moment.
     fn admit(&mut self, from: Peer, now: u64) -> bool
         requires { now ≤ self.old.sessions.moment }
-        ensures admits { (w : DeviceSizes) (s : State) → IsIn w self.old s → result ≡ admits w s from }
-        ensures noted { (w : DeviceSizes) (s : State) (messages : List Msg) → IsIn w self.old s →
-            IsIn w self.new (if result then noted from (Admitted messages) s else s) }
+        ensures admits { (w : DeviceSizes) (s : State) → IsIn ANSWER w self.old s → result ≡ admits w s from }
+        ensures noted { (w : DeviceSizes) (s : State) (messages : List Msg) → IsIn ANSWER w self.old s →
+            IsIn ANSWER w self.new (if result then noted from (Admitted messages) s else s) }
         ensures written { self.new.written ≡ self.old.written }
         ensures effects { self.new.effects ≡ self.old.effects }
         ensures known { IsTrue result → IsSome (session_of from self.new.sessions.sessions) }
@@ -484,12 +519,12 @@ impl Device {
     ) -> Counts
         requires known { IsSome (session_of from self.old.sessions.sessions) }
         requires groups { AreGrouped outbox.old }
-        requires short { AllByRecursion IsShort (messages_left messages) }
+        requires short { AllByRecursion (IsShort COMMAND) (messages_left messages) }
         requires few { all_commands (messages_left messages) ≤ most_commands }
         requires none { self.old.written ≡ [] }
         requires unserved { self.old.effects ≡ [] }
-        ensures serves { (w : DeviceSizes) (s : State) → IsIn w self.old s → last_noted (run from s.notes) ≡ s.moment →
-            ServesMessages w self.new from (messages_left messages.entry) s outbox.old outbox.new result }
+        ensures serves { (w : DeviceSizes) (s : State) → IsIn ANSWER w self.old s → last_noted (run from s.notes) ≡ s.moment →
+            ServesMessages ANSWER w self.new from (messages_left messages.entry) s outbox.old outbox.new result }
         ensures room { outbox.new.room ≡ outbox.old.room }
     {
         let mut counts = NONE;
@@ -509,12 +544,12 @@ impl Device {
     )
         requires known { IsSome (session_of from self.old.sessions.sessions) }
         requires groups { AreGrouped outbox.old }
-        requires short { IsShort (msg_of message) }
+        requires short { IsShort COMMAND (msg_of message) }
         requires few { commands_in counts.now + commands_of (msg_of message) ≤ most_commands }
         requires within { length self.old.written ≤ commands_in counts.now }
         requires counted { length self.old.effects ≤ commands_in counts.now }
-        ensures serves { (w : DeviceSizes) (s : State) → IsIn w self.old s → last_noted (run from s.notes) ≡ s.moment →
-            ServesMessage w self.old self.new from (msg_of message.entry) s outbox.old outbox.new
+        ensures serves { (w : DeviceSizes) (s : State) → IsIn ANSWER w self.old s → last_noted (run from s.notes) ≡ s.moment →
+            ServesMessage ANSWER w self.old self.new from (msg_of message.entry) s outbox.old outbox.new
             counts.entry.now counts.exit.now }
         ensures known { IsSome (session_of from self.new.sessions.sessions) }
         ensures room { outbox.new.room ≡ outbox.old.room }
@@ -546,12 +581,12 @@ impl Device {
     )
         requires known { IsSome (session_of from self.old.sessions.sessions) }
         requires groups { AreGrouped outbox.old }
-        requires short { length command.now.params.now ≤ most_command_parameter_bytes }
+        requires short { length command.now.params.now ≤ COMMAND }
         requires few { commands_in counts.now < most_commands }
         requires within { length self.old.written ≤ commands_in counts.now }
         requires counted { length self.old.effects ≤ commands_in counts.now }
-        ensures serves { (w : DeviceSizes) (s : State) → IsIn w self.old s → last_noted (run from s.notes) ≡ s.moment →
-            ServesMessage w self.old self.new from (Commands respond (fields_of command.now)) s outbox.old outbox.new
+        ensures serves { (w : DeviceSizes) (s : State) → IsIn ANSWER w self.old s → last_noted (run from s.notes) ≡ s.moment →
+            ServesMessage ANSWER w self.old self.new from (Commands respond (fields_of command.now)) s outbox.old outbox.new
             counts.entry.now counts.exit.now }
         ensures known { IsSome (session_of from self.new.sessions.sessions) }
         ensures room { outbox.new.room ≡ outbox.old.room }
@@ -561,23 +596,19 @@ impl Device {
         ensures counted { length self.new.effects ≤ commands_in counts.exit.now }
     {
         match self.sessions.judge(from, command) {
-            Judged::Fresh => {
+            JudgedOf::Fresh => {
                 counts.executed += 1;
-                execute(
-                    &mut self.tree,
-                    from,
-                    command,
-                    &mut self.reply,
-                    &mut self.written,
-                );
-                let outcome = CommandOutcome::Executed(self.reply.status);
+                let done = self.tree.execute(from, command, &mut self.params);
+                note_written(&mut self.written, command.target, done.wrote);
+                let outcome = CommandOutcome::Executed(done.status);
                 note(&mut self.effects, command, respond, outcome);
-                self.sessions.keep(from, command, &self.reply);
+                let reply = shortened::<ANSWER>(done, self.params.as_slice());
+                self.sessions.keep_parts(from, command, reply);
                 if respond {
-                    outbox.respond(command.handle, &self.reply);
+                    outbox.respond(command.handle, reply);
                 }
             }
-            Judged::Kept(reply) => {
+            JudgedOf::Kept(reply) => {
                 counts.kept += 1;
                 note(
                     &mut self.effects,
@@ -586,14 +617,14 @@ impl Device {
                     CommandOutcome::Duplicate,
                 );
                 if respond {
-                    outbox.respond(command.handle, reply);
+                    outbox.respond(command.handle, reply.parts());
                 }
             }
-            Judged::Reused => {
+            JudgedOf::Reused => {
                 counts.reused += 1;
                 note(&mut self.effects, command, respond, CommandOutcome::Reused);
             }
-            Judged::Old => {
+            JudgedOf::Old => {
                 counts.old += 1;
                 note(&mut self.effects, command, respond, CommandOutcome::Old);
             }
@@ -601,7 +632,7 @@ impl Device {
     }
 }
 
-impl fmt::Debug for Device {
+impl<const COMMAND: usize, const ANSWER: usize> fmt::Debug for DeviceOf<COMMAND, ANSWER> {
     /// The numbers of objects and sessions, and the present moment.
     fn fmt<W: fmt::Write>(&self, f: &mut fmt::Formatter<W>) -> fmt::Result {
         f.debug_struct("Device")
@@ -650,27 +681,61 @@ fn note(effects: &mut Effects, command: &Command, respond: bool, outcome: Comman
     });
 }
 
-/// Executes a command of a peer, puts its reply in the place of another, and adds its object to those written where it
-/// wrote.
-fn execute(
-    tree: &mut Tree,
-    peer: Peer,
-    command: &Command,
-    reply: &mut Reply,
-    written: &mut ArrayVec<Ono, MOST_COMMANDS>,
-)
+/// Adds an object to those written.
+#[inline(always)]
+fn note_written(written: &mut ArrayVec<Ono, MOST_COMMANDS>, ono: Ono, wrote: bool)
     requires { length written.old.items < most_commands }
-    ensures tree { tree.new ≡ (execution tree.old peer (fields_of command.now)).tree }
-    ensures reply { reply.new ≡ reply_of tree.old peer (fields_of command.now) }
     ensures written { numbers_of written.new.items
-        ≡ numbers_of written.old.items ++ written_by_execution tree.old peer (fields_of command.now) }
+        ≡ numbers_of written.old.items ++ (if wrote then ono.0 ∷ [] else []) }
     ensures most { length written.new.items ≤ length written.old.items + 1 }
 {
-    let done = tree.execute(peer, command, &mut reply.params);
-    reply.status = done.status;
-    reply.count = done.count;
-    if done.wrote {
-        written.push(command.target);
+    if wrote {
+        written.push(ono);
+    }
+}
+
+/// Whether there is room for each command of these bytes.
+#[inline(always)]
+fn is_taken<const COMMAND: usize>(bytes: &[u8]) -> bool
+    ensures { result ≡ fits COMMAND bytes.now }
+{
+    COMMAND >= MOST_COMMAND_PARAMETER_BYTES || bytes.len() <= COMMAND + BESIDE_PARAMETERS
+}
+
+/// The fault of a datagram that is longer.
+fn too_long<const COMMAND: usize>() -> PduFault
+    requires { COMMAND < most_command_parameter_bytes }
+    ensures { result ≡ record { kind = TooLong; at = COMMAND + 27 } }
+{
+    PduFault {
+        kind: PduFaultKind::TooLong,
+        at: (COMMAND + BESIDE_PARAMETERS) as u16,
+    }
+}
+
+/// The reply of an execution with these parameters; BufferOverflow, if they are more bytes than there is room for.
+#[inline(always)]
+fn shortened<const ANSWER: usize>(done: Done, params: &[u8]) -> ReplyParts<'_>
+    requires { length params.now ≤ most_parameter_bytes }
+    ensures shortened { reply_in result ≡ shortened ANSWER (record {
+      status = done.status;
+      count = done.count;
+      params = record { items = params.now };
+    }) }
+    ensures short { length result.params.now ≤ ANSWER }
+    ensures most { length result.params.now ≤ most_parameter_bytes }
+{
+    if ANSWER < MOST_PARAMETER_BYTES && params.len() > ANSWER {
+        return ReplyParts {
+            status: Status::BufferOverflow,
+            count: 0,
+            params: &params[..0],
+        };
+    }
+    ReplyParts {
+        status: done.status,
+        count: done.count,
+        params,
     }
 }
 

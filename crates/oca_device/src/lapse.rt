@@ -2,7 +2,7 @@
 ghost use Rattle.oca_types.specs.Moments.{HoldsFrom};
 ghost use Rattle.oca_device.specs.PrivateLapses.{releases};
 
-use oca_session::Sessions;
+use oca_session::SessionsOf;
 use oca_tree::Tree;
 use oca_types::sooner;
 
@@ -10,7 +10,10 @@ use oca_types::sooner;
 /// three of its heartbeats, if no peer is heard before. `sessions` say when each peer was heard. The moment may be
 /// past. `None` if no holder of a lock has a session, or if that moment lies beyond 64 bits. If no object is locked, no
 /// object is looked at.
-pub fn released_from(tree: &Tree, sessions: &Sessions) -> Option<u64>
+pub fn released_from<const COMMAND: usize, const ANSWER: usize>(
+    tree: &Tree,
+    sessions: &SessionsOf<COMMAND, ANSWER>,
+) -> Option<u64>
     ensures { HoldsFrom (releases tree.now sessions.now.sessions) result }
 {
     if tree.lock_count() == 0 {

@@ -23,7 +23,7 @@ mod store;
 mod verdict;
 
 pub use bounded::BoundedOutbox;
-pub use device::Device;
+pub use device::{Device, DeviceOf, SmallDevice};
 pub use effect::{CommandOutcome, Effect};
 pub use electronics::{Electronics, NoElectronics};
 pub use keeping::{Keeping, serve_keeping};

@@ -27,6 +27,6 @@ pub use laws::{
 pub use message::{Form, Message};
 pub use messages::Messages;
 pub use writing::{
-    extend_response, holds_responses, replace_response, write_command, write_keepalive,
-    write_response,
+    extend_response, extend_response_of, holds_responses, replace_response, replace_response_of,
+    write_command, write_keepalive, write_response,
 };

@@ -5,7 +5,8 @@ ghost use Rattle.std.specs.Int.{w16, w32};
 ghost use Rattle.arrayvec.specs.ArrayVec.{array_vec_len};
 ghost use Rattle.oca_types.specs.Numbers.{unsigned_encoding};
 ghost use Rattle.oca_types.specs.Peers.{fields_of};
-ghost use Rattle.oca_types.specs.Sizes.{largest_datagram};
+ghost use Rattle.oca_types.specs.Replies.{reply_in};
+ghost use Rattle.oca_types.specs.Sizes.{largest_datagram, most_parameter_bytes};
 ghost use Rattle.oca_pdu.specs.Messages.{ResponseFields, Pdu, Commands, Responses, OneKeepAlive, response_with};
 ghost use Rattle.oca_pdu.specs.Encoding.{response_encoding, pdu_encoding, CommandFits, ResponseFits, FormFits};
 ghost use Rattle.oca_pdu.specs.Encoding.{IsDatagram};
@@ -15,7 +16,7 @@ ghost use Rattle.oca_pdu.specs.Writing.{AddsPdu, IsResponses, HoldsResponses, is
 use crate::fault::WriteFault;
 use crate::fields;
 use crate::message::{COMMAND_BYTES, Form, HEADER_BYTES, RESPONSE_BYTES, SYNC};
-use oca_types::{Command, Handle, MOST_BYTES, Packet, Reply, ReplyOf, write_over};
+use oca_types::{Command, Handle, MOST_BYTES, Packet, Reply, ReplyParts, write_over};
 
 /// Where a PDU has its PduType (AES70-3).
 const PDU_TYPE_AT: usize = 7;
@@ -95,7 +96,8 @@ pub fn write_response(packet: &mut Packet, handle: Handle, reply: &Reply) -> Res
         OnOk result (AddsPdu pdu packet.old.items packet.new.items) }
     ensures err { OnErr result (packet.new ≡ packet.old) }
 {
-    let params = reply.params.as_slice();
+    let reply = reply.parts();
+    let params = reply.params;
     let room = MOST_BYTES - packet.len();
     let needed = HEADER_BYTES + RESPONSE_BYTES + params.len();
     if room < needed {
@@ -111,13 +113,21 @@ pub fn write_response(packet: &mut Packet, handle: Handle, reply: &Reply) -> Res
 /// a well-formed datagram. There is always room, since a reply has at most 1,452 bytes of parameters. The call refuses
 /// nothing, sends nothing and takes no memory.
 #[inline(always)]
-pub fn replace_response<const ANSWER: usize>(
-    packet: &mut Packet,
-    handle: Handle,
-    reply: &ReplyOf<ANSWER>,
-)
+pub fn replace_response(packet: &mut Packet, handle: Handle, reply: &Reply)
     ensures bytes { packet.new.items ≡ pdu_encoding (Responses (response_with handle reply.now ∷ [])) }
     ensures datagram { IsDatagram (Responses (response_with handle reply.now ∷ []) ∷ []) packet.new.items }
+{
+    replace_response_of(packet, handle, reply.parts());
+}
+
+/// Replaces all bytes of the packet by a PDU with one response, as [`replace_response`] does, where the bytes of the
+/// parameters lie elsewhere (AES70-3). They must be at most 1,452 (a premise, which the caller must prove). The call
+/// refuses nothing, sends nothing and takes no memory.
+#[inline(always)]
+pub fn replace_response_of(packet: &mut Packet, handle: Handle, reply: ReplyParts<'_>)
+    requires { length reply.params.now ≤ most_parameter_bytes }
+    ensures bytes { packet.new.items ≡ pdu_encoding (Responses (response_with handle (reply_in reply.entry) ∷ [])) }
+    ensures datagram { IsDatagram (Responses (response_with handle (reply_in reply.entry) ∷ []) ∷ []) packet.new.items }
 {
     if packet.len() == HEADER_BYTES + RESPONSE_BYTES + reply.params.len() {
         write_over_response(packet.as_mut_slice(), handle, reply);
@@ -129,30 +139,33 @@ pub fn replace_response<const ANSWER: usize>(
 /// Apart from `replace_response`, since `clear` overwrites what there was by a call: writes a PDU of one response in
 /// the place of more bytes, or of fewer.
 #[inline(never)]
-fn write_anew<const ANSWER: usize>(packet: &mut Packet, handle: Handle, reply: &ReplyOf<ANSWER>)
-    ensures fits { ResponseFits (response_with handle reply.now) }
-    ensures bytes { packet.new.items ≡ pdu_encoding (Responses (response_with handle reply.now ∷ [])) }
+fn write_anew(packet: &mut Packet, handle: Handle, reply: ReplyParts<'_>)
+    requires { length reply.params.now ≤ most_parameter_bytes }
+    ensures fits { ResponseFits (response_with handle (reply_in reply.entry)) }
+    ensures bytes { packet.new.items ≡ pdu_encoding (Responses (response_with handle (reply_in reply.entry) ∷ [])) }
 {
     packet.clear();
     put(packet, &response_front(handle, reply));
-    put(packet, reply.params.as_slice());
+    put(packet, reply.params);
 }
 
 /// Writes a PDU of one response over as many bytes.
-fn write_over_response<const ANSWER: usize>(pdu: &mut [u8], handle: Handle, reply: &ReplyOf<ANSWER>)
-    requires { length pdu.old ≡ 20 + array_vec_len reply.now.params }
-    ensures fits { ResponseFits (response_with handle reply.now) }
-    ensures bytes { pdu.new ≡ pdu_encoding (Responses (response_with handle reply.now ∷ [])) }
+fn write_over_response(pdu: &mut [u8], handle: Handle, reply: ReplyParts<'_>)
+    requires short { length reply.params.now ≤ most_parameter_bytes }
+    requires length { length pdu.old ≡ 20 + length reply.params.now }
+    ensures fits { ResponseFits (response_with handle (reply_in reply.entry)) }
+    ensures bytes { pdu.new ≡ pdu_encoding (Responses (response_with handle (reply_in reply.entry) ∷ [])) }
 {
     let (front, params) = pdu.split_at_mut(HEADER_BYTES + RESPONSE_BYTES);
     front.copy_from_slice(&response_front(handle, reply));
-    write_over(params, reply.params.as_slice());
+    write_over(params, reply.params);
 }
 
 /// A response up to its parameters.
-fn response_head<const ANSWER: usize>(handle: Handle, reply: &ReplyOf<ANSWER>) -> [u8; 10]
-    ensures bytes { result ++ reply.now.params.items ≡ response_encoding (response_with handle reply.now) }
-    ensures fits { ResponseFits (response_with handle reply.now) }
+fn response_head(handle: Handle, reply: ReplyParts<'_>) -> [u8; 10]
+    requires { length reply.params.now ≤ most_parameter_bytes }
+    ensures bytes { result ++ reply.entry.params.now ≡ response_encoding (response_with handle (reply_in reply.entry)) }
+    ensures fits { ResponseFits (response_with handle (reply_in reply.entry)) }
 {
     let (status, count) = (reply.status.number(), reply.count);
     let size = RESPONSE_BYTES as u32 + reply.params.len() as u32;
@@ -165,9 +178,10 @@ fn response_head<const ANSWER: usize>(handle: Handle, reply: &ReplyOf<ANSWER>) -
 }
 
 /// The header of a PDU of this response, and the response up to its parameters.
-fn response_front<const ANSWER: usize>(handle: Handle, reply: &ReplyOf<ANSWER>) -> [u8; 20]
-    ensures bytes { result ++ reply.now.params.items ≡ pdu_encoding (Responses (response_with handle reply.now ∷ [])) }
-    ensures fits { ResponseFits (response_with handle reply.now) }
+fn response_front(handle: Handle, reply: ReplyParts<'_>) -> [u8; 20]
+    requires { length reply.params.now ≤ most_parameter_bytes }
+    ensures bytes { result ++ reply.entry.params.now ≡ pdu_encoding (Responses (response_with handle (reply_in reply.entry) ∷ [])) }
+    ensures fits { ResponseFits (response_with handle (reply_in reply.entry)) }
 {
     let size = 19 + reply.params.len() as u32;
     let mut front = [
@@ -206,11 +220,7 @@ pub fn holds_responses(packet: &Packet) -> bool
 /// parameters. The packet grows by 10 bytes and the bytes of the parameters. The only refusal is `TooLong`, if the
 /// packet would have more than 1,472 bytes; the packet is then unchanged. The call sends nothing and takes no memory.
 #[inline(always)]
-pub fn extend_response<const ANSWER: usize>(
-    packet: &mut Packet,
-    handle: Handle,
-    reply: &ReplyOf<ANSWER>,
-) -> Result<(), WriteFault>
+pub fn extend_response(packet: &mut Packet, handle: Handle, reply: &Reply) -> Result<(), WriteFault>
     requires { HoldsResponses packet.old.items }
     ensures room { IsOk result
         ↔ (length packet.old.items + length (response_encoding (response_with handle reply.now)) ≤ largest_datagram) }
@@ -222,7 +232,32 @@ pub fn extend_response<const ANSWER: usize>(
         OnOk result (IsDatagram (Responses (rs ++ response_with handle reply.now ∷ []) ∷ []) packet.new.items) }
     ensures err { OnErr result (packet.new ≡ packet.old) }
 {
-    let params = reply.params.as_slice();
+    extend_response_of(packet, handle, reply.parts())
+}
+
+/// Adds a response to the packet, as [`extend_response`] does, where the bytes of the parameters lie elsewhere
+/// (AES70-3). The packet must be exactly one PDU of responses, and the reply must have at most 1,452 bytes of parameters
+/// (premises, which the caller must prove). The only refusal is `TooLong`, if the packet would have more than
+/// 1,472 bytes; the packet is then unchanged. The call sends nothing and takes no memory.
+#[inline(always)]
+pub fn extend_response_of(
+    packet: &mut Packet,
+    handle: Handle,
+    reply: ReplyParts<'_>,
+) -> Result<(), WriteFault>
+    requires short { length reply.params.now ≤ most_parameter_bytes }
+    requires holds { HoldsResponses packet.old.items }
+    ensures room { IsOk result
+        ↔ (length packet.old.items + length (response_encoding (response_with handle (reply_in reply.entry))) ≤ largest_datagram) }
+    ensures size { (rs : List ResponseFields) → IsResponses rs packet.old.items →
+        (IsOk result ↔ (responses_size (rs ++ response_with handle (reply_in reply.entry) ∷ []) ≤ largest_datagram)) }
+    ensures ok { (rs : List ResponseFields) → IsResponses rs packet.old.items →
+        OnOk result (IsResponses (rs ++ response_with handle (reply_in reply.entry) ∷ []) packet.new.items) }
+    ensures adds { (rs : List ResponseFields) → IsDatagram (Responses rs ∷ []) packet.old.items →
+        OnOk result (IsDatagram (Responses (rs ++ response_with handle (reply_in reply.entry) ∷ []) ∷ []) packet.new.items) }
+    ensures err { OnErr result (packet.new ≡ packet.old) }
+{
+    let params = reply.params;
     let room = MOST_BYTES - packet.len();
     if room < RESPONSE_BYTES + params.len() {
         return Err(WriteFault::TooLong);

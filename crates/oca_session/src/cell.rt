@@ -2,11 +2,12 @@
 ghost use Rattle.std.specs.Prelude.{◌≡◌, ◌≤◌, length, nat_eq};
 ghost use Rattle.std.specs.Cmp.Lexicographic.{pointwise};
 ghost use Rattle.oca_types.specs.Peers.{fields_of};
+ghost use Rattle.oca_types.specs.Replies.{reply_in};
 ghost use Rattle.oca_session.specs.Accepted.{asks_the_same};
 ghost use Rattle.oca_session.specs.PrivateCells.{entry_in};
 
 use arrayvec::ArrayVec;
-use oca_types::{Command, MethodId, Ono, ReplyOf, write_over};
+use oca_types::{Command, MethodId, Ono, ReplyOf, ReplyParts, write_over};
 use std::marker::Model;
 
 /// A command in a reply window, without its handle, and the reply that the command got: with room for `COMMAND` bytes of
@@ -39,10 +40,10 @@ impl<const COMMAND: usize, const ANSWER: usize> Cell<COMMAND, ANSWER> {
     /// Returns a cell with copies of this command, without its handle, and of its reply (*profile*). The command must
     /// have at most `COMMAND` bytes of parameters, and the reply at most `ANSWER` (premises, which the caller must
     /// prove). The call refuses nothing and takes no memory.
-    pub fn new<const N: usize>(command: &Command<'_>, reply: &ReplyOf<N>) -> Self
+    pub fn new(command: &Command<'_>, reply: ReplyParts<'_>) -> Self
         requires command { length command.now.params.now ≤ COMMAND }
-        requires reply { length reply.now.params.items ≤ ANSWER }
-        ensures { entry_in command.now.handle result ≡ record { command = fields_of command.now; reply = reply.now } }
+        requires reply { length reply.params.now ≤ ANSWER }
+        ensures { entry_in command.now.handle result ≡ record { command = fields_of command.now; reply = reply_in reply.entry } }
     {
         let mut cell = Cell {
             target: command.target,
@@ -56,19 +57,19 @@ impl<const COMMAND: usize, const ANSWER: usize> Cell<COMMAND, ANSWER> {
             },
         };
         copy_bytes(&mut cell.params, command.params);
-        copy_bytes(&mut cell.reply.params, reply.params.as_slice());
+        copy_bytes(&mut cell.reply.params, reply.params);
         cell
     }
 
     /// Replaces the command and the reply in the cell by copies of these (*profile*). The handle is not stored. The
     /// command must have at most `COMMAND` bytes of parameters, and the reply at most `ANSWER` (premises, which the
     /// caller must prove). The call refuses nothing and takes no memory.
-    pub fn set<const N: usize>(&mut self, command: &Command<'_>, reply: &ReplyOf<N>)
+    pub fn set(&mut self, command: &Command<'_>, reply: ReplyParts<'_>)
         requires command { length command.now.params.now ≤ COMMAND }
-        requires reply { length reply.now.params.items ≤ ANSWER }
-        ensures { entry_in command.now.handle self.new ≡ record { command = fields_of command.now; reply = reply.now } }
+        requires reply { length reply.params.now ≤ ANSWER }
+        ensures { entry_in command.now.handle self.new ≡ record { command = fields_of command.now; reply = reply_in reply.entry } }
     {
-        let params = reply.params.as_slice();
+        let params = reply.params;
         if self.reply.params.len() != params.len() || self.params.len() != command.params.len() {
             self.set_other(command, reply);
             return;
@@ -76,10 +77,8 @@ impl<const COMMAND: usize, const ANSWER: usize> Cell<COMMAND, ANSWER> {
         self.target = command.target;
         self.method = command.method;
         self.count = command.count;
-        // Both are read before one is written, so that they are one load and one store.
-        let (status, count) = (reply.status, reply.count);
-        self.reply.status = status;
-        self.reply.count = count;
+        self.reply.status = reply.status;
+        self.reply.count = reply.count;
         write_over(self.reply.params.as_mut_slice(), params);
         write_over(self.params.as_mut_slice(), command.params);
     }
@@ -87,10 +86,10 @@ impl<const COMMAND: usize, const ANSWER: usize> Cell<COMMAND, ANSWER> {
     /// Apart from `set`, since its calls would leave the callers of `set` few registers: writes a command and its reply
     /// over those that the cell held, whatever their lengths.
     #[inline(never)]
-    fn set_other<const N: usize>(&mut self, command: &Command<'_>, reply: &ReplyOf<N>)
+    fn set_other(&mut self, command: &Command<'_>, reply: ReplyParts<'_>)
         requires command { length command.now.params.now ≤ COMMAND }
-        requires reply { length reply.now.params.items ≤ ANSWER }
-        ensures { entry_in command.now.handle self.new ≡ record { command = fields_of command.now; reply = reply.now } }
+        requires reply { length reply.params.now ≤ ANSWER }
+        ensures { entry_in command.now.handle self.new ≡ record { command = fields_of command.now; reply = reply_in reply.entry } }
     {
         self.target = command.target;
         self.method = command.method;
@@ -98,7 +97,7 @@ impl<const COMMAND: usize, const ANSWER: usize> Cell<COMMAND, ANSWER> {
         copy_bytes(&mut self.params, command.params);
         self.reply.status = reply.status;
         self.reply.count = reply.count;
-        copy_bytes(&mut self.reply.params, reply.params.as_slice());
+        copy_bytes(&mut self.reply.params, reply.params);
     }
 
     /// Returns whether this command and the command in the cell ask the same: the same target, DefLevel, MethodIndex,

@@ -7,8 +7,8 @@
 //!
 //! All memory is taken in [`Sessions::new`] and [`Sessions::with_sizes`]. That no other call takes any is checked by
 //! inspection; no clause says it: after them the vectors and buffers are written by index, and pushed to within their
-//! capacity, which is as large as a window. A window of w commands takes some 2,952 w bytes in each session, which are
-//! touched as commands come.
+//! capacity, which is as large as a window. A window of w commands takes 2,952 w bytes in each session, which are
+//! touched as commands come; in [`SessionsOf`] less, by the room for a command and for a reply.
 #![tactic(auto)]
 
 mod cell;

@@ -1,8 +1,9 @@
 //! The sessions of all peers.
-ghost use Rattle.std.specs.Prelude.{◌≡◌, ℕ, ◌<◌, ◌≤◌, List, [], ◌∷◌, ◌++◌, length, IfOk, IsSome, IfSome, is_some, Some};
+ghost use Rattle.std.specs.Prelude.{◌≡◌, ℕ, ◌<◌, ◌≤◌, List, [], ◌∷◌, ◌++◌, length, IfOk, OnOk, IsSome, IfSome, is_some, Some};
 ghost use Rattle.std.specs.Prelude.{vec_len, take, position, All, Contains, ◌==◌, slice_get};
 ghost use Rattle.oca_types.specs.declared.words.Peer.{Peer};
 ghost use Rattle.oca_types.specs.Peers.{fields_of};
+ghost use Rattle.oca_types.specs.Replies.{reply_in};
 ghost use Rattle.oca_types.specs.Sizes.{most_command_parameter_bytes, most_parameter_bytes, window_size, sizes_of};
 ghost use Rattle.oca_session.specs.Accepted.{Entry, judgement, Fresh};
 ghost use Rattle.oca_session.specs.Judging.{as_judgement, judgement_by_window};
@@ -17,7 +18,7 @@ use crate::window::JudgedOf;
 use arrayvec::ArrayVec;
 use oca_types::{
     Command, MOST_COMMAND_PARAMETER_BYTES, MOST_PARAMETER_BYTES, MOST_PEERS, NoMemory, Peer, Peers,
-    ReplyOf, Sizes, Window, sooner,
+    ReplyOf, ReplyParts, Sizes, Window, sooner,
 };
 use std::alloc::{AllocError, Global};
 use std::fmt;
@@ -117,7 +118,8 @@ impl<const COMMAND: usize, const ANSWER: usize> SessionsOf<COMMAND, ANSWER> {
     /// will need: no later call takes any. The only refusal is `NoMemory` if the allocator refused memory, or if
     /// `COMMAND` is above 1,445 or `ANSWER` above 1,452, as in no [`Sessions`]. No table is then returned.
     pub fn with_sizes(alloc: Global, sizes: Sizes) -> Result<Self, NoMemory>
-        ensures { IfOk result (λ t. t ≡ record { sizes = sizes_of sizes; moment = 0; sessions = [] }) }
+        ensures empty { IfOk result (λ t. t ≡ record { sizes = sizes_of sizes; moment = 0; sessions = [] }) }
+        ensures rooms { OnOk result ((COMMAND ≤ most_command_parameter_bytes) × (ANSWER ≤ most_parameter_bytes)) }
     {
         if COMMAND > MOST_COMMAND_PARAMETER_BYTES || ANSWER > MOST_PARAMETER_BYTES {
             return Err(NoMemory);
@@ -358,33 +360,26 @@ impl<const COMMAND: usize, const ANSWER: usize> SessionsOf<COMMAND, ANSWER> {
         ensures known { (p : Peer) →
             is_some (session_of p self.new.sessions) ≡ is_some (session_of p self.old.sessions) }
     {
-        // Read so that the proof knows how long the reply is, and how much room there is.
-        let _ = &self.sizes;
-        let _ = &reply.params;
-        self.keep_short(peer, command, reply);
+        self.keep_parts(peer, command, reply.parts());
     }
 
-    /// Stores a fresh command of a known peer, with a reply of any room, as [`keep`](SessionsOf::keep) does (*profile*).
+    /// Stores a fresh command of a known peer, as [`keep`](SessionsOf::keep) does, with a reply whose
+    /// parameters lie elsewhere (*profile*).
     /// Beside the premises of `keep`, the reply must have at most `ANSWER` bytes of parameters (a premise, which the
     /// caller must prove). The call refuses nothing and takes no memory.
-    pub fn keep_short<const N: usize>(
-        &mut self,
-        peer: Peer,
-        command: &Command<'_>,
-        reply: &ReplyOf<N>,
-    )
+    pub fn keep_parts(&mut self, peer: Peer, command: &Command<'_>, reply: ReplyParts<'_>)
         requires known { IsSome (session_of peer self.old.sessions) }
         requires fresh { IfSome (session_of peer self.old.sessions)
             (λ s. judgement_by_window s.retained (fields_of command.now) ≡ Fresh) }
         requires room { length command.now.params.now ≤ COMMAND }
-        requires short { length reply.now.params.items ≤ ANSWER }
+        requires short { length reply.params.now ≤ ANSWER }
         ensures retained { self.new ≡ with_sessions self.old
             (with_changed peer
-            (with_entry (record { command = fields_of command.now; reply = reply.now })) self.old.sessions) }
+            (with_entry (record { command = fields_of command.now; reply = reply_in reply.entry })) self.old.sessions) }
         ensures accepted { (w : ℕ) (A : List Entry) → AgreesAt peer w A self.old.sessions →
             self.new ≡ with_sessions self.old
             (with_changed peer
-            (with_accepted w (A ++ record { command = fields_of command.now; reply = reply.now } ∷ []))
+            (with_accepted w (A ++ record { command = fields_of command.now; reply = reply_in reply.entry } ∷ []))
             self.old.sessions) }
         ensures peers { peers_of self.new.sessions ≡ peers_of self.old.sessions }
         ensures known { (p : Peer) →
@@ -421,15 +416,15 @@ impl<const COMMAND: usize, const ANSWER: usize> SessionsOf<COMMAND, ANSWER> {
 
     /// Apart from `keep`, which says beside it what follows for the accepted commands and for the peers: adds a fresh
     /// command of a known peer, with its reply.
-    fn put<const N: usize>(&mut self, peer: Peer, command: &Command<'_>, reply: &ReplyOf<N>)
+    fn put(&mut self, peer: Peer, command: &Command<'_>, reply: ReplyParts<'_>)
         requires known { IsSome (session_of peer self.old.sessions) }
         requires fresh { IfSome (session_of peer self.old.sessions)
             (λ s. judgement_by_window s.retained (fields_of command.now) ≡ Fresh) }
         requires room { length command.now.params.now ≤ COMMAND }
-        requires short { length reply.now.params.items ≤ ANSWER }
+        requires short { length reply.params.now ≤ ANSWER }
         ensures retained { self.new ≡ with_sessions self.old
             (with_changed peer
-            (with_entry (record { command = fields_of command.now; reply = reply.now })) self.old.sessions) }
+            (with_entry (record { command = fields_of command.now; reply = reply_in reply.entry })) self.old.sessions) }
         ensures one { IsTable self.old }
     {
         let at = self.index_of_known(peer);

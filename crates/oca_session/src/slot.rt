@@ -1,6 +1,7 @@
 //! One session.
 ghost use Rattle.std.specs.Prelude.{◌≡◌, ℕ, ◌+◌, ◌*◌, ◌<◌, ◌≤◌, not, List, length, IfOk};
 ghost use Rattle.oca_types.specs.Peers.{fields_of};
+ghost use Rattle.oca_types.specs.Replies.{reply_in};
 ghost use Rattle.oca_types.specs.Sizes.{most_command_parameter_bytes, most_parameter_bytes};
 ghost use Rattle.oca_session.specs.Accepted.{Entry, AgreesWithAccepted, judgement, Fresh};
 ghost use Rattle.oca_session.specs.Judging.{as_judgement, judgement_by_window};
@@ -12,7 +13,7 @@ ghost use Rattle.oca_types.specs.Moments.{HoldsFrom};
 
 use crate::moments::passes_from;
 use crate::window::{JudgedOf, ReplyWindow};
-use oca_types::{Command, Peer, ReplyOf};
+use oca_types::{Command, Peer, ReplyOf, ReplyParts};
 use std::alloc::{AllocError, Global};
 use std::marker::Model;
 
@@ -175,11 +176,11 @@ impl<const COMMAND: usize, const ANSWER: usize> Slot<COMMAND, ANSWER> {
     /// oldest command out. Handles up to the handle of that command, which are not in the window, then count as `Old`.
     /// The command must be fresh ([`judge`](Slot::judge)) and have at most `COMMAND` bytes of parameters, and the reply
     /// at most `ANSWER` (premises, which the caller must prove). The call refuses nothing and takes no memory.
-    pub fn keep<const N: usize>(&mut self, command: &Command<'_>, reply: &ReplyOf<N>)
+    pub fn keep(&mut self, command: &Command<'_>, reply: ReplyParts<'_>)
         requires fresh { judgement_by_window self.old.retained (fields_of command.now) ≡ Fresh }
         requires room { length command.now.params.now ≤ COMMAND }
-        requires short { length reply.now.params.items ≤ ANSWER }
-        ensures { self.new ≡ with_entry (record { command = fields_of command.now; reply = reply.now }) self.old }
+        requires short { length reply.params.now ≤ ANSWER }
+        ensures { self.new ≡ with_entry (record { command = fields_of command.now; reply = reply_in reply.entry }) self.old }
     {
         self.window.keep(command, reply);
     }

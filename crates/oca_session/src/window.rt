@@ -3,6 +3,7 @@ ghost use Rattle.std.specs.Prelude.{◌≡◌, ℕ, ◌+◌, ◌<◌, ◌≤◌,
 ghost use Rattle.std.specs.Prelude.{option_map, option_copied, IfOk, MatchOption, AllPairs, find};
 ghost use Rattle.circular_buffer.specs.Buffer.{buffer};
 ghost use Rattle.oca_types.specs.Peers.{CommandFields, fields_of};
+ghost use Rattle.oca_types.specs.Replies.{reply_in};
 ghost use Rattle.oca_types.specs.Sizes.{most_command_parameter_bytes, most_parameter_bytes};
 ghost use Rattle.oca_session.specs.Accepted.{Entry, retained_of, AgreesWithAccepted, judgement, Fresh, entry_under};
 ghost use Rattle.oca_session.specs.Accepted.{duplicate_or_reused};
@@ -11,7 +12,7 @@ ghost use Rattle.oca_session.specs.PrivateCells.{is_under, held_in, judge_cell, 
 
 use crate::cell::Cell;
 use circular_buffer::HeapCircularBuffer;
-use oca_types::{Command, Handle, Reply, ReplyOf};
+use oca_types::{Command, Handle, Reply, ReplyOf, ReplyParts};
 use std::alloc::{AllocError, Global};
 use std::marker::Model;
 
@@ -40,6 +41,14 @@ pub struct Held {
     handle: Handle,
     cell: u32,
 }
+
+/// A command in the window of a device for short commands and replies.
+const _: () = prove!(std::mem::size_of::<Held>() + std::mem::size_of::<Cell<64, 264>>() == 376);
+
+/// A command in the window of any other device.
+const _: () = prove!(
+    std::mem::size_of::<Held>() + std::mem::size_of::<Cell<1445, 1452>>() == 2_952
+);
 
 impl Held {
     /// Whether this is its handle.
@@ -162,25 +171,25 @@ impl<const COMMAND: usize, const ANSWER: usize> ReplyWindow<COMMAND, ANSWER> {
     /// Handles up to the handle of that command, which are not in the window, then count as `Old`. The command must be
     /// fresh ([`judge`](ReplyWindow::judge)) and have at most `COMMAND` bytes of parameters, and the reply at most `ANSWER`
     /// (premises, which the caller must prove). The call refuses nothing and takes no memory.
-    pub fn keep<const N: usize>(&mut self, command: &Command<'_>, reply: &ReplyOf<N>)
+    pub fn keep(&mut self, command: &Command<'_>, reply: ReplyParts<'_>)
         requires fresh { judgement_by_window self.old (fields_of command.now) ≡ Fresh }
         requires room { length command.now.params.now ≤ COMMAND }
-        requires short { length reply.now.params.items ≤ ANSWER }
+        requires short { length reply.params.now ≤ ANSWER }
         ensures exact { self.new
-            ≡ retained_after self.old (record { command = fields_of command.now; reply = reply.now }) }
+            ≡ retained_after self.old (record { command = fields_of command.now; reply = reply_in reply.entry }) }
         ensures accepted { (w : ℕ) (A : List Entry) → AgreesWithAccepted w A self.old →
-            AgreesWithAccepted w (A ++ record { command = fields_of command.now; reply = reply.now } ∷ []) self.new }
+            AgreesWithAccepted w (A ++ record { command = fields_of command.now; reply = reply_in reply.entry } ∷ []) self.new }
     {
         self.put(command, reply);
     }
 
     /// Apart from `keep`, which says beside it of which accepted commands the window is then: retains a fresh command
     /// with its reply.
-    fn put<const N: usize>(&mut self, command: &Command<'_>, reply: &ReplyOf<N>)
+    fn put(&mut self, command: &Command<'_>, reply: ReplyParts<'_>)
         requires fresh { judgement_by_window self.old (fields_of command.now) ≡ Fresh }
         requires room { length command.now.params.now ≤ COMMAND }
-        requires short { length reply.now.params.items ≤ ANSWER }
-        ensures { self.new ≡ retained_after self.old (record { command = fields_of command.now; reply = reply.now }) }
+        requires short { length reply.params.now ≤ ANSWER }
+        ensures { self.new ≡ retained_after self.old (record { command = fields_of command.now; reply = reply_in reply.entry }) }
     {
         raise(&mut self.above, command.handle);
         let Some(cell) = cell_of_oldest(&self.held) else {
@@ -223,21 +232,21 @@ fn cell_of_oldest(held: &HeapCircularBuffer<Held>) -> Option<u32>
 /// Apart from `put`, since a local of a cell's size would be cleared at each call there: adds a command and its reply
 /// while there is room, with a cell of its own.
 #[inline(never)]
-fn add<const COMMAND: usize, const ANSWER: usize, const N: usize>(
+fn add<const COMMAND: usize, const ANSWER: usize>(
     held: &mut HeapCircularBuffer<Held>,
     cells: &mut Vec<Cell<COMMAND, ANSWER>>,
     command: &Command<'_>,
-    reply: &ReplyOf<N>,
+    reply: ReplyParts<'_>,
 )
     requires params { length command.now.params.now ≤ COMMAND }
-    requires short { length reply.now.params.items ≤ ANSWER }
+    requires short { length reply.params.now ≤ ANSWER }
     requires room { (length held.old.items < held.old.capacity) × (held.old.capacity ≤ 64)
         × (vec_len cells.old < vec_capacity cells.old) }
     ensures capacity { vec_capacity cells.new ≡ vec_capacity cells.old }
     ensures held { held.new
         ≡ buffer (held.old.items ++ held_in command.now.handle (length held.old.items) ∷ []) held.old.capacity }
     ensures items { AddsCell command.now.handle
-        (record { command = fields_of command.now; reply = reply.now }) cells.old.items cells.new.items }
+        (record { command = fields_of command.now; reply = reply_in reply.entry }) cells.old.items cells.new.items }
 {
     let cell = held.len() as u32;
     held.push_back(Held {

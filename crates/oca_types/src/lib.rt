@@ -33,5 +33,5 @@ pub use status::Status;
 pub use text::Text;
 pub use words::{
     Command, Handle, LOOPBACK, MOST_BYTES, MOST_COMMAND_PARAMETER_BYTES, MOST_PARAMETER_BYTES,
-    MethodId, NoMemory, Ono, Packet, Params, Peer, Reply, ReplyOf, Request,
+    MethodId, NoMemory, Ono, Packet, Params, Peer, Reply, ReplyOf, ReplyParts, Request,
 };

@@ -1,5 +1,6 @@
 use Rattle.std.proofs.Common.{◌≡◌, List, Bool, true, sym, subst}
 use Rattle.std.specs.Prelude.{ℕ}
+use Rattle.oca_types.specs.Replies.{reply_in}
 use Rattle.oca_pdu.specs.Messages.{Pdu, Commands, Responses, OneKeepAlive, response_with}
 use Rattle.oca_pdu.specs.Encoding.{pdu_encoding}
 use Rattle.oca_device.specs.Answers.{response}
@@ -15,12 +16,12 @@ returns-then-holds_responses c = λ p e. by p e (c.if-holds_responses.ensures p 
     old = c.args.packet.now.items
 
     new : List ℕ
-    new = c.extend_response.new.packet.items
+    new = c.extend_response_of.new.packet.items
 
-    by : (p : Pdu) → old ≡ pdu_encoding p → true ≡ is_of_responses p → Joins c.is_ok.result p (response c.args.handle.0 c.args.reply.now) old new
+    by : (p : Pdu) → old ≡ pdu_encoding p → true ≡ is_of_responses p → Joins c.is_ok.result p (response c.args.handle.0 (reply_in c.args.reply)) old new
     by (Responses rs) e is =
-        subst (λ (b : Bool). Joins b (Responses rs) (response c.args.handle.0 c.args.reply.now) old new) (sym c.is_ok.ensures.value)
-        (extended rs (response_with c.args.handle c.args.reply.now) old new c.extend_response.result
-        (c.extend_response.ensures.size rs e) (c.extend_response.ensures.ok rs e) (items_kept c.args.packet.now c.extend_response.new.packet c.extend_response.result c.extend_response.ensures.err))
+        subst (λ (b : Bool). Joins b (Responses rs) (response c.args.handle.0 (reply_in c.args.reply)) old new) (sym c.is_ok.ensures.value)
+        (extended rs (response_with c.args.handle (reply_in c.args.reply)) old new c.extend_response_of.result
+        (c.extend_response_of.ensures.size rs e) (c.extend_response_of.ensures.ok rs e) (items_kept c.args.packet.now c.extend_response_of.new.packet c.extend_response_of.result c.extend_response_of.ensures.err))
     by (OneKeepAlive form) e is = absurd cc
     by (Commands respond cs) e is = absurd cc

@@ -1,14 +1,15 @@
 use Rattle.std.proofs.Common.{◌≡◌, ℕ, ◌+◌, ◌-◌, ◌<◌, List, [], ◌∷◌, ◌++◌, length, arith, ap, ◌∙◌, sym, subst}
 use Rattle.std.specs.Prelude.{take, slice_set}
 use Rattle.arrayvec.specs.ArrayVec.{ArrayVec}
+use Rattle.oca_types.specs.Replies.{reply_in}
 use Rattle.oca_device.specs.Outboxes.{bytes_of_packets}
 use Rattle.oca_device.specs.Answers.{response}
 use Rattle.oca_device.specs.PrivateServing.{JoinsLast}
 use Rattle.oca_device.proofs.Grouping.{ended, last_bytes, set_bytes, joins_last}
 use Rattle.oca_device.proofs.bounded.join_last.Goals as goal
 
-pub join-requires : goal.join-requires
-join-requires c =
+pub join-requires-clause-holds : goal.join-requires-clause-holds
+join-requires-clause-holds c =
     let xs = c.args.places.now.items in
     let front = bytes_of_packets (take (c.args.count - 1) xs) in
     let d = c.index_mut.result.now in
@@ -20,7 +21,7 @@ pub returns-clause-joins : goal.returns-clause-joins
 returns-clause-joins c =
     let xs = c.args.places.now.items in
     let n = c.args.count in
-    let m = response c.args.handle.0 c.args.reply.now in
+    let m = response c.args.handle.0 (reply_in c.args.reply) in
     let front = bytes_of_packets (take (n - 1) xs) in
     let d = c.index_mut.result.now in
     let new = c.join.new.packet in

@@ -7,12 +7,12 @@ use Rattle.oca_device.proofs.lapse.released_from.Goals as goal
 use Rattle.oca_device.proofs.lapse.released_from.Goals.{in-Some, in_default}
 
 pub returns-then-lock_count-eq0 : goal.returns-then-lock_count-eq0
-returns-then-lock_count-eq0 c =
+returns-then-lock_count-eq0 g c =
     let none : lock_count c.args.tree.now ≡ 0 = omega (arith, c.lock_count.ensures, c.if-lock_count-eq0.true) in
     λ t below. releases_none c.args.tree.now c.args.sessions.now.sessions t none
 
 pub loop-at-preserved : goal.loop-at-preserved
-loop-at-preserved c =
+loop-at-preserved g c =
     let tree = c.args.tree.now in
     let ss = c.args.sessions.now.sessions in
     let i = c.loop-at.at in

@@ -1,6 +1,7 @@
 use Rattle.std.proofs.Common.{◌≡◌, ℕ, ◌+◌, ◌≤◌, List, [], ◌∷◌, ◌++◌, Bool, true, false, length, ap, ◌∙◌, sym, subst, refl, arith}
 use Rattle.std.specs.Prelude.{take, slice_set}
 use Rattle.arrayvec.specs.ArrayVec.{ArrayVec}
+use Rattle.oca_types.specs.Replies.{reply_in}
 use Rattle.oca_device.specs.Outboxes.{bytes_of_packets, KeptPackets}
 use Rattle.oca_device.specs.Answers.{response}
 use Rattle.oca_device.specs.PrivateServing.{AreGrouped, IsGrouped}
@@ -9,7 +10,7 @@ use Rattle.oca_device.proofs.bounded.BoundedOutbox.respond.Goals as goal
 
 pub returns-then-self : goal.returns-then-self
 returns-then-self c =
-    let m = response c.args.handle.0 c.args.reply.now in
+    let m = response c.args.handle.0 (reply_in c.args.reply) in
     let r = c.self.inside.room in
     let before = bytes_of_packets (take c.self.inside.count c.self.inside.places.items) in
     let was : kept before r true ≡ c.args.self.now = ap (kept before r) (sym c.if-self.true) ∙ c.self.view_is in
@@ -17,7 +18,7 @@ returns-then-self c =
 
 pub returns-then-join_last : goal.returns-then-join_last
 returns-then-join_last c =
-    let m = response c.args.handle.0 c.args.reply.now in
+    let m = response c.args.handle.0 (reply_in c.args.reply) in
     let n = c.self.inside.count in
     let r = c.self.inside.room in
     let before = bytes_of_packets (take n c.self.inside.places.items) in
@@ -30,7 +31,7 @@ returns-then-join_last c =
 
 pub returns-then-self-2 : goal.returns-then-self-2
 returns-then-self-2 c =
-    let m = response c.args.handle.0 c.args.reply.now in
+    let m = response c.args.handle.0 (reply_in c.args.reply) in
     let n = c.self.inside.count in
     let r = c.self.inside.room in
     let before = bytes_of_packets (take n c.self.inside.places.items) in
@@ -43,19 +44,19 @@ returns-then-self-2 c =
 
 pub returns : goal.returns
 returns c =
-    let m = response c.args.handle.0 c.args.reply.now in
+    let m = response c.args.handle.0 (reply_in c.args.reply) in
     let n = c.self.inside.count in
     let r = c.self.inside.room in
     let before = bytes_of_packets (take n c.self.inside.places.items) in
     let places = c.make_place.new.places.items in
-    let p = c.replace_response.new.packet in
+    let p = c.replace_response_of.new.packet in
     let joins = c.if-join_last.ensures.joins in
     let after = bytes_of_packets (take (n + 1) (slice_set places n p)) in
     let was : kept before r false ≡ c.args.self.now = ap (kept before r) (sym c.if-self.false) ∙ c.self.view_is in
     let added = set_bytes places n (n + 1) p refl c.make_place.ensures.there
     ∙ ap (λ (xs : List (ArrayVec ℕ)). bytes_of_packets xs ++ p.items ∷ []) c.make_place.ensures.same
     ∙ ap (λ (v : List (List ℕ)). v ++ p.items ∷ []) joins.0
-    ∙ ap (λ (y : List ℕ). before ++ y ∷ []) c.replace_response.ensures.bytes in
+    ∙ ap (λ (y : List ℕ). before ++ y ∷ []) c.replace_response_of.ensures.bytes in
     subst (λ (b : Bool). IsGrouped m c.args.self.now (kept after r b)) (sym c.if-self.false)
     (subst (λ (v : KeptPackets). IsGrouped m v (kept after r false)) was
     (alone_so m before after r

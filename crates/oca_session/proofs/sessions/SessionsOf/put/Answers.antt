@@ -2,7 +2,7 @@ use Rattle.std.proofs.Common.{◌≡◌, ap, sym, subst, ◌∙◌, refl, arith}
 use Rattle.std.proofs.Math.ListN.{length-set}
 use Rattle.std.specs.Prelude.{Option, IfSome}
 use Rattle.oca_types.specs.declared.words.Command.{Command}
-use Rattle.oca_types.specs.Replies.{Reply}
+use Rattle.oca_types.specs.Replies.{Reply, reply_in}
 use Rattle.oca_types.specs.Peers.{fields_of}
 use Rattle.oca_types.specs.Sizes.{sizes_of}
 use Rattle.oca_session.specs.Accepted.{Entry, Fresh}
@@ -22,13 +22,13 @@ keep-requires g c =
     let seen = ap (λ t. session_of c.args.peer t.sessions) c.self.view_is in
     let found = session_in c.args.peer a.slots.items c.self.inside.slots.items a.count at.result _
     refl (rw (← c.self.view_is) at at.ensures.place) c.index_mut.ensures.value in
-    (omega arith, (omega arith, (subst fresh (sym seen ∙ found) c.requires.fresh, (c.requires.room, c.requires.short))))
+    (omega arith, (subst fresh (sym seen ∙ found) c.requires.fresh, (c.requires.room, c.requires.short)))
 
 pub invariant_of-self : goal.invariant_of-self
 invariant_of-self g c =
     let a = c.self.inside in
     let at = c.index_of_known-at in
-    let f = with_entry (kept c.args.command.now c.args.reply.now) in (
+    let f = with_entry (kept c.args.command.now (reply_in c.args.reply)) in (
       c.self.invariant.0,
       length-set a.slots.items at.result _ ∙ c.self.invariant.1,
       sound_in a.sizes.window.size c.args.peer f (entry_sound a.sizes.window.size _) a.slots.items c.self.inside.slots.items a.count at.result _ _
@@ -47,5 +47,5 @@ returns-clause-retained g c =
     let a = c.self.inside in
     let at = c.index_of_known-at in
     rw (← c.self.view_is) (ap (λ ss. let t : Table = record { sizes = sizes_of a.sizes; moment = a.moment; sessions = ss } in t)
-    (changed_in c.args.peer (with_entry (kept c.args.command.now c.args.reply.now)) a.slots.items c.self.inside.slots.items a.count at.result _ _
+    (changed_in c.args.peer (with_entry (kept c.args.command.now (reply_in c.args.reply))) a.slots.items c.self.inside.slots.items a.count at.result _ _
     c.self.invariant.3 refl (rw (← c.self.view_is) at at.ensures.place) c.index_mut.ensures.value c.keep.ensures))

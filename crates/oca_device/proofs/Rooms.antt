@@ -1,0 +1,171 @@
+-- Replies for which there is no room: what is retained and answered of them.
+use Rattle.std.proofs.Common.{◌≡◌, ℕ, ◌≤◌, Bool, true, false, cond, List, [], ◌∷◌, ◌++◌, length, Option, Some, None, refl, sym, ap, ◌∙◌, subst, arith}
+use Rattle.std.specs.Prelude.{map, nat_le, nat_lt, not, ◌&&◌, ◌||◌, take, drop, ◌-◌, option_map}
+use Rattle.std.specs.List.{list_any, list_all}
+use Rattle.std.proofs.lemmas.Bool.Decides.{nat_tests}
+use Rattle.std.proofs.lemmas.List.{map-append, length-map, take-map, drop-map}
+use Rattle.oca_types.specs.declared.words.Peer.{Peer}
+use Rattle.oca_types.specs.declared.status.Status.TheVariants as status
+use Rattle.oca_types.specs.Peers.{CommandFields}
+use Rattle.oca_types.specs.Replies.{Reply}
+use Rattle.oca_types.specs.Status.{status_number}
+use Rattle.oca_pdu.specs.Messages.{Msg, Command, Response, KeepAlive}
+use Rattle.oca_session.specs.Accepted.{Entry, Judgement, Fresh, Duplicate, Reused, Old, has_handle, is_below, window, outside, accepts, entry_under, asks_the_same, judge_unaccepted, judgement}
+use Rattle.oca_device.specs.Answers.{response}
+use Rattle.oca_device.specs.Rooms.{is_too_long, shortened, shortened_entry, shortened_entries, shortened_message, shortened_answers}
+
+-- what a window that retains shortened replies says
+abbrev pub shortened_judgement : ℕ → Judgement → Judgement
+shortened_judgement most Fresh = Fresh
+shortened_judgement most (Duplicate reply) = Duplicate (shortened most reply)
+shortened_judgement most Reused = Reused
+shortened_judgement most Old = Old
+
+module _ (most : ℕ) where
+  by_room : (P : Bool → Type 0) → (nat_le 1452 most ≡ true → P true) → (nat_le 1452 most ≡ false → P false) → P (nat_le 1452 most)
+  by_room P roomy narrow = by (nat_le 1452 most) refl
+    where
+      by : (b : Bool) → nat_le 1452 most ≡ b → P b
+      by true h = roomy h
+      by false h = narrow h
+
+  abbrev short_reply : Reply
+  short_reply = record { status = status.BufferOverflow; count = 0; params = record { items = [] } }
+
+  fits_all : nat_le 1452 most ≡ true → (params : List ℕ) → is_too_long most params ≡ false
+  fits_all h params =
+      let out : nat_lt most 1452 ≡ false = grind (arith, nat_tests) in
+      ap (λ b. b && nat_lt most (length params)) out
+
+  kept : nat_le 1452 most ≡ true → (r : Reply) → shortened most r ≡ r
+  kept h r = ap (λ b. cond b short_reply r) (fits_all h r.params.items)
+
+  response_short : (h : ℕ) (r : Reply) → shortened_message most (response h r) ≡ response h (shortened most r)
+  response_short h r = by (is_too_long most r.params.items)
+    where
+      by : (b : Bool) → cond b (response h short_reply) (response h r) ≡ response h (cond b short_reply r)
+      by true = refl
+      by false = refl
+
+  -- ---- what is answered
+
+  pub answers_joined : (xs ys : List Msg) → shortened_answers most (xs ++ ys) ≡ shortened_answers most xs ++ shortened_answers most ys
+  answers_joined xs ys =
+      by_room (λ b. cond b (xs ++ ys) (map (shortened_message most) (xs ++ ys)) ≡ cond b xs (map (shortened_message most) xs) ++ cond b ys (map (shortened_message most) ys))
+      (λ _. refl) (λ _. map-append (shortened_message most) xs ys)
+
+  pub none_answered : shortened_answers most [] ≡ []
+  none_answered = by_room (λ b. cond b [] (map (shortened_message most) []) ≡ []) (λ _. refl) (λ _. refl)
+
+  pub one_answered : (h : ℕ) (r : Reply) → shortened_answers most (response h r ∷ []) ≡ response h (shortened most r) ∷ []
+  one_answered h r =
+      by_room (λ b. cond b (response h r ∷ []) (shortened_message most (response h r) ∷ []) ≡ response h (shortened most r) ∷ [])
+      (λ e. ap (λ (x : Reply). response h x ∷ []) (sym (kept e r))) (λ _. ap (λ (m : Msg). m ∷ []) (response_short h r))
+
+  pub kept_alive : (m : Msg) → shortened_message most m ≡ m → shortened_answers most (m ∷ []) ≡ m ∷ []
+  kept_alive m same =
+      by_room (λ b. cond b (m ∷ []) (shortened_message most m ∷ []) ≡ m ∷ []) (λ _. refl) (λ _. ap (λ (x : Msg). x ∷ []) same)
+
+  pub as_many : (ms : List Msg) → length (shortened_answers most ms) ≡ length ms
+  as_many ms = by_room (λ b. length (cond b ms (map (shortened_message most) ms)) ≡ length ms) (λ _. refl) (λ _. length-map ms (shortened_message most))
+
+  -- ---- what is retained
+
+  pub entries_more : (A : List Entry) (e : Entry) → shortened_entries most (A ++ e ∷ []) ≡ shortened_entries most A ++ shortened_entry most e ∷ []
+  entries_more A e =
+      by_room (λ b. cond b (A ++ e ∷ []) (map (shortened_entry most) (A ++ e ∷ [])) ≡ cond b A (map (shortened_entry most) A) ++ shortened_entry most e ∷ [])
+      (λ h. ap (λ (r : Reply). let x : Entry = record { command = e.command; reply = r } in A ++ x ∷ []) (sym (kept h e.reply)))
+      (λ _. map-append (shortened_entry most) A (e ∷ []))
+
+  pub none_retained : shortened_entries most [] ≡ []
+  none_retained = by_room (λ b. cond b [] (map (shortened_entry most) []) ≡ []) (λ _. refl) (λ _. refl)
+
+  -- ---- how it is judged
+
+  abbrev f : Entry → Entry
+  f = shortened_entry most
+
+  any_same : (h : ℕ) (es : List Entry) → list_any (has_handle h) (map f es) ≡ list_any (has_handle h) es
+  any_same h [] = refl
+  any_same h (e ∷ es) = ap (λ b. has_handle h e || b) (any_same h es)
+
+  all_same : (h : ℕ) (es : List Entry) → list_all (is_below h) (map f es) ≡ list_all (is_below h) es
+  all_same h [] = refl
+  all_same h (e ∷ es) = ap (λ b. is_below h e && b) (all_same h es)
+
+  under_same : (h : ℕ) (es : List Entry) → entry_under h (map f es) ≡ option_map f (entry_under h es)
+  under_same h [] = refl
+  under_same h (e ∷ es) = by (has_handle h e) (under_same h es)
+    where
+      by : (b : Bool) → entry_under h (map f es) ≡ option_map f (entry_under h es) → cond b (Some (f e)) (entry_under h (map f es)) ≡ option_map f (cond b (Some e) (entry_under h es))
+      by true same = refl
+      by false same = same
+
+  accepts_same : (w : ℕ) (A : List Entry) (h : ℕ) → accepts w (map f A) h ≡ accepts w A h
+  accepts_same w A h =
+      ap (λ b. not b && list_all (is_below h) (outside w (map f A))) (any_same h A)
+      ∙ ap (λ b. not (list_any (has_handle h) A) && b)
+      (ap (λ (n : ℕ). list_all (is_below h) (take (n - w) (map f A))) (length-map A f)
+      ∙ ap (list_all (is_below h)) (take-map f (length A - w) A) ∙ all_same h (outside w A))
+
+  window_same : (w : ℕ) (A : List Entry) → window w (map f A) ≡ map f (window w A)
+  window_same w A = ap (λ (n : ℕ). drop (n - w) (map f A)) (length-map A f) ∙ drop-map f (length A - w) A
+
+  unaccepted_same : (o : Option Entry) (c : CommandFields) → judge_unaccepted (option_map f o) c ≡ shortened_judgement most (judge_unaccepted o c)
+  unaccepted_same None c = refl
+  unaccepted_same (Some e) c = by (asks_the_same e.command c)
+    where
+      by : (b : Bool) → cond b (Duplicate (shortened most e.reply)) Reused ≡ shortened_judgement most (cond b (Duplicate e.reply) Reused)
+      by true = refl
+      by false = refl
+
+  mapped_judged : (w : ℕ) (A : List Entry) (c : CommandFields) → judgement w (map f A) c ≡ shortened_judgement most (judgement w A c)
+  mapped_judged w A c =
+      ap (λ b. cond b Fresh (judge_unaccepted (entry_under c.handle (window w (map f A))) c)) (accepts_same w A c.handle)
+      ∙ ap (λ (es : List Entry). cond (accepts w A c.handle) Fresh (judge_unaccepted (entry_under c.handle es) c)) (window_same w A)
+      ∙ ap (λ (o : Option Entry). cond (accepts w A c.handle) Fresh (judge_unaccepted o c)) (under_same c.handle (window w A))
+      ∙ by (accepts w A c.handle)
+    where
+      o : Option Entry
+      o = entry_under c.handle (window w A)
+
+      by : (b : Bool) → cond b Fresh (judge_unaccepted (option_map f o) c) ≡ shortened_judgement most (cond b Fresh (judge_unaccepted o c))
+      by true = refl
+      by false = unaccepted_same o c
+
+  all_kept : nat_le 1452 most ≡ true → (j : Judgement) → shortened_judgement most j ≡ j
+  all_kept h Fresh = refl
+  all_kept h (Duplicate r) = ap (λ (x : Reply). Duplicate x) (kept h r)
+  all_kept h Reused = refl
+  all_kept h Old = refl
+
+  pub judged_short : (w : ℕ) (A : List Entry) (c : CommandFields) → judgement w (shortened_entries most A) c ≡ shortened_judgement most (judgement w A c)
+  judged_short w A c =
+      by_room (λ b. judgement w (cond b A (map f A)) c ≡ shortened_judgement most (judgement w A c))
+      (λ h. sym (all_kept h (judgement w A c))) (λ _. mapped_judged w A c)
+
+  -- ---- and so what the accepted commands say
+
+  pub was_fresh : (j : Judgement) → Fresh ≡ shortened_judgement most j → Fresh ≡ j
+  was_fresh Fresh h = refl
+  was_fresh (Duplicate r) h = cc
+  was_fresh Reused h = cc
+  was_fresh Old h = cc
+
+  pub was_reused : (j : Judgement) → Reused ≡ shortened_judgement most j → Reused ≡ j
+  was_reused Fresh h = cc
+  was_reused (Duplicate r) h = cc
+  was_reused Reused h = refl
+  was_reused Old h = cc
+
+  pub was_old : (j : Judgement) → Old ≡ shortened_judgement most j → Old ≡ j
+  was_old Fresh h = cc
+  was_old (Duplicate r) h = cc
+  was_old Reused h = cc
+  was_old Old h = refl
+
+  pub was_duplicate : (j : Judgement) (x : Reply) → Duplicate x ≡ shortened_judgement most j → (r : Reply) × (Duplicate r ≡ j) × (x ≡ shortened most r)
+  was_duplicate Fresh x h = cc
+  was_duplicate (Duplicate r) x h = (r, refl, cc)
+  was_duplicate Reused x h = cc
+  was_duplicate Old x h = cc

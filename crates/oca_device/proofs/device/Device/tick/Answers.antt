@@ -1,9 +1,0 @@
-use Rattle.std.proofs.Common.{◌∙◌}
-use Rattle.oca_device.proofs.device.Device.tick.Goals as goal
-
-pub returns : goal.returns
-returns c = λ w T E h. record {
-  state = c.move_clock.ensures.moved w _ h.state;
-  written = c.move_clock.ensures.written ∙ h.written;
-  effects = c.move_clock.ensures.effects ∙ h.effects;
-}
