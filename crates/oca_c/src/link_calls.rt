@@ -101,13 +101,13 @@ pub extern "C" fn oca_link_close(alloc: Global, handle: &mut LinkHandle)
 
 /// Submits a command at the moment `now`, in milliseconds, and writes its handle to `command`. `target` is the number
 /// of the object, `level` and `index` name the method (DefLevel and MethodIndex, AES70-2), `count` is ParamCount, and
-/// `params` are the encoded parameters, at most 1,445 bytes, which are not checked. The call sends nothing: call
-/// `oca_link_due` then.
+/// `params` are the encoded parameters, at most 1,445 bytes (for a small link 64), which are not checked. The call
+/// sends nothing: call `oca_link_due` then.
 ///
 /// Returns the number of an answer: `Done`. Otherwise the first of these that applies, and then nothing is changed,
 /// written or sent. `Closed` if the link is closed. `Lost` if the link is lost. `HandlesSpent` if a command has the
 /// handle 4294967295 already. `SpanFull` if the next handle is not below the lowest handle whose answer was not taken
-/// yet, plus the span. `TooLong` if the parameters have more than 1,445 bytes.
+/// yet, plus the span. `TooLong` if the parameters have more bytes.
 #[unsafe(no_mangle)]
 pub extern "C" fn oca_link_submit(
     alloc: Global,
@@ -128,7 +128,8 @@ pub extern "C" fn oca_link_submit(
       count = count;
       params = params.now;
     } in
-        IfSome handle.old.slot.inner (λ b. HoldsLink handle.new.slot.inner b (submitted_within b.rooms.command request now b.link)
+        IfSome handle.old.slot.inner (λ b.
+        HoldsLink handle.new.slot.inner b (submitted_within b.rooms.command request now b.link)
         × WritesSubmission result command.new (submission_within b.rooms.command request b.link)) }
     ensures unwritten { (result ≡ 0) ⊎ (command.new ≡ command.old) }
 {
@@ -186,9 +187,10 @@ pub extern "C" fn oca_link_due(
 /// the device's. Otherwise 3 if it is not well-formed (AES70-3). Otherwise 1 if commands got their first answer in it,
 /// and 0 if none did (`enum oca_reception`). `answered` becomes how many commands got theirs.
 ///
-/// Each such answer is stored: `oca_link_take` takes it. In all cases the link's clock moves on to `now`; a stranger's
-/// or malformed datagram changes nothing else. Returns the number of an answer: `Done`. `Closed` if the link is closed:
-/// then nothing is changed or written.
+/// Each such answer is stored: `oca_link_take` takes it. A small link stores an answer with more than 264 bytes of
+/// parameters as the status BufferOverflow (14, AES70-2) without parameters. In all cases the link's clock moves on to
+/// `now`; a stranger's or malformed datagram changes nothing else. Returns the number of an answer: `Done`. `Closed` if
+/// the link is closed: then nothing is changed or written.
 #[unsafe(no_mangle)]
 pub extern "C" fn oca_link_datagram(
     alloc: Global,

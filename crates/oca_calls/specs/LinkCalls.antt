@@ -1,5 +1,5 @@
 -- What the calls of a link promise of what is behind a handle, and what they tell.
-use Rattle.std.specs.Prelude.{◌≡◌, ◌⊎◌, ℕ, ◌≤◌, List, take, length, Option, Some, None, Result, Ok, Err, IsSomeAnd}
+use Rattle.std.specs.Prelude.{◌≡◌, ◌⊎◌, ℕ, ◌≤◌, List, take, length, Option, Some, None, Result, Ok, Err}
 use Rattle.oca_types.specs.declared.words.Handle.{Handle}
 use Rattle.oca_control.specs.declared.fault.ControlFault.{ControlFault}
 use Rattle.oca_control.specs.declared.due.Due.{Due}
@@ -13,7 +13,7 @@ use Rattle.oca_calls.specs.Numbers.{answer_number, submission_answer}
 
 -- behind an open handle there is this link, with the rooms that it had
 abbrev pub HoldsLink : Option RoomedLink → RoomedLink → LinkState → Type 0
-HoldsLink behind b l = IsSomeAnd behind (λ c. c ≡ record b { link = l })
+HoldsLink behind b l = behind ≡ Some (record b { link = l })
 
 -- a span
 abbrev pub IsSpan : ℕ → Type 0

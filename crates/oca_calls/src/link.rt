@@ -97,7 +97,7 @@ impl LinkBehind {
     /// Returns the number of an answer: `Done`. Otherwise the first of these that applies, and then nothing is changed
     /// or written. `Lost` if the link is lost. `HandlesSpent` if a command has the handle 4294967295 already.
     /// `SpanFull` if the next handle is not below the lowest handle whose answer was not taken yet, plus the span.
-    /// `TooLong` if the parameters have more than 1,445 bytes.
+    /// `TooLong` if the parameters have more than 1,445 bytes, or for a small link more than 64.
     pub fn submit(
         &mut self,
         target: Ono,
@@ -183,8 +183,9 @@ impl LinkBehind {
     /// well-formed (AES70-3). Otherwise 1 if commands got their first answer in it, and 0 if none did. `answered`
     /// becomes how many commands got theirs: 0 to 32.
     ///
-    /// An answer to a command in flight is stored, even if the link is lost. If `kind` becomes 2 or 3, only the link's
-    /// clock is changed. Returns the number of an answer, always `Done`.
+    /// An answer to a command in flight is stored, even if the link is lost. A small link stores an answer with more
+    /// than 264 bytes of parameters as the status BufferOverflow (14, AES70-2) without parameters. If `kind` becomes 2
+    /// or 3, only the link's clock is changed. Returns the number of an answer, always `Done`.
     pub fn datagram(
         &mut self,
         from: Peer,
@@ -195,10 +196,12 @@ impl LinkBehind {
     ) -> u32
         ensures done { result ≡ 0 }
         ensures link { (content : Option (List Msg)) → IsContent content bytes.now →
-            self.new ≡ record self.old { link = received from (shortened self.old.rooms.answer content) now self.old.link } }
+            let kept : Option (List Msg) = shortened self.old.rooms.answer content in
+            self.new ≡ record self.old { link = received from kept now self.old.link } }
         ensures writes { (content : Option (List Msg)) → IsContent content bytes.now →
-            (kind.new ≡ reception_kind (reception from (shortened self.old.rooms.answer content) self.old.link))
-            × (answered.new ≡ answered_count (reception from (shortened self.old.rooms.answer content) self.old.link)) }
+            let kept : Option (List Msg) = shortened self.old.rooms.answer content in
+            (kind.new ≡ reception_kind (reception from kept self.old.link))
+            × (answered.new ≡ answered_count (reception from kept self.old.link)) }
     {
         let reception = match &mut self.link {
             AnyLink::Full(link) => link.datagram(from, bytes, now),
@@ -211,8 +214,8 @@ impl LinkBehind {
     /// Takes the answer under the handle `handle`, and removes the command. Writes the number of the answer's status to
     /// `status` (AES70-2, OcaStatus), its ParamCount to `count`, its parameters to the front of `out`, and their size
     /// in bytes to `len`. Returns the number of an answer: `Done`. Otherwise the first of these that applies, and then
-    /// nothing is changed or written. `TooSmall` if `out` has fewer than 1,452 bytes. `Nothing` if no answer is there
-    /// under the handle.
+    /// nothing is changed or written. `TooSmall` if `out` has fewer than 1,452 bytes, for a small link too. `Nothing`
+    /// if no answer is there under the handle.
     pub fn take(
         &mut self,
         handle: u32,
@@ -222,7 +225,8 @@ impl LinkBehind {
         len: &mut usize,
     ) -> u32
         ensures small { length out.old < most_parameter_bytes → (result ≡ 14) × (self.new ≡ self.old) }
-        ensures link { most_parameter_bytes ≤ length out.old → self.new ≡ record self.old { link = taken handle self.old.link } }
+        ensures link { most_parameter_bytes ≤ length out.old →
+            self.new ≡ record self.old { link = taken handle self.old.link } }
         ensures writes { most_parameter_bytes ≤ length out.old →
             WritesAnswer result status.new count.new out.new len.new (answer_under handle self.old.link.untaken) }
         ensures unwritten { (result ≡ 0) ⊎ ((status.new ≡ status.old) × (count.new ≡ count.old)
