@@ -1,5 +1,5 @@
 //! What C holds of a link.
-ghost use Rattle.std.specs.Prelude.{◌≡◌, Bool, None, Some, IfSome, IsSome, is_some, MatchOption};
+ghost use Rattle.std.specs.Prelude.{◌≡◌, None, Some, IfSome, IsSome, is_some, MatchOption};
 ghost use Rattle.oca_control.specs.Links.{new_link};
 ghost use Rattle.oca_calls.specs.LinkCalls.{OpensLink};
 ghost use Rattle.oca_calls.specs.LinkRooms.{rooms_of};
