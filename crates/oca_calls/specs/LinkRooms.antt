@@ -1,5 +1,6 @@
 -- A link with what it has room for: the value that is behind an open handle (*profile*).
 use Rattle.std.specs.Prelude.{ℕ, Bool, true, false}
+use Rattle.oca_types.specs.Sizes.{most_command_parameter_bytes, most_parameter_bytes}
 use Rattle.oca_control.specs.Links.{LinkState}
 use Rattle.oca_calls.specs.declared.link.AnyLink.{AnyLink}
 use Rattle.oca_calls.specs.declared.link.AnyLink.TheVariants.{Full, Small}
@@ -12,7 +13,7 @@ pub record Rooms : Type 0 where
 
 -- as many as a datagram holds; and those of a small link
 abbrev pub full_rooms : Rooms
-full_rooms = record { command = 1445; answer = 1452 }
+full_rooms = record { command = most_command_parameter_bytes; answer = most_parameter_bytes }
 
 abbrev pub small_rooms : Rooms
 small_rooms = record { command = 64; answer = 264 }
