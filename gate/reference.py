@@ -21,7 +21,7 @@ SET, SUBMITTED = "NO_OBJECT NO_SETTING OTHER_KIND OUT_OF_RANGE", "LOST HANDLES_S
 ADDED = "FULL RESERVED TAKEN NO_SUCH_BLOCK TOO_DEEP BAD_TEXT"
 ANSWERS = [
     (r"oca_device_open_(with|kept)", "BAD_TEXT NO_MEMORY OPEN BAD_SIZE"),
-    (r"oca_(device|link|panel)_open", "NO_MEMORY OPEN BAD_SIZE"),
+    (r"oca_(device|link|panel)_open|oca_link_open_small", "NO_MEMORY OPEN BAD_SIZE"),
     (r"oca_device_add(_kept)?", f"{ADDED} BAD_RANGE NO_MEMORY CLOSED STARTED BAD_SIZE NO_VALUE"),
     (r"oca_device_add_(block|mute|polarity|boolean)", f"{ADDED} NO_MEMORY CLOSED STARTED"),
     (r"oca_device_add_\w+", f"{ADDED} BAD_RANGE NO_MEMORY CLOSED STARTED"),

@@ -62,7 +62,8 @@ enum oca_result {
                              1 to 32, another struct */
     /* Of a setting at the local front panel, the first that applies: no such object; a block; another kind of value; out of range. */
     OCA_NO_OBJECT = 16, OCA_NO_SETTING = 17, OCA_OTHER_KIND = 18, OCA_OUT_OF_RANGE = 19,
-    /* Of a submission, the first that applies: the link is lost; no handle is left; the span is full; above 1,445 bytes. */
+    /* Of a submission, the first that applies: the link is lost; no handle is left; the span is full; above 1,445 bytes, or above 64 where the
+     * link is small. */
     OCA_LOST = 20, OCA_HANDLES_SPENT = 21, OCA_SPAN_FULL = 22, OCA_TOO_LONG = 23,
     OCA_NO_VALUE = 24 /* the struct holds no value, or the answer gives no value of the class */
 };
@@ -954,6 +955,15 @@ struct oca_link { void *at; bool is_open; };
  * refused. */
 enum oca_result oca_link_open(struct oca_link *link, uint32_t ip, uint16_t port, uint32_t first_handle, uint64_t now, uint8_t span) OCA_CHECKED;
 
+/* Opens a small link, with the arguments of oca_link_open: a link in at most 12,304 bytes, for a panel that sets and
+ * reads single values. All calls of a link work on it. The memory is taken in two blocks, one of at most 12,288 bytes
+ * and one of 16 bytes. A command may have 64 bytes of parameters; a longer one is refused with OCA_TOO_LONG. An answer
+ * may have 264 bytes of parameters: for a longer one oca_link_take writes OCA_STATUS_BUFFER_OVERFLOW to `status`, 0 to
+ * `count` and 0 to `len`. The device then executed the command or refused it, and what it said is not known. Returns
+ * OCA_DONE. Otherwise the first of these that applies, and then nothing is changed. OCA_OPEN if the struct is open
+ * already. OCA_BAD_SIZE if the span is outside its range. OCA_NO_MEMORY if memory was refused. */
+enum oca_result oca_link_open_small(struct oca_link *link, uint32_t ip, uint16_t port, uint32_t first_handle, uint64_t now, uint8_t span) OCA_CHECKED;
+
 /* Closes a link and frees its memory. Nothing is sent, and answers that were not taken are lost. The device may still
  * carry out commands that were sent. A closed link stays closed, and for a null pointer nothing is done. */
 void oca_link_close(struct oca_link *link);
@@ -964,11 +974,11 @@ static inline void oca_link_close_any(struct oca_link *link) {
 
 /* Submits a command at the moment `now`, in milliseconds, and writes its handle to `handle`. `target` is the number of
  * the object, `level` and `index` name the method (DefLevel and MethodIndex, AES70-2), `count` is ParamCount, and
- * `params` are the encoded parameters, at most 1,445 bytes, which are not checked. The call sends nothing: call
- * oca_link_due then. Returns OCA_DONE. Otherwise the first of these that applies, and then nothing is changed, written
- * or sent. OCA_CLOSED if the link is closed. OCA_LOST if the link is lost. OCA_HANDLES_SPENT if a command has the
- * handle 4294967295 already. OCA_SPAN_FULL if the next handle is not below the lowest handle whose answer was not taken
- * yet, plus the span. OCA_TOO_LONG if the parameters have more than 1,445 bytes. */
+ * `params` are the encoded parameters, at most 1,445 bytes (for a small link 64), which are not checked. The call sends
+ * nothing: call oca_link_due then. Returns OCA_DONE. Otherwise the first of these that applies, and then nothing is
+ * changed, written or sent. OCA_CLOSED if the link is closed. OCA_LOST if the link is lost. OCA_HANDLES_SPENT if a
+ * command has the handle 4294967295 already. OCA_SPAN_FULL if the next handle is not below the lowest handle whose
+ * answer was not taken yet, plus the span. OCA_TOO_LONG if the parameters have more bytes. */
 enum oca_result oca_link_submit(struct oca_link *link, uint32_t target, uint16_t level, uint16_t index, uint8_t count, const uint8_t *params, size_t params_len, uint64_t now, uint32_t *handle) OCA_CHECKED;
 
 /* Submits the request `request`, which sets or reads a value, at the moment `now` in milliseconds, and writes the
@@ -984,11 +994,11 @@ static inline enum oca_result oca_link_ask(struct oca_link *link, uint32_t targe
 
 /* Submits a command by the method `method` (enum oca_method) at the moment `now`, in milliseconds, and writes the
  * handle of the command to `handle`. `target` is the number of the object, `count` is ParamCount, and `params` are the
- * encoded parameters (docs/PROTOCOL.md, section 3), at most 1,445 bytes, which are not checked. The call sends nothing:
- * call oca_link_due then. Returns OCA_DONE. Otherwise the first of these that applies, and then nothing is changed,
- * written or sent. OCA_CLOSED if the link is closed. OCA_LOST if the link is lost. OCA_HANDLES_SPENT if a command has
- * the handle 4294967295 already. OCA_SPAN_FULL if the next handle is not below the lowest handle whose answer was not
- * taken yet, plus the span. OCA_TOO_LONG if the parameters have more than 1,445 bytes. */
+ * encoded parameters (docs/PROTOCOL.md, section 3), at most 1,445 bytes (for a small link 64), which are not checked.
+ * The call sends nothing: call oca_link_due then. Returns OCA_DONE. Otherwise the first of these that applies, and then
+ * nothing is changed, written or sent. OCA_CLOSED if the link is closed. OCA_LOST if the link is lost.
+ * OCA_HANDLES_SPENT if a command has the handle 4294967295 already. OCA_SPAN_FULL if the next handle is not below the
+ * lowest handle whose answer was not taken yet, plus the span. OCA_TOO_LONG if the parameters have more bytes. */
 static inline enum oca_result oca_link_call(struct oca_link *link, uint32_t target, uint32_t method, uint8_t count, const uint8_t *params, size_t params_len, uint64_t now, uint32_t *handle) {
     return oca_link_submit(link, target, (uint16_t)(method >> 16), (uint16_t)method, count, params, params_len, now, handle);
 }
@@ -1008,8 +1018,9 @@ enum oca_result oca_link_due(struct oca_link *link, uint64_t now, uint8_t *out, 
  * `now`, in milliseconds. `reception` becomes OCA_STRANGER if it came from another address or port than the device's.
  * Otherwise OCA_MALFORMED if it is not well-formed (AES70-3). Otherwise OCA_ANSWERED if commands got their first answer
  * in it, and OCA_NOTHING_NEW if none did. `answered` becomes how many commands got theirs. Each such answer is stored:
- * oca_link_take takes it. In all cases the link's clock moves on to `now`; a stranger's or malformed datagram changes
- * nothing else. Returns OCA_DONE. OCA_CLOSED if the link is closed: then nothing is changed or written. */
+ * oca_link_take takes it. A small link stores an answer with more than 264 bytes of parameters without them, with
+ * OCA_STATUS_BUFFER_OVERFLOW. In all cases the link's clock moves on to `now`; a stranger's or malformed datagram
+ * changes nothing else. Returns OCA_DONE. OCA_CLOSED if the link is closed: then nothing is changed or written. */
 enum oca_reception { OCA_NOTHING_NEW = 0, OCA_ANSWERED = 1, OCA_STRANGER = 2, OCA_MALFORMED = 3 };
 enum oca_result oca_link_datagram(struct oca_link *link, uint32_t ip, uint16_t port, const uint8_t *bytes, size_t len, uint64_t now, uint32_t *reception, uint32_t *answered) OCA_NONNULL;
 
@@ -1129,9 +1140,11 @@ static inline struct oca_own_port oca_own_port(uint64_t seconds, uint32_t micros
  * minutes, in which nothing was sent from the port, do not count. `span` (1 to 32) limits the commands in flight, as in
  * oca_link_open. A call waits for its answer for `wait_ms` milliseconds by the clock of the end, whatever else comes;
  * with 0 no call waits. 10,500 ms are longer than a link retransmits. A wait also ends if the clock shows no later
- * moment in 100,000 receives. Returns OCA_DONE. Otherwise the first of these that applies. OCA_OPEN if the panel is
- * open: then nothing is changed. OCA_BAD_SIZE if `end` is of another size, or the span is outside its range.
- * OCA_NO_MEMORY if memory was refused. After the last two the panel is closed. */
+ * moment in 100,000 receives. For a panel over a small link do not call oca_panel_open: set the fields `end` and
+ * `wait_ms` of a closed panel, and open its field `link` by oca_link_open_small. Returns OCA_DONE. Otherwise the first
+ * of these that applies. OCA_OPEN if the panel is open: then nothing is changed. OCA_BAD_SIZE if `end` is of another
+ * size, or the span is outside its range. OCA_NO_MEMORY if memory was refused. After the last two the panel is closed.
+ */
 enum oca_result oca_panel_open(struct oca_panel *panel, const struct oca_end *end, uint32_t ip, uint16_t port, uint32_t first_handle, uint8_t span, uint32_t wait_ms);
 
 /* Closes a panel and frees its memory. Nothing is sent, and answers that were not taken are lost. The device may still
@@ -1153,12 +1166,12 @@ struct oca_outcome oca_panel_turn(struct oca_panel *panel);
 
 /* Submits a command by the method `method` (enum oca_method), sends it at once and writes its handle to `handle`. `ono`
  * is the number of the object, `count` is ParamCount, and `params` are the encoded parameters (docs/PROTOCOL.md,
- * section 3), at most 1,445 bytes. The call does not wait: oca_panel_finish does. Several commands can be in flight at
- * once. Returns OCA_DONE, also if the link becomes lost in this call and the command is not sent. Otherwise the first
- * of these that applies, and then nothing is changed or sent. OCA_CLOSED if the panel is closed. OCA_LOST if its link
- * is lost or late. OCA_HANDLES_SPENT if a command has the handle 4294967295 already. OCA_SPAN_FULL if the next handle
- * is not below the lowest handle whose answer was not taken yet, plus the span. OCA_TOO_LONG if the parameters have
- * more than 1,445 bytes. */
+ * section 3), at most 1,445 bytes (over a small link 64). The call does not wait: oca_panel_finish does. Several
+ * commands can be in flight at once. Returns OCA_DONE, also if the link becomes lost in this call and the command is
+ * not sent. Otherwise the first of these that applies, and then nothing is changed or sent. OCA_CLOSED if the panel is
+ * closed. OCA_LOST if its link is lost or late. OCA_HANDLES_SPENT if a command has the handle 4294967295 already.
+ * OCA_SPAN_FULL if the next handle is not below the lowest handle whose answer was not taken yet, plus the span.
+ * OCA_TOO_LONG if the parameters have more bytes. */
 enum oca_result oca_panel_begin(struct oca_panel *panel, uint32_t ono, uint32_t method, uint8_t count, const uint8_t *params, size_t params_len, uint32_t *handle);
 
 /* Submits the command that sets an object to `value`, by the set method of the value's class (AES70-2), sends it at
@@ -1231,13 +1244,13 @@ struct oca_outcome oca_flight_try_finish(struct oca_flight *flight, struct oca_p
 
 /* Sends a command by the method `method` (enum oca_method), and waits for its answer. `ono` is the number of the
  * object, `count` is ParamCount, and `params` are the encoded parameters (docs/PROTOCOL.md, section 3), at most 1,445
- * bytes. The call waits for the answer for at most the panel's `wait_ms` milliseconds. Returns OCA_ASKED_DONE if the
- * answer's status is OK. Otherwise the outcome is one of these (enum oca_asked). OCA_ASKED_LOST or OCA_ASKED_LATE if
- * the panel's link is lost or late: a command that was sent may have been carried out. OCA_ASKED_NOT_SENT with
- * OCA_CLOSED, OCA_HANDLES_SPENT or OCA_SPAN_FULL in `result`: that command was not sent. OCA_ASKED_UNANSWERED if no
- * answer came in time: the command stays in flight under the handle in `result`. OCA_ASKED_REFUSED if the answer's
- * status is not OK, with that status. With more than 1,445 bytes it is OCA_ASKED_NOT_SENT with OCA_TOO_LONG. `answer`
- * is written for OCA_ASKED_DONE and OCA_ASKED_REFUSED alone. */
+ * bytes (over a small link 64). The call waits for the answer for at most the panel's `wait_ms` milliseconds. Returns
+ * OCA_ASKED_DONE if the answer's status is OK. Otherwise the outcome is one of these (enum oca_asked). OCA_ASKED_LOST
+ * or OCA_ASKED_LATE if the panel's link is lost or late: a command that was sent may have been carried out.
+ * OCA_ASKED_NOT_SENT with OCA_CLOSED, OCA_HANDLES_SPENT or OCA_SPAN_FULL in `result`: that command was not sent.
+ * OCA_ASKED_UNANSWERED if no answer came in time: the command stays in flight under the handle in `result`.
+ * OCA_ASKED_REFUSED if the answer's status is not OK, with that status. With more bytes it is OCA_ASKED_NOT_SENT with
+ * OCA_TOO_LONG. `answer` is written for OCA_ASKED_DONE and OCA_ASKED_REFUSED alone. */
 struct oca_outcome oca_panel_ask(struct oca_panel *panel, uint32_t ono, uint32_t method, uint8_t count, const uint8_t *params, size_t params_len, struct oca_answer *answer);
 
 /* Sends a command by the method `method` (enum oca_method) without parameters, and waits for its answer. `ono` is the

@@ -70,6 +70,21 @@ static size_t command(uint8_t *out, uint32_t handle, uint16_t ono, uint8_t level
     return sizeof front + size;
 }
 
+/* A response in a PDU of its own, with so many parameters, which begin with the handle and rise. */
+static size_t answer_of(uint8_t *out, uint32_t handle, uint32_t status, uint8_t count, size_t params) {
+    const uint32_t whole = (uint32_t)(19 + params), inner = (uint32_t)(10 + params);
+    const uint8_t front[] = {0x3b, 0, 1, 0, 0, (uint8_t)(whole >> 8), (uint8_t)whole, 3, 0, 1, 0, 0, (uint8_t)(inner >> 8), (uint8_t)inner,
+                             0, 0, 0, (uint8_t)handle, (uint8_t)status, count};
+    memcpy(out, front, sizeof front);
+    for (size_t i = 0; i < params; i++) out[sizeof front + i] = (uint8_t)(handle + i);
+    return sizeof front + params;
+}
+
+/* Opens a link of the full size, or a small one. */
+static enum oca_result opened_of(struct oca_link *l, bool is_small, uint32_t ip, uint16_t port, uint32_t first, uint64_t now, uint8_t span) {
+    return is_small ? oca_link_open_small(l, ip, port, first, now, span) : oca_link_open(l, ip, port, first, now, span);
+}
+
 /* The status of a datagram's only response. */
 static uint32_t status_of(struct oca_device *d) {
     uint8_t bytes[OCA_MOST_BYTES] = {0};

@@ -1,22 +1,23 @@
 //! What C calls of a link.
 ghost use Rattle.std.specs.Prelude.{◌≡◌, ◌⊎◌, ◌≤◌, ◌<◌, List, Option, None, IfSome, IsSome, length};
 ghost use Rattle.oca_types.specs.Peers.{RequestFields};
+ghost use Rattle.oca_types.specs.declared.words.Peer.{Peer};
 ghost use Rattle.oca_types.specs.Sizes.{largest_datagram, most_parameter_bytes};
 ghost use Rattle.oca_pdu.specs.Messages.{Msg};
 ghost use Rattle.oca_control.specs.Contents.{IsContent};
 ghost use Rattle.oca_control.specs.Links.{decision, due_answer, due_bytes, gone_on, late_at, new_link, received};
-ghost use Rattle.oca_control.specs.Links.{reception, submission, submitted, taken};
+ghost use Rattle.oca_control.specs.Links.{reception, submission_within, submitted_within, taken};
+ghost use Rattle.oca_control.specs.Shortening.{shortened};
 ghost use Rattle.oca_control.specs.Untaken.{answer_under, first_answered, waits};
 ghost use Rattle.std.specs.List.{list_any};
 ghost use Rattle.oca_calls.specs.Calls.{RefusesClosed};
 ghost use Rattle.oca_calls.specs.LinkCalls.{HoldsLink, LiesIn, OpensLink, WritesNextDue, WritesNumber, WritesAnswer};
 ghost use Rattle.oca_calls.specs.LinkCalls.{WritesSubmission, answered_count, due_handle, due_kind, reception_kind};
+ghost use Rattle.oca_calls.specs.LinkRooms.{full_rooms, small_rooms};
 
 use oca_calls::answer::Answer;
-use oca_calls::link::LinkBehind;
 use oca_calls::link_handle::LinkHandle;
-use oca_control::Link;
-use oca_types::{Handle, MethodId, Ono, Peer, Span};
+use oca_types::{Handle, MethodId, Ono, Peer};
 use std::alloc::Global;
 
 /// Opens a link to the device at the address `ip` (an IPv4 address as a number, the first byte highest) and the port
@@ -40,23 +41,53 @@ pub extern "C" fn oca_link_open(
     span: u8,
 ) -> u32
     ensures open { IsSome handle.old.slot.inner → (result ≡ 10) × (handle.new.slot.inner ≡ handle.old.slot.inner) }
-    ensures opens { handle.old.slot.inner ≡ None →
-        OpensLink result handle.new.slot.inner span (new_link (record { ip = ip; port = port }) first_handle now span) }
+    ensures opens { handle.old.slot.inner ≡ None → OpensLink result handle.new.slot.inner span (record {
+      link = new_link (record { ip = ip; port = port }) first_handle now span;
+      rooms = full_rooms;
+    }) }
 {
-    if handle.is_open {
-        return Answer::Open.number();
-    }
-    let Some(span) = Span::new(span) else {
-        return Answer::BadSize.number();
-    };
-    let link = Link::new(Peer { ip, port }, Handle(first_handle), now, span);
-    match Box::new(alloc, LinkBehind { link }) {
-        Ok(behind) => {
-            handle.put(behind);
-            Answer::Done.number()
-        }
-        Err(_) => Answer::NoMemory.number(),
-    }
+    handle.open(
+        alloc,
+        Peer { ip, port },
+        Handle(first_handle),
+        now,
+        span,
+        false,
+    )
+}
+
+/// Opens a small link, with the arguments of `oca_link_open`. All calls of a link work on it. It takes less memory: at
+/// most 12,288 bytes in one allocation, and 16 bytes in another one. It is for a panel that sets and reads single
+/// values: a command may have 64 bytes of parameters, and a longer one is refused (`TooLong`). If an answer has more
+/// than 264 bytes of parameters, `oca_link_take` writes the status BufferOverflow (14), ParamCount 0 and no parameters:
+/// the device executed the command or refused it.
+///
+/// Returns the number of an answer: `Done`. Otherwise the first of these that applies, and then nothing is changed.
+/// `Open` if the struct is open already. `BadSize` if the span is outside its range. `NoMemory` if memory was refused.
+#[unsafe(no_mangle)]
+pub extern "C" fn oca_link_open_small(
+    alloc: Global,
+    handle: &mut LinkHandle,
+    ip: u32,
+    port: u16,
+    first_handle: u32,
+    now: u64,
+    span: u8,
+) -> u32
+    ensures open { IsSome handle.old.slot.inner → (result ≡ 10) × (handle.new.slot.inner ≡ handle.old.slot.inner) }
+    ensures opens { handle.old.slot.inner ≡ None → OpensLink result handle.new.slot.inner span (record {
+      link = new_link (record { ip = ip; port = port }) first_handle now span;
+      rooms = small_rooms;
+    }) }
+{
+    handle.open(
+        alloc,
+        Peer { ip, port },
+        Handle(first_handle),
+        now,
+        span,
+        true,
+    )
 }
 
 /// Closes a link and frees its memory. Nothing is sent, and answers that were not taken are lost. The device may still
@@ -70,13 +101,13 @@ pub extern "C" fn oca_link_close(alloc: Global, handle: &mut LinkHandle)
 
 /// Submits a command at the moment `now`, in milliseconds, and writes its handle to `command`. `target` is the number
 /// of the object, `level` and `index` name the method (DefLevel and MethodIndex, AES70-2), `count` is ParamCount, and
-/// `params` are the encoded parameters, at most 1,445 bytes, which are not checked. The call sends nothing: call
-/// `oca_link_due` then.
+/// `params` are the encoded parameters, at most 1,445 bytes (for a small link 64), which are not checked. The call
+/// sends nothing: call `oca_link_due` then.
 ///
 /// Returns the number of an answer: `Done`. Otherwise the first of these that applies, and then nothing is changed,
 /// written or sent. `Closed` if the link is closed. `Lost` if the link is lost. `HandlesSpent` if a command has the
 /// handle 4294967295 already. `SpanFull` if the next handle is not below the lowest handle whose answer was not taken
-/// yet, plus the span. `TooLong` if the parameters have more than 1,445 bytes.
+/// yet, plus the span. `TooLong` if the parameters have more bytes.
 #[unsafe(no_mangle)]
 pub extern "C" fn oca_link_submit(
     alloc: Global,
@@ -97,8 +128,9 @@ pub extern "C" fn oca_link_submit(
       count = count;
       params = params.now;
     } in
-        IfSome handle.old.slot.inner (λ b. HoldsLink handle.new.slot.inner (submitted request now b.link)
-        × WritesSubmission result command.new (submission request b.link)) }
+        IfSome handle.old.slot.inner (λ b.
+        HoldsLink handle.new.slot.inner b (submitted_within b.rooms.command request now b.link)
+        × WritesSubmission result command.new (submission_within b.rooms.command request b.link)) }
     ensures unwritten { (result ≡ 0) ⊎ (command.new ≡ command.old) }
 {
     let Some(mut behind) = handle.take(alloc) else {
@@ -133,9 +165,9 @@ pub extern "C" fn oca_link_due(
 ) -> u32
     ensures closed { RefusesClosed handle.old.slot.inner handle.new.slot.inner result }
     ensures small { IfSome handle.old.slot.inner (λ b. length out.old < largest_datagram →
-        HoldsLink handle.new.slot.inner b.link × (result ≡ 14)) }
+        HoldsLink handle.new.slot.inner b b.link × (result ≡ 14)) }
     ensures gives { IfSome handle.old.slot.inner (λ b. largest_datagram ≤ length out.old →
-        HoldsLink handle.new.slot.inner (gone_on now b.link) × (result ≡ 0)
+        HoldsLink handle.new.slot.inner b (gone_on now b.link) × (result ≡ 0)
         × (kind.new ≡ due_kind (due_answer (decision now b.link)))
         × (command.new ≡ due_handle (due_answer (decision now b.link)))
         × LiesIn (due_bytes (decision now b.link)) out.new len.new) }
@@ -155,9 +187,10 @@ pub extern "C" fn oca_link_due(
 /// the device's. Otherwise 3 if it is not well-formed (AES70-3). Otherwise 1 if commands got their first answer in it,
 /// and 0 if none did (`enum oca_reception`). `answered` becomes how many commands got theirs.
 ///
-/// Each such answer is stored: `oca_link_take` takes it. In all cases the link's clock moves on to `now`; a stranger's
-/// or malformed datagram changes nothing else. Returns the number of an answer: `Done`. `Closed` if the link is closed:
-/// then nothing is changed or written.
+/// Each such answer is stored: `oca_link_take` takes it. A small link stores an answer with more than 264 bytes of
+/// parameters as the status BufferOverflow (14, AES70-2) without parameters. In all cases the link's clock moves on to
+/// `now`; a stranger's or malformed datagram changes nothing else. Returns the number of an answer: `Done`. `Closed` if
+/// the link is closed: then nothing is changed or written.
 #[unsafe(no_mangle)]
 pub extern "C" fn oca_link_datagram(
     alloc: Global,
@@ -171,9 +204,11 @@ pub extern "C" fn oca_link_datagram(
 ) -> u32
     ensures closed { RefusesClosed handle.old.slot.inner handle.new.slot.inner result }
     ensures receives { IfSome handle.old.slot.inner (λ b. (content : Option (List Msg)) → IsContent content bytes.now →
-        HoldsLink handle.new.slot.inner (received (record { ip = ip; port = port }) content now b.link) × (result ≡ 0)
-        × (kind.new ≡ reception_kind (reception (record { ip = ip; port = port }) content b.link))
-        × (answered.new ≡ answered_count (reception (record { ip = ip; port = port }) content b.link))) }
+        let from : Peer = record { ip = ip; port = port } in
+        let kept : Option (List Msg) = shortened b.rooms.answer content in
+        HoldsLink handle.new.slot.inner b (received from kept now b.link) × (result ≡ 0)
+        × (kind.new ≡ reception_kind (reception from kept b.link))
+        × (answered.new ≡ answered_count (reception from kept b.link))) }
     ensures unwritten { (result ≡ 0) ⊎ ((kind.new ≡ kind.old) × (answered.new ≡ answered.old)) }
 {
     let Some(mut behind) = handle.take(alloc) else {
@@ -203,9 +238,9 @@ pub extern "C" fn oca_link_take(
 ) -> u32
     ensures closed { RefusesClosed handle.old.slot.inner handle.new.slot.inner result }
     ensures small { IfSome handle.old.slot.inner (λ b. length out.old < most_parameter_bytes →
-        HoldsLink handle.new.slot.inner b.link × (result ≡ 14)) }
+        HoldsLink handle.new.slot.inner b b.link × (result ≡ 14)) }
     ensures takes { IfSome handle.old.slot.inner (λ b. most_parameter_bytes ≤ length out.old →
-        HoldsLink handle.new.slot.inner (taken command b.link)
+        HoldsLink handle.new.slot.inner b (taken command b.link)
         × WritesAnswer result status.new count.new out.new len.new (answer_under command b.link.untaken)) }
     ensures unwritten { (result ≡ 0) ⊎ ((status.new ≡ status.old) × (count.new ≡ count.old)
         × (out.new ≡ out.old) × (len.new ≡ len.old)) }

@@ -3,6 +3,7 @@ pub mod LinkSlots
 pub mod Numbers
 pub mod Outputs
 pub mod Calls
+pub mod LinkRooms
 pub mod LinkCalls
 pub mod Storings
 pub mod CValues

@@ -1,5 +1,5 @@
 -- What the calls of a link promise of what is behind a handle, and what they tell.
-use Rattle.std.specs.Prelude.{◌≡◌, ◌⊎◌, ℕ, ◌≤◌, List, take, length, Option, Some, None, Result, Ok, Err, IsSomeAnd}
+use Rattle.std.specs.Prelude.{◌≡◌, ◌⊎◌, ℕ, ◌≤◌, List, take, length, Option, Some, None, Result, Ok, Err}
 use Rattle.oca_types.specs.declared.words.Handle.{Handle}
 use Rattle.oca_control.specs.declared.fault.ControlFault.{ControlFault}
 use Rattle.oca_control.specs.declared.due.Due.{Due}
@@ -8,21 +8,21 @@ use Rattle.oca_control.specs.declared.reception.Reception.{Reception}
 use Rattle.oca_control.specs.declared.reception.Reception.TheVariants as receptions
 use Rattle.oca_control.specs.Answers.{AnswerFields}
 use Rattle.oca_control.specs.Links.{LinkState, IsNextDue, NeverIsDue}
-use Rattle.oca_calls.specs.declared.link.LinkBehind.{LinkBehind}
+use Rattle.oca_calls.specs.LinkRooms.{RoomedLink}
 use Rattle.oca_calls.specs.Numbers.{answer_number, submission_answer}
 
--- behind an open handle there is this link
-abbrev pub HoldsLink : Option LinkBehind → LinkState → Type 0
-HoldsLink behind l = IsSomeAnd behind (λ b. b.link ≡ l)
+-- behind an open handle there is this link, with the rooms that it had
+abbrev pub HoldsLink : Option RoomedLink → RoomedLink → LinkState → Type 0
+HoldsLink behind b l = behind ≡ Some (record b { link = l })
 
 -- a span
 abbrev pub IsSpan : ℕ → Type 0
 IsSpan span = (1 ≤ span) × (span ≤ 32)
 
--- A closed struct is opened: with this link; or not, for want of memory, or where the span is none.
-abbrev pub OpensLink : ℕ → Option LinkBehind → ℕ → LinkState → Type 0
+-- A closed struct is opened: with this link and its rooms; or not, for want of memory, or where the span is none.
+abbrev pub OpensLink : ℕ → Option RoomedLink → ℕ → RoomedLink → Type 0
 OpensLink number new span l =
-    ((number ≡ 0) × IsSpan span × HoldsLink new l)
+    ((number ≡ 0) × IsSpan span × (new ≡ Some l))
     ⊎ (((number ≡ 8) × IsSpan span × (new ≡ None)) ⊎ ((number ≡ 15) × (IsSpan span → ⊥) × (new ≡ None)))
 
 -- these bytes lie at the front of a place, and this is their number

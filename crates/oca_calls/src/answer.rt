@@ -56,7 +56,7 @@ pub enum Answer {
     HandlesSpent = 21,
     /// The next handle is not below the lowest handle whose answer was not taken yet, plus the span.
     SpanFull = 22,
-    /// The parameters have more than 1,445 bytes.
+    /// The parameters have more than 1,445 bytes, or for a small link more than 64.
     TooLong = 23,
     /// The struct holds no value, or an answer gives no value of the class.
     NoValue = 24,

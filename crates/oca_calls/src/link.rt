@@ -1,30 +1,99 @@
 //! What is behind an open handle of a link.
-ghost use Rattle.std.specs.Prelude.{◌≡◌, ◌⊎◌, ◌≤◌, ◌<◌, List, Option, length};
+ghost use Rattle.std.specs.Prelude.{◌≡◌, ◌⊎◌, ◌≤◌, ◌<◌, List, Option, IfSome, length};
 ghost use Rattle.std.specs.Option.{option_map};
 ghost use Rattle.oca_types.specs.Peers.{RequestFields};
-ghost use Rattle.oca_types.specs.Sizes.{largest_datagram, most_parameter_bytes};
+ghost use Rattle.oca_types.specs.Sizes.{largest_datagram, most_parameter_bytes, span_size};
 ghost use Rattle.oca_pdu.specs.Messages.{Msg};
 ghost use Rattle.oca_control.specs.Answers.{answer_fields};
 ghost use Rattle.oca_control.specs.Contents.{IsContent};
-ghost use Rattle.oca_control.specs.Links.{decision, due_answer, due_bytes, gone_on, late_at, received, reception};
-ghost use Rattle.oca_control.specs.Links.{submission, submitted, taken};
+ghost use Rattle.oca_control.specs.Links.{decision, due_answer, due_bytes, gone_on, late_at, new_link, received};
+ghost use Rattle.oca_control.specs.Links.{reception, submission_within, submitted_within, taken};
+ghost use Rattle.oca_control.specs.Shortening.{shortened};
 ghost use Rattle.oca_control.specs.Untaken.{answer_under, first_answered, waits};
 ghost use Rattle.std.specs.List.{list_any};
 ghost use Rattle.oca_calls.specs.LinkCalls.{LiesIn, WritesNextDue, WritesNumber, WritesAnswer, WritesSubmission};
 ghost use Rattle.oca_calls.specs.LinkCalls.{answered_count, due_handle, due_kind, reception_kind};
+ghost use Rattle.oca_calls.specs.LinkRooms.{full_rooms, small_rooms};
 
 use crate::answer::Answer;
 use crate::words::put_front;
-use oca_control::{Due, Link, Reception, is_late};
-use oca_types::{Handle, MOST_BYTES, MOST_PARAMETER_BYTES, MethodId, Ono, Packet, Peer};
+use oca_control::{Due, Link, Reception, SmallLink, is_late};
+use oca_types::{Handle, MOST_BYTES, MOST_PARAMETER_BYTES, MethodId, Ono, Packet, Peer, Span};
+use std::alloc::Global;
+use std::marker::Model;
 
-/// A link as the calls for C have it.
+/// A link in memory of its own, of the full size or small.
+#[derive(Drop)]
+enum AnyLink {
+    Full(Box<Link>),
+    Small(Box<SmallLink>),
+}
+
+/// A link as the calls for C have it. It has room for each command and each answer of a datagram ([`Link`]), or it is
+/// small ([`SmallLink`]): for commands with 64 bytes of parameters and answers with 264 bytes.
 #[derive(Drop)]
 pub struct LinkBehind {
-    pub link: Link,
+    link: AnyLink,
+}
+
+const _: () = prove!(std::mem::size_of::<LinkBehind>() == 16);
+
+impl Model for LinkBehind {
+    ghost use Rattle.oca_calls.specs.LinkRooms.{RoomedLink, roomed_link};
+
+    ghost Value = { RoomedLink };
+
+    ghost view = { λ b. roomed_link b.link };
 }
 
 impl LinkBehind {
+    /// Makes a link to the device at the address `device`, with room for each command and each answer. `first_handle`
+    /// is the handle of its first command, `now` the moment in milliseconds of the caller's clock, and `span` its span.
+    /// The call takes memory for the link: 94,520 bytes and 16 bytes. `None` if memory was refused: then none is kept.
+    #[inline(never)]
+    pub(crate) fn full(
+        alloc: Global,
+        device: Peer,
+        first_handle: Handle,
+        now: u64,
+        span: Span,
+    ) -> Option<LinkBehind>
+        ensures { IfSome result (λ b. b ≡ record {
+          link = new_link device first_handle.0 now (span_size span);
+          rooms = full_rooms;
+        }) }
+    {
+        match Box::new(alloc, Link::new(device, first_handle, now, span)) {
+            Ok(link) => Some(LinkBehind {
+                link: AnyLink::Full(link),
+            }),
+            Err(_) => None,
+        }
+    }
+
+    /// Makes a small link ([`SmallLink`]), with the same arguments. The call takes memory for the link, at most 12,288
+    /// bytes and 16 bytes. `None` if memory was refused: then none is kept.
+    #[inline(never)]
+    pub(crate) fn small(
+        alloc: Global,
+        device: Peer,
+        first_handle: Handle,
+        now: u64,
+        span: Span,
+    ) -> Option<LinkBehind>
+        ensures { IfSome result (λ b. b ≡ record {
+          link = new_link device first_handle.0 now (span_size span);
+          rooms = small_rooms;
+        }) }
+    {
+        match Box::new(alloc, SmallLink::new(device, first_handle, now, span)) {
+            Ok(link) => Some(LinkBehind {
+                link: AnyLink::Small(link),
+            }),
+            Err(_) => None,
+        }
+    }
+
     /// Submits a command at the moment `now`, in milliseconds of the caller's clock, and writes its handle to `handle`.
     /// `target` is the number of the object, `method` has the method's DefLevel and MethodIndex (AES70-2), `count` is
     /// ParamCount, and `params` are the encoded parameters. Nothing is sent.
@@ -32,7 +101,7 @@ impl LinkBehind {
     /// Returns the number of an answer: `Done`. Otherwise the first of these that applies, and then nothing is changed
     /// or written. `Lost` if the link is lost. `HandlesSpent` if a command has the handle 4294967295 already.
     /// `SpanFull` if the next handle is not below the lowest handle whose answer was not taken yet, plus the span.
-    /// `TooLong` if the parameters have more than 1,445 bytes.
+    /// `TooLong` if the parameters have more than 1,445 bytes, or for a small link more than 64.
     pub fn submit(
         &mut self,
         target: Ono,
@@ -49,7 +118,9 @@ impl LinkBehind {
           count = count;
           params = params.now;
         } in
-            self.new.link ≡ submitted request now self.old.link }
+            self.new ≡ record self.old {
+              link = submitted_within self.old.rooms.command request now self.old.link;
+            } }
         ensures writes { let request : RequestFields = record {
           target = target.0;
           level = method.level;
@@ -57,10 +128,14 @@ impl LinkBehind {
           count = count;
           params = params.now;
         } in
-            WritesSubmission result handle.new (submission request self.old.link) }
+            WritesSubmission result handle.new (submission_within self.old.rooms.command request self.old.link) }
         ensures unwritten { (result ≡ 0) ⊎ (handle.new ≡ handle.old) }
     {
-        match self.link.submit(target, method, count, params, now) {
+        let submitted = match &mut self.link {
+            AnyLink::Full(link) => link.submit(target, method, count, params, now),
+            AnyLink::Small(link) => link.submit(target, method, count, params, now),
+        };
+        match submitted {
             Ok(given) => {
                 *handle = given.0;
                 Answer::Done.number()
@@ -84,7 +159,8 @@ impl LinkBehind {
         handle: &mut u32,
     ) -> u32
         ensures small { length out.old < largest_datagram → (result ≡ 14) × (self.new ≡ self.old) }
-        ensures link { largest_datagram ≤ length out.old → (result ≡ 0) × (self.new.link ≡ gone_on now self.old.link) }
+        ensures link { largest_datagram ≤ length out.old →
+            (result ≡ 0) × (self.new ≡ record self.old { link = gone_on now self.old.link }) }
         ensures writes { largest_datagram ≤ length out.old →
             (kind.new ≡ due_kind (due_answer (decision now self.old.link)))
             × (handle.new ≡ due_handle (due_answer (decision now self.old.link))) }
@@ -97,7 +173,10 @@ impl LinkBehind {
             return Answer::TooSmall.number();
         }
         let mut packet = Packet::new();
-        let due = self.link.due(now, &mut packet);
+        let due = match &mut self.link {
+            AnyLink::Full(link) => link.due(now, &mut packet),
+            AnyLink::Small(link) => link.due(now, &mut packet),
+        };
         *len = put_front(packet.as_slice(), out);
         (*kind, *handle) = due_words(due);
         Answer::Done.number()
@@ -108,8 +187,9 @@ impl LinkBehind {
     /// well-formed (AES70-3). Otherwise 1 if commands got their first answer in it, and 0 if none did. `answered`
     /// becomes how many commands got theirs: 0 to 32.
     ///
-    /// An answer to a command in flight is stored, even if the link is lost. If `kind` becomes 2 or 3, only the link's
-    /// clock is changed. Returns the number of an answer, always `Done`.
+    /// An answer to a command in flight is stored, even if the link is lost. A small link stores an answer with more
+    /// than 264 bytes of parameters as the status BufferOverflow (14, AES70-2) without parameters. If `kind` becomes 2
+    /// or 3, only the link's clock is changed. Returns the number of an answer, always `Done`.
     pub fn datagram(
         &mut self,
         from: Peer,
@@ -120,12 +200,17 @@ impl LinkBehind {
     ) -> u32
         ensures done { result ≡ 0 }
         ensures link { (content : Option (List Msg)) → IsContent content bytes.now →
-            self.new.link ≡ received from content now self.old.link }
+            let kept : Option (List Msg) = shortened self.old.rooms.answer content in
+            self.new ≡ record self.old { link = received from kept now self.old.link } }
         ensures writes { (content : Option (List Msg)) → IsContent content bytes.now →
-            (kind.new ≡ reception_kind (reception from content self.old.link))
-            × (answered.new ≡ answered_count (reception from content self.old.link)) }
+            let kept : Option (List Msg) = shortened self.old.rooms.answer content in
+            (kind.new ≡ reception_kind (reception from kept self.old.link))
+            × (answered.new ≡ answered_count (reception from kept self.old.link)) }
     {
-        let reception = self.link.datagram(from, bytes, now);
+        let reception = match &mut self.link {
+            AnyLink::Full(link) => link.datagram(from, bytes, now),
+            AnyLink::Small(link) => link.datagram(from, bytes, now),
+        };
         (*kind, *answered) = reception_words(reception);
         Answer::Done.number()
     }
@@ -133,8 +218,8 @@ impl LinkBehind {
     /// Takes the answer under the handle `handle`, and removes the command. Writes the number of the answer's status to
     /// `status` (AES70-2, OcaStatus), its ParamCount to `count`, its parameters to the front of `out`, and their size
     /// in bytes to `len`. Returns the number of an answer: `Done`. Otherwise the first of these that applies, and then
-    /// nothing is changed or written. `TooSmall` if `out` has fewer than 1,452 bytes. `Nothing` if no answer is there
-    /// under the handle.
+    /// nothing is changed or written. `TooSmall` if `out` has fewer than 1,452 bytes, for a small link too. `Nothing`
+    /// if no answer is there under the handle.
     pub fn take(
         &mut self,
         handle: u32,
@@ -144,7 +229,8 @@ impl LinkBehind {
         len: &mut usize,
     ) -> u32
         ensures small { length out.old < most_parameter_bytes → (result ≡ 14) × (self.new ≡ self.old) }
-        ensures link { most_parameter_bytes ≤ length out.old → self.new.link ≡ taken handle self.old.link }
+        ensures link { most_parameter_bytes ≤ length out.old →
+            self.new ≡ record self.old { link = taken handle self.old.link } }
         ensures writes { most_parameter_bytes ≤ length out.old →
             WritesAnswer result status.new count.new out.new len.new (answer_under handle self.old.link.untaken) }
         ensures unwritten { (result ≡ 0) ⊎ ((status.new ≡ status.old) × (count.new ≡ count.old)
@@ -153,7 +239,11 @@ impl LinkBehind {
         if out.len() < MOST_PARAMETER_BYTES {
             return Answer::TooSmall.number();
         }
-        match self.link.take(Handle(handle)) {
+        let taken = match &mut self.link {
+            AnyLink::Full(link) => link.take(Handle(handle)),
+            AnyLink::Small(link) => link.take(Handle(handle)),
+        };
+        match taken {
             Some(answer) => {
                 *status = u32::from(answer.status);
                 *count = u32::from(answer.count);
@@ -171,7 +261,11 @@ impl LinkBehind {
         ensures writes { WritesNextDue result moment.new self.now.link }
         ensures unwritten { (result ≡ 0) ⊎ (moment.new ≡ moment.old) }
     {
-        match self.link.next_due() {
+        let found = match &self.link {
+            AnyLink::Full(link) => link.next_due(),
+            AnyLink::Small(link) => link.next_due(),
+        };
+        match found {
             Some(due) => {
                 *moment = due;
                 Answer::Done.number()
@@ -186,7 +280,11 @@ impl LinkBehind {
         ensures writes { WritesNumber result handle.new (first_answered self.now.link.untaken) }
         ensures unwritten { (result ≡ 0) ⊎ (handle.new ≡ handle.old) }
     {
-        match self.link.answered() {
+        let found = match &self.link {
+            AnyLink::Full(link) => link.answered(),
+            AnyLink::Small(link) => link.answered(),
+        };
+        match found {
             Some(answered) => {
                 *handle = answered.0;
                 Answer::Done.number()
@@ -201,7 +299,10 @@ impl LinkBehind {
     pub fn is_in_flight(&self, handle: u32, in_flight: &mut bool) -> u32
         ensures { (result ≡ 0) × (in_flight.new ≡ list_any (waits handle) self.now.link.untaken) }
     {
-        *in_flight = self.link.is_in_flight(Handle(handle));
+        *in_flight = match &self.link {
+            AnyLink::Full(link) => link.is_in_flight(Handle(handle)),
+            AnyLink::Small(link) => link.is_in_flight(Handle(handle)),
+        };
         Answer::Done.number()
     }
 
@@ -211,7 +312,11 @@ impl LinkBehind {
         ensures writes { WritesNumber result handle.new self.now.link.next }
         ensures unwritten { (result ≡ 0) ⊎ (handle.new ≡ handle.old) }
     {
-        match self.link.next_handle() {
+        let found = match &self.link {
+            AnyLink::Full(link) => link.next_handle(),
+            AnyLink::Small(link) => link.next_handle(),
+        };
+        match found {
             Some(next) => {
                 *handle = next.0;
                 Answer::Done.number()
@@ -226,7 +331,10 @@ impl LinkBehind {
     pub fn last_heard(&self, moment: &mut u64) -> u32
         ensures { (result ≡ 0) × (moment.new ≡ self.now.link.heard) }
     {
-        *moment = self.link.last_heard();
+        *moment = match &self.link {
+            AnyLink::Full(link) => link.last_heard(),
+            AnyLink::Small(link) => link.last_heard(),
+        };
         Answer::Done.number()
     }
 
@@ -235,7 +343,10 @@ impl LinkBehind {
     pub fn is_lost(&self, lost: &mut bool) -> u32
         ensures { (result ≡ 0) × (lost.new ≡ self.now.link.lost) }
     {
-        *lost = self.link.is_lost();
+        *lost = match &self.link {
+            AnyLink::Full(link) => link.is_lost(),
+            AnyLink::Small(link) => link.is_lost(),
+        };
         Answer::Done.number()
     }
 
@@ -245,7 +356,10 @@ impl LinkBehind {
     pub fn is_late(&self, now: u64, late: &mut bool) -> u32
         ensures { (result ≡ 0) × (late.new ≡ late_at now self.now.link) }
     {
-        *late = is_late(&self.link, now);
+        *late = match &self.link {
+            AnyLink::Full(link) => is_late(link, now),
+            AnyLink::Small(link) => is_late(link, now),
+        };
         Answer::Done.number()
     }
 }

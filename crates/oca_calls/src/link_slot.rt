@@ -1,6 +1,6 @@
 //! A place for what is behind a handle, as C holds it: empty, or the owner of one.
 ghost use Rattle.std.specs.Prelude.{◌≡◌, Option, None, Some, is_some, true};
-ghost use Rattle.oca_calls.specs.declared.link.LinkBehind.{LinkBehind};
+ghost use Rattle.oca_calls.specs.LinkRooms.{RoomedLink};
 ghost use Rattle.oca_calls.specs.LinkSlots.{link_coded, link_owns};
 
 use crate::link::LinkBehind;
@@ -14,7 +14,7 @@ use std::marker::Model;
 pub struct LinkSlot {
     at: *mut (),
     alloc: Global,
-    pub ghost inner: { Option LinkBehind } by { link_coded },
+    pub ghost inner: { Option RoomedLink } by { link_coded },
 }
 
 impl Model for LinkSlot {
