@@ -11,6 +11,7 @@ mod play;
 mod reports;
 mod serving;
 mod sessions;
+mod small;
 
 use benches::Setup;
 use oca_device::Verdict;
