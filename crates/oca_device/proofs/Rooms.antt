@@ -12,12 +12,12 @@ use Rattle.oca_types.specs.Status.{status_number}
 use Rattle.oca_pdu.specs.Messages.{Msg, Command, Response, KeepAlive}
 use Rattle.oca_session.specs.Accepted.{Entry, Judgement, Fresh, Duplicate, Reused, Old, has_handle, is_below, window, outside, accepts, entry_under, asks_the_same, judge_unaccepted, judgement}
 use Rattle.oca_device.specs.Answers.{response}
-use Rattle.oca_device.specs.Rooms.{is_too_long, shortened, shortened_entry, shortened_entries, shortened_message, shortened_answers}
+use Rattle.oca_device.specs.Rooms.{is_too_long, shortened_reply, shortened_entry, shortened_entries, shortened_response, shortened_answers}
 
 -- what a window that retains shortened replies says
 abbrev pub shortened_judgement : ℕ → Judgement → Judgement
 shortened_judgement most Fresh = Fresh
-shortened_judgement most (Duplicate reply) = Duplicate (shortened most reply)
+shortened_judgement most (Duplicate reply) = Duplicate (shortened_reply most reply)
 shortened_judgement most Reused = Reused
 shortened_judgement most Old = Old
 
@@ -37,10 +37,10 @@ module _ (most : ℕ) where
       let out : nat_lt most 1452 ≡ false = grind (arith, nat_tests) in
       ap (λ b. b && nat_lt most (length params)) out
 
-  kept : nat_le 1452 most ≡ true → (r : Reply) → shortened most r ≡ r
+  kept : nat_le 1452 most ≡ true → (r : Reply) → shortened_reply most r ≡ r
   kept h r = ap (λ b. cond b short_reply r) (fits_all h r.params.items)
 
-  response_short : (h : ℕ) (r : Reply) → shortened_message most (response h r) ≡ response h (shortened most r)
+  response_short : (h : ℕ) (r : Reply) → shortened_response most (response h r) ≡ response h (shortened_reply most r)
   response_short h r = by (is_too_long most r.params.items)
     where
       by : (b : Bool) → cond b (response h short_reply) (response h r) ≡ response h (cond b short_reply r)
@@ -51,23 +51,23 @@ module _ (most : ℕ) where
 
   pub answers_joined : (xs ys : List Msg) → shortened_answers most (xs ++ ys) ≡ shortened_answers most xs ++ shortened_answers most ys
   answers_joined xs ys =
-      by_room (λ b. cond b (xs ++ ys) (map (shortened_message most) (xs ++ ys)) ≡ cond b xs (map (shortened_message most) xs) ++ cond b ys (map (shortened_message most) ys))
-      (λ _. refl) (λ _. map-append (shortened_message most) xs ys)
+      by_room (λ b. cond b (xs ++ ys) (map (shortened_response most) (xs ++ ys)) ≡ cond b xs (map (shortened_response most) xs) ++ cond b ys (map (shortened_response most) ys))
+      (λ _. refl) (λ _. map-append (shortened_response most) xs ys)
 
   pub none_answered : shortened_answers most [] ≡ []
-  none_answered = by_room (λ b. cond b [] (map (shortened_message most) []) ≡ []) (λ _. refl) (λ _. refl)
+  none_answered = by_room (λ b. cond b [] (map (shortened_response most) []) ≡ []) (λ _. refl) (λ _. refl)
 
-  pub one_answered : (h : ℕ) (r : Reply) → shortened_answers most (response h r ∷ []) ≡ response h (shortened most r) ∷ []
+  pub one_answered : (h : ℕ) (r : Reply) → shortened_answers most (response h r ∷ []) ≡ response h (shortened_reply most r) ∷ []
   one_answered h r =
-      by_room (λ b. cond b (response h r ∷ []) (shortened_message most (response h r) ∷ []) ≡ response h (shortened most r) ∷ [])
+      by_room (λ b. cond b (response h r ∷ []) (shortened_response most (response h r) ∷ []) ≡ response h (shortened_reply most r) ∷ [])
       (λ e. ap (λ (x : Reply). response h x ∷ []) (sym (kept e r))) (λ _. ap (λ (m : Msg). m ∷ []) (response_short h r))
 
-  pub kept_alive : (m : Msg) → shortened_message most m ≡ m → shortened_answers most (m ∷ []) ≡ m ∷ []
+  pub kept_alive : (m : Msg) → shortened_response most m ≡ m → shortened_answers most (m ∷ []) ≡ m ∷ []
   kept_alive m same =
-      by_room (λ b. cond b (m ∷ []) (shortened_message most m ∷ []) ≡ m ∷ []) (λ _. refl) (λ _. ap (λ (x : Msg). x ∷ []) same)
+      by_room (λ b. cond b (m ∷ []) (shortened_response most m ∷ []) ≡ m ∷ []) (λ _. refl) (λ _. ap (λ (x : Msg). x ∷ []) same)
 
   pub as_many : (ms : List Msg) → length (shortened_answers most ms) ≡ length ms
-  as_many ms = by_room (λ b. length (cond b ms (map (shortened_message most) ms)) ≡ length ms) (λ _. refl) (λ _. length-map ms (shortened_message most))
+  as_many ms = by_room (λ b. length (cond b ms (map (shortened_response most) ms)) ≡ length ms) (λ _. refl) (λ _. length-map ms (shortened_response most))
 
   -- ---- what is retained
 
@@ -115,7 +115,7 @@ module _ (most : ℕ) where
   unaccepted_same None c = refl
   unaccepted_same (Some e) c = by (asks_the_same e.command c)
     where
-      by : (b : Bool) → cond b (Duplicate (shortened most e.reply)) Reused ≡ shortened_judgement most (cond b (Duplicate e.reply) Reused)
+      by : (b : Bool) → cond b (Duplicate (shortened_reply most e.reply)) Reused ≡ shortened_judgement most (cond b (Duplicate e.reply) Reused)
       by true = refl
       by false = refl
 
@@ -164,7 +164,7 @@ module _ (most : ℕ) where
   was_old Reused h = cc
   was_old Old h = refl
 
-  pub was_duplicate : (j : Judgement) (x : Reply) → Duplicate x ≡ shortened_judgement most j → (r : Reply) × (Duplicate r ≡ j) × (x ≡ shortened most r)
+  pub was_duplicate : (j : Judgement) (x : Reply) → Duplicate x ≡ shortened_judgement most j → (r : Reply) × (Duplicate r ≡ j) × (x ≡ shortened_reply most r)
   was_duplicate Fresh x h = cc
   was_duplicate (Duplicate r) x h = (r, refl, cc)
   was_duplicate Reused x h = cc

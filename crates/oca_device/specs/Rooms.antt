@@ -21,8 +21,8 @@ use Rattle.oca_device.specs.Answers.{answers, packets_of, verdict}
 abbrev pub is_too_long : ℕ → List ℕ → Bool
 is_too_long room params = nat_lt room most_parameter_bytes && nat_lt room (length params)
 
-abbrev pub shortened : ℕ → Reply → Reply
-shortened room r =
+abbrev pub shortened_reply : ℕ → Reply → Reply
+shortened_reply room r =
     if is_too_long room r.params.items then record {
       status = status.BufferOverflow;
       count = 0;
@@ -31,25 +31,25 @@ shortened room r =
 
 -- accepted commands, with such replies
 abbrev pub shortened_entry : ℕ → Entry → Entry
-shortened_entry room e = record { command = e.command; reply = shortened room e.reply }
+shortened_entry room e = record { command = e.command; reply = shortened_reply room e.reply }
 
 abbrev pub shortened_entries : ℕ → List Entry → List Entry
 shortened_entries room A = if nat_le most_parameter_bytes room then A else map (shortened_entry room) A
 
 -- a response with such a reply; commands and keep-alives stay
-abbrev pub shortened_message : ℕ → Msg → Msg
-shortened_message room (Command respond c) = Command respond c
-shortened_message room (Response r) =
+abbrev pub shortened_response : ℕ → Msg → Msg
+shortened_response room (Command respond c) = Command respond c
+shortened_response room (Response r) =
     if is_too_long room r.params then Response (record {
       handle = r.handle;
       status = status_number status.BufferOverflow;
       count = 0;
       params = [];
     }) else Response r
-shortened_message room (KeepAlive form) = KeepAlive form
+shortened_response room (KeepAlive form) = KeepAlive form
 
 abbrev pub shortened_answers : ℕ → List Msg → List Msg
-shortened_answers room ms = if nat_le most_parameter_bytes room then ms else map (shortened_message room) ms
+shortened_answers room ms = if nat_le most_parameter_bytes room then ms else map (shortened_response room) ms
 
 -- THE PACKETS of a device with so much room, to an event after events: the answers as without it, but shortened.
 abbrev pub packets_within : ℕ → DeviceSizes → List Object → List Event → Event → List (List ℕ)
@@ -58,16 +58,16 @@ packets_within room w tree events e = packets_of (shortened_answers room (answer
 -- ---- datagrams
 
 -- A datagram has at most 27 bytes beside so many bytes of parameters. Room for 1,445 is room for each command.
-abbrev pub fits : ℕ → List ℕ → Bool
-fits room bytes = nat_le most_command_parameter_bytes room || nat_le (length bytes) (room + 27)
+abbrev pub has_room_for : ℕ → List ℕ → Bool
+has_room_for room bytes = nat_le most_command_parameter_bytes room || nat_le (length bytes) (room + 27)
 
 -- what a device with so much room is told of a datagram: one that does not fit is as one without bytes
 abbrev pub told : ℕ → List ℕ → List ℕ
-told room bytes = if fits room bytes then bytes else []
+told room bytes = if has_room_for room bytes then bytes else []
 
 -- THE VERDICT of a device with so much room on a datagram after events: one that does not fit is too long, from the
 -- first byte on that has no room.
 abbrev pub verdict_within : ℕ → DeviceSizes → List Object → List Event → Peer → List ℕ → ℕ → Verdict
 verdict_within room w tree events from bytes now =
-    if fits room bytes then verdict w tree events from bytes now
+    if has_room_for room bytes then verdict w tree events from bytes now
     else verdicts.Malformed (record { kind = TooLong; at = room + 27 })

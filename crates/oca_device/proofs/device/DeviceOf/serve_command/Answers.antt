@@ -25,7 +25,7 @@ use Rattle.oca_device.specs.declared.effect.CommandOutcome.TheVariants as outcom
 use Rattle.oca_device.specs.Effects.{effect_with, outcome_of}
 use Rattle.oca_device.specs.Devices.{DeviceState, IsIn}
 use Rattle.oca_device.specs.PrivateServing.{ServesMessage}
-use Rattle.oca_device.specs.Rooms.{shortened, shortened_entries, shortened_answers}
+use Rattle.oca_device.specs.Rooms.{shortened_reply, shortened_entries, shortened_answers}
 use Rattle.oca_device.proofs.Rooms.{none_answered, one_answered, judged_short, was_fresh, was_duplicate, was_reused, was_old}
 use Rattle.oca_device.proofs.Opened.{device_with, parts_in, written_in, effects_in}
 use Rattle.oca_device.proofs.Steps.{executed_there, agrees_there, known_there, one_executed, one_kept, one_old, one_reused}
@@ -69,7 +69,7 @@ agreed_in most w s p tree old self e h known =
 -- a fresh command was executed, and retained with its reply
 fresh_served : {written now_written : List ℕ} {effects now_effects : List Effect} (most : ℕ) (w : DeviceSizes) (s : State) (p : Peer) (command : CommandFields) (tree : List Object) (old : Table) (new_tree : List Object) (new : Table) (reply : Reply) →
     IsIn most w (device_with tree old written effects) s → is_noted s.moment s.notes p ≡ true → last_noted (run p s.notes) ≡ s.moment →
-    new_tree ≡ (execution tree p command).tree → reply ≡ shortened most (reply_of s.tree p command) →
+    new_tree ≡ (execution tree p command).tree → reply ≡ shortened_reply most (reply_of s.tree p command) →
     new ≡ with_sessions old (with_changed p (with_accepted w.window (shortened_entries most (accepted (run p s.notes)) ++ (record { command = command; reply = reply }) ∷ [])) old.sessions) →
     IsIn most w (device_with new_tree new now_written now_effects) (after_command Fresh p command s)
 fresh_served most w s p command tree old new_tree new reply was known now executed replied kept =
@@ -132,7 +132,7 @@ returns-then-respond-clause-serves g c = λ w s h now.
     let reply = made c.execute-done.result.status c.execute-done.result.count c.as_slice.result.now s.tree p command (c.execute-done.ensures.status ∙ ap (λ (t : List Object). (execution t p command).status) was.tree)
     (c.execute-done.ensures.count ∙ ap (λ (t : List Object). (execution t p command).count) was.tree)
     (c.as_slice.ensures.value ∙ c.execute-done.ensures.parameters ∙ ap (λ (t : List Object). (execution t p command).parameters) was.tree) in
-    let short = c.shortened-reply.ensures.shortened ∙ ap (shortened g.row.ANSWER) reply in
+    let short = c.shortened-reply.ensures.shortened ∙ ap (shortened_reply g.row.ANSWER) reply in
     by_judgement g.row.ANSWER w s p command c.args.respond c.args.self.now (device_with c.execute-done.new.self c.keep_parts.new.self (numbers_of c.note_written.new.written.items) c.note.new.effects) c.args.outbox.now c.respond.new.self c.args.counts.now _ Fresh
     (was_fresh g.row.ANSWER (judged_in w s p command) (c.in-Fresh.ensures.accepted w.window A agreed ∙ judged_short g.row.ANSWER w.window (accepted (run p s.notes)) command))
     (fresh_served g.row.ANSWER w s p command tree old c.execute-done.new.self c.keep_parts.new.self (reply_in c.shortened-reply.result) was known now c.execute-done.ensures.tree short (c.keep_parts.ensures.accepted w.window A agreed))
@@ -158,7 +158,7 @@ returns-else-respond-clause-serves g c = λ w s h now.
     let reply = made c.execute-done.result.status c.execute-done.result.count c.as_slice.result.now s.tree p command (c.execute-done.ensures.status ∙ ap (λ (t : List Object). (execution t p command).status) was.tree)
     (c.execute-done.ensures.count ∙ ap (λ (t : List Object). (execution t p command).count) was.tree)
     (c.as_slice.ensures.value ∙ c.execute-done.ensures.parameters ∙ ap (λ (t : List Object). (execution t p command).parameters) was.tree) in
-    let short = c.shortened-reply.ensures.shortened ∙ ap (shortened g.row.ANSWER) reply in
+    let short = c.shortened-reply.ensures.shortened ∙ ap (shortened_reply g.row.ANSWER) reply in
     by_judgement g.row.ANSWER w s p command c.args.respond c.args.self.now (device_with c.execute-done.new.self c.keep_parts.new.self (numbers_of c.note_written.new.written.items) c.note.new.effects) c.args.outbox.now c.args.outbox.now c.args.counts.now _ Fresh
     (was_fresh g.row.ANSWER (judged_in w s p command) (c.in-Fresh.ensures.accepted w.window A agreed ∙ judged_short g.row.ANSWER w.window (accepted (run p s.notes)) command))
     (fresh_served g.row.ANSWER w s p command tree old c.execute-done.new.self c.keep_parts.new.self (reply_in c.shortened-reply.result) was known now c.execute-done.ensures.tree short (c.keep_parts.ensures.accepted w.window A agreed))
