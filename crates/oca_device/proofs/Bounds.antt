@@ -18,7 +18,7 @@ use Rattle.oca_device.specs.Notes.{Admitted}
 use Rattle.oca_device.specs.States.{State, noted, admits, judged_in, after_message}
 use Rattle.oca_device.specs.Groups.{last_with, from_with, with_answer, with_answers, encodings}
 use Rattle.oca_device.specs.Answers.{answer_to_command, answer_to, answers_to_messages, answers_to_reading, packets_of}
-use Rattle.oca_device.specs.Rooms.{has_room_for, shortened_answers}
+use Rattle.oca_device.specs.Rooms.{is_short_enough, shortened_answers}
 use Rattle.oca_device.proofs.Rooms.{as_many}
 use Rattle.oca_device.specs.PrivateServing.{IsShort, may_answer, most_answers, commands_of, all_commands}
 
@@ -80,7 +80,7 @@ pdus_short most (p ∷ ps) n h few =
     let parts = length-append (pdu_encoding p) (flat_map pdu_encoding ps) in
     both_short most (messages_of p) (flat_map messages_of ps) (pdu_short most p (omega (arith, parts))) (pdus_short most ps n (omega (arith, parts)) few)
 
-pub all_short : (most : ℕ) (ps : List Pdu) (bytes : List ℕ) → IsDatagram ps bytes → has_room_for most bytes ≡ true → AllByRecursion (IsShort most) (flat_map messages_of ps)
+pub all_short : (most : ℕ) (ps : List Pdu) (bytes : List ℕ) → IsDatagram ps bytes → is_short_enough most bytes ≡ true → AllByRecursion (IsShort most) (flat_map messages_of ps)
 all_short most ps bytes h room = pdus_short most ps (length bytes) (omega (arith, ap length h.bytes_are)) (within (nat_le 1445 most) refl (length bytes) room h.within_limit)
   where
     within : (b : Bool) → nat_le 1445 most ≡ b → (n : ℕ) → (b || nat_le n (most + 27)) ≡ true → n ≤ 1472 → n ≤ most + 27

@@ -58,16 +58,16 @@ packets_within room w tree events e = packets_of (shortened_answers room (answer
 -- ---- datagrams
 
 -- A datagram has at most 27 bytes beside so many bytes of parameters. Room for 1,445 is room for each command.
-abbrev pub has_room_for : ℕ → List ℕ → Bool
-has_room_for room bytes = nat_le most_command_parameter_bytes room || nat_le (length bytes) (room + 27)
+abbrev pub is_short_enough : ℕ → List ℕ → Bool
+is_short_enough room bytes = nat_le most_command_parameter_bytes room || nat_le (length bytes) (room + 27)
 
 -- what a device with so much room is told of a datagram: one that does not fit is as one without bytes
 abbrev pub told : ℕ → List ℕ → List ℕ
-told room bytes = if has_room_for room bytes then bytes else []
+told room bytes = if is_short_enough room bytes then bytes else []
 
 -- THE VERDICT of a device with so much room on a datagram after events: one that does not fit is too long, from the
 -- first byte on that has no room.
 abbrev pub verdict_within : ℕ → DeviceSizes → List Object → List Event → Peer → List ℕ → ℕ → Verdict
 verdict_within room w tree events from bytes now =
-    if has_room_for room bytes then verdict w tree events from bytes now
+    if is_short_enough room bytes then verdict w tree events from bytes now
     else verdicts.Malformed (record { kind = TooLong; at = room + 27 })

@@ -22,7 +22,7 @@ ghost use Rattle.oca_tree.specs.Readers.{failing_at};
 ghost use Rattle.oca_model.specs.declared.request.Request.TheVariants as asked;
 ghost use Rattle.std.specs.Result.{result_err};
 ghost use Rattle.oca_device.specs.Answers.{packets_of, answers_to_reading};
-ghost use Rattle.oca_device.specs.Rooms.{shortened_reply, shortened_answers, packets_within, told, has_room_for, verdict_within};
+ghost use Rattle.oca_device.specs.Rooms.{shortened_reply, shortened_answers, packets_within, told, is_short_enough, verdict_within};
 ghost use Rattle.oca_device.specs.Outboxes.{first_packets, may_be_answered};
 ghost use Rattle.oca_pdu.specs.Reading.{read_datagram};
 ghost use Rattle.oca_tree.specs.Written.{wrote};
@@ -463,7 +463,7 @@ impl<const COMMAND: usize, const ANSWER: usize> DeviceOf<COMMAND, ANSWER> {
     /// it moves nothing here.
     fn receive(&mut self, from: Peer, bytes: &[u8], now: u64, outbox: &mut BoundedOutbox) -> Verdict
         requires moment { now ≤ self.old.sessions.moment }
-        requires fits { has_room_for COMMAND bytes.now ≡ true }
+        requires fits { is_short_enough COMMAND bytes.now ≡ true }
         requires empty { outbox.old ≡ first_packets outbox.old.room [] }
         requires none { self.old.written ≡ [] }
         requires unserved { self.old.effects ≡ [] }
@@ -697,7 +697,7 @@ fn note_written(written: &mut ArrayVec<Ono, MOST_COMMANDS>, ono: Ono, wrote: boo
 /// Whether there is room for each command of these bytes.
 #[inline(always)]
 fn is_taken<const COMMAND: usize>(bytes: &[u8]) -> bool
-    ensures { result ≡ has_room_for COMMAND bytes.now }
+    ensures { result ≡ is_short_enough COMMAND bytes.now }
 {
     COMMAND >= MOST_COMMAND_PARAMETER_BYTES || bytes.len() <= COMMAND + BESIDE_PARAMETERS
 }
