@@ -95,7 +95,7 @@ static inline const char *oca_result_text(uint32_t result) {
     case OCA_LOST: return "the link is lost";
     case OCA_HANDLES_SPENT: return "no handle is left";
     case OCA_SPAN_FULL: return "the next handle is not below the lowest untaken one plus the span";
-    case OCA_TOO_LONG: return "the parameters have more than 1,445 bytes";
+    case OCA_TOO_LONG: return "the parameters are too long";
     case OCA_NO_VALUE: return "there is no such value";
     default: return "a result of a later version";
     }
@@ -987,7 +987,7 @@ enum oca_result oca_link_submit(struct oca_link *link, uint32_t target, uint16_t
  * and then nothing is changed, written or sent. OCA_CLOSED if the link is closed. OCA_LOST if the link is lost.
  * OCA_HANDLES_SPENT if a command has the handle 4294967295 already. OCA_SPAN_FULL if the next handle is not below the
  * lowest handle whose answer was not taken yet, plus the span. OCA_TOO_LONG if the parameters have more than 1,445
- * bytes. */
+ * bytes (for a small link 64). */
 static inline enum oca_result oca_link_ask(struct oca_link *link, uint32_t target, const struct oca_request *request, uint64_t now, uint32_t *handle) {
     return oca_link_submit(link, target, request->level, request->index, request->count, request->params, request->size, now, handle);
 }
@@ -1366,9 +1366,10 @@ struct oca_outcome oca_panel_label(struct oca_panel *panel, uint32_t ono, struct
  * call waits for the answer for at most the panel's `wait_ms` milliseconds. Returns OCA_ASKED_DONE if the object has
  * the label. OCA_ASKED_NO_VALUE if the label has more than 64 bytes or is not UTF-8: then nothing is sent. Otherwise
  * the outcome is one of these (enum oca_asked). OCA_ASKED_LOST or OCA_ASKED_LATE if the panel's link is lost or late: a
- * command that was sent may have been carried out. OCA_ASKED_NOT_SENT with OCA_CLOSED, OCA_HANDLES_SPENT or
- * OCA_SPAN_FULL in `result`: that command was not sent. OCA_ASKED_UNANSWERED if no answer came in time: the command
- * stays in flight under the handle in `result`. OCA_ASKED_REFUSED if the answer's status is not OK, with that status.
+ * command that was sent may have been carried out. OCA_ASKED_NOT_SENT with OCA_CLOSED, OCA_HANDLES_SPENT, OCA_SPAN_FULL
+ * or OCA_TOO_LONG in `result`: that command was not sent; it is too long over a small link, if the label has more than
+ * 62 bytes. OCA_ASKED_UNANSWERED if no answer came in time: the command stays in flight under the handle in `result`.
+ * OCA_ASKED_REFUSED if the answer's status is not OK, with that status.
  */
 struct oca_outcome oca_panel_set_label(struct oca_panel *panel, uint32_t ono, const struct oca_name *label);
 

@@ -49,7 +49,7 @@ impl Model for LinkBehind {
 impl LinkBehind {
     /// Makes a link to the device at the address `device`, with room for each command and each answer. `first_handle`
     /// is the handle of its first command, `now` the moment in milliseconds of the caller's clock, and `span` its span.
-    /// The call takes memory for the link: 94,520 bytes and 16 bytes. `None` if memory was refused: then none is kept.
+    /// The call takes memory for the link: 94,520 bytes. `None` if memory was refused: then none is kept.
     #[inline(never)]
     pub(crate) fn full(
         alloc: Global,
@@ -72,7 +72,7 @@ impl LinkBehind {
     }
 
     /// Makes a small link ([`SmallLink`]), with the same arguments. The call takes memory for the link, at most 12,288
-    /// bytes and 16 bytes. `None` if memory was refused: then none is kept.
+    /// bytes. `None` if memory was refused: then none is kept.
     #[inline(never)]
     pub(crate) fn small(
         alloc: Global,

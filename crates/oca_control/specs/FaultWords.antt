@@ -7,4 +7,4 @@ abbrev pub control_fault_words : ControlFault → List ℕ
 control_fault_words Lost = codes "the link is lost"
 control_fault_words HandlesSpent = codes "no handle is left"
 control_fault_words SpanFull = codes "the next handle is not below the lowest untaken one plus the span"
-control_fault_words TooLong = codes "the parameters have more than 1,445 bytes"
+control_fault_words TooLong = codes "the parameters are too long"

@@ -16,7 +16,7 @@ pub enum ControlFault {
     HandlesSpent = 2,
     /// The next handle is not below the lowest handle whose answer was not taken yet, plus the span.
     SpanFull = 3,
-    /// The parameters have more than 1,445 bytes.
+    /// The parameters have more bytes than the link has room for: 1,445 in a `Link`.
     TooLong = 4,
 }
 
@@ -38,7 +38,7 @@ fn words_for(fault: ControlFault) -> &'static str
         ControlFault::SpanFull => {
             "the next handle is not below the lowest untaken one plus the span"
         }
-        ControlFault::TooLong => "the parameters have more than 1,445 bytes",
+        ControlFault::TooLong => "the parameters are too long",
     }
 }
 

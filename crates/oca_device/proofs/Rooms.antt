@@ -1,15 +1,13 @@
 -- Replies for which there is no room: what is retained and answered of them.
-use Rattle.std.proofs.Common.{◌≡◌, ℕ, ◌≤◌, Bool, true, false, cond, List, [], ◌∷◌, ◌++◌, length, Option, Some, None, refl, sym, ap, ◌∙◌, subst, arith}
+use Rattle.std.proofs.Common.{◌≡◌, ℕ, Bool, true, false, cond, List, [], ◌∷◌, ◌++◌, length, Option, Some, None, refl, sym, ap, ◌∙◌, arith}
 use Rattle.std.specs.Prelude.{map, nat_le, nat_lt, not, ◌&&◌, ◌||◌, take, drop, ◌-◌, option_map}
 use Rattle.std.specs.List.{list_any, list_all}
 use Rattle.std.proofs.lemmas.Bool.Decides.{nat_tests}
 use Rattle.std.proofs.lemmas.List.{map-append, length-map, take-map, drop-map}
-use Rattle.oca_types.specs.declared.words.Peer.{Peer}
 use Rattle.oca_types.specs.declared.status.Status.TheVariants as status
 use Rattle.oca_types.specs.Peers.{CommandFields}
 use Rattle.oca_types.specs.Replies.{Reply}
-use Rattle.oca_types.specs.Status.{status_number}
-use Rattle.oca_pdu.specs.Messages.{Msg, Command, Response, KeepAlive}
+use Rattle.oca_pdu.specs.Messages.{Msg}
 use Rattle.oca_session.specs.Accepted.{Entry, Judgement, Fresh, Duplicate, Reused, Old, has_handle, is_below, window, outside, accepts, entry_under, asks_the_same, judge_unaccepted, judgement}
 use Rattle.oca_device.specs.Answers.{response}
 use Rattle.oca_device.specs.Rooms.{is_too_long, shortened_reply, shortened_entry, shortened_entries, shortened_response, shortened_answers}

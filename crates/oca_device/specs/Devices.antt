@@ -13,8 +13,8 @@ use Rattle.oca_device.specs.Written.{written}
 use Rattle.oca_device.specs.Effects.{effects}
 use Rattle.oca_device.specs.Rooms.{shortened_entries}
 
--- What a device is: its objects, its clock and sessions, the numbers of the objects that the last datagram wrote to, and
--- what became of each command of this datagram.
+-- What a device is: its objects, its clock and sessions, the numbers of the objects that the last datagram wrote to,
+-- and what became of each command of this datagram.
 pub record DeviceState : Type 0 where
   pub tree : List Object
   pub sessions : Table

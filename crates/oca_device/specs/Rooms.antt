@@ -11,7 +11,7 @@ use Rattle.oca_tree.specs.declared.object.Object.{Object}
 use Rattle.oca_session.specs.Accepted.{Entry}
 use Rattle.oca_device.specs.declared.verdict.Verdict.{Verdict}
 use Rattle.oca_device.specs.declared.verdict.Verdict.TheVariants as verdicts
-use Rattle.oca_device.specs.Events.{Event, Datagram}
+use Rattle.oca_device.specs.Events.{Event}
 use Rattle.oca_device.specs.Answers.{answers, packets_of, verdict}
 
 -- ---- replies
@@ -57,7 +57,8 @@ packets_within room w tree events e = packets_of (shortened_answers room (answer
 
 -- ---- datagrams
 
--- A datagram has at most 27 bytes beside so many bytes of parameters. Room for 1,445 is room for each command.
+-- A datagram is short enough with at most 27 bytes more than there is room for. Room for 1,445 is room for each
+-- command.
 abbrev pub is_short_enough : ℕ → List ℕ → Bool
 is_short_enough room bytes = nat_le most_command_parameter_bytes room || nat_le (length bytes) (room + 27)
 

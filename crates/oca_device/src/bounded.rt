@@ -162,7 +162,8 @@ fn join_last(places: &mut Vec<Packet>, count: usize, handle: Handle, reply: Repl
     requires short { length reply.params.now ≤ most_parameter_bytes }
     requires within { count ≤ length places.old.items }
     requires groups { AreEncodings (bytes_of_packets (take count places.old.items)) }
-    ensures joins { JoinsLast result (response handle.0 (reply_in reply.entry)) (bytes_of_packets (take count places.old.items))
+    ensures joins { JoinsLast result (response handle.0 (reply_in reply.entry)) (bytes_of_packets
+        (take count places.old.items))
         (bytes_of_packets (take count places.new.items)) }
     ensures length { length places.new.items ≡ length places.old.items }
     ensures room { vec_capacity places.new ≡ vec_capacity places.old }

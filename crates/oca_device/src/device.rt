@@ -3,7 +3,8 @@ ghost use Rattle.std.specs.Prelude.{◌≡◌, ◌+◌, ◌<◌, ◌≤◌, List
 ghost use Rattle.std.specs.Prelude.{true, IsTrue, IsSome, if◌then◌else◌, Ok, Err, slice_get};
 ghost use Rattle.oca_types.specs.Peers.{fields_of};
 ghost use Rattle.oca_types.specs.Replies.{reply_in};
-ghost use Rattle.oca_types.specs.Sizes.{most_command_parameter_bytes, most_parameter_bytes, window_size, sizes_of, DeviceSizes};
+ghost use Rattle.oca_types.specs.Sizes.{most_command_parameter_bytes, most_parameter_bytes};
+ghost use Rattle.oca_types.specs.Sizes.{window_size, sizes_of, DeviceSizes};
 ghost use Rattle.oca_pdu.specs.declared.fault.PduFaultKind.TheVariants.{TooLong};
 ghost use Rattle.std.specs.List.{AllByRecursion};
 ghost use Rattle.oca_pdu.specs.Messages.{Msg, Command as Commands, msg_of};
@@ -22,7 +23,8 @@ ghost use Rattle.oca_tree.specs.Readers.{failing_at};
 ghost use Rattle.oca_model.specs.declared.request.Request.TheVariants as asked;
 ghost use Rattle.std.specs.Result.{result_err};
 ghost use Rattle.oca_device.specs.Answers.{packets_of, answers_to_reading};
-ghost use Rattle.oca_device.specs.Rooms.{shortened_reply, shortened_answers, packets_within, told, is_short_enough, verdict_within};
+ghost use Rattle.oca_device.specs.Rooms.{shortened_reply, shortened_answers, packets_within};
+ghost use Rattle.oca_device.specs.Rooms.{told, is_short_enough, verdict_within};
 ghost use Rattle.oca_device.specs.Outboxes.{first_packets, may_be_answered};
 ghost use Rattle.oca_pdu.specs.Reading.{read_datagram};
 ghost use Rattle.oca_tree.specs.Written.{wrote};
@@ -82,11 +84,10 @@ const BESIDE_PARAMETERS: usize = 27;
 /// and changes at its local front panel. Moments are in milliseconds of the caller's clock. A moment that is earlier
 /// than the latest one so far is taken as the latest one: that is the *device's clock*.
 ///
-/// [`Device`] has room for each command and each reply. In another one less memory is taken: a command in a reply window
-/// takes some 64 bytes, and the room for its parameters and for those of its reply.
+/// [`Device`] has room for each command and each reply. Another one takes less memory: a command in a reply window
+/// takes some 50 bytes, and the room for its parameters and for those of its reply.
 /// - `COMMAND` is the number of bytes of parameters that a command may have, at most 1,445. A datagram of more than
-///   `COMMAND` + 27 bytes is malformed, and so such a device has room for each command of a datagram. A datagram with
-///   several commands needs no more than one with a single command.
+///   `COMMAND` + 27 bytes is malformed. Several commands may share a datagram, if it has at most so many bytes.
 /// - `ANSWER` is the number of bytes of parameters that a reply may have, at most 1,452. A command is executed as by a
 ///   [`Device`]; but if its reply has more, the peer is answered with the status BufferOverflow (AES70-2) and without
 ///   parameters, and so are the duplicates of the command. Only methods that read have parameters in their replies.
@@ -109,7 +110,7 @@ pub struct DeviceOf<const COMMAND: usize, const ANSWER: usize> {
 /// [`DeviceOf`] has its calls, and explains their words.
 pub type Device = DeviceOf<MOST_COMMAND_PARAMETER_BYTES, MOST_PARAMETER_BYTES>;
 
-/// A device for short commands and replies, as of switches and faders alone: commands with 64 bytes of parameters, in
+/// A device for short commands and replies, as those of mutes and numbers: commands with 64 bytes of parameters, in
 /// datagrams of at most 91 bytes, and replies with 264. A command in a reply window takes 376 bytes. [`DeviceOf`] says
 /// what becomes of longer ones.
 pub type SmallDevice = DeviceOf<64, 264>;
@@ -143,8 +144,8 @@ impl<const COMMAND: usize, const ANSWER: usize> DeviceOf<COMMAND, ANSWER> {
     /// device's clock is at 0.
     ///
     /// The call takes all the memory that the device will need beside `tree` and an outbox. Refusal: `NoMemory` if that
-    /// memory is refused, or for a [`DeviceOf`] with `COMMAND` above 1,445 or `ANSWER` above 1,452; the objects are then
-    /// lost.
+    /// memory is refused, or for a [`DeviceOf`] with `COMMAND` above 1,445 or `ANSWER` above 1,452; the objects are
+    /// then lost.
     pub fn new(alloc: Global, tree: Tree, window: Window) -> Result<Self, NoMemory>
         ensures { IfOk result (λ device. RepresentsWithin ANSWER (record {
           window = window_size window;
@@ -165,8 +166,8 @@ impl<const COMMAND: usize, const ANSWER: usize> DeviceOf<COMMAND, ANSWER> {
     /// sessions of 1 to 64 peers (*profile*). No peer has a session yet, and the device's clock is at 0.
     ///
     /// The call takes all the memory that the device will need beside `tree` and an outbox. Refusal: `NoMemory` if that
-    /// memory is refused, or for a [`DeviceOf`] with `COMMAND` above 1,445 or `ANSWER` above 1,452; the objects are then
-    /// lost.
+    /// memory is refused, or for a [`DeviceOf`] with `COMMAND` above 1,445 or `ANSWER` above 1,452; the objects are
+    /// then lost.
     pub fn with_sizes(alloc: Global, tree: Tree, sizes: Sizes) -> Result<Self, NoMemory>
         ensures { IfOk result (λ device. RepresentsWithin ANSWER (sizes_of sizes) device tree []) }
     {
@@ -186,24 +187,28 @@ impl<const COMMAND: usize, const ANSWER: usize> DeviceOf<COMMAND, ANSWER> {
     /// memory is taken.
     ///
     /// First the clock moves on to `now` as [`tick`](Device::tick) does. Then the first that applies:
-    /// - `Malformed` with `TooLong` if there are more than `COMMAND` + 27 bytes ([`DeviceOf`]): for a [`Device`] that is
-    ///   no case of its own.
+    /// - `Malformed` with `TooLong` if there are more than `COMMAND` + 27 bytes ([`DeviceOf`]): for a [`Device`] that
+    ///   is no case of its own.
     /// - `Malformed` with the first fault if the bytes are no well-formed datagram (AES70-3).
     /// - `NoRoom` if the sender has no session, and there is no room for another session (*profile*).
     /// - `Served` with the numbers of commands that were served in each way. The messages are served in order. A new
     ///   command is executed, and a duplicate gets its retained reply; a command that asks for no response gets none
-    ///   (AES70-3). A reply with more than `ANSWER` bytes of parameters is answered as BufferOverflow. A command that is
-    ///   old, or that asks something else under the handle of a retained command, is ignored. A keep-alive sets the heartbeat and is returned (AES70-3). A response is ignored.
+    ///   (AES70-3). A reply with more than `ANSWER` bytes of parameters is answered as BufferOverflow. A command that
+    ///   is old, or that asks something else under the handle of a retained command, is ignored. A keep-alive sets the
+    ///   heartbeat and is returned (AES70-3). A response is ignored.
     ///
     /// After `Malformed` and `NoRoom` no object and no session is changed further, nothing is answered, and
     /// [`Device::written`] and [`Device::effects`] are empty. Neighbouring responses share a PDU of at most 1,472 bytes
     /// (*profile*).
     pub fn datagram(&mut self, from: Peer, bytes: &[u8], now: u64, outbox: &mut Outbox) -> Verdict
-        ensures represents { (w : DeviceSizes) (T : List Object) (E : List Event) → RepresentsWithin ANSWER w self.old T E →
+        ensures represents { (w : DeviceSizes) (T : List Object) (E : List Event) →
+            RepresentsWithin ANSWER w self.old T E →
             RepresentsWithin ANSWER w self.new T (DatagramEvent from (told COMMAND bytes.now) now ∷ E) }
-        ensures packets { (w : DeviceSizes) (T : List Object) (E : List Event) → RepresentsWithin ANSWER w self.old T E →
+        ensures packets { (w : DeviceSizes) (T : List Object) (E : List Event) →
+            RepresentsWithin ANSWER w self.old T E →
             outbox.new ≡ packets_within ANSWER w T E (DatagramEvent from (told COMMAND bytes.now) now) }
-        ensures verdict { (w : DeviceSizes) (T : List Object) (E : List Event) → RepresentsWithin ANSWER w self.old T E →
+        ensures verdict { (w : DeviceSizes) (T : List Object) (E : List Event) →
+            RepresentsWithin ANSWER w self.old T E →
             result ≡ verdict_within COMMAND w T E from bytes.now now }
     {
         self.datagram_within(from, bytes, now, &mut outbox.first)
@@ -226,16 +231,21 @@ impl<const COMMAND: usize, const ANSWER: usize> DeviceOf<COMMAND, ANSWER> {
         now: u64,
         outbox: &mut BoundedOutbox,
     ) -> Verdict
-        ensures represents { (w : DeviceSizes) (T : List Object) (E : List Event) → RepresentsWithin ANSWER w self.old T E →
+        ensures represents { (w : DeviceSizes) (T : List Object) (E : List Event) →
+            RepresentsWithin ANSWER w self.old T E →
             RepresentsWithin ANSWER w self.new T (DatagramEvent from (told COMMAND bytes.now) now ∷ E) }
-        ensures packets { (w : DeviceSizes) (T : List Object) (E : List Event) → RepresentsWithin ANSWER w self.old T E →
-            outbox.new ≡ first_packets outbox.old.room (packets_within ANSWER w T E (DatagramEvent from (told COMMAND bytes.now) now)) }
-        ensures verdict { (w : DeviceSizes) (T : List Object) (E : List Event) → RepresentsWithin ANSWER w self.old T E →
+        ensures packets { (w : DeviceSizes) (T : List Object) (E : List Event) →
+            RepresentsWithin ANSWER w self.old T E →
+            outbox.new ≡ first_packets outbox.old.room (packets_within ANSWER w T E (DatagramEvent from
+            (told COMMAND bytes.now) now)) }
+        ensures verdict { (w : DeviceSizes) (T : List Object) (E : List Event) →
+            RepresentsWithin ANSWER w self.old T E →
             result ≡ verdict_within COMMAND w T E from bytes.now now }
         ensures few { (w : DeviceSizes) (T : List Object) (E : List Event) → RepresentsWithin ANSWER w self.old T E →
             length (packets_within ANSWER w T E (DatagramEvent from (told COMMAND bytes.now) now)) ≤ most_answered }
         ensures each { (w : DeviceSizes) (T : List Object) (E : List Event) → RepresentsWithin ANSWER w self.old T E →
-            length (packets_within ANSWER w T E (DatagramEvent from (told COMMAND bytes.now) now)) ≤ may_be_answered bytes.now }
+            length (packets_within ANSWER w T E (DatagramEvent from
+            (told COMMAND bytes.now) now)) ≤ may_be_answered bytes.now }
         ensures room { outbox.new.room ≡ outbox.old.room }
     {
         outbox.clear();
@@ -271,10 +281,12 @@ impl<const COMMAND: usize, const ANSWER: usize> DeviceOf<COMMAND, ANSWER> {
     /// - `OutOfRange` if a switch has no such position or the position is disabled, or a number is outside the object's
     ///   limits.
     pub fn set(&mut self, ono: Ono, value: Value) -> Result<(), SetFault>
-        ensures represents { (w : DeviceSizes) (T : List Object) (E : List Event) → RepresentsWithin ANSWER w self.old T E →
+        ensures represents { (w : DeviceSizes) (T : List Object) (E : List Event) →
+            RepresentsWithin ANSWER w self.old T E →
             RepresentsWithin ANSWER w self.new T (Local ono.0 (ToValue value) ∷ E) }
         ensures fault { result_err result ≡ set_fault self.old.tree ono.0 value }
-        ensures represented { (w : DeviceSizes) (T : List Object) (E : List Event) → RepresentsWithin ANSWER w self.old T E →
+        ensures represented { (w : DeviceSizes) (T : List Object) (E : List Event) →
+            RepresentsWithin ANSWER w self.old T E →
             result_err result ≡ set_fault (state_after w T E).tree ono.0 value }
         ensures refused { OnErr result (self.new ≡ self.old) }
     {
@@ -288,10 +300,12 @@ impl<const COMMAND: usize, const ANSWER: usize> DeviceOf<COMMAND, ANSWER> {
     /// Refusals, the first that applies, which change nothing: `NoObject` if no object has the number `ono`. `BadLabel`
     /// if the label has more than 64 bytes.
     pub fn set_label(&mut self, ono: Ono, label: &str) -> Result<(), FrontFault>
-        ensures represents { (w : DeviceSizes) (T : List Object) (E : List Event) → RepresentsWithin ANSWER w self.old T E →
+        ensures represents { (w : DeviceSizes) (T : List Object) (E : List Event) →
+            RepresentsWithin ANSWER w self.old T E →
             RepresentsWithin ANSWER w self.new T (Local ono.0 (ToLabel label.now) ∷ E) }
         ensures fault { result_err result ≡ front_fault self.old.tree ono.0 (asked.SetLabel label.now) }
-        ensures represented { (w : DeviceSizes) (T : List Object) (E : List Event) → RepresentsWithin ANSWER w self.old T E →
+        ensures represented { (w : DeviceSizes) (T : List Object) (E : List Event) →
+            RepresentsWithin ANSWER w self.old T E →
             result_err result ≡ front_fault (state_after w T E).tree ono.0 (asked.SetLabel label.now) }
         ensures refused { OnErr result (self.new ≡ self.old) }
     {
@@ -303,10 +317,12 @@ impl<const COMMAND: usize, const ANSWER: usize> DeviceOf<COMMAND, ANSWER> {
     /// [`set_failing`](Device::set_failing). The clock and the sessions stay as they are, and no peer gets a message.
     /// Refusal: `NoObject` if no object has the number `ono`; then nothing is changed.
     pub fn set_enabled(&mut self, ono: Ono, enabled: bool) -> Result<(), FrontFault>
-        ensures represents { (w : DeviceSizes) (T : List Object) (E : List Event) → RepresentsWithin ANSWER w self.old T E →
+        ensures represents { (w : DeviceSizes) (T : List Object) (E : List Event) →
+            RepresentsWithin ANSWER w self.old T E →
             RepresentsWithin ANSWER w self.new T (Local ono.0 (ToEnabled enabled) ∷ E) }
         ensures fault { result_err result ≡ front_fault self.old.tree ono.0 (asked.SetEnabled enabled) }
-        ensures represented { (w : DeviceSizes) (T : List Object) (E : List Event) → RepresentsWithin ANSWER w self.old T E →
+        ensures represented { (w : DeviceSizes) (T : List Object) (E : List Event) →
+            RepresentsWithin ANSWER w self.old T E →
             result_err result ≡ front_fault (state_after w T E).tree ono.0 (asked.SetEnabled enabled) }
         ensures refused { OnErr result (self.new ≡ self.old) }
     {
@@ -320,10 +336,12 @@ impl<const COMMAND: usize, const ANSWER: usize> DeviceOf<COMMAND, ANSWER> {
     /// Refusals, the first that applies, which change nothing: `NoObject` if no object has the number `ono`.
     /// `NotLocked` if the object is not locked.
     pub fn unlock(&mut self, ono: Ono) -> Result<(), FrontFault>
-        ensures represents { (w : DeviceSizes) (T : List Object) (E : List Event) → RepresentsWithin ANSWER w self.old T E →
+        ensures represents { (w : DeviceSizes) (T : List Object) (E : List Event) →
+            RepresentsWithin ANSWER w self.old T E →
             RepresentsWithin ANSWER w self.new T (Local ono.0 ToUnlocked ∷ E) }
         ensures fault { result_err result ≡ front_fault self.old.tree ono.0 asked.Unlock }
-        ensures represented { (w : DeviceSizes) (T : List Object) (E : List Event) → RepresentsWithin ANSWER w self.old T E →
+        ensures represented { (w : DeviceSizes) (T : List Object) (E : List Event) →
+            RepresentsWithin ANSWER w self.old T E →
             result_err result ≡ front_fault (state_after w T E).tree ono.0 asked.Unlock }
         ensures refused { OnErr result (self.new ≡ self.old) }
     {
@@ -339,10 +357,12 @@ impl<const COMMAND: usize, const ANSWER: usize> DeviceOf<COMMAND, ANSWER> {
     /// front panel. The setting is not saved to a store. The clock and the sessions stay as they are. Refusal:
     /// `NoObject` if no object has the number `ono`; then nothing is changed.
     pub fn set_failing(&mut self, ono: Ono, failing: bool) -> Result<(), FrontFault>
-        ensures represents { (w : DeviceSizes) (T : List Object) (E : List Event) → RepresentsWithin ANSWER w self.old T E →
+        ensures represents { (w : DeviceSizes) (T : List Object) (E : List Event) →
+            RepresentsWithin ANSWER w self.old T E →
             RepresentsWithin ANSWER w self.new T (Local ono.0 (ToFailing failing) ∷ E) }
         ensures fault { result_err result ≡ front_fault self.old.tree ono.0 (asked.SetEnabled failing) }
-        ensures represented { (w : DeviceSizes) (T : List Object) (E : List Event) → RepresentsWithin ANSWER w self.old T E →
+        ensures represented { (w : DeviceSizes) (T : List Object) (E : List Event) →
+            RepresentsWithin ANSWER w self.old T E →
             result_err result ≡ front_fault (state_after w T E).tree ono.0 (asked.SetEnabled failing) }
         ensures refused { OnErr result (self.new ≡ self.old) }
     {
@@ -353,7 +373,8 @@ impl<const COMMAND: usize, const ANSWER: usize> DeviceOf<COMMAND, ANSWER> {
     /// before the first such call. `None` if no object has the number `ono`. Nothing is changed.
     pub fn is_failing(&self, ono: Ono) -> Option<bool>
         ensures failing { result ≡ failing_at self.now.tree ono.0 }
-        ensures represented { (w : DeviceSizes) (T : List Object) (E : List Event) → RepresentsWithin ANSWER w self.now T E →
+        ensures represented { (w : DeviceSizes) (T : List Object) (E : List Event) →
+            RepresentsWithin ANSWER w self.now T E →
             result ≡ failing_at (state_after w T E).tree ono.0 }
     {
         self.tree.is_failing(ono)
@@ -363,7 +384,8 @@ impl<const COMMAND: usize, const ANSWER: usize> DeviceOf<COMMAND, ANSWER> {
     /// was given. They change only by commands of datagrams, by locks that are released, and at the local front panel.
     pub fn tree(&self) -> &Tree
         ensures tree { result.now ≡ self.now.tree }
-        ensures represented { (w : DeviceSizes) (T : List Object) (E : List Event) → RepresentsWithin ANSWER w self.now T E →
+        ensures represented { (w : DeviceSizes) (T : List Object) (E : List Event) →
+            RepresentsWithin ANSWER w self.now T E →
             result.now ≡ (state_after w T E).tree }
     {
         &self.tree
@@ -375,7 +397,8 @@ impl<const COMMAND: usize, const ANSWER: usize> DeviceOf<COMMAND, ANSWER> {
     #[tactic(auto, using(crate::proofs::Steps::known_counted))]
     pub fn sessions(&self) -> usize
         ensures sessions { result ≡ length self.now.sessions.sessions }
-        ensures represented { (w : DeviceSizes) (T : List Object) (E : List Event) → RepresentsWithin ANSWER w self.now T E →
+        ensures represented { (w : DeviceSizes) (T : List Object) (E : List Event) →
+            RepresentsWithin ANSWER w self.now T E →
             result ≡ length (known_after (state_after w T E)) }
     {
         self.sessions.len()
@@ -387,7 +410,8 @@ impl<const COMMAND: usize, const ANSWER: usize> DeviceOf<COMMAND, ANSWER> {
     #[tactic(auto, using(crate::proofs::Steps::known_at))]
     pub fn peer_at(&self, index: usize) -> Option<Peer>
         ensures peer { result ≡ slice_get (peers_of self.now.sessions.sessions) index }
-        ensures represented { (w : DeviceSizes) (T : List Object) (E : List Event) → RepresentsWithin ANSWER w self.now T E →
+        ensures represented { (w : DeviceSizes) (T : List Object) (E : List Event) →
+            RepresentsWithin ANSWER w self.now T E →
             result ≡ slice_get (known_after (state_after w T E)) index }
     {
         self.sessions.peer_at(index)
@@ -402,7 +426,8 @@ impl<const COMMAND: usize, const ANSWER: usize> DeviceOf<COMMAND, ANSWER> {
     /// So read it after each datagram. Clock readings and changes at the local front panel leave the list as it is.
     pub fn written(&self) -> &[Ono]
         ensures written { numbers_of result.now ≡ self.now.written }
-        ensures represented { (w : DeviceSizes) (T : List Object) (E : List Event) → RepresentsWithin ANSWER w self.now T E →
+        ensures represented { (w : DeviceSizes) (T : List Object) (E : List Event) →
+            RepresentsWithin ANSWER w self.now T E →
             numbers_of result.now ≡ written w T E }
     {
         self.written.as_slice()
@@ -414,7 +439,8 @@ impl<const COMMAND: usize, const ANSWER: usize> DeviceOf<COMMAND, ANSWER> {
     /// after each datagram. Clock readings and changes at the local front panel leave the list as it is.
     pub fn effects(&self) -> &[Effect]
         ensures effects { result.now ≡ self.now.effects }
-        ensures represented { (w : DeviceSizes) (T : List Object) (E : List Event) → RepresentsWithin ANSWER w self.now T E →
+        ensures represented { (w : DeviceSizes) (T : List Object) (E : List Event) →
+            RepresentsWithin ANSWER w self.now T E →
             result.now ≡ effects w T E }
     {
         self.effects.as_slice()
@@ -470,9 +496,11 @@ impl<const COMMAND: usize, const ANSWER: usize> DeviceOf<COMMAND, ANSWER> {
         ensures takes { (w : DeviceSizes) (s : State) → IsIn ANSWER w self.old s →
             TakesDatagram ANSWER w self.new from bytes.now s outbox.old.room outbox.new result }
         ensures few { (w : DeviceSizes) (s : State) → IsIn ANSWER w self.old s →
-            length (packets_of (shortened_answers ANSWER (answers_to_reading w from (read_datagram bytes.now) s))) ≤ most_answered }
+            length (packets_of (shortened_answers ANSWER (answers_to_reading w from
+            (read_datagram bytes.now) s))) ≤ most_answered }
         ensures each { (w : DeviceSizes) (s : State) → IsIn ANSWER w self.old s →
-            length (packets_of (shortened_answers ANSWER (answers_to_reading w from (read_datagram bytes.now) s))) ≤ may_be_answered bytes.now }
+            length (packets_of (shortened_answers ANSWER (answers_to_reading w from
+            (read_datagram bytes.now) s))) ≤ may_be_answered bytes.now }
         ensures room { outbox.new.room ≡ outbox.old.room }
     {
         match check(bytes) {
@@ -523,7 +551,8 @@ impl<const COMMAND: usize, const ANSWER: usize> DeviceOf<COMMAND, ANSWER> {
         requires few { all_commands (messages_left messages) ≤ most_commands }
         requires none { self.old.written ≡ [] }
         requires unserved { self.old.effects ≡ [] }
-        ensures serves { (w : DeviceSizes) (s : State) → IsIn ANSWER w self.old s → last_noted (run from s.notes) ≡ s.moment →
+        ensures serves { (w : DeviceSizes) (s : State) → IsIn ANSWER w self.old s →
+            last_noted (run from s.notes) ≡ s.moment →
             ServesMessages ANSWER w self.new from (messages_left messages.entry) s outbox.old outbox.new result }
         ensures room { outbox.new.room ≡ outbox.old.room }
     {
@@ -548,7 +577,8 @@ impl<const COMMAND: usize, const ANSWER: usize> DeviceOf<COMMAND, ANSWER> {
         requires few { commands_in counts.now + commands_of (msg_of message) ≤ most_commands }
         requires within { length self.old.written ≤ commands_in counts.now }
         requires counted { length self.old.effects ≤ commands_in counts.now }
-        ensures serves { (w : DeviceSizes) (s : State) → IsIn ANSWER w self.old s → last_noted (run from s.notes) ≡ s.moment →
+        ensures serves { (w : DeviceSizes) (s : State) → IsIn ANSWER w self.old s →
+            last_noted (run from s.notes) ≡ s.moment →
             ServesMessage ANSWER w self.old self.new from (msg_of message.entry) s outbox.old outbox.new
             counts.entry.now counts.exit.now }
         ensures known { IsSome (session_of from self.new.sessions.sessions) }
@@ -585,8 +615,10 @@ impl<const COMMAND: usize, const ANSWER: usize> DeviceOf<COMMAND, ANSWER> {
         requires few { commands_in counts.now < most_commands }
         requires within { length self.old.written ≤ commands_in counts.now }
         requires counted { length self.old.effects ≤ commands_in counts.now }
-        ensures serves { (w : DeviceSizes) (s : State) → IsIn ANSWER w self.old s → last_noted (run from s.notes) ≡ s.moment →
-            ServesMessage ANSWER w self.old self.new from (Commands respond (fields_of command.now)) s outbox.old outbox.new
+        ensures serves { (w : DeviceSizes) (s : State) → IsIn ANSWER w self.old s →
+            last_noted (run from s.notes) ≡ s.moment →
+            ServesMessage ANSWER w self.old self.new from (Commands respond
+            (fields_of command.now)) s outbox.old outbox.new
             counts.entry.now counts.exit.now }
         ensures known { IsSome (session_of from self.new.sessions.sessions) }
         ensures room { outbox.new.room ≡ outbox.old.room }
@@ -694,7 +726,7 @@ fn note_written(written: &mut ArrayVec<Ono, MOST_COMMANDS>, ono: Ono, wrote: boo
     }
 }
 
-/// Whether there is room for each command of these bytes.
+/// Whether the device takes so many bytes.
 #[inline(always)]
 fn is_taken<const COMMAND: usize>(bytes: &[u8]) -> bool
     ensures { result ≡ is_short_enough COMMAND bytes.now }

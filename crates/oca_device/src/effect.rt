@@ -21,7 +21,8 @@ pub struct Effect {
 /// What a device did with a command.
 #[derive(Clone, Copy, Debug, PartialEq, Eq)]
 pub enum CommandOutcome {
-    /// The device executed the command, with this status. A status other than OK is a refusal.
+    /// The device executed the command, with this status. A status other than OK is a refusal. If the device has no
+    /// room for the reply ([`DeviceOf`](crate::DeviceOf)), the peer is told BufferOverflow in place of OK.
     Executed(Status),
     /// The command is a duplicate: the device executed it before, and retains the reply. It did not execute the command
     /// again.

@@ -19,11 +19,12 @@ pub enum Verdict {
         /// Commands that asked something else under the handle of a retained command, and were ignored.
         reused: u32,
     },
-    /// The bytes are no well-formed datagram (AES70-3), and this is their first fault. Nothing but the clock's move
-    /// changed an object or a session, and nothing is answered.
+    /// The bytes are no well-formed datagram (AES70-3), and this is their first fault; or they are more than the device
+    /// takes ([`DeviceOf`](crate::DeviceOf)). Nothing but the clock's move changed an object or a session, and nothing
+    /// is answered.
     Malformed(PduFault),
-    /// The sender has no session, and all sessions that the device was made for are in use. Nothing but the clock's move
-    /// changed an object or a session, and nothing is answered.
+    /// The sender has no session, and all sessions that the device was made for are in use. Nothing but the clock's
+    /// move changed an object or a session, and nothing is answered.
     NoRoom,
 }
 

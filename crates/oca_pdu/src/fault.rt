@@ -10,7 +10,7 @@ use thiserror::Error;
 pub enum PduFaultKind {
     /// The datagram has no bytes.
     Empty = 1,
-    /// The datagram has more than 1,472 bytes.
+    /// The datagram has more than 1,472 bytes, or more than a device takes that has little room.
     TooLong = 2,
     /// A PDU does not begin with the byte 3B (hexadecimal).
     Sync = 3,
@@ -51,7 +51,7 @@ impl Display for PduFaultKind {
     fn fmt<W: fmt::Write>(&self, f: &mut Formatter<W>) -> fmt::Result {
         f.write_str(match self {
             PduFaultKind::Empty => "no bytes",
-            PduFaultKind::TooLong => "more than 1,472 bytes",
+            PduFaultKind::TooLong => "too many bytes",
             PduFaultKind::Sync => "no sync byte 3B",
             PduFaultKind::Version => "ProtocolVersion is not 1",
             PduFaultKind::PduSize => "PduSize is below 11",

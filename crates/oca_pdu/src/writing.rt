@@ -180,7 +180,8 @@ fn response_head(handle: Handle, reply: ReplyParts<'_>) -> [u8; 10]
 /// The header of a PDU of this response, and the response up to its parameters.
 fn response_front(handle: Handle, reply: ReplyParts<'_>) -> [u8; 20]
     requires { length reply.params.now ≤ most_parameter_bytes }
-    ensures bytes { result ++ reply.entry.params.now ≡ pdu_encoding (Responses (response_with handle (reply_in reply.entry) ∷ [])) }
+    ensures bytes { result ++ reply.entry.params.now
+        ≡ pdu_encoding (Responses (response_with handle (reply_in reply.entry) ∷ [])) }
     ensures fits { ResponseFits (response_with handle (reply_in reply.entry)) }
 {
     let size = 19 + reply.params.len() as u32;
@@ -236,9 +237,9 @@ pub fn extend_response(packet: &mut Packet, handle: Handle, reply: &Reply) -> Re
 }
 
 /// Adds a response to the packet, as [`extend_response`] does, where the bytes of the parameters lie elsewhere
-/// (AES70-3). The packet must be exactly one PDU of responses, and the reply must have at most 1,452 bytes of parameters
-/// (premises, which the caller must prove). The only refusal is `TooLong`, if the packet would have more than
-/// 1,472 bytes; the packet is then unchanged. The call sends nothing and takes no memory.
+/// (AES70-3). The packet must be exactly one PDU of responses, and the reply must have at most 1,452 bytes of
+/// parameters (premises, which the caller must prove). The only refusal is `TooLong`, if the packet would have more
+/// than 1,472 bytes; the packet is then unchanged. The call sends nothing and takes no memory.
 #[inline(always)]
 pub fn extend_response_of(
     packet: &mut Packet,
@@ -248,13 +249,15 @@ pub fn extend_response_of(
     requires short { length reply.params.now ≤ most_parameter_bytes }
     requires holds { HoldsResponses packet.old.items }
     ensures room { IsOk result
-        ↔ (length packet.old.items + length (response_encoding (response_with handle (reply_in reply.entry))) ≤ largest_datagram) }
+        ↔ (length packet.old.items + length (response_encoding (response_with handle
+        (reply_in reply.entry))) ≤ largest_datagram) }
     ensures size { (rs : List ResponseFields) → IsResponses rs packet.old.items →
         (IsOk result ↔ (responses_size (rs ++ response_with handle (reply_in reply.entry) ∷ []) ≤ largest_datagram)) }
     ensures ok { (rs : List ResponseFields) → IsResponses rs packet.old.items →
         OnOk result (IsResponses (rs ++ response_with handle (reply_in reply.entry) ∷ []) packet.new.items) }
     ensures adds { (rs : List ResponseFields) → IsDatagram (Responses rs ∷ []) packet.old.items →
-        OnOk result (IsDatagram (Responses (rs ++ response_with handle (reply_in reply.entry) ∷ []) ∷ []) packet.new.items) }
+        OnOk result (IsDatagram (Responses (rs ++ response_with handle
+        (reply_in reply.entry) ∷ []) ∷ []) packet.new.items) }
     ensures err { OnErr result (packet.new ≡ packet.old) }
 {
     let params = reply.params;

@@ -1,6 +1,6 @@
 -- The latest moment up to which no session lapses.
 use Rattle.std.proofs.Common.{◌≡◌, ℕ, ◌+◌, ◌*◌, ◌≤◌, List, [], ◌∷◌, length, drop, arith, subst}
-use Rattle.std.specs.Prelude.{min, All}
+use Rattle.std.specs.Prelude.{min}
 use Rattle.std.proofs.lemmas.List.{drop_all}
 use Rattle.std.proofs.lemmas.List.Elements.{All-cons, All-nil}
 use Rattle.oca_session.specs.Table.{Session}

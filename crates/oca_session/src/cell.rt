@@ -10,8 +10,8 @@ use arrayvec::ArrayVec;
 use oca_types::{Command, MethodId, Ono, ReplyOf, ReplyParts, write_over};
 use std::marker::Model;
 
-/// A command in a reply window, without its handle, and the reply that the command got: with room for `COMMAND` bytes of
-/// parameters of the command, and for `ANSWER` bytes of parameters of the reply.
+/// A command in a reply window, without its handle, and the reply that the command got: with room for `COMMAND` bytes
+/// of parameters of the command, and for `ANSWER` bytes of parameters of the reply.
 #[derive(Drop)]
 pub struct Cell<const COMMAND: usize, const ANSWER: usize> {
     target: Ono,
@@ -43,7 +43,8 @@ impl<const COMMAND: usize, const ANSWER: usize> Cell<COMMAND, ANSWER> {
     pub fn new(command: &Command<'_>, reply: ReplyParts<'_>) -> Self
         requires command { length command.now.params.now ≤ COMMAND }
         requires reply { length reply.params.now ≤ ANSWER }
-        ensures { entry_in command.now.handle result ≡ record { command = fields_of command.now; reply = reply_in reply.entry } }
+        ensures { entry_in command.now.handle result
+            ≡ record { command = fields_of command.now; reply = reply_in reply.entry } }
     {
         let mut cell = Cell {
             target: command.target,
@@ -67,7 +68,8 @@ impl<const COMMAND: usize, const ANSWER: usize> Cell<COMMAND, ANSWER> {
     pub fn set(&mut self, command: &Command<'_>, reply: ReplyParts<'_>)
         requires command { length command.now.params.now ≤ COMMAND }
         requires reply { length reply.params.now ≤ ANSWER }
-        ensures { entry_in command.now.handle self.new ≡ record { command = fields_of command.now; reply = reply_in reply.entry } }
+        ensures { entry_in command.now.handle self.new
+            ≡ record { command = fields_of command.now; reply = reply_in reply.entry } }
     {
         let params = reply.params;
         if self.reply.params.len() != params.len() || self.params.len() != command.params.len() {
@@ -89,7 +91,8 @@ impl<const COMMAND: usize, const ANSWER: usize> Cell<COMMAND, ANSWER> {
     fn set_other(&mut self, command: &Command<'_>, reply: ReplyParts<'_>)
         requires command { length command.now.params.now ≤ COMMAND }
         requires reply { length reply.params.now ≤ ANSWER }
-        ensures { entry_in command.now.handle self.new ≡ record { command = fields_of command.now; reply = reply_in reply.entry } }
+        ensures { entry_in command.now.handle self.new
+            ≡ record { command = fields_of command.now; reply = reply_in reply.entry } }
     {
         self.target = command.target;
         self.method = command.method;

@@ -1,5 +1,6 @@
 //! The sessions of all peers.
-ghost use Rattle.std.specs.Prelude.{◌≡◌, ℕ, ◌<◌, ◌≤◌, List, [], ◌∷◌, ◌++◌, length, IfOk, OnOk, IsSome, IfSome, is_some, Some};
+ghost use Rattle.std.specs.Prelude.{◌≡◌, ℕ, ◌<◌, ◌≤◌, List, [], ◌∷◌};
+ghost use Rattle.std.specs.Prelude.{◌++◌, length, IfOk, OnOk, IsSome, IfSome, is_some, Some};
 ghost use Rattle.std.specs.Prelude.{vec_len, take, position, All, Contains, ◌==◌, slice_get};
 ghost use Rattle.oca_types.specs.declared.words.Peer.{Peer};
 ghost use Rattle.oca_types.specs.Peers.{fields_of};
@@ -43,9 +44,9 @@ pub enum Admission {
 /// their replies; [`keep`](SessionsOf::keep) stores an accepted command. The *heartbeat* of a peer is the interval, in
 /// milliseconds, at which it said that it would send: 5,000 ms at first, and from 250 to 30,000 ms. Moments are in
 /// milliseconds of one clock, which the caller reads. The present moment is the latest that
-/// [`advance`](SessionsOf::advance), [`advance_into`](SessionsOf::advance_into) and [`hear`](SessionsOf::hear) were given,
-/// and 0 at first. The *silence* of a session is the time from the moment when its peer was last heard to the present
-/// moment. A session is *forgotten* when it is removed, after a silence of more than 120,000 ms.
+/// [`advance`](SessionsOf::advance), [`advance_into`](SessionsOf::advance_into) and [`hear`](SessionsOf::hear) were
+/// given, and 0 at first. The *silence* of a session is the time from the moment when its peer was last heard to the
+/// present moment. A session is *forgotten* when it is removed, after a silence of more than 120,000 ms.
 ///
 /// Each command in a reply window has room for `COMMAND` bytes of parameters, and its reply for `ANSWER`.
 /// [`Sessions`] has room for each command and each reply.
@@ -142,8 +143,8 @@ impl<const COMMAND: usize, const ANSWER: usize> SessionsOf<COMMAND, ANSWER> {
     }
 
     /// Returns the number of sessions: from 0, as at first, to the number of peers for which the table was made, at
-    /// most 64 (*profile*). A session that is due to be forgotten counts until the next [`advance`](SessionsOf::advance)
-    /// or [`advance_into`](SessionsOf::advance_into). The call refuses nothing.
+    /// most 64 (*profile*). A session that is due to be forgotten counts until the next
+    /// [`advance`](SessionsOf::advance) or [`advance_into`](SessionsOf::advance_into). The call refuses nothing.
     pub fn len(&self) -> usize
         ensures len { result ≡ length self.now.sessions }
         ensures sound { IsTable self.now }
@@ -184,9 +185,9 @@ impl<const COMMAND: usize, const ANSWER: usize> SessionsOf<COMMAND, ANSWER> {
     /// milliseconds of the caller's clock; an earlier moment than the present one counts as the present one. The result
     /// is the peers whose silence is more than three of their heartbeats, in order of opening. Sessions with a silence
     /// of more than 120,000 ms are then forgotten; their peers are in the result too. The result has at most the first
-    /// 16 peers: these are all if the table has room for at most 16 sessions. [`advance_into`](SessionsOf::advance_into)
-    /// returns all. Each later call returns the peer again, until the peer is heard or forgotten. The call refuses
-    /// nothing and takes no memory.
+    /// 16 peers: these are all if the table has room for at most 16 sessions.
+    /// [`advance_into`](SessionsOf::advance_into) returns all. Each later call returns the peer again, until the peer
+    /// is heard or forgotten. The call refuses nothing and takes no memory.
     pub fn advance(&mut self, now: u64) -> ArrayVec<Peer, 16>
         ensures lapsed { result.items ≡ take 16 (lapsed (present self.old now) self.old.sessions) }
         ensures all { self.old.sizes.peers ≤ 16 → result.items ≡ lapsed (present self.old now) self.old.sessions }

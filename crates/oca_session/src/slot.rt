@@ -180,7 +180,8 @@ impl<const COMMAND: usize, const ANSWER: usize> Slot<COMMAND, ANSWER> {
         requires fresh { judgement_by_window self.old.retained (fields_of command.now) ≡ Fresh }
         requires room { length command.now.params.now ≤ COMMAND }
         requires short { length reply.params.now ≤ ANSWER }
-        ensures { self.new ≡ with_entry (record { command = fields_of command.now; reply = reply_in reply.entry }) self.old }
+        ensures { self.new ≡ with_entry
+            (record { command = fields_of command.now; reply = reply_in reply.entry }) self.old }
     {
         self.window.keep(command, reply);
     }

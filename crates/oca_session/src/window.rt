@@ -18,7 +18,7 @@ use std::marker::Model;
 
 /// What the reply window of a session says of a command (*profile*). The window contains the last accepted commands of
 /// the session, each with its reply, of type `R`: a [`ReplyOf`] with the room that the table of sessions has for it.
-#[derive(Clone, Copy, Debug)]
+#[derive(Debug)]
 pub enum JudgedOf<'a, R: 'a> {
     /// No command in the window has this handle, and the handle is above all handles that the window pushed out:
     /// execute the command.
@@ -30,6 +30,15 @@ pub enum JudgedOf<'a, R: 'a> {
     /// No command in the window has this handle, and the handle is not above a handle that the window pushed out.
     Old,
 }
+
+impl<'a, R: 'a> Clone for JudgedOf<'a, R> {
+    /// The same: a reply is not copied.
+    fn clone(&self) -> Result<Self, AllocError> {
+        Ok(*self)
+    }
+}
+
+impl<'a, R: 'a> Copy for JudgedOf<'a, R> {}
 
 /// What the reply window of a session of [`Sessions`](crate::Sessions) says of a command (*profile*): the replies have
 /// room for 1,452 bytes of parameters ([`JudgedOf`]).
@@ -45,7 +54,7 @@ pub struct Held {
 /// A command in the window of a device for short commands and replies.
 const _: () = prove!(std::mem::size_of::<Held>() + std::mem::size_of::<Cell<64, 264>>() == 376);
 
-/// A command in the window of any other device.
+/// A command in the window of a `Device`.
 const _: () = prove!(
     std::mem::size_of::<Held>() + std::mem::size_of::<Cell<1445, 1452>>() == 2_952
 );
@@ -169,8 +178,8 @@ impl<const COMMAND: usize, const ANSWER: usize> ReplyWindow<COMMAND, ANSWER> {
 
     /// Stores a fresh command, with its reply, in the window (*profile*). A full window pushes its oldest command out.
     /// Handles up to the handle of that command, which are not in the window, then count as `Old`. The command must be
-    /// fresh ([`judge`](ReplyWindow::judge)) and have at most `COMMAND` bytes of parameters, and the reply at most `ANSWER`
-    /// (premises, which the caller must prove). The call refuses nothing and takes no memory.
+    /// fresh ([`judge`](ReplyWindow::judge)) and have at most `COMMAND` bytes of parameters, and the reply at most
+    /// `ANSWER` (premises, which the caller must prove). The call refuses nothing and takes no memory.
     pub fn keep(&mut self, command: &Command<'_>, reply: ReplyParts<'_>)
         requires fresh { judgement_by_window self.old (fields_of command.now) ≡ Fresh }
         requires room { length command.now.params.now ≤ COMMAND }
@@ -189,7 +198,8 @@ impl<const COMMAND: usize, const ANSWER: usize> ReplyWindow<COMMAND, ANSWER> {
         requires fresh { judgement_by_window self.old (fields_of command.now) ≡ Fresh }
         requires room { length command.now.params.now ≤ COMMAND }
         requires short { length reply.params.now ≤ ANSWER }
-        ensures { self.new ≡ retained_after self.old (record { command = fields_of command.now; reply = reply_in reply.entry }) }
+        ensures { self.new ≡ retained_after self.old
+            (record { command = fields_of command.now; reply = reply_in reply.entry }) }
     {
         raise(&mut self.above, command.handle);
         let Some(cell) = cell_of_oldest(&self.held) else {

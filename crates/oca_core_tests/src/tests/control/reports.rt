@@ -97,7 +97,7 @@ const TEXTS: &[Refusal] = &[
     Refusal(ControlFault::HandlesSpent, "not sent: no handle is left"),
     Refusal(
         ControlFault::TooLong,
-        "not sent: the parameters have more than 1,445 bytes",
+        "not sent: the parameters are too long",
     ),
 ];
 

@@ -2,7 +2,7 @@
 use super::super::{none_wrong, peer};
 use super::parts::{Part, bytes_of, is_of};
 use super::*;
-use oca_device::{Outbox, SmallDevice};
+use oca_device::{DeviceOf, Outbox, SmallDevice};
 use oca_tree::{Kind, MuteState, Spec, Tree, TreeBuilder};
 use oca_types::{Ono, Window};
 use std::alloc::Global;
@@ -243,11 +243,32 @@ const REPLIES: &[Hears] = &[
     ),
 ];
 
+/// Whether a device with this room is made.
+fn is_made<const COMMAND: usize, const ANSWER: usize>(alloc: Global) -> bool {
+    match objects(alloc) {
+        Some(tree) => DeviceOf::<COMMAND, ANSWER>::new(alloc, tree, Window::default()).is_ok(),
+        None => false,
+    }
+}
+
+/// Whether devices are made with as much room as there may be, and none with more.
+fn are_made(alloc: Global) -> bool {
+    is_made::<0, 0>(alloc)
+        && is_made::<1445, 1>(alloc)
+        && is_made::<2, 1452>(alloc)
+        && !is_made::<1446, 1>(alloc)
+        && !is_made::<2, 1453>(alloc)
+}
+
 #[test]
 fn of_a_small_device(rt: HostRuntime) {
+    assert!(rt; are_made(rt.alloc()));
     none_wrong(
         &rt,
         "a small device",
-        &[first_wrong(rt.alloc(), DATAGRAMS), first_wrong(rt.alloc(), REPLIES)],
+        &[
+            first_wrong(rt.alloc(), DATAGRAMS),
+            first_wrong(rt.alloc(), REPLIES),
+        ],
     );
 }

@@ -15,7 +15,7 @@ impl Row for Kind {
 
 pub const KINDS: &[Kind] = &[
     Kind(PduFaultKind::Empty, 1, "no bytes"),
-    Kind(PduFaultKind::TooLong, 2, "more than 1,472 bytes"),
+    Kind(PduFaultKind::TooLong, 2, "too many bytes"),
     Kind(PduFaultKind::Sync, 3, "no sync byte 3B"),
     Kind(PduFaultKind::Version, 4, "ProtocolVersion is not 1"),
     Kind(PduFaultKind::PduSize, 5, "PduSize is below 11"),

@@ -47,7 +47,13 @@ fn serve_with(sessions: &mut Sessions, peer: Peer, command: &Command<'_>, reply:
     if command.params.len() > 1_445 {
         return Served::TooLong;
     }
-    match sessions.judge(peer, command) {
+    let judged = sessions.judge(peer, command);
+    // A judgement can be copied: it holds no reply.
+    let copied = judged;
+    if let Judged::Old = copied {
+        return Served::Old;
+    }
+    match judged {
         Judged::Fresh => {
             sessions.keep(peer, command, reply);
             Served::Executed

@@ -1,4 +1,4 @@
-use Rattle.std.proofs.Common.{refl, ap, ◌+◌, ◌∙◌, arith}
+use Rattle.std.proofs.Common.{ap, arith}
 use Rattle.oca_device.specs.declared.report.Report.{Report}
 use Rattle.oca_device.proofs.Keepings.{keeps_none, keeps_more, begun}
 use Rattle.oca_device.proofs.keeping.serve_keeping.Goals as goal

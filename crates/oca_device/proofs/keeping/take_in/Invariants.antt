@@ -1,4 +1,4 @@
-use Rattle.std.proofs.Common.{◌≡◌, ◌+◌, ◌≤◌, false, [], length}
+use Rattle.std.proofs.Common.{◌≡◌, ◌≤◌, false, [], length}
 use Rattle.oca_device.specs.PrivateKeeping.{TakesIn}
 use Rattle.oca_device.proofs.keeping.take_in.Given as goal
 

@@ -1,5 +1,5 @@
-use Rattle.std.proofs.Common.{arith, sym, ◌∙◌, ap, subst, ◌≡◌, ℕ, get_or, false}
-use Rattle.oca_session.specs.Table.{Session, is_of}
+use Rattle.std.proofs.Common.{sym, ◌∙◌, ap}
+use Rattle.oca_session.specs.Table.{is_of}
 use Rattle.oca_session.proofs.Tables.{placed_first, placed_nowhere, one_more_not}
 use Rattle.oca_session.proofs.sessions.search.Goals as goal
 

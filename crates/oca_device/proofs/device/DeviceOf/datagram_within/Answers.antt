@@ -8,7 +8,7 @@ use Rattle.oca_device.specs.Answers.{verdict}
 use Rattle.oca_device.specs.Devices.{RepresentsWithin}
 use Rattle.oca_device.specs.Events.{Datagram}
 use Rattle.oca_device.specs.Outboxes.{KeptPackets, first_packets, may_be_answered}
-use Rattle.oca_device.specs.Rooms.{is_short_enough, told, packets_within, verdict_within}
+use Rattle.oca_device.specs.Rooms.{told, packets_within}
 use Rattle.oca_device.specs.States.{state_after, moved_to}
 use Rattle.oca_device.proofs.Steps.{none_sent, malformed_whole}
 use Rattle.oca_device.proofs.device.DeviceOf.datagram_within.Goals as goal

@@ -1,4 +1,4 @@
-use Rattle.std.proofs.Common.{◌≡◌, ◌+◌, ◌≤◌, ◌++◌, length}
+use Rattle.std.proofs.Common.{◌≤◌, length}
 use Rattle.std.specs.Prelude.{take}
 use Rattle.oca_net.specs.EndStates.{SendsAllBut}
 use Rattle.oca_device.specs.PrivateKeeping.{packets_held}

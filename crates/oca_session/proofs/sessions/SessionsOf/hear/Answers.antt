@@ -1,4 +1,4 @@
-use Rattle.std.proofs.Common.{ℕ, List, take, length, length-take, ◌≡◌, ◌+◌, ◌*◌, ◌<◌, ◌≤◌, ap, sym, ◌∙◌, subst, refl, arith, Some, None, ◌++◌, ◌∷◌, []}
+use Rattle.std.proofs.Common.{ℕ, List, take, length, length-take, ◌≡◌, ◌+◌, ◌*◌, ◌<◌, ap, sym, ◌∙◌, subst, refl, arith, Some, None, ◌++◌, ◌∷◌, []}
 use Rattle.std.specs.Prelude.{is_some, min, position}
 use Rattle.std.proofs.Math.ListN.{length-set}
 use Rattle.std.proofs.lemmas.List.Elements.{All-set}

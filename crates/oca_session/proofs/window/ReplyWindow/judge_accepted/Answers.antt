@@ -1,6 +1,5 @@
 use Rattle.std.proofs.Common.{length, ◌<◌, refl, sym, ap, ◌∙◌, arith, true, false, cond}
 use Rattle.std.proofs.lemmas.Option.{slice_get_read}
-use Rattle.oca_types.specs.declared.words.Handle.{Handle}
 use Rattle.oca_types.specs.Peers.{fields_of}
 use Rattle.oca_types.specs.Replies.{Reply}
 use Rattle.oca_session.specs.declared.window.Held.{Held}
