@@ -21,7 +21,7 @@ ROWS = [("single", 8, 1, "458"), ("single", 128, 1, "1%"), ("single", 4096, 1, "
         ("single", 8, 64, "10%"), ("single", 128, 16, "10%"), ("single", 4096, 64, "10%"), ("others", 128, 1, ""),
         ("others", 4096, 1, ""), ("members", 128, 1, "506"), ("members", 4096, 1, "506"), ("packed", 8, 1, "278"),
         ("copies", 8, 1, "396"), ("setting", 8, 1, "554")]
-FUNCTION = "oca_device::*::DeviceOf*::datagram"
+FUNCTION = "oca_device::*::DeviceOf::datagram::*"
 
 
 def tree(objects):

@@ -15,6 +15,7 @@ pub mod Following
 pub mod Keeping
 pub mod LawByEvents
 pub mod PrivateServing
+pub mod PrivateMade
 pub mod PrivateTotals
 pub mod PrivateKeeping
 pub mod PrivateLapses

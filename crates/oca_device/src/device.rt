@@ -27,8 +27,8 @@ ghost use Rattle.oca_device.specs.Rooms.{shortened_reply, shortened_answers, pac
 ghost use Rattle.oca_device.specs.Rooms.{told, is_short_enough, verdict_within};
 ghost use Rattle.oca_device.specs.Outboxes.{first_packets, may_be_answered};
 ghost use Rattle.oca_pdu.specs.Reading.{read_datagram};
-ghost use Rattle.oca_tree.specs.Written.{wrote};
-ghost use Rattle.oca_device.specs.Written.{numbers_of, written};
+ghost use Rattle.oca_device.specs.Written.{numbers_of, written, written_by_execution};
+ghost use Rattle.oca_device.specs.PrivateMade.{reply_made};
 ghost use Rattle.oca_device.specs.Effects.{effect_with, effects};
 
 use crate::bounded::BoundedOutbox;
@@ -40,7 +40,7 @@ use crate::verdict::Verdict;
 use arrayvec::ArrayVec;
 use oca_pdu::{Form, Message, Messages, PduFault, PduFaultKind, check};
 use oca_session::{Admission, JudgedOf, SessionsOf};
-use oca_tree::{Done, FrontFault, SetFault, Tree, Value};
+use oca_tree::{FrontFault, SetFault, Tree, Value};
 use oca_types::{
     Command, MOST_COMMAND_PARAMETER_BYTES, MOST_PARAMETER_BYTES, MOST_PEERS, NoMemory, Ono, Params,
     Peer, Peers, ReplyParts, Sizes, Status, Window, sooner,
@@ -97,9 +97,8 @@ pub struct DeviceOf<const COMMAND: usize, const ANSWER: usize> {
     sessions: SessionsOf<COMMAND, ANSWER>,
     /// The peers that had lapsed when the clock moved last: a place for them, which is not made again at each datagram.
     lapsed: ArrayVec<Peer, MOST_PEERS>,
-    /// The room in which a command is executed: the parameters of its reply are made here once, and read where they are
-    /// needed.
-    params: Params,
+    /// The room in which a command is executed: its reply is made here once, and read where it is needed.
+    made: Made,
     /// The objects that the last datagram wrote to.
     written: ArrayVec<Ono, MOST_COMMANDS>,
     /// What became of each command of the last datagram.
@@ -176,7 +175,11 @@ impl<const COMMAND: usize, const ANSWER: usize> DeviceOf<COMMAND, ANSWER> {
             tree,
             sessions,
             lapsed: ArrayVec::new(),
-            params: Params::new(),
+            made: Made {
+                status: Status::Ok,
+                count: 0,
+                params: Params::new(),
+            },
             written: ArrayVec::new(),
             effects: Effects::new(),
         })
@@ -630,14 +633,19 @@ impl<const COMMAND: usize, const ANSWER: usize> DeviceOf<COMMAND, ANSWER> {
         match self.sessions.judge(from, command) {
             JudgedOf::Fresh => {
                 counts.executed += 1;
-                let done = self.tree.execute(from, command, &mut self.params);
-                note_written(&mut self.written, command.target, done.wrote);
-                let outcome = CommandOutcome::Executed(done.status);
+                execute(
+                    &mut self.tree,
+                    from,
+                    command,
+                    &mut self.made,
+                    &mut self.written,
+                );
+                let outcome = CommandOutcome::Executed(self.made.status);
                 note(&mut self.effects, command, respond, outcome);
-                let reply = shortened::<ANSWER>(done, self.params.as_slice());
-                self.sessions.keep_parts(from, command, reply);
+                self.sessions
+                    .keep_parts(from, command, shortened::<ANSWER>(&self.made));
                 if respond {
-                    outbox.respond(command.handle, reply);
+                    outbox.respond(command.handle, shortened::<ANSWER>(&self.made));
                 }
             }
             JudgedOf::Kept(reply) => {
@@ -713,16 +721,35 @@ fn note(effects: &mut Effects, command: &Command, respond: bool, outcome: Comman
     });
 }
 
-/// Adds an object to those written.
-#[inline(always)]
-fn note_written(written: &mut ArrayVec<Ono, MOST_COMMANDS>, ono: Ono, wrote: bool)
+/// The reply of the last execution, whatever room a device has. It has no model: it is read where it lies.
+#[derive(Drop)]
+struct Made {
+    status: Status,
+    count: u8,
+    params: Params,
+}
+
+/// Executes a command of a peer, puts its reply in the place of another, and adds its object to those written where it
+/// wrote.
+fn execute(
+    tree: &mut Tree,
+    peer: Peer,
+    command: &Command,
+    made: &mut Made,
+    written: &mut ArrayVec<Ono, MOST_COMMANDS>,
+)
     requires { length written.old.items < most_commands }
+    ensures tree { tree.new ≡ (execution tree.old peer (fields_of command.now)).tree }
+    ensures reply { reply_made made.new ≡ reply_of tree.old peer (fields_of command.now) }
     ensures written { numbers_of written.new.items
-        ≡ numbers_of written.old.items ++ (if wrote then ono.0 ∷ [] else []) }
+        ≡ numbers_of written.old.items ++ written_by_execution tree.old peer (fields_of command.now) }
     ensures most { length written.new.items ≤ length written.old.items + 1 }
 {
-    if wrote {
-        written.push(ono);
+    let done = tree.execute(peer, command, &mut made.params);
+    made.status = done.status;
+    made.count = done.count;
+    if done.wrote {
+        written.push(command.target);
     }
 }
 
@@ -745,18 +772,14 @@ fn too_long<const COMMAND: usize>() -> PduFault
     }
 }
 
-/// The reply of an execution with these parameters; BufferOverflow, if they are more bytes than there is room for.
+/// The reply that was made; BufferOverflow, if its parameters are more bytes than there is room for.
 #[inline(always)]
-fn shortened<const ANSWER: usize>(done: Done, params: &[u8]) -> ReplyParts<'_>
-    requires { length params.now ≤ most_parameter_bytes }
-    ensures shortened { reply_in result ≡ shortened_reply ANSWER (record {
-      status = done.status;
-      count = done.count;
-      params = record { items = params.now };
-    }) }
+fn shortened<const ANSWER: usize>(made: &Made) -> ReplyParts<'_>
+    ensures shortened { reply_in result ≡ shortened_reply ANSWER (reply_made made.now) }
     ensures short { length result.params.now ≤ ANSWER }
     ensures most { length result.params.now ≤ most_parameter_bytes }
 {
+    let params = made.params.as_slice();
     if ANSWER < MOST_PARAMETER_BYTES && params.len() > ANSWER {
         return ReplyParts {
             status: Status::BufferOverflow,
@@ -765,8 +788,8 @@ fn shortened<const ANSWER: usize>(done: Done, params: &[u8]) -> ReplyParts<'_>
         };
     }
     ReplyParts {
-        status: done.status,
-        count: done.count,
+        status: made.status,
+        count: made.count,
         params,
     }
 }

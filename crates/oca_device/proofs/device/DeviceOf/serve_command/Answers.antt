@@ -4,7 +4,6 @@ use Rattle.std.proofs.lemmas.List.{append-nil, length-map}
 use Rattle.oca_types.specs.declared.words.Ono.{Ono}
 use Rattle.oca_types.specs.declared.words.Peer.{Peer}
 use Rattle.oca_types.specs.Replies.{Reply, reply_in}
-use Rattle.oca_types.specs.declared.status.Status.{Status}
 use Rattle.oca_types.specs.Peers.{CommandFields, fields_of}
 use Rattle.oca_types.specs.Sizes.{DeviceSizes}
 use Rattle.oca_pdu.specs.Messages.{Msg, Command, Pdu}
@@ -88,14 +87,6 @@ more_written {tree} {self = self} p command s xs ys view same h =
     h ∙ ap (λ (zs : List ℕ). zs ++ written_by_execution tree p command) (written_in view)
     ∙ ap (λ (t : List Object). self.written ++ written_by_execution t p command) same
 
--- the reply of an execution, from its parts
-made : (status : Status) (count : ℕ) (params : List ℕ) (tree : List Object) (p : Peer) (c : CommandFields) → status ≡ (execution tree p c).status → count ≡ (execution tree p c).count →
-    params ≡ (execution tree p c).parameters → let r : Reply = record { status = status; count = count; params = record { items = params } } in r ≡ reply_of tree p c
-made status count params tree p c e f h =
-    ap (λ (x : Status). let r : Reply = record { status = x; count = count; params = record { items = params } } in r) e
-    ∙ ap (λ (x : ℕ). let r : Reply = record { status = (execution tree p c).status; count = x; params = record { items = params } } in r) f
-    ∙ ap (λ (x : List ℕ). let r : Reply = record { status = (execution tree p c).status; count = (execution tree p c).count; params = record { items = x } } in r) h
-
 -- where no command is executed, the device is as it was but for the effects
 still_in : {most : ℕ} {w : DeviceSizes} {s : State} {tree : List Object} {old : Table} {written : List ℕ} {effects now_effects : List Effect} {self : DeviceState} → device_with tree old written effects ≡ self → IsIn most w self s →
     IsIn most w (device_with tree old written now_effects) s
@@ -106,17 +97,17 @@ one_more : {tree : List Object} {old : Table} {written : List ℕ} {xs : List Ef
     device_with tree old written xs ≡ self → ys ≡ xs ++ effect_with became respond command ∷ [] → ys ≡ self.effects ++ effect_with became respond command ∷ []
 one_more ys became respond command view h = h ∙ ap (λ (zs : List Effect). zs ++ effect_with became respond command ∷ []) (effects_in view)
 
-pub note_written-requires : goal.note_written-requires
-note_written-requires g c =
+pub execute-requires : goal.execute-requires
+execute-requires g c =
     omega (arith, length-map c.self.inside.written.items (λ (o : Ono). o.0), ap length (written_in c.self.view_is), c.requires.within, c.requires.few)
 
 pub returns-then-respond-clause-within : goal.returns-then-respond-clause-within
 returns-then-respond-clause-within g c =
-    omega (arith, length-map c.self.inside.written.items (λ (o : Ono). o.0), length-map c.note_written.new.written.items (λ (o : Ono). o.0), ap length (written_in c.self.view_is), c.requires.within, c.note_written.ensures.most)
+    omega (arith, length-map c.self.inside.written.items (λ (o : Ono). o.0), length-map c.execute.new.written.items (λ (o : Ono). o.0), ap length (written_in c.self.view_is), c.requires.within, c.execute.ensures.most)
 
 pub returns-else-respond-clause-within : goal.returns-else-respond-clause-within
 returns-else-respond-clause-within g c =
-    omega (arith, length-map c.self.inside.written.items (λ (o : Ono). o.0), length-map c.note_written.new.written.items (λ (o : Ono). o.0), ap length (written_in c.self.view_is), c.requires.within, c.note_written.ensures.most)
+    omega (arith, length-map c.self.inside.written.items (λ (o : Ono). o.0), length-map c.execute.new.written.items (λ (o : Ono). o.0), ap length (written_in c.self.view_is), c.requires.within, c.execute.ensures.most)
 
 pub returns-then-respond-clause-serves : goal.returns-then-respond-clause-serves
 returns-then-respond-clause-serves g c = λ w s h now.
@@ -129,17 +120,16 @@ returns-then-respond-clause-serves g c = λ w s h now.
     let known = known_there g.row.ANSWER w s p old was.sessions has in
     let A = shortened_entries g.row.ANSWER (accepted (run p s.notes)) in
     let agreed = agrees_there g.row.ANSWER w s p old was.sessions known in
-    let reply = made c.execute-done.result.status c.execute-done.result.count c.as_slice.result.now s.tree p command (c.execute-done.ensures.status ∙ ap (λ (t : List Object). (execution t p command).status) was.tree)
-    (c.execute-done.ensures.count ∙ ap (λ (t : List Object). (execution t p command).count) was.tree)
-    (c.as_slice.ensures.value ∙ c.execute-done.ensures.parameters ∙ ap (λ (t : List Object). (execution t p command).parameters) was.tree) in
-    let short = c.shortened-reply.ensures.shortened ∙ ap (shortened_reply g.row.ANSWER) reply in
-    by_judgement g.row.ANSWER w s p command c.args.respond c.args.self.now (device_with c.execute-done.new.self c.keep_parts.new.self (numbers_of c.note_written.new.written.items) c.note.new.effects) c.args.outbox.now c.respond.new.self c.args.counts.now _ Fresh
+    let reply = c.execute.ensures.reply ∙ ap (λ (t : List Object). reply_of t p command) was.tree in
+    let again = c.shortened-then-respond.ensures.shortened ∙ ap (shortened_reply g.row.ANSWER) reply in
+    let short = c.shortened.ensures.shortened ∙ ap (shortened_reply g.row.ANSWER) reply in
+    by_judgement g.row.ANSWER w s p command c.args.respond c.args.self.now (device_with c.execute.new.tree c.keep_parts.new.self (numbers_of c.execute.new.written.items) c.note.new.effects) c.args.outbox.now c.respond.new.self c.args.counts.now _ Fresh
     (was_fresh g.row.ANSWER (judged_in w s p command) (c.in-Fresh.ensures.accepted w.window A agreed ∙ judged_short g.row.ANSWER w.window (accepted (run p s.notes)) command))
-    (fresh_served g.row.ANSWER w s p command tree old c.execute-done.new.self c.keep_parts.new.self (reply_in c.shortened-reply.result) was known now c.execute-done.ensures.tree short (c.keep_parts.ensures.accepted w.window A agreed))
-    (more_written p command s (numbers_of c.self.inside.written.items) (numbers_of c.note_written.new.written.items) c.self.view_is was.tree (c.note_written.ensures.written ∙ ap (λ b. numbers_of c.self.inside.written.items ++ cond b (command.target ∷ []) []) c.execute-done.ensures.wrote))
-    (one_more c.note.new.effects (outcome.Executed c.execute-done.result.status) c.args.respond command c.self.view_is c.note.ensures
+    (fresh_served g.row.ANSWER w s p command tree old c.execute.new.tree c.keep_parts.new.self (reply_in c.shortened.result) was known now c.execute.ensures.tree short (c.keep_parts.ensures.accepted w.window A agreed))
+    (more_written p command s (numbers_of c.self.inside.written.items) (numbers_of c.execute.new.written.items) c.self.view_is was.tree c.execute.ensures.written)
+    (one_more c.note.new.effects (outcome.Executed c.execute.new.made.status) c.args.respond command c.self.view_is c.note.ensures
     ∙ ap (λ (r : Reply). c.args.self.now.effects ++ effect_with (outcome.Executed r.status) c.args.respond command ∷ []) reply)
-    (λ _ room groups is. c.respond.ensures.groups room groups is ∙ ap (λ (r : Reply). first_packets room (encodings (with_answer groups (response command.handle r)))) short
+    (λ _ room groups is. c.respond.ensures.groups room groups is ∙ ap (λ (r : Reply). first_packets room (encodings (with_answer groups (response command.handle r)))) again
     ∙ ap (λ (ms : List Msg). first_packets room (encodings (with_answers groups ms))) (sym (one_answered g.row.ANSWER command.handle (reply_of s.tree p command))))
     (λ q. cc)
     (one_executed c.args.counts.now)
@@ -155,15 +145,13 @@ returns-else-respond-clause-serves g c = λ w s h now.
     let known = known_there g.row.ANSWER w s p old was.sessions has in
     let A = shortened_entries g.row.ANSWER (accepted (run p s.notes)) in
     let agreed = agrees_there g.row.ANSWER w s p old was.sessions known in
-    let reply = made c.execute-done.result.status c.execute-done.result.count c.as_slice.result.now s.tree p command (c.execute-done.ensures.status ∙ ap (λ (t : List Object). (execution t p command).status) was.tree)
-    (c.execute-done.ensures.count ∙ ap (λ (t : List Object). (execution t p command).count) was.tree)
-    (c.as_slice.ensures.value ∙ c.execute-done.ensures.parameters ∙ ap (λ (t : List Object). (execution t p command).parameters) was.tree) in
-    let short = c.shortened-reply.ensures.shortened ∙ ap (shortened_reply g.row.ANSWER) reply in
-    by_judgement g.row.ANSWER w s p command c.args.respond c.args.self.now (device_with c.execute-done.new.self c.keep_parts.new.self (numbers_of c.note_written.new.written.items) c.note.new.effects) c.args.outbox.now c.args.outbox.now c.args.counts.now _ Fresh
+    let reply = c.execute.ensures.reply ∙ ap (λ (t : List Object). reply_of t p command) was.tree in
+    let short = c.shortened.ensures.shortened ∙ ap (shortened_reply g.row.ANSWER) reply in
+    by_judgement g.row.ANSWER w s p command c.args.respond c.args.self.now (device_with c.execute.new.tree c.keep_parts.new.self (numbers_of c.execute.new.written.items) c.note.new.effects) c.args.outbox.now c.args.outbox.now c.args.counts.now _ Fresh
     (was_fresh g.row.ANSWER (judged_in w s p command) (c.in-Fresh.ensures.accepted w.window A agreed ∙ judged_short g.row.ANSWER w.window (accepted (run p s.notes)) command))
-    (fresh_served g.row.ANSWER w s p command tree old c.execute-done.new.self c.keep_parts.new.self (reply_in c.shortened-reply.result) was known now c.execute-done.ensures.tree short (c.keep_parts.ensures.accepted w.window A agreed))
-    (more_written p command s (numbers_of c.self.inside.written.items) (numbers_of c.note_written.new.written.items) c.self.view_is was.tree (c.note_written.ensures.written ∙ ap (λ b. numbers_of c.self.inside.written.items ++ cond b (command.target ∷ []) []) c.execute-done.ensures.wrote))
-    (one_more c.note.new.effects (outcome.Executed c.execute-done.result.status) c.args.respond command c.self.view_is c.note.ensures
+    (fresh_served g.row.ANSWER w s p command tree old c.execute.new.tree c.keep_parts.new.self (reply_in c.shortened.result) was known now c.execute.ensures.tree short (c.keep_parts.ensures.accepted w.window A agreed))
+    (more_written p command s (numbers_of c.self.inside.written.items) (numbers_of c.execute.new.written.items) c.self.view_is was.tree c.execute.ensures.written)
+    (one_more c.note.new.effects (outcome.Executed c.execute.new.made.status) c.args.respond command c.self.view_is c.note.ensures
     ∙ ap (λ (r : Reply). c.args.self.now.effects ++ effect_with (outcome.Executed r.status) c.args.respond command ∷ []) reply)
     (λ q. cc)
     (λ _. refl)
