@@ -3,6 +3,7 @@
 #![tactic(auto)]
 
 pub mod adding;
+pub mod any_device;
 pub mod answer;
 pub mod answer_words;
 pub mod device;
@@ -23,6 +24,7 @@ pub mod restoring;
 pub mod spec_adding;
 pub mod spec_reading;
 pub mod spec_words;
+pub mod starting;
 pub mod unstored;
 pub mod value_texts;
 pub mod value_words;
