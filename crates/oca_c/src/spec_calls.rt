@@ -112,7 +112,8 @@ pub extern "C" fn oca_device_spec(
     ensures closed { RefusesClosed handle.old.slot.inner handle.new.slot.inner result }
     ensures building { RefusesBuilding handle.old.slot.inner handle.new.slot.inner result }
     ensures kept { handle.new.slot.inner ≡ handle.old.slot.inner }
-    ensures writes { (r : Rooms) (w : DeviceSizes) (T : List Object) (E : List Event) → HandleRuns r w handle.old.slot.inner T E →
+    ensures writes { (r : Rooms) (w : DeviceSizes) (T : List Object) (E : List Event) →
+        HandleRuns r w handle.old.slot.inner T E →
         WritesSpec (state_after w T E).tree (info_at (state_after w T E).tree index) spec.old spec.new result }
     ensures again { WrittenMakesAgain }
     ensures unwritten { (result ≡ 0) ⊎ (spec.new ≡ spec.old) }
@@ -142,7 +143,8 @@ pub extern "C" fn oca_device_spec_of(
     ensures closed { RefusesClosed handle.old.slot.inner handle.new.slot.inner result }
     ensures building { RefusesBuilding handle.old.slot.inner handle.new.slot.inner result }
     ensures kept { handle.new.slot.inner ≡ handle.old.slot.inner }
-    ensures writes { (r : Rooms) (w : DeviceSizes) (T : List Object) (E : List Event) → HandleRuns r w handle.old.slot.inner T E →
+    ensures writes { (r : Rooms) (w : DeviceSizes) (T : List Object) (E : List Event) →
+        HandleRuns r w handle.old.slot.inner T E →
         WritesSpec (state_after w T E).tree (info_of_ono (state_after w T E).tree ono) spec.old spec.new result }
     ensures again { WrittenMakesAgain }
     ensures unwritten { (result ≡ 0) ⊎ (spec.new ≡ spec.old) }

@@ -110,8 +110,8 @@ IsPacketRoom packets = (1 ≤ packets) × (packets ≤ 122)
 abbrev pub IsSpent : DeviceBehind → Type 0
 IsSpent behind = (behind.builder ≡ None) × (behind.device ≡ None)
 
--- A device with these rooms is started with the objects, no packet is there, and nothing is to be stored; or not, for want of memory,
--- which loses the objects, or where a size is none, which changes nothing.
+-- A device with these rooms is started with the objects, no packet is there, and nothing is to be stored; or not, for
+-- want of memory, which loses the objects, or where a size is none, which changes nothing.
 abbrev pub Starts : Answer → DeviceBehind → DeviceBehind → Rooms → ℕ → ℕ → ℕ → List Object → Type 0
 Starts answer old new r window peers packets tree =
     ((answer ≡ answers.Done) × IsSize window × IsSize peers × IsPacketRoom packets

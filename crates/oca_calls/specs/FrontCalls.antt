@@ -80,7 +80,8 @@ SetsEntry r w answer new tree events ono entry =
     × SetsFrontFound r w answer new tree events ono found
 
 -- IT IS SET TO A VALUE, as a value of the object's class alone can be set; where there is none, nothing is set.
-abbrev pub SetsWords : Rooms → DeviceSizes → Answer → DeviceBehind → List Object → List Event → ℕ → Option Value → Type 0
+abbrev pub SetsWords :
+    Rooms → DeviceSizes → Answer → DeviceBehind → List Object → List Event → ℕ → Option Value → Type 0
 SetsWords r w answer new tree events ono None = (answer ≡ answers.NoValue) × RunsBehind r w new tree events
 SetsWords r w answer new tree events ono (Some value) = SetsFrontFound r w answer new tree events ono (Ok value)
 
@@ -94,7 +95,8 @@ HandleSetsFound r w number new tree events ono (Ok value) =
     (number ≡ answer_number (set_answers (set_fault (state_after w tree events).tree ono value)))
     × HandleRuns r w new tree (Local ono (ToValue value) ∷ events)
 
-abbrev pub HandleIsSet : Rooms → DeviceSizes → ℕ → Option DeviceBehind → List Object → List Event → ℕ → FrontNumber → Type 0
+abbrev pub HandleIsSet :
+    Rooms → DeviceSizes → ℕ → Option DeviceBehind → List Object → List Event → ℕ → FrontNumber → Type 0
 HandleIsSet r w number new tree events ono entry =
     (found : Result Value SetFault) × FindsFrontValue entry (class_of_ono (state_after w tree events).tree ono) found
     × HandleSetsFound r w number new tree events ono found

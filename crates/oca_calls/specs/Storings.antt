@@ -40,7 +40,8 @@ unstored_behind before room w tree events from bytes now =
     (duplicates_of (verdict_within room w tree events from bytes now))
 
 -- THE RULE IS THAT OF A DEVICE WHICH KEEPS ITS OBJECTS IN A STORE (`serve_keeping` of oca_device): which answers to a
--- datagram of at most 1,472 bytes wait, and whether something written is not stored then. There is room for each command.
+-- datagram of at most 1,472 bytes wait, and whether something written is not stored then. The device has room for each
+-- command.
 abbrev pub WaitsAsKept : Type 0
 WaitsAsKept = (before : Unstored) (w : DeviceSizes) (tree : List Object) (events : List Event) (from : Peer)
     (bytes : List ℕ) (now : ℕ) → length bytes ≤ largest_datagram →

@@ -1,8 +1,8 @@
 //! A device of either size.
-ghost use Rattle.std.specs.Prelude.{◌≡◌, ◌≤◌, ◌∷◌, [], List, Option, true, false, IfOk, MatchOption, OnErr, length, slice_get};
-ghost use Rattle.std.specs.Prelude.{◌==◌, not};
+ghost use Rattle.std.specs.Prelude.{◌≡◌, ◌≤◌, ◌∷◌, [], List, true, false, IfOk, MatchOption, length, slice_get};
 ghost use Rattle.std.specs.Result.{result_err};
 ghost use Rattle.oca_types.specs.Sizes.{DeviceSizes, sizes_of};
+ghost use Rattle.oca_pdu.specs.Limits.{most_answered};
 ghost use Rattle.oca_tree.specs.declared.object.Object.{Object};
 ghost use Rattle.oca_tree.specs.LocalChanges.{front_fault, ToValue, ToLabel, ToEnabled, ToUnlocked, ToFailing};
 ghost use Rattle.oca_tree.specs.Readers.{failing_at};
@@ -73,11 +73,19 @@ impl AnyDevice {
         now: u64,
         outbox: &mut BoundedOutbox,
     ) -> Verdict
-        ensures serves { (r : Rooms) (w : DeviceSizes) (T : List Object) (E : List Event) → RunsWithin r w self.old T E →
-            RunsWithin r w self.new T (DatagramEvent from (told r.command bytes.now) now ∷ E)
-            × (outbox.new ≡ first_packets outbox.old.room (packets_within r.answer w T E (DatagramEvent from (told r.command bytes.now) now)))
-            × (length (packets_within r.answer w T E (DatagramEvent from (told r.command bytes.now) now)) ≤ 122)
-            × (result ≡ verdict_within r.command w T E from bytes.now now) }
+        ensures serves { (r : Rooms) (w : DeviceSizes) (T : List Object) (E : List Event) →
+            RunsWithin r w self.old T E →
+            RunsWithin r w self.new T (DatagramEvent from (told r.command bytes.now) now ∷ E) }
+        ensures packets { (r : Rooms) (w : DeviceSizes) (T : List Object) (E : List Event) →
+            RunsWithin r w self.old T E →
+            outbox.new ≡ first_packets outbox.old.room
+            (packets_within r.answer w T E (DatagramEvent from (told r.command bytes.now) now)) }
+        ensures few { (r : Rooms) (w : DeviceSizes) (T : List Object) (E : List Event) →
+            RunsWithin r w self.old T E →
+            length (packets_within r.answer w T E (DatagramEvent from (told r.command bytes.now) now)) ≤ most_answered }
+        ensures verdict { (r : Rooms) (w : DeviceSizes) (T : List Object) (E : List Event) →
+            RunsWithin r w self.old T E →
+            result ≡ verdict_within r.command w T E from bytes.now now }
     {
         match &mut self.device {
             Sized::Full(device) => device.datagram_within(from, bytes, now, outbox),
@@ -109,7 +117,8 @@ impl AnyDevice {
 
     /// Sets an object to a value at the local front panel, as [`Device::set`] does.
     pub fn set(&mut self, ono: Ono, value: Value) -> Result<(), SetFault>
-        ensures represents { (r : Rooms) (w : DeviceSizes) (T : List Object) (E : List Event) → RunsWithin r w self.old T E →
+        ensures represents { (r : Rooms) (w : DeviceSizes) (T : List Object) (E : List Event) →
+            RunsWithin r w self.old T E →
             RunsWithin r w self.new T (Local ono.0 (ToValue value) ∷ E) }
         ensures fault { (r : Rooms) (w : DeviceSizes) (T : List Object) (E : List Event) → RunsWithin r w self.old T E →
             result_err result ≡ set_fault (state_after w T E).tree ono.0 value }
@@ -122,7 +131,8 @@ impl AnyDevice {
 
     /// Gives an object a label at the local front panel, as [`Device::set_label`] does.
     pub fn set_label(&mut self, ono: Ono, label: &str) -> Result<(), FrontFault>
-        ensures represents { (r : Rooms) (w : DeviceSizes) (T : List Object) (E : List Event) → RunsWithin r w self.old T E →
+        ensures represents { (r : Rooms) (w : DeviceSizes) (T : List Object) (E : List Event) →
+            RunsWithin r w self.old T E →
             RunsWithin r w self.new T (Local ono.0 (ToLabel label.now) ∷ E) }
         ensures fault { (r : Rooms) (w : DeviceSizes) (T : List Object) (E : List Event) → RunsWithin r w self.old T E →
             result_err result ≡ front_fault (state_after w T E).tree ono.0 (asked.SetLabel label.now) }
@@ -135,7 +145,8 @@ impl AnyDevice {
 
     /// Enables or disables an object at the local front panel, as [`Device::set_enabled`] does.
     pub fn set_enabled(&mut self, ono: Ono, enabled: bool) -> Result<(), FrontFault>
-        ensures represents { (r : Rooms) (w : DeviceSizes) (T : List Object) (E : List Event) → RunsWithin r w self.old T E →
+        ensures represents { (r : Rooms) (w : DeviceSizes) (T : List Object) (E : List Event) →
+            RunsWithin r w self.old T E →
             RunsWithin r w self.new T (Local ono.0 (ToEnabled enabled) ∷ E) }
         ensures fault { (r : Rooms) (w : DeviceSizes) (T : List Object) (E : List Event) → RunsWithin r w self.old T E →
             result_err result ≡ front_fault (state_after w T E).tree ono.0 (asked.SetEnabled enabled) }
@@ -148,7 +159,8 @@ impl AnyDevice {
 
     /// Releases the lock of an object at the local front panel, as [`Device::unlock`] does.
     pub fn unlock(&mut self, ono: Ono) -> Result<(), FrontFault>
-        ensures represents { (r : Rooms) (w : DeviceSizes) (T : List Object) (E : List Event) → RunsWithin r w self.old T E →
+        ensures represents { (r : Rooms) (w : DeviceSizes) (T : List Object) (E : List Event) →
+            RunsWithin r w self.old T E →
             RunsWithin r w self.new T (Local ono.0 ToUnlocked ∷ E) }
         ensures fault { (r : Rooms) (w : DeviceSizes) (T : List Object) (E : List Event) → RunsWithin r w self.old T E →
             result_err result ≡ front_fault (state_after w T E).tree ono.0 asked.Unlock }
@@ -161,7 +173,8 @@ impl AnyDevice {
 
     /// Sets whether the hardware of an object refuses changes, as [`Device::set_failing`] does.
     pub fn set_failing(&mut self, ono: Ono, failing: bool) -> Result<(), FrontFault>
-        ensures represents { (r : Rooms) (w : DeviceSizes) (T : List Object) (E : List Event) → RunsWithin r w self.old T E →
+        ensures represents { (r : Rooms) (w : DeviceSizes) (T : List Object) (E : List Event) →
+            RunsWithin r w self.old T E →
             RunsWithin r w self.new T (Local ono.0 (ToFailing failing) ∷ E) }
         ensures fault { (r : Rooms) (w : DeviceSizes) (T : List Object) (E : List Event) → RunsWithin r w self.old T E →
             result_err result ≡ front_fault (state_after w T E).tree ono.0 (asked.SetEnabled failing) }
@@ -219,7 +232,8 @@ impl AnyDevice {
     /// The numbers of the objects that the last datagram wrote to, as [`Device::written`] tells.
     pub fn written(&self) -> &[Ono]
         ensures written { numbers_of result.now ≡ self.now.device.written }
-        ensures represented { (r : Rooms) (w : DeviceSizes) (T : List Object) (E : List Event) → RunsWithin r w self.now T E →
+        ensures represented { (r : Rooms) (w : DeviceSizes) (T : List Object) (E : List Event) →
+            RunsWithin r w self.now T E →
             numbers_of result.now ≡ written w T E }
     {
         match &self.device {

@@ -27,7 +27,6 @@ ghost use Rattle.oca_calls.specs.Outputs.{WritesWords, put_words};
 ghost use Rattle.oca_calls.specs.Outputs.{verdict_words};
 ghost use Rattle.oca_calls.specs.Storings.{all_stored, unstored_behind};
 ghost use Rattle.oca_calls.specs.LinkRooms.{Rooms, rooms_of};
-ghost use Rattle.oca_calls.specs.DeviceRooms.{RunsWithin};
 
 use crate::answer::Answer;
 use crate::any_device::AnyDevice;
@@ -185,16 +184,11 @@ impl DeviceBehind {
     }
 
     /// Makes the device of the objects, where these are sizes.
-    fn start_with(
-        &mut self,
-        alloc: Global,
-        sizes: Sizes,
-        packets: usize,
-        is_small: bool,
-    ) -> Answer
+    fn start_with(&mut self, alloc: Global, sizes: Sizes, packets: usize, is_small: bool) -> Answer
         requires { IsPacketRoom packets }
         ensures starts { (B : Store) → Builds self.old B →
-            Starts result self.old self.new (rooms_of is_small) (window_size sizes.window) (peer_count sizes.peers) packets B.list }
+            Starts result self.old self.new (rooms_of is_small) (window_size sizes.window) (peer_count sizes.peers)
+            packets B.list }
         ensures started { self.old.builder ≡ None → (result ≡ Started) × (self.new ≡ self.old) }
     {
         match self.builder.take() {
@@ -214,7 +208,8 @@ impl DeviceBehind {
     ) -> Answer
         requires { IsPacketRoom packets }
         ensures starts { self.old.builder ≡ None → self.old.device ≡ None →
-            Starts result self.old self.new (rooms_of is_small) (window_size sizes.window) (peer_count sizes.peers) packets builder.list }
+            Starts result self.old self.new (rooms_of is_small) (window_size sizes.window) (peer_count sizes.peers)
+            packets builder.list }
     {
         match room_for(alloc, packets) {
             Some(outbox) => self.run(
@@ -252,13 +247,16 @@ impl DeviceBehind {
     /// The words of the verdict ([`words_of`](crate::words::words_of)) go to the front of `out`, as many as it has room
     /// for. Returns `Done`. `NotStarted` before the start: then nothing is changed or written.
     pub fn datagram(&mut self, from: Peer, bytes: &[u8], now: u64, out: &mut [u32]) -> Answer
-        ensures serves { (r : Rooms) (w : DeviceSizes) (T : List Object) (E : List Event) → RunsBehind r w self.old T E →
+        ensures serves { (r : Rooms) (w : DeviceSizes) (T : List Object) (E : List Event) →
+            RunsBehind r w self.old T E →
             RunsBehind r w self.new T (DatagramEvent from (told r.command bytes.now) now ∷ E)
-            × (self.new.outbox ≡ first_packets self.old.outbox.room (packets_within r.answer w T E (DatagramEvent from (told r.command bytes.now) now)))
+            × (self.new.outbox ≡ first_packets self.old.outbox.room
+            (packets_within r.answer w T E (DatagramEvent from (told r.command bytes.now) now)))
             × (length (packets_within r.answer w T E (DatagramEvent from (told r.command bytes.now) now)) ≤ 122)
             × (out.new ≡ put_words (verdict_words (verdict_within r.command w T E from bytes.now now)) out.old)
             × (result ≡ Done) }
-        ensures unstored { (r : Rooms) (w : DeviceSizes) (T : List Object) (E : List Event) → RunsBehind r w self.old T E →
+        ensures unstored { (r : Rooms) (w : DeviceSizes) (T : List Object) (E : List Event) →
+            RunsBehind r w self.old T E →
             self.new.unstored ≡ unstored_behind self.old.unstored r.command w T E from bytes.now now }
         ensures building { self.old.device ≡ None → (result ≡ NotStarted) × (self.new ≡ self.old) }
         ensures unwritten { (result ≡ Done) ⊎ (out.new ≡ out.old) }
@@ -278,7 +276,8 @@ impl DeviceBehind {
     /// was silent for more than 120,000 ms. A moment earlier than the latest one so far is taken as that latest one.
     /// Returns `Done`. `NotStarted` before the start: then nothing is changed.
     pub fn tick(&mut self, now: u64) -> Answer
-        ensures serves { (r : Rooms) (w : DeviceSizes) (T : List Object) (E : List Event) → RunsBehind r w self.old T E →
+        ensures serves { (r : Rooms) (w : DeviceSizes) (T : List Object) (E : List Event) →
+            RunsBehind r w self.old T E →
             RunsBehind r w self.new T (Tick now ∷ E) × (result ≡ Done) }
         ensures packets { self.new.outbox ≡ self.old.outbox }
         ensures unstored { self.new.unstored ≡ self.old.unstored }
@@ -296,7 +295,8 @@ impl DeviceBehind {
     /// `Done`. `Nothing` if there is no such moment within 64 bits, as without sessions, or `NotStarted` before the
     /// start: then nothing is written.
     pub fn next_lapse(&self, moment: &mut u64) -> Answer
-        ensures writes { (r : Rooms) (w : DeviceSizes) (T : List Object) (E : List Event) → RunsBehind r w self.now T E →
+        ensures writes { (r : Rooms) (w : DeviceSizes) (T : List Object) (E : List Event) →
+            RunsBehind r w self.now T E →
             WritesNextLapse w (state_after w T E) moment.new (answer_number result) }
         ensures building { self.now.device ≡ None → result ≡ NotStarted }
         ensures unwritten { (result ≡ Done) ⊎ (moment.new ≡ moment.old) }
@@ -451,7 +451,8 @@ impl DeviceBehind {
     /// Returns `Done`. Otherwise the first of these that applies, and then nothing is changed. `NotStarted` before the
     /// start. `NoObject` if no object has the number `ono`. `Nothing` if the object is not locked.
     pub fn unlock(&mut self, ono: u32) -> Answer
-        ensures unlocks { (r : Rooms) (w : DeviceSizes) (T : List Object) (E : List Event) → RunsBehind r w self.old T E →
+        ensures unlocks { (r : Rooms) (w : DeviceSizes) (T : List Object) (E : List Event) →
+            RunsBehind r w self.old T E →
             ChangesFront r w result self.new T E ono ToUnlocked asked.Unlock }
         ensures packets { self.new.outbox ≡ self.old.outbox }
         ensures unstored { self.new.unstored ≡ self.old.unstored }
@@ -551,7 +552,8 @@ impl DeviceBehind {
     /// for all: then it gets the first of them, and `count` is written too. `NotStarted` before the start: then nothing
     /// is written.
     pub fn written(&self, out: &mut [u32], count: &mut usize) -> Answer
-        ensures writes { (r : Rooms) (w : DeviceSizes) (T : List Object) (E : List Event) → RunsBehind r w self.now T E →
+        ensures writes { (r : Rooms) (w : DeviceSizes) (T : List Object) (E : List Event) →
+            RunsBehind r w self.now T E →
             WritesWords (written w T E) out.old out.new count.new (answer_number result) }
         ensures building { self.now.device ≡ None → result ≡ NotStarted }
         ensures unwritten { (result ≡ Done)
@@ -605,7 +607,8 @@ impl DeviceBehind {
     /// Writes to `count` how many objects the device has, the root counted: 1 to 4,096. Returns `Done`. `NotStarted`
     /// before the start: then nothing is written.
     pub fn objects(&self, count: &mut usize) -> Answer
-        ensures writes { (r : Rooms) (w : DeviceSizes) (T : List Object) (E : List Event) → RunsBehind r w self.now T E →
+        ensures writes { (r : Rooms) (w : DeviceSizes) (T : List Object) (E : List Event) →
+            RunsBehind r w self.now T E →
             (result ≡ Done) × (count.new ≡ length (state_after w T E).tree) }
         ensures building { self.now.device ≡ None → result ≡ NotStarted }
         ensures unwritten { (result ≡ Done) ⊎ (count.new ≡ count.old) }
@@ -623,7 +626,8 @@ impl DeviceBehind {
     /// role. Each is written as far as there is room. Returns `Done`. `Nothing` if there are `index` objects or fewer,
     /// or `NotStarted` before the start: then nothing is written.
     pub fn object(&self, index: usize, out: &mut [u32], role: &mut [u8]) -> Answer
-        ensures writes { (r : Rooms) (w : DeviceSizes) (T : List Object) (E : List Event) → RunsBehind r w self.now T E →
+        ensures writes { (r : Rooms) (w : DeviceSizes) (T : List Object) (E : List Event) →
+            RunsBehind r w self.now T E →
             WritesObject (info_at (state_after w T E).tree index) out.old out.new role.old role.new
             (answer_number result) }
         ensures building { self.now.device ≡ None → result ≡ NotStarted }
@@ -645,7 +649,8 @@ impl DeviceBehind {
     /// the start, `BadSize` if `out.size` is not 1,248 (the size of the struct in bytes), `Nothing` if there are
     /// `index` objects or fewer.
     pub fn spec(&self, index: usize, out: &mut SpecWords) -> Answer
-        ensures writes { (r : Rooms) (w : DeviceSizes) (T : List Object) (E : List Event) → RunsBehind r w self.now T E →
+        ensures writes { (r : Rooms) (w : DeviceSizes) (T : List Object) (E : List Event) →
+            RunsBehind r w self.now T E →
             WritesSpec (state_after w T E).tree (info_at (state_after w T E).tree index) out.old out.new
             (answer_number result) }
         ensures building { self.now.device ≡ None → (result ≡ NotStarted) × (out.new ≡ out.old) }
@@ -661,7 +666,8 @@ impl DeviceBehind {
     /// `Done`. Otherwise nothing is written: `NotStarted` before the start, `BadSize` if `out.size` is not 1,248 (the
     /// size of the struct in bytes), `Nothing` if no object has the number.
     pub fn spec_of(&self, ono: u32, out: &mut SpecWords) -> Answer
-        ensures writes { (r : Rooms) (w : DeviceSizes) (T : List Object) (E : List Event) → RunsBehind r w self.now T E →
+        ensures writes { (r : Rooms) (w : DeviceSizes) (T : List Object) (E : List Event) →
+            RunsBehind r w self.now T E →
             WritesSpec (state_after w T E).tree (info_of_ono (state_after w T E).tree ono) out.old out.new
             (answer_number result) }
         ensures building { self.now.device ≡ None → (result ≡ NotStarted) × (out.new ≡ out.old) }
@@ -676,7 +682,8 @@ impl DeviceBehind {
     /// Writes to `count` how many peers have a session: 0 to 64. Returns `Done`. `NotStarted` before the start: then
     /// nothing is written.
     pub fn peers(&self, count: &mut usize) -> Answer
-        ensures writes { (r : Rooms) (w : DeviceSizes) (T : List Object) (E : List Event) → RunsBehind r w self.now T E →
+        ensures writes { (r : Rooms) (w : DeviceSizes) (T : List Object) (E : List Event) →
+            RunsBehind r w self.now T E →
             (result ≡ Done) × (count.new ≡ length (known_after (state_after w T E))) }
         ensures building { self.now.device ≡ None → result ≡ NotStarted }
         ensures unwritten { (result ≡ Done) ⊎ (count.new ≡ count.old) }
@@ -693,7 +700,8 @@ impl DeviceBehind {
     /// forgotten, the later ones move down by one. Returns `Done`. `Nothing` if there are `index` sessions or fewer, or
     /// `NotStarted` before the start: then nothing is written.
     pub fn peer(&self, index: usize, ip: &mut u32, port: &mut u16) -> Answer
-        ensures writes { (r : Rooms) (w : DeviceSizes) (T : List Object) (E : List Event) → RunsBehind r w self.now T E →
+        ensures writes { (r : Rooms) (w : DeviceSizes) (T : List Object) (E : List Event) →
+            RunsBehind r w self.now T E →
             WritesPeer (slice_get (known_after (state_after w T E)) index) ip.new port.new (answer_number result) }
         ensures building { self.now.device ≡ None → result ≡ NotStarted }
         ensures unwritten { (result ≡ Done) ⊎ ((ip.new ≡ ip.old) × (port.new ≡ port.old)) }
@@ -714,7 +722,8 @@ impl DeviceBehind {
     /// lets them read. Returns `Done`. `Nothing` if the object is not locked or no object has the number `ono`, or
     /// `NotStarted` before the start: then nothing is written.
     pub fn lock(&self, ono: u32, kind: &mut u32, ip: &mut u32, port: &mut u16) -> Answer
-        ensures writes { (r : Rooms) (w : DeviceSizes) (T : List Object) (E : List Event) → RunsBehind r w self.now T E →
+        ensures writes { (r : Rooms) (w : DeviceSizes) (T : List Object) (E : List Event) →
+            RunsBehind r w self.now T E →
             WritesLock (lock_at (state_after w T E).tree ono) kind.new ip.new port.new (answer_number result) }
         ensures building { self.now.device ≡ None → result ≡ NotStarted }
         ensures unwritten { (result ≡ Done) ⊎ ((kind.new ≡ kind.old) × (ip.new ≡ ip.old) × (port.new ≡ port.old)) }
@@ -735,7 +744,8 @@ impl DeviceBehind {
     /// [`set_failing`](DeviceBehind::set_failing) last set it. False before the first such call. Returns `Done`.
     /// `NoObject` if no object has the number `ono`, or `NotStarted` before the start: then nothing is written.
     pub fn is_failing(&self, ono: u32, failing: &mut bool) -> Answer
-        ensures writes { (r : Rooms) (w : DeviceSizes) (T : List Object) (E : List Event) → RunsBehind r w self.now T E →
+        ensures writes { (r : Rooms) (w : DeviceSizes) (T : List Object) (E : List Event) →
+            RunsBehind r w self.now T E →
             WritesFailing (failing_at (state_after w T E).tree ono) failing.new (answer_number result) }
         ensures building { self.now.device ≡ None → result ≡ NotStarted }
         ensures unwritten { (result ≡ Done) ⊎ (failing.new ≡ failing.old) }
@@ -755,7 +765,8 @@ impl DeviceBehind {
     /// number without its sign: 1 or 2 for a state, 0 or 1 for a Boolean. Returns `Done`. `NotStarted` before the
     /// start, or `Nothing` if the object is a block or no object has the number `ono`: then nothing is written.
     pub fn reading(&self, ono: u32, reading: &mut Reading) -> Answer
-        ensures writes { (r : Rooms) (w : DeviceSizes) (T : List Object) (E : List Event) → RunsBehind r w self.now T E →
+        ensures writes { (r : Rooms) (w : DeviceSizes) (T : List Object) (E : List Event) →
+            RunsBehind r w self.now T E →
             WritesSetting (setting_at (state_after w T E).tree ono) reading.new (answer_number result) }
         ensures building { self.now.device ≡ None → result ≡ NotStarted }
         ensures unwritten { (result ≡ Done) ⊎ (reading.new ≡ reading.old) }

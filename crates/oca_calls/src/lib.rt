@@ -3,9 +3,9 @@
 #![tactic(auto)]
 
 pub mod adding;
-pub mod any_device;
 pub mod answer;
 pub mod answer_words;
+pub mod any_device;
 pub mod device;
 pub mod device_handle;
 pub mod device_slot;

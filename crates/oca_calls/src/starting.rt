@@ -27,7 +27,8 @@ pub fn start(
     ensures closed { RefusesClosed handle.old.slot.inner handle.new.slot.inner result }
     ensures started { RefusesRunning handle.old.slot.inner handle.new.slot.inner result }
     ensures starts { (B : Store) → HandleBuilds handle.old.slot.inner B →
-        HandleStarts result handle.old.slot.inner handle.new.slot.inner (rooms_of is_small) window peers packets B.list }
+        HandleStarts result handle.old.slot.inner handle.new.slot.inner (rooms_of is_small) window peers packets
+        B.list }
 {
     let Some(mut behind) = handle.take(alloc) else {
         return Answer::Closed.number();
