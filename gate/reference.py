@@ -25,7 +25,7 @@ ANSWERS = [
     (r"oca_device_add(_kept)?", f"{ADDED} BAD_RANGE NO_MEMORY CLOSED STARTED BAD_SIZE NO_VALUE"),
     (r"oca_device_add_(block|mute|polarity|boolean)", f"{ADDED} NO_MEMORY CLOSED STARTED"),
     (r"oca_device_add_\w+", f"{ADDED} BAD_RANGE NO_MEMORY CLOSED STARTED"),
-    (r"oca_device_start(_within)?", "NO_MEMORY CLOSED STARTED BAD_SIZE"),
+    (r"oca_device_start(_within|_small)?", "NO_MEMORY CLOSED STARTED BAD_SIZE"),
     (r"oca_device_(datagram(_words)?|tick|packets|left_out|objects|waits|stored)", "CLOSED NOT_STARTED"),
     (r"oca_device_(next_lapse|setting|lock|object(_words)?)", "CLOSED NOT_STARTED NOTHING"),
     (r"oca_device_packet", "CLOSED NOT_STARTED NOTHING TOO_SMALL"),

@@ -586,15 +586,26 @@ enum oca_result oca_device_add_switch(struct oca_device *device, uint32_t contai
  * again. */
 enum oca_result oca_device_start(struct oca_device *device, uint8_t window, uint8_t peers) OCA_CHECKED;
 
-/* Starts a small device as oca_device_start does, but with room for `packets` packets that answer a datagram: 1 to 122,
- * of some 1,480 bytes each. `window` is for how many commands of one peer the device keeps the replies, and `peers` is
- * how many peers can have a session at once: both 1 to 64. All commands of a datagram are executed, whatever the room.
+/* Starts the device as oca_device_start does, but with room for `packets` packets that answer a datagram: 1 to 122, of
+ * some 1,480 bytes each. `window` is for how many commands of one peer the device keeps the replies, and `peers` is how
+ * many peers can have a session at once: both 1 to 64. All commands of a datagram are executed, whatever the room.
  * Packets for which there is no room are left out, as if the network had lost them: a controller that sends such a
  * command again gets the retained reply. A datagram never gets more packets than it has commands and keep-alives.
  * Returns OCA_DONE. Otherwise the first of these that applies. OCA_CLOSED if the device is closed, OCA_STARTED if it is
  * started already, OCA_BAD_SIZE if a size is outside its range: then nothing is changed. OCA_NO_MEMORY if memory was
  * refused: then the objects are lost and the struct is closed; it can be opened again. */
 enum oca_result oca_device_start_within(struct oca_device *device, uint8_t window, uint8_t peers, size_t packets) OCA_CHECKED;
+
+/* Starts a small device, with the arguments of oca_device_start_within: a device for objects of which panels set and
+ * read single values. All calls of a device work on it. Each command of which it keeps the reply takes 376 bytes, and
+ * not 2,952. A command may have 64 bytes of parameters: a datagram of more than 91 bytes is malformed with
+ * OCA_FAULT_TOO_LONG, at byte 91. A reply may have 264 bytes of parameters: a longer one is sent as
+ * OCA_STATUS_BUFFER_OVERFLOW without parameters. Its command was still executed or refused; only commands that read
+ * have such replies. The answers to a datagram never have more than 7 packets. Returns OCA_DONE. Otherwise the first of
+ * these that applies. OCA_CLOSED if the device is closed, OCA_STARTED if it is started already, OCA_BAD_SIZE if a size
+ * is outside its range: then nothing is changed. OCA_NO_MEMORY if memory was refused: then the objects are lost and the
+ * struct is closed; it can be opened again. */
+enum oca_result oca_device_start_small(struct oca_device *device, uint8_t window, uint8_t peers, size_t packets) OCA_CHECKED;
 
 /* What became of a datagram. `kind` is 0 if it was served. Then come how many of its commands were executed
  * (`executed`), were duplicates (`kept`), were too old (`old`), and asked something else under the handle of a command

@@ -6,11 +6,12 @@ ghost use Rattle.oca_tree.specs.declared.object.Object.{Object};
 ghost use Rattle.oca_tree.specs.Objects.{Store};
 ghost use Rattle.oca_device.specs.Events.{Event, Datagram as DatagramEvent, Tick};
 ghost use Rattle.oca_device.specs.States.{state_after};
-ghost use Rattle.oca_device.specs.Answers.{packets, verdict};
+ghost use Rattle.oca_device.specs.Rooms.{packets_within, told, verdict_within};
 ghost use Rattle.oca_device.specs.Outboxes.{KeptPackets};
 ghost use Rattle.oca_device.specs.Written.{written};
 ghost use Rattle.oca_calls.specs.Calls.{HandleBuilds, HandleRuns, HandleStarts, AnsweredWith, KeepsFirst, KeepsPackets};
 ghost use Rattle.oca_calls.specs.Calls.{Opens, RefusesBuilding, RefusesClosed, RefusesRunning};
+ghost use Rattle.oca_calls.specs.LinkRooms.{Rooms, full_rooms, small_rooms};
 ghost use Rattle.oca_calls.specs.Outputs.{WritesNextLapse, WritesWords, put_words, verdict_words};
 ghost use Rattle.oca_calls.specs.Storings.{HasUnstored, KeepsUnstored, RunsUnstored, all_stored, unstored_behind};
 ghost use Rattle.oca_calls.specs.declared.unstored.Unstored.{Unstored};
@@ -19,6 +20,7 @@ use oca_calls::answer::Answer;
 use oca_calls::device::MOST_PACKETS;
 use oca_calls::device_handle::DeviceHandle;
 use oca_calls::opening::open_over;
+use oca_calls::starting::start;
 use oca_tree::{Room, TreeBuilder};
 use oca_types::Peer;
 use std::alloc::Global;
@@ -73,17 +75,16 @@ pub extern "C" fn oca_device_start(
     ensures closed { RefusesClosed handle.old.slot.inner handle.new.slot.inner result }
     ensures started { RefusesRunning handle.old.slot.inner handle.new.slot.inner result }
     ensures starts { (B : Store) → HandleBuilds handle.old.slot.inner B →
-        HandleStarts result handle.old.slot.inner handle.new.slot.inner window peers 122 B.list }
+        HandleStarts result handle.old.slot.inner handle.new.slot.inner full_rooms window peers 122 B.list }
 {
     oca_device_start_within(alloc, handle, window, peers, MOST_PACKETS)
 }
 
-/// Starts a small device as `oca_device_start` does, but with room for `packets` packets that answer a datagram: 1 to
-/// 122, of some 1,480 bytes each. `window` is for how many commands of one peer the device keeps the replies, and
-/// `peers` is how many peers can have a session at once: both 1 to 64. All commands of a datagram are executed,
-/// whatever the room. Packets for which there is no room are left out, as if the network had lost them: a controller
-/// that sends such a command again gets the retained reply. A datagram never gets more packets than it has commands and
-/// keep-alives.
+/// Starts the device as `oca_device_start` does, but with room for `packets` packets that answer a datagram: 1 to 122,
+/// of some 1,480 bytes each. `window` is for how many commands of one peer the device keeps the replies, and `peers` is
+/// how many peers can have a session at once: both 1 to 64. All commands of a datagram are executed, whatever the room.
+/// Packets for which there is no room are left out, as if the network had lost them: a controller that sends such a
+/// command again gets the retained reply. A datagram never gets more packets than it has commands and keep-alives.
 ///
 /// Returns the number of an answer: `Done`. Otherwise the first of these that applies. `Closed` if the device is
 /// closed, `Started` if it is started already, `BadSize` if a size is outside its range: then nothing is changed.
@@ -99,14 +100,35 @@ pub extern "C" fn oca_device_start_within(
     ensures closed { RefusesClosed handle.old.slot.inner handle.new.slot.inner result }
     ensures started { RefusesRunning handle.old.slot.inner handle.new.slot.inner result }
     ensures starts { (B : Store) → HandleBuilds handle.old.slot.inner B →
-        HandleStarts result handle.old.slot.inner handle.new.slot.inner window peers packets B.list }
+        HandleStarts result handle.old.slot.inner handle.new.slot.inner full_rooms window peers packets B.list }
 {
-    let Some(mut behind) = handle.take(alloc) else {
-        return Answer::Closed.number();
-    };
-    let answer = behind.start(alloc, window, peers, packets);
-    handle.put_started(behind, answer);
-    answer.number()
+    start(alloc, handle, window, peers, packets, false)
+}
+
+/// Starts a small device, with the arguments of `oca_device_start_within`. All calls of a device work on it. A command
+/// of which the device keeps the reply takes 376 bytes instead of 2,952. It is for objects of which panels set and read
+/// single values: a command may have 64 bytes of parameters, and a reply 264. A datagram of more than 91 bytes is
+/// malformed (`OCA_FAULT_TOO_LONG`, at byte 91). A command whose reply has more than 264 bytes of parameters is
+/// executed or refused as in each device, but answered with the status BufferOverflow (14), ParamCount 0 and no
+/// parameters; only commands that read have such replies. No datagram of 91 bytes gets more than 7 packets.
+///
+/// Returns the number of an answer: `Done`. Otherwise the first of these that applies. `Closed` if the device is
+/// closed, `Started` if it is started already, `BadSize` if a size is outside its range: then nothing is changed.
+/// `NoMemory` if memory was refused: then the objects are lost and the struct is closed; it can be opened again.
+#[unsafe(no_mangle)]
+pub extern "C" fn oca_device_start_small(
+    alloc: Global,
+    handle: &mut DeviceHandle,
+    window: u8,
+    peers: u8,
+    packets: usize,
+) -> u32
+    ensures closed { RefusesClosed handle.old.slot.inner handle.new.slot.inner result }
+    ensures started { RefusesRunning handle.old.slot.inner handle.new.slot.inner result }
+    ensures starts { (B : Store) → HandleBuilds handle.old.slot.inner B →
+        HandleStarts result handle.old.slot.inner handle.new.slot.inner small_rooms window peers packets B.list }
+{
+    start(alloc, handle, window, peers, packets, true)
 }
 
 /// Handles a datagram that came from the address `ip` and the port `port` at the moment `now`, in milliseconds, and
@@ -134,17 +156,27 @@ pub extern "C" fn oca_device_datagram_words(
 ) -> u32
     ensures closed { RefusesClosed handle.old.slot.inner handle.new.slot.inner result }
     ensures building { RefusesBuilding handle.old.slot.inner handle.new.slot.inner result }
-    ensures serves { (w : DeviceSizes) (T : List Object) (E : List Event) → HandleRuns w handle.old.slot.inner T E →
-        HandleRuns w handle.new.slot.inner T (DatagramEvent (record { ip = ip; port = port }) bytes.now now ∷ E)
-        × KeepsFirst handle.old.slot.inner handle.new.slot.inner (packets w T E (DatagramEvent (record {
+    ensures serves { (r : Rooms) (w : DeviceSizes) (T : List Object) (E : List Event) →
+        HandleRuns r w handle.old.slot.inner T E →
+        HandleRuns r w handle.new.slot.inner T (DatagramEvent (record {
           ip = ip;
           port = port;
-        }) bytes.now now))
-        × (out.new ≡ put_words (verdict_words (verdict w T E (record { ip = ip; port = port }) bytes.now now)) out.old)
+        }) (told r.command bytes.now) now ∷ E)
+        × KeepsFirst handle.old.slot.inner handle.new.slot.inner (packets_within r.answer w T E (DatagramEvent (record {
+          ip = ip;
+          port = port;
+        }) (told r.command bytes.now) now))
+        × (out.new ≡ put_words (verdict_words (verdict_within r.command w T E (record {
+          ip = ip;
+          port = port;
+        }) bytes.now now)) out.old)
         × (result ≡ 0) }
-    ensures unstored { (w : DeviceSizes) (T : List Object) (E : List Event) (noted : Unstored) →
-        HandleRuns w handle.old.slot.inner T E → HasUnstored handle.old.slot.inner noted →
-        HasUnstored handle.new.slot.inner (unstored_behind noted w T E (record { ip = ip; port = port }) bytes.now now) }
+    ensures unstored { (r : Rooms) (w : DeviceSizes) (T : List Object) (E : List Event) (noted : Unstored) →
+        HandleRuns r w handle.old.slot.inner T E → HasUnstored handle.old.slot.inner noted →
+        HasUnstored handle.new.slot.inner (unstored_behind noted r.command w T E (record {
+          ip = ip;
+          port = port;
+        }) bytes.now now) }
     ensures unwritten { (result ≡ 0) ⊎ (out.new ≡ out.old) }
 {
     let Some(mut behind) = handle.take(alloc) else {
@@ -168,8 +200,9 @@ pub extern "C" fn oca_device_tick(alloc: Global, handle: &mut DeviceHandle, now:
     ensures building { RefusesBuilding handle.old.slot.inner handle.new.slot.inner result }
     ensures packets { KeepsPackets handle.old.slot.inner handle.new.slot.inner }
     ensures unstored { KeepsUnstored handle.old.slot.inner handle.new.slot.inner }
-    ensures serves { (w : DeviceSizes) (T : List Object) (E : List Event) → HandleRuns w handle.old.slot.inner T E →
-        HandleRuns w handle.new.slot.inner T (Tick now ∷ E) × (result ≡ 0) }
+    ensures serves { (r : Rooms) (w : DeviceSizes) (T : List Object) (E : List Event) →
+        HandleRuns r w handle.old.slot.inner T E →
+        HandleRuns r w handle.new.slot.inner T (Tick now ∷ E) × (result ≡ 0) }
 {
     let Some(mut behind) = handle.take(alloc) else {
         return Answer::Closed.number();
@@ -194,7 +227,8 @@ pub extern "C" fn oca_device_next_lapse(
     ensures closed { RefusesClosed handle.old.slot.inner handle.new.slot.inner result }
     ensures building { RefusesBuilding handle.old.slot.inner handle.new.slot.inner result }
     ensures kept { handle.new.slot.inner ≡ handle.old.slot.inner }
-    ensures writes { (w : DeviceSizes) (T : List Object) (E : List Event) → HandleRuns w handle.old.slot.inner T E →
+    ensures writes { (r : Rooms) (w : DeviceSizes) (T : List Object) (E : List Event) →
+        HandleRuns r w handle.old.slot.inner T E →
         WritesNextLapse w (state_after w T E) moment.new result }
     ensures unwritten { (result ≡ 0) ⊎ (moment.new ≡ moment.old) }
 {
@@ -312,7 +346,8 @@ pub extern "C" fn oca_device_written(
     ensures closed { RefusesClosed handle.old.slot.inner handle.new.slot.inner result }
     ensures building { RefusesBuilding handle.old.slot.inner handle.new.slot.inner result }
     ensures kept { handle.new.slot.inner ≡ handle.old.slot.inner }
-    ensures writes { (w : DeviceSizes) (T : List Object) (E : List Event) → HandleRuns w handle.old.slot.inner T E →
+    ensures writes { (r : Rooms) (w : DeviceSizes) (T : List Object) (E : List Event) →
+        HandleRuns r w handle.old.slot.inner T E →
         WritesWords (written w T E) out.old out.new count.new result }
     ensures unwritten { (result ≡ 0) ⊎ ((result ≡ 14) ⊎ ((out.new ≡ out.old) × (count.new ≡ count.old))) }
 {
@@ -365,8 +400,9 @@ pub extern "C" fn oca_device_stored(alloc: Global, handle: &mut DeviceHandle) ->
     ensures closed { RefusesClosed handle.old.slot.inner handle.new.slot.inner result }
     ensures building { RefusesBuilding handle.old.slot.inner handle.new.slot.inner result }
     ensures packets { KeepsPackets handle.old.slot.inner handle.new.slot.inner }
-    ensures notes { (w : DeviceSizes) (T : List Object) (E : List Event) → HandleRuns w handle.old.slot.inner T E →
-        HandleRuns w handle.new.slot.inner T E × HasUnstored handle.new.slot.inner all_stored × (result ≡ 0) }
+    ensures notes { (r : Rooms) (w : DeviceSizes) (T : List Object) (E : List Event) →
+        HandleRuns r w handle.old.slot.inner T E →
+        HandleRuns r w handle.new.slot.inner T E × HasUnstored handle.new.slot.inner all_stored × (result ≡ 0) }
 {
     let Some(mut behind) = handle.take(alloc) else {
         return Answer::Closed.number();

@@ -20,6 +20,7 @@ use Rattle.oca_calls.specs.declared.value_words.ValueWords.{ValueWords}
 use Rattle.oca_calls.specs.CValues.{AreWordsOf}
 use Rattle.oca_calls.specs.FrontCalls.{ChangesFront, FrontNumber, HandleChanges, HandleLabels, HandleSetsEntry, HandleSetsFound, HandleSetsValue, HandleSetsWords, SetsEntry, SetsFrontFound, SetsWords}
 use Rattle.oca_calls.specs.Numbers.{answer_number}
+use Rattle.oca_calls.specs.LinkRooms.{Rooms}
 use Rattle.oca_calls.specs.Calls.{AddedBy, Builds, HandleBuilds, HandleRuns, HandleStarts, RunsBehind, IsName, IsSwitch, Starts, SwitchAddedBy, left_by_start, name_bytes}
 
 -- an addition
@@ -31,15 +32,15 @@ adds_behind old new u u' number answer By o n e k B h =
     let r = k B (rw o at h) in (r.0, rw n r.1, answer, e, r.2)
 
 -- a start
-pub starts_behind : (old new : Option DeviceBehind) (u u' : DeviceBehind) (number : ℕ) (answer : Answer) (window peers packets : ℕ)
+pub starts_behind : (old new : Option DeviceBehind) (u u' : DeviceBehind) (number : ℕ) (answer : Answer) (r : Rooms) (window peers packets : ℕ)
     → old ≡ Some u → new ≡ left_by_start answer u' → number ≡ answer_number answer
-    → ((B : Store) → Builds u B → Starts answer u u' window peers packets B.list)
-    → (B : Store) → HandleBuilds old B → HandleStarts number old new window peers packets B.list
-starts_behind old new u u' number answer window peers packets o n e k B h = rw (o, n, e) (here (k B (rw o at h)))
+    → ((B : Store) → Builds u B → Starts answer u u' r window peers packets B.list)
+    → (B : Store) → HandleBuilds old B → HandleStarts number old new r window peers packets B.list
+starts_behind old new u u' number answer r window peers packets o n e k B h = rw (o, n, e) (here (k B (rw o at h)))
   where
-    here : Starts answer u u' window peers packets B.list → HandleStarts (answer_number answer) (Some u) (left_by_start answer u') window peers packets B.list
-    here (inl (is, w, p, r, runs, none, noted)) = rw is (inl (refl, w, p, r, runs, none, noted))
-    here (inr (inl (is, w, p, r, spent))) = rw is (inr (inl (refl, w, p, r, refl)))
+    here : Starts answer u u' r window peers packets B.list → HandleStarts (answer_number answer) (Some u) (left_by_start answer u') r window peers packets B.list
+    here (inl (is, w, p, room, runs, none, noted)) = rw is (inl (refl, w, p, room, runs, none, noted))
+    here (inr (inl (is, w, p, room, spent))) = rw is (inr (inl (refl, w, p, room, refl)))
     here (inr (inr (is, bad, same))) = rw is (inr (inr (refl, bad, rw same refl)))
 
 -- an addition of a switch, once its names were read
@@ -51,37 +52,37 @@ added_switch u answer B container ono role lockable names position kind few all 
     (r.0, r.1, inr (inr (few, all, kind, is, r.2)))
 
 -- a change at the front
-found_behind : (w : DeviceSizes) (u' : DeviceBehind) (answer : Answer) (ono : ℕ) (T : List Object) (E : List Event) (found : Result Value SetFault)
-    → SetsFrontFound w answer u' T E ono found → HandleSetsFound w (answer_number answer) (Some u') T E ono found
-found_behind w u' answer ono T E (Err fault) (is, runs) = (rw is refl, runs)
-found_behind w u' answer ono T E (Ok value) (is, runs) = (rw is refl, runs)
+found_behind : (r : Rooms) (w : DeviceSizes) (u' : DeviceBehind) (answer : Answer) (ono : ℕ) (T : List Object) (E : List Event) (found : Result Value SetFault)
+    → SetsFrontFound r w answer u' T E ono found → HandleSetsFound r w (answer_number answer) (Some u') T E ono found
+found_behind r w u' answer ono T E (Err fault) (is, runs) = (rw is refl, runs)
+found_behind r w u' answer ono T E (Ok value) (is, runs) = (rw is refl, runs)
 
 pub entry_behind : (old new : Option DeviceBehind) (u u' : DeviceBehind) (number : ℕ) (answer : Answer) (ono : ℕ) (entry : FrontNumber)
     → old ≡ Some u → new ≡ Some u' → number ≡ answer_number answer
-    → ((w : DeviceSizes) (T : List Object) (E : List Event) → RunsBehind w u T E → SetsEntry w answer u' T E ono entry)
+    → ((r : Rooms) (w : DeviceSizes) (T : List Object) (E : List Event) → RunsBehind r w u T E → SetsEntry r w answer u' T E ono entry)
     → HandleSetsEntry number old new ono entry
-entry_behind old new u u' number answer ono entry o n e k w T E h =
-    let r = k w T E (rw o at h) in (r.0, r.1, rw (n, e) (found_behind w u' answer ono T E r.0 r.2))
+entry_behind old new u u' number answer ono entry o n e k r w T E h =
+    let m = k r w T E (rw o at h) in (m.0, m.1, rw (n, e) (found_behind r w u' answer ono T E m.0 m.2))
 
 -- a change at the front by words
 pub sets_behind : (old new : Option DeviceBehind) (u u' : DeviceBehind) (number : ℕ) (answer : Answer) (ono : ℕ) (words : ValueWords)
     → old ≡ Some u → new ≡ Some u' → number ≡ answer_number answer
-    → ((w : DeviceSizes) (T : List Object) (E : List Event) → RunsBehind w u T E → (value : Option Value) × AreWordsOf words value × SetsWords w answer u' T E ono value)
+    → ((r : Rooms) (w : DeviceSizes) (T : List Object) (E : List Event) → RunsBehind r w u T E → (value : Option Value) × AreWordsOf words value × SetsWords r w answer u' T E ono value)
     → HandleSetsWords number old new ono words
-sets_behind old new u u' number answer ono words o n e k w T E h =
-    let r = k w T E (rw o at h) in (r.0, r.1, rw (n, e) (by r.0 r.2))
+sets_behind old new u u' number answer ono words o n e k r w T E h =
+    let m = k r w T E (rw o at h) in (m.0, m.1, rw (n, e) (by m.0 m.2))
   where
-    by : (value : Option Value) → SetsWords w answer u' T E ono value → HandleSetsValue w (answer_number answer) (Some u') T E ono value
+    by : (value : Option Value) → SetsWords r w answer u' T E ono value → HandleSetsValue r w (answer_number answer) (Some u') T E ono value
     by None (is, runs) = (rw is refl, runs)
-    by (Some value) r = found_behind w u' answer ono T E (Ok value) r
+    by (Some value) m = found_behind r w u' answer ono T E (Ok value) m
 
 -- a change at the front of a label, of whether an object is enabled, of its lock, or of whether its hardware refuses
-pub changes_behind : (old new : Option DeviceBehind) (u u' : DeviceBehind) (number : ℕ) (answer : Answer) (ono : ℕ) (change : LocalChange) (r : Request)
+pub changes_behind : (old new : Option DeviceBehind) (u u' : DeviceBehind) (number : ℕ) (answer : Answer) (ono : ℕ) (change : LocalChange) (q : Request)
     → old ≡ Some u → new ≡ Some u' → number ≡ answer_number answer
-    → ((w : DeviceSizes) (T : List Object) (E : List Event) → RunsBehind w u T E → ChangesFront w answer u' T E ono change r)
-    → HandleChanges number old new ono change r
-changes_behind old new u u' number answer ono change r o n e k w T E h =
-    let f = k w T E (rw o at h) in rw (n, e) (f.1, ap answer_number f.0)
+    → ((r : Rooms) (w : DeviceSizes) (T : List Object) (E : List Event) → RunsBehind r w u T E → ChangesFront r w answer u' T E ono change q)
+    → HandleChanges number old new ono change q
+changes_behind old new u u' number answer ono change q o n e k r w T E h =
+    let f = k r w T E (rw o at h) in rw (n, e) (f.1, ap answer_number f.0)
 
 there_is : {X : Type 0} (P : X → Type 0) (x : Option X) → IsSomeAnd x P → IsSome x
 there_is P None h = absurd h
@@ -90,14 +91,14 @@ there_is P (Some x) h = refl
 -- a label, which the bytes are or not
 pub labels_behind : (old new : Option DeviceBehind) (u u' : DeviceBehind) (number : ℕ) (answer : Answer) (ono : ℕ) (label : List ℕ)
     → old ≡ Some u → new ≡ Some u' → number ≡ answer_number answer
-    → (IsUtf8 label → (w : DeviceSizes) (T : List Object) (E : List Event) → RunsBehind w u T E → ChangesFront w answer u' T E ono (ToLabel label) (asked.SetLabel label))
+    → (IsUtf8 label → (r : Rooms) (w : DeviceSizes) (T : List Object) (E : List Event) → RunsBehind r w u T E → ChangesFront r w answer u' T E ono (ToLabel label) (asked.SetLabel label))
     → ((IsUtf8 label → ⊥) → IsSome u.device → (answer ≡ answers.BadText) × (u' ≡ u))
     → HandleLabels number old new ono label
 labels_behind old new u u' number answer ono label o n e is other =
     (λ utf8. changes_behind old new u u' number answer ono (ToLabel label) (asked.SetLabel label) o n e (is utf8), refuses)
   where
-    refuses : (IsUtf8 label → ⊥) → (w : DeviceSizes) (T : List Object) (E : List Event) → HandleRuns w old T E → (number ≡ 6) × HandleRuns w new T E
-    refuses none w T E h =
-        let runs : RunsBehind w u T E = rw o at h in
+    refuses : (IsUtf8 label → ⊥) → (r : Rooms) (w : DeviceSizes) (T : List Object) (E : List Event) → HandleRuns r w old T E → (number ≡ 6) × HandleRuns r w new T E
+    refuses none r w T E h =
+        let runs : RunsBehind r w u T E = rw o at h in
         let f = other none (there_is _ u.device runs.1) in
         (e ∙ ap answer_number f.0, rw (n, f.1) runs)

@@ -19,7 +19,6 @@ use Rattle.oca_tree.specs.Building.{Adds, root}
 use Rattle.oca_tree.specs.Objects.{Store}
 use Rattle.oca_tree.specs.Settings.{set_fault}
 use Rattle.oca_tree.specs.LocalChanges.{ToValue}
-use Rattle.oca_device.specs.Devices.{Represents}
 use Rattle.oca_device.specs.Events.{Event, Local}
 use Rattle.oca_device.specs.Outboxes.{KeptPackets, first_packets}
 use Rattle.oca_device.specs.States.{state_after}
@@ -27,6 +26,8 @@ use Rattle.oca_calls.specs.declared.answer.Answer.{Answer}
 use Rattle.oca_calls.specs.declared.answer.Answer.TheVariants as answers
 use Rattle.oca_calls.specs.declared.device.DeviceBehind.{DeviceBehind}
 use Rattle.oca_calls.specs.declared.name.Name.{Name}
+use Rattle.oca_calls.specs.DeviceRooms.{RunsWithin}
+use Rattle.oca_calls.specs.LinkRooms.{Rooms}
 use Rattle.oca_calls.specs.Storings.{HasUnstored, all_stored}
 use Rattle.oca_calls.specs.Numbers.{add_answer, set_answer, answer_number}
 
@@ -36,16 +37,17 @@ use Rattle.oca_calls.specs.Numbers.{add_answer, set_answer, answer_number}
 abbrev pub Builds : DeviceBehind → Store → Type 0
 Builds behind built = (behind.builder ≡ Some built) × (behind.device ≡ None)
 
--- a device runs, and it represents the tree and the events
-abbrev pub RunsBehind : DeviceSizes → DeviceBehind → List Object → List Event → Type 0
-RunsBehind w behind tree events = (behind.builder ≡ None) × IsSomeAnd behind.device (λ d. Represents w d tree events)
+-- a device with these rooms runs, and it represents the tree and the events
+abbrev pub RunsBehind : Rooms → DeviceSizes → DeviceBehind → List Object → List Event → Type 0
+RunsBehind r w behind tree events =
+    (behind.builder ≡ None) × IsSomeAnd behind.device (λ d. RunsWithin r w d tree events)
 
 -- the same behind an open handle
 abbrev pub HandleBuilds : Option DeviceBehind → Store → Type 0
 HandleBuilds behind built = IsSomeAnd behind (λ b. Builds b built)
 
-abbrev pub HandleRuns : DeviceSizes → Option DeviceBehind → List Object → List Event → Type 0
-HandleRuns w behind tree events = IsSomeAnd behind (λ b. RunsBehind w b tree events)
+abbrev pub HandleRuns : Rooms → DeviceSizes → Option DeviceBehind → List Object → List Event → Type 0
+HandleRuns r w behind tree events = IsSomeAnd behind (λ b. RunsBehind r w b tree events)
 
 -- behind an open handle this is kept of the packets that answer
 abbrev pub HasPackets : Option DeviceBehind → KeptPackets → Type 0
@@ -108,12 +110,12 @@ IsPacketRoom packets = (1 ≤ packets) × (packets ≤ 122)
 abbrev pub IsSpent : DeviceBehind → Type 0
 IsSpent behind = (behind.builder ≡ None) × (behind.device ≡ None)
 
--- A device is started with the objects, no packet is there, and nothing is to be stored; or not, for want of memory,
--- which loses the objects, or where a size is none, which changes nothing.
-abbrev pub Starts : Answer → DeviceBehind → DeviceBehind → ℕ → ℕ → ℕ → List Object → Type 0
-Starts answer old new window peers packets tree =
+-- A device with these rooms is started with the objects, no packet is there, and nothing is to be stored; or not, for
+-- want of memory, which loses the objects, or where a size is none, which changes nothing.
+abbrev pub Starts : Answer → DeviceBehind → DeviceBehind → Rooms → ℕ → ℕ → ℕ → List Object → Type 0
+Starts answer old new r window peers packets tree =
     ((answer ≡ answers.Done) × IsSize window × IsSize peers × IsPacketRoom packets
-    × RunsBehind (record { window = window; peers = peers }) new tree [] × (new.outbox ≡ first_packets packets [])
+    × RunsBehind r (record { window = window; peers = peers }) new tree [] × (new.outbox ≡ first_packets packets [])
     × (new.unstored ≡ all_stored))
     ⊎ (((answer ≡ answers.NoMemory) × IsSize window × IsSize peers × IsPacketRoom packets × IsSpent new)
     ⊎ ((answer ≡ answers.BadSize) × (IsSize window → IsSize peers → IsPacketRoom packets → ⊥) × (new ≡ old)))
@@ -124,10 +126,10 @@ left_by_start answers.NoMemory behind = None
 left_by_start _ behind = Some behind
 
 -- the same behind an open handle, which is closed where memory was refused
-abbrev pub HandleStarts : ℕ → Option DeviceBehind → Option DeviceBehind → ℕ → ℕ → ℕ → List Object → Type 0
-HandleStarts number old new window peers packets tree =
+abbrev pub HandleStarts : ℕ → Option DeviceBehind → Option DeviceBehind → Rooms → ℕ → ℕ → ℕ → List Object → Type 0
+HandleStarts number old new r window peers packets tree =
     ((number ≡ 0) × IsSize window × IsSize peers × IsPacketRoom packets
-    × HandleRuns (record { window = window; peers = peers }) new tree [] × HasPackets new (first_packets packets [])
+    × HandleRuns r (record { window = window; peers = peers }) new tree [] × HasPackets new (first_packets packets [])
     × HasUnstored new all_stored)
     ⊎ (((number ≡ 8) × IsSize window × IsSize peers × IsPacketRoom packets × (new ≡ None))
     ⊎ ((number ≡ 15) × (IsSize window → IsSize peers → IsPacketRoom packets → ⊥) × (new ≡ old)))
@@ -207,6 +209,6 @@ set_answers (Some fault) = set_answer fault
 -- Behind an open handle a device ran; it was set, with this answer.
 abbrev pub HandleSets : ℕ → Option DeviceBehind → Option DeviceBehind → ℕ → Value → Type 0
 HandleSets number old new ono value =
-    (w : DeviceSizes) (tree : List Object) (events : List Event) → HandleRuns w old tree events →
-    HandleRuns w new tree (Local ono (ToValue value) ∷ events)
+    (r : Rooms) (w : DeviceSizes) (tree : List Object) (events : List Event) → HandleRuns r w old tree events →
+    HandleRuns r w new tree (Local ono (ToValue value) ∷ events)
     × (number ≡ answer_number (set_answers (set_fault (state_after w tree events).tree ono value)))

@@ -24,6 +24,7 @@ use Rattle.oca_calls.specs.declared.value_words.ValueWords.{ValueWords}
 use Rattle.oca_calls.specs.Numbers.{answer_number, front_answer, set_answer}
 use Rattle.oca_calls.specs.Calls.{HandleRuns, RunsBehind, set_answers}
 use Rattle.oca_calls.specs.CValues.{AreWordsOf}
+use Rattle.oca_calls.specs.LinkRooms.{Rooms}
 
 -- the number of a state or an integer
 pub data FrontNumber : Type 0 where
@@ -66,54 +67,56 @@ FindsFrontValue (Integer number) of found = FindsWith integer_in has_integers of
 
 -- A device is set to the value that was found, with this answer; where none was, it is as it was.
 abbrev pub SetsFrontFound :
-    DeviceSizes → Answer → DeviceBehind → List Object → List Event → ℕ → Result Value SetFault → Type 0
-SetsFrontFound w answer new tree events ono (Err fault) = (answer ≡ set_answer fault) × RunsBehind w new tree events
-SetsFrontFound w answer new tree events ono (Ok value) =
+    Rooms → DeviceSizes → Answer → DeviceBehind → List Object → List Event → ℕ → Result Value SetFault → Type 0
+SetsFrontFound r w answer new tree events ono (Err fault) = (answer ≡ set_answer fault) × RunsBehind r w new tree events
+SetsFrontFound r w answer new tree events ono (Ok value) =
     (answer ≡ set_answers (set_fault (state_after w tree events).tree ono value))
-    × RunsBehind w new tree (Local ono (ToValue value) ∷ events)
+    × RunsBehind r w new tree (Local ono (ToValue value) ∷ events)
 
 -- A DEVICE IS SET BY AN ENTRY: to the value that it is at the object.
-abbrev pub SetsEntry : DeviceSizes → Answer → DeviceBehind → List Object → List Event → ℕ → FrontNumber → Type 0
-SetsEntry w answer new tree events ono entry =
+abbrev pub SetsEntry : Rooms → DeviceSizes → Answer → DeviceBehind → List Object → List Event → ℕ → FrontNumber → Type 0
+SetsEntry r w answer new tree events ono entry =
     (found : Result Value SetFault) × FindsFrontValue entry (class_of_ono (state_after w tree events).tree ono) found
-    × SetsFrontFound w answer new tree events ono found
+    × SetsFrontFound r w answer new tree events ono found
 
 -- IT IS SET TO A VALUE, as a value of the object's class alone can be set; where there is none, nothing is set.
-abbrev pub SetsWords : DeviceSizes → Answer → DeviceBehind → List Object → List Event → ℕ → Option Value → Type 0
-SetsWords w answer new tree events ono None = (answer ≡ answers.NoValue) × RunsBehind w new tree events
-SetsWords w answer new tree events ono (Some value) = SetsFrontFound w answer new tree events ono (Ok value)
+abbrev pub SetsWords :
+    Rooms → DeviceSizes → Answer → DeviceBehind → List Object → List Event → ℕ → Option Value → Type 0
+SetsWords r w answer new tree events ono None = (answer ≡ answers.NoValue) × RunsBehind r w new tree events
+SetsWords r w answer new tree events ono (Some value) = SetsFrontFound r w answer new tree events ono (Ok value)
 
 -- ---- the same behind an open handle
 
 abbrev pub HandleSetsFound :
-    DeviceSizes → ℕ → Option DeviceBehind → List Object → List Event → ℕ → Result Value SetFault → Type 0
-HandleSetsFound w number new tree events ono (Err fault) =
-    (number ≡ answer_number (set_answer fault)) × HandleRuns w new tree events
-HandleSetsFound w number new tree events ono (Ok value) =
+    Rooms → DeviceSizes → ℕ → Option DeviceBehind → List Object → List Event → ℕ → Result Value SetFault → Type 0
+HandleSetsFound r w number new tree events ono (Err fault) =
+    (number ≡ answer_number (set_answer fault)) × HandleRuns r w new tree events
+HandleSetsFound r w number new tree events ono (Ok value) =
     (number ≡ answer_number (set_answers (set_fault (state_after w tree events).tree ono value)))
-    × HandleRuns w new tree (Local ono (ToValue value) ∷ events)
+    × HandleRuns r w new tree (Local ono (ToValue value) ∷ events)
 
-abbrev pub HandleIsSet : DeviceSizes → ℕ → Option DeviceBehind → List Object → List Event → ℕ → FrontNumber → Type 0
-HandleIsSet w number new tree events ono entry =
+abbrev pub HandleIsSet :
+    Rooms → DeviceSizes → ℕ → Option DeviceBehind → List Object → List Event → ℕ → FrontNumber → Type 0
+HandleIsSet r w number new tree events ono entry =
     (found : Result Value SetFault) × FindsFrontValue entry (class_of_ono (state_after w tree events).tree ono) found
-    × HandleSetsFound w number new tree events ono found
+    × HandleSetsFound r w number new tree events ono found
 
 -- A device that ran is set by an entry.
 abbrev pub HandleSetsEntry : ℕ → Option DeviceBehind → Option DeviceBehind → ℕ → FrontNumber → Type 0
 HandleSetsEntry number old new ono entry =
-    (w : DeviceSizes) (tree : List Object) (events : List Event) → HandleRuns w old tree events →
-    HandleIsSet w number new tree events ono entry
+    (r : Rooms) (w : DeviceSizes) (tree : List Object) (events : List Event) → HandleRuns r w old tree events →
+    HandleIsSet r w number new tree events ono entry
 
 abbrev pub HandleSetsValue :
-    DeviceSizes → ℕ → Option DeviceBehind → List Object → List Event → ℕ → Option Value → Type 0
-HandleSetsValue w number new tree events ono None = (number ≡ 24) × HandleRuns w new tree events
-HandleSetsValue w number new tree events ono (Some value) = HandleSetsFound w number new tree events ono (Ok value)
+    Rooms → DeviceSizes → ℕ → Option DeviceBehind → List Object → List Event → ℕ → Option Value → Type 0
+HandleSetsValue r w number new tree events ono None = (number ≡ 24) × HandleRuns r w new tree events
+HandleSetsValue r w number new tree events ono (Some value) = HandleSetsFound r w number new tree events ono (Ok value)
 
 -- It is set to the value whose words these are.
 abbrev pub HandleSetsWords : ℕ → Option DeviceBehind → Option DeviceBehind → ℕ → ValueWords → Type 0
 HandleSetsWords number old new ono words =
-    (w : DeviceSizes) (tree : List Object) (events : List Event) → HandleRuns w old tree events →
-    (value : Option Value) × AreWordsOf words value × HandleSetsValue w number new tree events ono value
+    (r : Rooms) (w : DeviceSizes) (tree : List Object) (events : List Event) → HandleRuns r w old tree events →
+    (value : Option Value) × AreWordsOf words value × HandleSetsValue r w number new tree events ono value
 
 -- ---- a label, whether it is enabled, its lock, whether its hardware refuses
 
@@ -123,21 +126,21 @@ front_answers (Some fault) = front_answer fault
 
 -- A device was changed at its front, with this answer. A change that is refused changes nothing.
 abbrev pub ChangesFront :
-    DeviceSizes → Answer → DeviceBehind → List Object → List Event → ℕ → LocalChange → Request → Type 0
-ChangesFront w answer new tree events ono change r =
-    (answer ≡ front_answers (front_fault (state_after w tree events).tree ono r))
-    × RunsBehind w new tree (Local ono change ∷ events)
+    Rooms → DeviceSizes → Answer → DeviceBehind → List Object → List Event → ℕ → LocalChange → Request → Type 0
+ChangesFront r w answer new tree events ono change request =
+    (answer ≡ front_answers (front_fault (state_after w tree events).tree ono request))
+    × RunsBehind r w new tree (Local ono change ∷ events)
 
 -- The same behind an open handle.
 abbrev pub HandleChanges : ℕ → Option DeviceBehind → Option DeviceBehind → ℕ → LocalChange → Request → Type 0
-HandleChanges number old new ono change r =
-    (w : DeviceSizes) (tree : List Object) (events : List Event) → HandleRuns w old tree events →
-    HandleRuns w new tree (Local ono change ∷ events)
-    × (number ≡ answer_number (front_answers (front_fault (state_after w tree events).tree ono r)))
+HandleChanges number old new ono change request =
+    (r : Rooms) (w : DeviceSizes) (tree : List Object) (events : List Event) → HandleRuns r w old tree events →
+    HandleRuns r w new tree (Local ono change ∷ events)
+    × (number ≡ answer_number (front_answers (front_fault (state_after w tree events).tree ono request)))
 
 -- Behind an open handle a device gets a label; bytes that are no text in UTF-8 are none, and nothing is changed.
 abbrev pub HandleLabels : ℕ → Option DeviceBehind → Option DeviceBehind → ℕ → List ℕ → Type 0
 HandleLabels number old new ono label =
     (IsUtf8 label → HandleChanges number old new ono (ToLabel label) (asked.SetLabel label))
-    × ((IsUtf8 label → ⊥) → (w : DeviceSizes) (tree : List Object) (events : List Event) →
-    HandleRuns w old tree events → (number ≡ 6) × HandleRuns w new tree events)
+    × ((IsUtf8 label → ⊥) → (r : Rooms) (w : DeviceSizes) (tree : List Object) (events : List Event) →
+    HandleRuns r w old tree events → (number ≡ 6) × HandleRuns r w new tree events)

@@ -4,6 +4,7 @@ pub mod Numbers
 pub mod Outputs
 pub mod Calls
 pub mod LinkRooms
+pub mod DeviceRooms
 pub mod LinkCalls
 pub mod Storings
 pub mod CValues

@@ -5,13 +5,13 @@ use Rattle.oca_control.specs.Links.{LinkState}
 use Rattle.oca_calls.specs.declared.link.AnyLink.{AnyLink}
 use Rattle.oca_calls.specs.declared.link.AnyLink.TheVariants.{Full, Small}
 
--- how many bytes of parameters a command may have, and an answer: a command with more is refused, and an answer with
--- more is shortened
+-- how many bytes of parameters a command may have, and an answer: a command with more is refused (by a link) or makes
+-- its datagram too long (for a device), and an answer with more is shortened
 pub record Rooms : Type 0 where
   pub command : ℕ
   pub answer : ℕ
 
--- as many as a datagram holds; and those of a small link
+-- as many as a datagram holds; and those of a small link or device
 abbrev pub full_rooms : Rooms
 full_rooms = record { command = most_command_parameter_bytes; answer = most_parameter_bytes }
 

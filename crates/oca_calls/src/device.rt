@@ -9,7 +9,7 @@ ghost use Rattle.oca_tree.specs.Settings.{set_fault};
 ghost use Rattle.oca_tree.specs.LocalChanges.{ToValue, ToLabel, ToEnabled, ToUnlocked, ToFailing};
 ghost use Rattle.oca_device.specs.States.{known_after, state_after};
 ghost use Rattle.oca_device.specs.Events.{Event, Datagram as DatagramEvent, Tick, Local};
-ghost use Rattle.oca_device.specs.Answers.{packets, verdict};
+ghost use Rattle.oca_device.specs.Rooms.{packets_within, told, verdict_within};
 ghost use Rattle.oca_device.specs.Outboxes.{first_packets};
 ghost use Rattle.oca_device.specs.Written.{written};
 ghost use Rattle.oca_calls.specs.declared.answer.Answer.TheVariants.{Done, NotStarted, Nothing, Started, TooSmall, BadSize, BadText};
@@ -26,8 +26,10 @@ ghost use Rattle.oca_calls.specs.Outputs.{WritesFailing, WritesLock, WritesNextL
 ghost use Rattle.oca_calls.specs.Outputs.{WritesWords, put_words};
 ghost use Rattle.oca_calls.specs.Outputs.{verdict_words};
 ghost use Rattle.oca_calls.specs.Storings.{all_stored, unstored_behind};
+ghost use Rattle.oca_calls.specs.LinkRooms.{Rooms, rooms_of};
 
 use crate::answer::Answer;
+use crate::any_device::AnyDevice;
 use crate::front_values::{integer_at, state_at};
 use crate::name::{MOST_POSITIONS, Name, texts_of};
 use crate::reading::Reading;
@@ -37,7 +39,7 @@ use crate::spec_words::SpecWords;
 use crate::unstored::{Unstored, duplicates_in, has_written};
 use crate::value_words::ValueWords;
 use crate::words::{lock_number, object_words, put_numbers, put_words, words_of};
-use oca_device::{BoundedOutbox, Device};
+use oca_device::BoundedOutbox;
 use oca_tree::{AddFault, Kind, SetFault, Spec, TreeBuilder, Value};
 use oca_types::{NoMemory, Ono, Peer, Peers, Sizes, Window};
 use std::alloc::Global;
@@ -51,7 +53,7 @@ pub const MOST_PACKETS: usize = 122;
 #[derive(Drop)]
 pub struct DeviceBehind {
     builder: Option<TreeBuilder>,
-    device: Option<Device>,
+    device: Option<AnyDevice>,
     outbox: BoundedOutbox,
     unstored: Unstored,
 }
@@ -151,35 +153,46 @@ impl DeviceBehind {
         add_spec(builder, container, ono, words)
     }
 
-    /// Starts the device with the objects that were added. `window` is for how many commands of each peer it keeps the
-    /// replies, `peers` is how many peers can have a session, and `packets` is for how many packets of answers it has
-    /// room, some 1,480 bytes each. The call takes the memory for all of them.
+    /// Starts the device with the objects that were added: a small one if `is_small` is true
+    /// ([`SmallDevice`](oca_device::SmallDevice)), and otherwise one with room for each command and each reply.
+    /// `window` is for how many commands of each peer it keeps the replies, `peers` is how many peers can have a
+    /// session, and `packets` is for how many packets of answers it has room, some 1,480 bytes each. The call takes the
+    /// memory for all of them.
     ///
     /// Returns `Done`. Otherwise the first of these that applies. `Started` if the device is started already, `BadSize`
     /// if the window or the peers are not 1 to 64 or the packets not 1 to 122: then nothing is changed. `NoMemory` if
     /// memory was refused: then the objects are lost.
-    pub fn start(&mut self, alloc: Global, window: u8, peers: u8, packets: usize) -> Answer
-        ensures starts { (B : Store) → Builds self.old B → Starts result self.old self.new window peers packets B.list }
+    pub fn start(
+        &mut self,
+        alloc: Global,
+        window: u8,
+        peers: u8,
+        packets: usize,
+        is_small: bool,
+    ) -> Answer
+        ensures starts { (B : Store) → Builds self.old B →
+            Starts result self.old self.new (rooms_of is_small) window peers packets B.list }
         ensures started { self.old.builder ≡ None → (result ≡ Started) × (self.new ≡ self.old) }
     {
         if self.builder.is_none() {
             return Answer::Started;
         }
         match sizes_for(window, peers, packets) {
-            Some(sizes) => self.start_with(alloc, sizes, packets),
+            Some(sizes) => self.start_with(alloc, sizes, packets, is_small),
             None => Answer::BadSize,
         }
     }
 
     /// Makes the device of the objects, where these are sizes.
-    fn start_with(&mut self, alloc: Global, sizes: Sizes, packets: usize) -> Answer
+    fn start_with(&mut self, alloc: Global, sizes: Sizes, packets: usize, is_small: bool) -> Answer
         requires { IsPacketRoom packets }
         ensures starts { (B : Store) → Builds self.old B →
-            Starts result self.old self.new (window_size sizes.window) (peer_count sizes.peers) packets B.list }
+            Starts result self.old self.new (rooms_of is_small) (window_size sizes.window) (peer_count sizes.peers)
+            packets B.list }
         ensures started { self.old.builder ≡ None → (result ≡ Started) × (self.new ≡ self.old) }
     {
         match self.builder.take() {
-            Some(builder) => self.start_over(alloc, builder, sizes, packets),
+            Some(builder) => self.start_over(alloc, builder, sizes, packets, is_small),
             None => Answer::Started,
         }
     }
@@ -191,19 +204,24 @@ impl DeviceBehind {
         builder: TreeBuilder,
         sizes: Sizes,
         packets: usize,
+        is_small: bool,
     ) -> Answer
         requires { IsPacketRoom packets }
         ensures starts { self.old.builder ≡ None → self.old.device ≡ None →
-            Starts result self.old self.new (window_size sizes.window) (peer_count sizes.peers) packets builder.list }
+            Starts result self.old self.new (rooms_of is_small) (window_size sizes.window) (peer_count sizes.peers)
+            packets builder.list }
     {
         match room_for(alloc, packets) {
-            Some(outbox) => self.run(outbox, Device::with_sizes(alloc, builder.finish(), sizes)),
+            Some(outbox) => self.run(
+                outbox,
+                AnyDevice::with_sizes(alloc, builder.finish(), sizes, is_small),
+            ),
             None => Answer::NoMemory,
         }
     }
 
     /// Has this device, where memory was there for it, and its place for packets.
-    fn run(&mut self, outbox: BoundedOutbox, device: Result<Device, NoMemory>) -> Answer
+    fn run(&mut self, outbox: BoundedOutbox, device: Result<AnyDevice, NoMemory>) -> Answer
         ensures builder { self.new.builder ≡ self.old.builder }
         ensures done { IfOk device (λ device. (result ≡ Done) × (self.new.device ≡ Some device)
             × (self.new.outbox ≡ outbox) × (self.new.unstored ≡ all_stored)) }
@@ -221,21 +239,25 @@ impl DeviceBehind {
     }
 
     /// Handles a datagram that came from a peer at the moment `now`, in milliseconds of the caller's clock, as
-    /// [`Device::datagram_within`](oca_device::Device::datagram_within) does. The answers replace the packets of the
+    /// [`Device::datagram_within`](oca_device::Device::datagram_within) does; a small device, as that of
+    /// [`SmallDevice`](oca_device::SmallDevice) does. The answers replace the packets of the
     /// last datagram, as many as there is room for ([`left_out`](DeviceBehind::left_out)). A moment earlier than the
     /// latest one so far is taken as that latest one.
     ///
     /// The words of the verdict ([`words_of`](crate::words::words_of)) go to the front of `out`, as many as it has room
     /// for. Returns `Done`. `NotStarted` before the start: then nothing is changed or written.
     pub fn datagram(&mut self, from: Peer, bytes: &[u8], now: u64, out: &mut [u32]) -> Answer
-        ensures serves { (w : DeviceSizes) (T : List Object) (E : List Event) → RunsBehind w self.old T E →
-            RunsBehind w self.new T (DatagramEvent from bytes.now now ∷ E)
-            × (self.new.outbox ≡ first_packets self.old.outbox.room (packets w T E (DatagramEvent from bytes.now now)))
-            × (length (packets w T E (DatagramEvent from bytes.now now)) ≤ 122)
-            × (out.new ≡ put_words (verdict_words (verdict w T E from bytes.now now)) out.old)
+        ensures serves { (r : Rooms) (w : DeviceSizes) (T : List Object) (E : List Event) →
+            RunsBehind r w self.old T E →
+            RunsBehind r w self.new T (DatagramEvent from (told r.command bytes.now) now ∷ E)
+            × (self.new.outbox ≡ first_packets self.old.outbox.room
+            (packets_within r.answer w T E (DatagramEvent from (told r.command bytes.now) now)))
+            × (length (packets_within r.answer w T E (DatagramEvent from (told r.command bytes.now) now)) ≤ 122)
+            × (out.new ≡ put_words (verdict_words (verdict_within r.command w T E from bytes.now now)) out.old)
             × (result ≡ Done) }
-        ensures unstored { (w : DeviceSizes) (T : List Object) (E : List Event) → RunsBehind w self.old T E →
-            self.new.unstored ≡ unstored_behind self.old.unstored w T E from bytes.now now }
+        ensures unstored { (r : Rooms) (w : DeviceSizes) (T : List Object) (E : List Event) →
+            RunsBehind r w self.old T E →
+            self.new.unstored ≡ unstored_behind self.old.unstored r.command w T E from bytes.now now }
         ensures building { self.old.device ≡ None → (result ≡ NotStarted) × (self.new ≡ self.old) }
         ensures unwritten { (result ≡ Done) ⊎ (out.new ≡ out.old) }
     {
@@ -254,8 +276,9 @@ impl DeviceBehind {
     /// was silent for more than 120,000 ms. A moment earlier than the latest one so far is taken as that latest one.
     /// Returns `Done`. `NotStarted` before the start: then nothing is changed.
     pub fn tick(&mut self, now: u64) -> Answer
-        ensures serves { (w : DeviceSizes) (T : List Object) (E : List Event) → RunsBehind w self.old T E →
-            RunsBehind w self.new T (Tick now ∷ E) × (result ≡ Done) }
+        ensures serves { (r : Rooms) (w : DeviceSizes) (T : List Object) (E : List Event) →
+            RunsBehind r w self.old T E →
+            RunsBehind r w self.new T (Tick now ∷ E) × (result ≡ Done) }
         ensures packets { self.new.outbox ≡ self.old.outbox }
         ensures unstored { self.new.unstored ≡ self.old.unstored }
         ensures building { self.old.device ≡ None → (result ≡ NotStarted) × (self.new ≡ self.old) }
@@ -272,7 +295,8 @@ impl DeviceBehind {
     /// `Done`. `Nothing` if there is no such moment within 64 bits, as without sessions, or `NotStarted` before the
     /// start: then nothing is written.
     pub fn next_lapse(&self, moment: &mut u64) -> Answer
-        ensures writes { (w : DeviceSizes) (T : List Object) (E : List Event) → RunsBehind w self.now T E →
+        ensures writes { (r : Rooms) (w : DeviceSizes) (T : List Object) (E : List Event) →
+            RunsBehind r w self.now T E →
             WritesNextLapse w (state_after w T E) moment.new (answer_number result) }
         ensures building { self.now.device ≡ None → result ≡ NotStarted }
         ensures unwritten { (result ≡ Done) ⊎ (moment.new ≡ moment.old) }
@@ -295,8 +319,8 @@ impl DeviceBehind {
     /// `OutOfRange` if a switch has no such position or the position is disabled, or a number is outside the object's
     /// limits. In all cases the packets, and whether answers wait, stay as they are.
     pub fn set(&mut self, ono: u32, value: Value) -> Answer
-        ensures sets { (w : DeviceSizes) (T : List Object) (E : List Event) → RunsBehind w self.old T E →
-            RunsBehind w self.new T (Local ono (ToValue value) ∷ E)
+        ensures sets { (r : Rooms) (w : DeviceSizes) (T : List Object) (E : List Event) → RunsBehind r w self.old T E →
+            RunsBehind r w self.new T (Local ono (ToValue value) ∷ E)
             × (result ≡ set_answers (set_fault (state_after w T E).tree ono value)) }
         ensures packets { self.new.outbox ≡ self.old.outbox }
         ensures unstored { self.new.unstored ≡ self.old.unstored }
@@ -315,8 +339,8 @@ impl DeviceBehind {
     /// `Done`. Otherwise the first of these that applies, and then nothing is changed. `NotStarted` before the start.
     /// `NoValue` if `words` hold no value. Then the answers of [`set`](DeviceBehind::set).
     pub fn set_words(&mut self, ono: u32, words: ValueWords) -> Answer
-        ensures sets { (w : DeviceSizes) (T : List Object) (E : List Event) → RunsBehind w self.old T E →
-            (value : Option ValueItself) × AreWordsOf words value × SetsWords w result self.new T E ono value }
+        ensures sets { (r : Rooms) (w : DeviceSizes) (T : List Object) (E : List Event) → RunsBehind r w self.old T E →
+            (value : Option ValueItself) × AreWordsOf words value × SetsWords r w result self.new T E ono value }
         ensures packets { self.new.outbox ≡ self.old.outbox }
         ensures unstored { self.new.unstored ≡ self.old.unstored }
         ensures building { self.old.device ≡ None → (result ≡ NotStarted) × (self.new ≡ self.old) }
@@ -335,8 +359,8 @@ impl DeviceBehind {
     /// `NotStarted` before the start. `NoObject` if no object has the number `ono`. `NoSetting` if the object is a
     /// block. `OtherKind` if it is of another class. `OutOfRange` if `state` is neither 1 nor 2.
     pub fn set_state(&mut self, ono: u32, state: u8) -> Answer
-        ensures sets { (w : DeviceSizes) (T : List Object) (E : List Event) → RunsBehind w self.old T E →
-            SetsEntry w result self.new T E ono (State state) }
+        ensures sets { (r : Rooms) (w : DeviceSizes) (T : List Object) (E : List Event) → RunsBehind r w self.old T E →
+            SetsEntry r w result self.new T E ono (State state) }
         ensures packets { self.new.outbox ≡ self.old.outbox }
         ensures unstored { self.new.unstored ≡ self.old.unstored }
         ensures building { self.old.device ≡ None → (result ≡ NotStarted) × (self.new ≡ self.old) }
@@ -353,8 +377,8 @@ impl DeviceBehind {
     /// start. `NoObject` if no object has the number `ono`. `NoSetting` if the object is a block. `OtherKind` if its
     /// class is not one of integers. `OutOfRange` if `number` is outside the object's limits.
     pub fn set_integer(&mut self, ono: u32, number: i128) -> Answer
-        ensures sets { (w : DeviceSizes) (T : List Object) (E : List Event) → RunsBehind w self.old T E →
-            SetsEntry w result self.new T E ono (Integer number) }
+        ensures sets { (r : Rooms) (w : DeviceSizes) (T : List Object) (E : List Event) → RunsBehind r w self.old T E →
+            SetsEntry r w result self.new T E ono (Integer number) }
         ensures packets { self.new.outbox ≡ self.old.outbox }
         ensures unstored { self.new.unstored ≡ self.old.unstored }
         ensures building { self.old.device ≡ None → (result ≡ NotStarted) × (self.new ≡ self.old) }
@@ -368,8 +392,8 @@ impl DeviceBehind {
 
     /// Sets an object to the value that was found for it, where one was.
     fn set_found(&mut self, ono: u32, found: Result<Value, SetFault>) -> Answer
-        ensures sets { (w : DeviceSizes) (T : List Object) (E : List Event) → RunsBehind w self.old T E →
-            SetsFrontFound w result self.new T E ono found }
+        ensures sets { (r : Rooms) (w : DeviceSizes) (T : List Object) (E : List Event) → RunsBehind r w self.old T E →
+            SetsFrontFound r w result self.new T E ono found }
         ensures packets { self.new.outbox ≡ self.old.outbox }
         ensures unstored { self.new.unstored ≡ self.old.unstored }
     {
@@ -384,9 +408,9 @@ impl DeviceBehind {
     /// `BadText` if the bytes are not UTF-8. `NoObject` if no object has the number `ono`. `BadText` if the label has
     /// more than 64 bytes.
     pub fn set_label(&mut self, ono: u32, label: &[u8]) -> Answer
-        ensures labels { IsUtf8 label.now → (w : DeviceSizes) (T : List Object) (E : List Event) →
-            RunsBehind w self.old T E →
-            ChangesFront w result self.new T E ono (ToLabel label.now) (asked.SetLabel label.now) }
+        ensures labels { IsUtf8 label.now → (r : Rooms) (w : DeviceSizes) (T : List Object) (E : List Event) →
+            RunsBehind r w self.old T E →
+            ChangesFront r w result self.new T E ono (ToLabel label.now) (asked.SetLabel label.now) }
         ensures other { (IsUtf8 label.now → ⊥) → IsSome self.old.device →
             (result ≡ BadText) × (self.new ≡ self.old) }
         ensures packets { self.new.outbox ≡ self.old.outbox }
@@ -408,8 +432,8 @@ impl DeviceBehind {
     /// Enables or disables an object at the local front panel. A lock does not refuse it. Returns `Done`. `NotStarted`
     /// before the start, or `NoObject` if no object has the number `ono`: then nothing is changed.
     pub fn set_enabled(&mut self, ono: u32, enabled: bool) -> Answer
-        ensures sets { (w : DeviceSizes) (T : List Object) (E : List Event) → RunsBehind w self.old T E →
-            ChangesFront w result self.new T E ono (ToEnabled enabled) (asked.SetEnabled enabled) }
+        ensures sets { (r : Rooms) (w : DeviceSizes) (T : List Object) (E : List Event) → RunsBehind r w self.old T E →
+            ChangesFront r w result self.new T E ono (ToEnabled enabled) (asked.SetEnabled enabled) }
         ensures packets { self.new.outbox ≡ self.old.outbox }
         ensures unstored { self.new.unstored ≡ self.old.unstored }
         ensures building { self.old.device ≡ None → (result ≡ NotStarted) × (self.new ≡ self.old) }
@@ -427,8 +451,9 @@ impl DeviceBehind {
     /// Returns `Done`. Otherwise the first of these that applies, and then nothing is changed. `NotStarted` before the
     /// start. `NoObject` if no object has the number `ono`. `Nothing` if the object is not locked.
     pub fn unlock(&mut self, ono: u32) -> Answer
-        ensures unlocks { (w : DeviceSizes) (T : List Object) (E : List Event) → RunsBehind w self.old T E →
-            ChangesFront w result self.new T E ono ToUnlocked asked.Unlock }
+        ensures unlocks { (r : Rooms) (w : DeviceSizes) (T : List Object) (E : List Event) →
+            RunsBehind r w self.old T E →
+            ChangesFront r w result self.new T E ono ToUnlocked asked.Unlock }
         ensures packets { self.new.outbox ≡ self.old.outbox }
         ensures unstored { self.new.unstored ≡ self.old.unstored }
         ensures building { self.old.device ≡ None → (result ≡ NotStarted) × (self.new ≡ self.old) }
@@ -448,8 +473,8 @@ impl DeviceBehind {
     /// Returns `Done`. `NotStarted` before the start, or `NoObject` if no object has the number `ono`: then nothing is
     /// changed.
     pub fn set_failing(&mut self, ono: u32, failing: bool) -> Answer
-        ensures tells { (w : DeviceSizes) (T : List Object) (E : List Event) → RunsBehind w self.old T E →
-            ChangesFront w result self.new T E ono (ToFailing failing) (asked.SetEnabled failing) }
+        ensures tells { (r : Rooms) (w : DeviceSizes) (T : List Object) (E : List Event) → RunsBehind r w self.old T E →
+            ChangesFront r w result self.new T E ono (ToFailing failing) (asked.SetEnabled failing) }
         ensures packets { self.new.outbox ≡ self.old.outbox }
         ensures unstored { self.new.unstored ≡ self.old.unstored }
         ensures building { self.old.device ≡ None → (result ≡ NotStarted) × (self.new ≡ self.old) }
@@ -527,7 +552,8 @@ impl DeviceBehind {
     /// for all: then it gets the first of them, and `count` is written too. `NotStarted` before the start: then nothing
     /// is written.
     pub fn written(&self, out: &mut [u32], count: &mut usize) -> Answer
-        ensures writes { (w : DeviceSizes) (T : List Object) (E : List Event) → RunsBehind w self.now T E →
+        ensures writes { (r : Rooms) (w : DeviceSizes) (T : List Object) (E : List Event) →
+            RunsBehind r w self.now T E →
             WritesWords (written w T E) out.old out.new count.new (answer_number result) }
         ensures building { self.now.device ≡ None → result ≡ NotStarted }
         ensures unwritten { (result ≡ Done)
@@ -581,7 +607,8 @@ impl DeviceBehind {
     /// Writes to `count` how many objects the device has, the root counted: 1 to 4,096. Returns `Done`. `NotStarted`
     /// before the start: then nothing is written.
     pub fn objects(&self, count: &mut usize) -> Answer
-        ensures writes { (w : DeviceSizes) (T : List Object) (E : List Event) → RunsBehind w self.now T E →
+        ensures writes { (r : Rooms) (w : DeviceSizes) (T : List Object) (E : List Event) →
+            RunsBehind r w self.now T E →
             (result ≡ Done) × (count.new ≡ length (state_after w T E).tree) }
         ensures building { self.now.device ≡ None → result ≡ NotStarted }
         ensures unwritten { (result ≡ Done) ⊎ (count.new ≡ count.old) }
@@ -599,7 +626,8 @@ impl DeviceBehind {
     /// role. Each is written as far as there is room. Returns `Done`. `Nothing` if there are `index` objects or fewer,
     /// or `NotStarted` before the start: then nothing is written.
     pub fn object(&self, index: usize, out: &mut [u32], role: &mut [u8]) -> Answer
-        ensures writes { (w : DeviceSizes) (T : List Object) (E : List Event) → RunsBehind w self.now T E →
+        ensures writes { (r : Rooms) (w : DeviceSizes) (T : List Object) (E : List Event) →
+            RunsBehind r w self.now T E →
             WritesObject (info_at (state_after w T E).tree index) out.old out.new role.old role.new
             (answer_number result) }
         ensures building { self.now.device ≡ None → result ≡ NotStarted }
@@ -621,7 +649,8 @@ impl DeviceBehind {
     /// the start, `BadSize` if `out.size` is not 1,248 (the size of the struct in bytes), `Nothing` if there are
     /// `index` objects or fewer.
     pub fn spec(&self, index: usize, out: &mut SpecWords) -> Answer
-        ensures writes { (w : DeviceSizes) (T : List Object) (E : List Event) → RunsBehind w self.now T E →
+        ensures writes { (r : Rooms) (w : DeviceSizes) (T : List Object) (E : List Event) →
+            RunsBehind r w self.now T E →
             WritesSpec (state_after w T E).tree (info_at (state_after w T E).tree index) out.old out.new
             (answer_number result) }
         ensures building { self.now.device ≡ None → (result ≡ NotStarted) × (out.new ≡ out.old) }
@@ -637,7 +666,8 @@ impl DeviceBehind {
     /// `Done`. Otherwise nothing is written: `NotStarted` before the start, `BadSize` if `out.size` is not 1,248 (the
     /// size of the struct in bytes), `Nothing` if no object has the number.
     pub fn spec_of(&self, ono: u32, out: &mut SpecWords) -> Answer
-        ensures writes { (w : DeviceSizes) (T : List Object) (E : List Event) → RunsBehind w self.now T E →
+        ensures writes { (r : Rooms) (w : DeviceSizes) (T : List Object) (E : List Event) →
+            RunsBehind r w self.now T E →
             WritesSpec (state_after w T E).tree (info_of_ono (state_after w T E).tree ono) out.old out.new
             (answer_number result) }
         ensures building { self.now.device ≡ None → (result ≡ NotStarted) × (out.new ≡ out.old) }
@@ -652,7 +682,8 @@ impl DeviceBehind {
     /// Writes to `count` how many peers have a session: 0 to 64. Returns `Done`. `NotStarted` before the start: then
     /// nothing is written.
     pub fn peers(&self, count: &mut usize) -> Answer
-        ensures writes { (w : DeviceSizes) (T : List Object) (E : List Event) → RunsBehind w self.now T E →
+        ensures writes { (r : Rooms) (w : DeviceSizes) (T : List Object) (E : List Event) →
+            RunsBehind r w self.now T E →
             (result ≡ Done) × (count.new ≡ length (known_after (state_after w T E))) }
         ensures building { self.now.device ≡ None → result ≡ NotStarted }
         ensures unwritten { (result ≡ Done) ⊎ (count.new ≡ count.old) }
@@ -669,7 +700,8 @@ impl DeviceBehind {
     /// forgotten, the later ones move down by one. Returns `Done`. `Nothing` if there are `index` sessions or fewer, or
     /// `NotStarted` before the start: then nothing is written.
     pub fn peer(&self, index: usize, ip: &mut u32, port: &mut u16) -> Answer
-        ensures writes { (w : DeviceSizes) (T : List Object) (E : List Event) → RunsBehind w self.now T E →
+        ensures writes { (r : Rooms) (w : DeviceSizes) (T : List Object) (E : List Event) →
+            RunsBehind r w self.now T E →
             WritesPeer (slice_get (known_after (state_after w T E)) index) ip.new port.new (answer_number result) }
         ensures building { self.now.device ≡ None → result ≡ NotStarted }
         ensures unwritten { (result ≡ Done) ⊎ ((ip.new ≡ ip.old) × (port.new ≡ port.old)) }
@@ -690,7 +722,8 @@ impl DeviceBehind {
     /// lets them read. Returns `Done`. `Nothing` if the object is not locked or no object has the number `ono`, or
     /// `NotStarted` before the start: then nothing is written.
     pub fn lock(&self, ono: u32, kind: &mut u32, ip: &mut u32, port: &mut u16) -> Answer
-        ensures writes { (w : DeviceSizes) (T : List Object) (E : List Event) → RunsBehind w self.now T E →
+        ensures writes { (r : Rooms) (w : DeviceSizes) (T : List Object) (E : List Event) →
+            RunsBehind r w self.now T E →
             WritesLock (lock_at (state_after w T E).tree ono) kind.new ip.new port.new (answer_number result) }
         ensures building { self.now.device ≡ None → result ≡ NotStarted }
         ensures unwritten { (result ≡ Done) ⊎ ((kind.new ≡ kind.old) × (ip.new ≡ ip.old) × (port.new ≡ port.old)) }
@@ -711,7 +744,8 @@ impl DeviceBehind {
     /// [`set_failing`](DeviceBehind::set_failing) last set it. False before the first such call. Returns `Done`.
     /// `NoObject` if no object has the number `ono`, or `NotStarted` before the start: then nothing is written.
     pub fn is_failing(&self, ono: u32, failing: &mut bool) -> Answer
-        ensures writes { (w : DeviceSizes) (T : List Object) (E : List Event) → RunsBehind w self.now T E →
+        ensures writes { (r : Rooms) (w : DeviceSizes) (T : List Object) (E : List Event) →
+            RunsBehind r w self.now T E →
             WritesFailing (failing_at (state_after w T E).tree ono) failing.new (answer_number result) }
         ensures building { self.now.device ≡ None → result ≡ NotStarted }
         ensures unwritten { (result ≡ Done) ⊎ (failing.new ≡ failing.old) }
@@ -731,7 +765,8 @@ impl DeviceBehind {
     /// number without its sign: 1 or 2 for a state, 0 or 1 for a Boolean. Returns `Done`. `NotStarted` before the
     /// start, or `Nothing` if the object is a block or no object has the number `ono`: then nothing is written.
     pub fn reading(&self, ono: u32, reading: &mut Reading) -> Answer
-        ensures writes { (w : DeviceSizes) (T : List Object) (E : List Event) → RunsBehind w self.now T E →
+        ensures writes { (r : Rooms) (w : DeviceSizes) (T : List Object) (E : List Event) →
+            RunsBehind r w self.now T E →
             WritesSetting (setting_at (state_after w T E).tree ono) reading.new (answer_number result) }
         ensures building { self.now.device ≡ None → result ≡ NotStarted }
         ensures unwritten { (result ≡ Done) ⊎ (reading.new ≡ reading.old) }

@@ -5,6 +5,7 @@
 pub mod adding;
 pub mod answer;
 pub mod answer_words;
+pub mod any_device;
 pub mod device;
 pub mod device_handle;
 pub mod device_slot;
@@ -23,6 +24,7 @@ pub mod restoring;
 pub mod spec_adding;
 pub mod spec_reading;
 pub mod spec_words;
+pub mod starting;
 pub mod unstored;
 pub mod value_texts;
 pub mod value_words;

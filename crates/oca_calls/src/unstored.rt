@@ -2,7 +2,8 @@
 ghost use Rattle.std.specs.Prelude.{◌≡◌, ◌==◌, not, length};
 ghost use Rattle.oca_calls.specs.Storings.{all_stored, duplicates_of, unstored_after};
 
-use oca_device::{Device, Verdict};
+use crate::any_device::AnyDevice;
+use oca_device::Verdict;
 
 /// Whether something that datagrams wrote is not stored, and whether the answers to the last datagram wait until it is.
 #[derive(Clone, Copy)]
@@ -36,8 +37,8 @@ impl Unstored {
 }
 
 /// Whether the last datagram wrote to an object. `false` before the first datagram.
-pub fn has_written(device: &Device) -> bool
-    ensures { result ≡ not (length device.now.written == 0) }
+pub fn has_written(device: &AnyDevice) -> bool
+    ensures { result ≡ not (length device.now.device.written == 0) }
 {
     !device.written().is_empty()
 }
