@@ -597,14 +597,16 @@ enum oca_result oca_device_start(struct oca_device *device, uint8_t window, uint
 enum oca_result oca_device_start_within(struct oca_device *device, uint8_t window, uint8_t peers, size_t packets) OCA_CHECKED;
 
 /* Starts a small device, with the arguments of oca_device_start_within: a device for objects of which panels set and
- * read single values. All calls of a device work on it. Each command of which it keeps the reply takes 376 bytes, and
- * not 2,952. A command may have 64 bytes of parameters: a datagram of more than 91 bytes is malformed with
- * OCA_FAULT_TOO_LONG, at byte 91. A reply may have 264 bytes of parameters: a longer one is sent as
- * OCA_STATUS_BUFFER_OVERFLOW without parameters. Its command was still executed or refused; only commands that read
- * have such replies. The answers to a datagram never have more than 7 packets. Returns OCA_DONE. Otherwise the first of
- * these that applies. OCA_CLOSED if the device is closed, OCA_STARTED if it is started already, OCA_BAD_SIZE if a size
- * is outside its range: then nothing is changed. OCA_NO_MEMORY if memory was refused: then the objects are lost and the
- * struct is closed; it can be opened again. */
+ * read single values. All calls of a device work on it. The start takes 376 bytes for each command of a window, `window`
+ * times `peers` of them, and not 2,952. A command may have 64 bytes of parameters: a datagram of more than 91 bytes is
+ * malformed with OCA_FAULT_TOO_LONG, at byte 91, and none of its commands is executed or answered. A link that sends a
+ * command with more than 64 bytes of parameters sends it 20 times and is then lost: so a panel must not set a label of
+ * more than 62 bytes, or a name of a position of more than 60. A reply may have 264 bytes of parameters: a longer one is
+ * sent as OCA_STATUS_BUFFER_OVERFLOW without parameters. Its command was executed; only commands that read have such
+ * replies. A panel can list a block of at most 14 to 18 members. A datagram of at most 91 bytes has at most 7 packets of
+ * answers. Returns OCA_DONE. Otherwise the first of these that applies. OCA_CLOSED if the device is closed, OCA_STARTED
+ * if it is started already, OCA_BAD_SIZE if a size is outside its range: then nothing is changed. OCA_NO_MEMORY if
+ * memory was refused: then the objects are lost and the struct is closed; it can be opened again. */
 enum oca_result oca_device_start_small(struct oca_device *device, uint8_t window, uint8_t peers, size_t packets) OCA_CHECKED;
 
 /* What became of a datagram. `kind` is 0 if it was served. Then come how many of its commands were executed
@@ -643,8 +645,8 @@ enum oca_result oca_device_packets(struct oca_device *device, size_t *count) OCA
 enum oca_result oca_device_packet(struct oca_device *device, size_t i, uint8_t *out, size_t out_len, size_t *len) OCA_NONNULL;
 
 /* Writes to `left_out` whether answers to the last datagram were left out because the device had no room for them
- * (oca_device_start_within). False before the first datagram. Returns OCA_DONE. OCA_CLOSED if the device is closed, and
- * OCA_NOT_STARTED before its start: then nothing is changed or written. */
+ * (oca_device_start_within, oca_device_start_small). False before the first datagram. Returns OCA_DONE. OCA_CLOSED if
+ * the device is closed, and OCA_NOT_STARTED before its start: then nothing is changed or written. */
 enum oca_result oca_device_left_out(struct oca_device *device, bool *left_out) OCA_NONNULL;
 
 /* Writes the numbers of the objects that the last datagram wrote to, in order, each as often as it was written. `count`

@@ -105,12 +105,13 @@ pub extern "C" fn oca_device_start_within(
     start(alloc, handle, window, peers, packets, false)
 }
 
-/// Starts a small device, with the arguments of `oca_device_start_within`. All calls of a device work on it. A command
-/// of which the device keeps the reply takes 376 bytes instead of 2,952. It is for objects of which panels set and read
-/// single values: a command may have 64 bytes of parameters, and a reply 264. A datagram of more than 91 bytes is
-/// malformed (`OCA_FAULT_TOO_LONG`, at byte 91). A command whose reply has more than 264 bytes of parameters is
-/// executed or refused as in each device, but answered with the status BufferOverflow (14), ParamCount 0 and no
-/// parameters; only commands that read have such replies. No datagram of 91 bytes gets more than 7 packets.
+/// Starts a small device, with the arguments of `oca_device_start_within`. All calls of a device work on it. It is for
+/// objects of which panels set and read single values. The start takes 376 bytes for each command of a window, `window`
+/// times `peers` of them, instead of 2,952. A command may have 64 bytes of parameters: a datagram of more than 91 bytes
+/// is malformed (`OCA_FAULT_TOO_LONG`, at byte 91), and none of its commands is executed or answered. A reply may have
+/// 264: a command whose reply has more bytes of parameters is executed, but answered with the status BufferOverflow
+/// (14), ParamCount 0 and no parameters; only commands that read have such replies. A datagram of at most 91 bytes gets
+/// at most 7 packets.
 ///
 /// Returns the number of an answer: `Done`. Otherwise the first of these that applies. `Closed` if the device is
 /// closed, `Started` if it is started already, `BadSize` if a size is outside its range: then nothing is changed.
@@ -267,7 +268,7 @@ pub extern "C" fn oca_device_packets(
 }
 
 /// Writes to `left_out` whether answers to the last datagram were left out because the device had no room for them
-/// (`oca_device_start_within`). False before the first datagram.
+/// (`oca_device_start_within`, `oca_device_start_small`). False before the first datagram.
 ///
 /// Returns the number of an answer: `Done`. `Closed` if the device is closed, and `NotStarted` before its start: then
 /// nothing is changed or written.

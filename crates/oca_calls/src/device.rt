@@ -239,10 +239,10 @@ impl DeviceBehind {
     }
 
     /// Handles a datagram that came from a peer at the moment `now`, in milliseconds of the caller's clock, as
-    /// [`Device::datagram_within`](oca_device::Device::datagram_within) does; a small device, as that of
-    /// [`SmallDevice`](oca_device::SmallDevice) does. The answers replace the packets of the
-    /// last datagram, as many as there is room for ([`left_out`](DeviceBehind::left_out)). A moment earlier than the
-    /// latest one so far is taken as that latest one.
+    /// [`Device::datagram_within`](oca_device::Device::datagram_within) does. A small device handles it as that of
+    /// [`SmallDevice`](oca_device::SmallDevice) does. The answers replace the packets of the last datagram, as many as
+    /// there is room for ([`left_out`](DeviceBehind::left_out)). A moment earlier than the latest one so far is taken
+    /// as that latest one.
     ///
     /// The words of the verdict ([`words_of`](crate::words::words_of)) go to the front of `out`, as many as it has room
     /// for. Returns `Done`. `NotStarted` before the start: then nothing is changed or written.
