@@ -94,7 +94,7 @@ uninstall:
 
 library: $(LIBRARY)
 
-crates/oca_c/out/$(TARGET)/liboca_c.a: $(foreach name,c calls types pdu model tree session net device control,$(wildcard crates/oca_$(name)/src/*.rt crates/oca_$(name)/specs/*.antt crates/oca_$(name)/proofs/*.antt))
+crates/oca_c/out/$(TARGET)/liboca_c.a: $(foreach name,c calls types pdu model tree session net device control,$(wildcard crates/oca_$(name)/src/*.rt crates/oca_$(name)/src/*/*.rt crates/oca_$(name)/specs/*.antt crates/oca_$(name)/proofs/*.antt))
 	@python3 gate/library.py $(TARGET)
 
 clean:

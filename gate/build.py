@@ -18,14 +18,10 @@ from pathlib import Path
 import kit
 
 TOP = kit.TOP
-# The seconds that each took to prove and build, others beside it, as measured on 2026-11-27: which is begun first goes by them, and which gets more
-# processes. One that is not here counts a second for ten of its lines.
-SECONDS = {
-    "oca_types": 60, "oca_model": 130, "oca_tree": 280, "oca_net": 130, "oca_pdu": 80, "oca_session": 80, "oca_script": 130,
-    "oca_control": 90, "oca_program": 90, "oca_panel": 120, "oca_device": 100, "oca_textree": 225, "oca_web": 285,
-    "ocadev_replay": 55, "ocadev_cli": 310, "ocadev": 95, "ocactl_replay": 65, "ocactl_cli": 420, "ocactl": 90,
-    "ocapanel_cli": 170, "ocapanel": 130,
-}
+sys.path.insert(0, str(TOP / "tools"))
+from tables import data
+
+SECONDS = data("builds").seconds
 LONG = 0.6  # of the seconds of the longest chain of crates that is left: a crate that begins a chain of so many is long
 SHORT = 30  # seconds: a crate that takes fewer itself is not worth a second process, however long its chain is
 # What a program is run with to be built: words that only print.
@@ -191,11 +187,9 @@ def main():
     programs = [crates[name] for name in names]
     libraries = {below for program in programs for below in program.below()}
     folder.mkdir(exist_ok=True)
-    held = rt.lock([*libraries, *programs])
+    rt.lock([*libraries, *programs])  # until this process ends
     with kit.in_memory(rt):
         is_built = build_all(rt, libraries, programs, folder)
-    for it in held:
-        os.close(it)
     print(f"build: {(time.monotonic() - begun) / 60:.1f} minutes")
     return 0 if is_built else 1
 

@@ -14,9 +14,10 @@ TOP = Path(__file__).resolve().parent.parent
 NEEDS = 4_000_000_000  # bytes for a check: the most that one took, measured, is 3.3 GB (ocactl_cli)
 MEMORY = Path("/dev/shm")  # a folder in memory, where the system has one
 ROOM = 6_000_000_000  # bytes there; the most that a run of the gate took, measured, is 1.8 GB
+ENDED = "(ended)"  # the last line of the file GATE_PROVED
 MISSING = "there is no rt: this needs the toolchain's kit, whose folder bin/ must be in PATH (README.md says at its end where it is)"
 # The names that are used of the command, and of its library.
-OF_RT = "checked edited free in_lanes need processors unread".split()
+OF_RT = "checked edited free processors unread".split()
 OF_RTLIB = "PARTS RATTLE STALE crates_below files_of guarded lock sum_of".split()
 
 
@@ -65,6 +66,14 @@ def has_room_in_memory(rt):
     found = os.statvfs(MEMORY)
     is_large = found.f_bavail * found.f_frsize >= ROOM and rt.free() >= lanes(rt) * NEEDS + ROOM
     return is_large and not found.f_flag & os.ST_NOEXEC
+
+
+def is_left_by_the_gate(rt, library):
+    """Whether `rt ci` left the library of these sources: it is there, has no stamp, and is newer than all sources."""
+    if not os.path.isdir(library.rlib) or os.path.exists(f"{os.path.dirname(library.rlib)}/stamp"):
+        return False
+    made = os.path.getmtime(library.rlib)
+    return all(os.path.getmtime(file) < made for it in [library, *library.below()] for file in rt.files_of(it.folder))
 
 
 @contextlib.contextmanager

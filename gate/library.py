@@ -10,19 +10,10 @@ import os
 import sys
 from pathlib import Path
 
-sys.path.insert(0, str(Path(__file__).resolve().parent))
 import build
 import kit
 
 LEAST = {"x86_64-unknown-linux-gnu": "x86-64", "aarch64-unknown-linux-gnu": "generic"}
-
-
-def is_left_by_the_gate(crate, files_of):
-    """Whether `rt ci` left the library of these sources: it is there, has no stamp, and is newer than all sources."""
-    if not os.path.isdir(crate.rlib) or os.path.exists(f"{os.path.dirname(crate.rlib)}/stamp"):
-        return False
-    made = os.path.getmtime(crate.rlib)
-    return all(os.path.getmtime(file) < made for it in [crate, *crate.below()] for file in files_of(it.folder))
 
 
 def compiled(crate, words, to):
@@ -47,8 +38,8 @@ def main():
     rt = kit.toolchain()
     os.chdir(kit.TOP)
     crate = kit.crates(rt)["oca_c"]
-    held = rt.lock([*crate.below(), crate])
-    is_left = all(is_left_by_the_gate(it, rt.files_of) for it in crate.below())
+    rt.lock([*crate.below(), crate])  # until this process ends
+    is_left = all(kit.is_left_by_the_gate(rt, it) for it in crate.below())
     os.makedirs(f"{crate.folder}/out/{target}", exist_ok=True)
     words = ["--jobs", os.environ.get("LIBRARY_JOBS") or str(rt.processors()), "--target", target, "--cpu", cpu]
     with kit.in_memory(rt):
@@ -56,10 +47,7 @@ def main():
             build.apart(crate.below())
             if not build.build_all(rt, set(crate.below())):
                 return 1
-        status = compiled(crate, words, f"{crate.folder}/out/{target}/liboca_c.a")
-    for it in held:
-        os.close(it)
-    return status
+        return compiled(crate, words, f"{crate.folder}/out/{target}/liboca_c.a")
 
 
 if __name__ == "__main__":

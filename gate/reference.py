@@ -10,54 +10,15 @@ import sys
 from pathlib import Path
 
 TOP = Path(__file__).resolve().parent.parent
+sys.path.insert(0, str(TOP / "tools"))
+from tables import table
+
+ANSWERS = table("answers")["answers"]  # of a call, by the first form that its name has
 HEADER = TOP / "include/oca.h"
 CALL = r"^(?:static inline )?(?:(?:enum|struct) oca_\w+|const char|u?int\d+_t|size_t|void) \*?(oca_\w+)\([^)]*\)"
 # On each page anyway; and what the header's own functions call, which has no page.
 NAMED_ANYWAY = ("struct oca_device", "struct oca_link", "enum oca_result")
 HELPERS = {"oca_device_close_any", "oca_link_close_any", "oca_outcome_of"}
-
-# What calls answer besides OCA_DONE, in the order of the numbers: the first row that the name fits says it.
-SET, SUBMITTED = "NO_OBJECT NO_SETTING OTHER_KIND OUT_OF_RANGE", "LOST HANDLES_SPENT SPAN_FULL TOO_LONG"
-ADDED = "FULL RESERVED TAKEN NO_SUCH_BLOCK TOO_DEEP BAD_TEXT"
-ANSWERS = [
-    (r"oca_device_open_(with|kept)", "BAD_TEXT NO_MEMORY OPEN BAD_SIZE"),
-    (r"oca_(device|link|panel)_open|oca_link_open_small", "NO_MEMORY OPEN BAD_SIZE"),
-    (r"oca_device_add(_kept)?", f"{ADDED} BAD_RANGE NO_MEMORY CLOSED STARTED BAD_SIZE NO_VALUE"),
-    (r"oca_device_add_(block|mute|polarity|boolean)", f"{ADDED} NO_MEMORY CLOSED STARTED"),
-    (r"oca_device_add_\w+", f"{ADDED} BAD_RANGE NO_MEMORY CLOSED STARTED"),
-    (r"oca_device_start(_within|_small)?", "NO_MEMORY CLOSED STARTED BAD_SIZE"),
-    (r"oca_device_(datagram(_words)?|tick|packets|left_out|objects|waits|stored)", "CLOSED NOT_STARTED"),
-    (r"oca_device_(next_lapse|setting|lock|object(_words)?)", "CLOSED NOT_STARTED NOTHING"),
-    (r"oca_device_packet", "CLOSED NOT_STARTED NOTHING TOO_SMALL"),
-    (r"oca_device_written", "CLOSED NOT_STARTED TOO_SMALL"),
-    (r"oca_device_spec(_of)?", "CLOSED NOT_STARTED NOTHING BAD_SIZE"),
-    (r"oca_device_peers", "CLOSED NOT_STARTED"),
-    (r"oca_device_peer", "CLOSED NOT_STARTED NOTHING"),
-    (r"oca_device_keep", "CLOSED NOT_STARTED TOO_SMALL"),
-    (r"oca_spec_restore", "BAD_TEXT BAD_RANGE BAD_SIZE OTHER_KIND OUT_OF_RANGE"),
-    (r"oca_device_set", f"CLOSED NOT_STARTED {SET} NO_VALUE"),
-    (r"oca_device_set_label", "BAD_TEXT CLOSED NOT_STARTED NO_OBJECT"),
-    (r"oca_device_(set_enabled|set_failing|is_failing)", "CLOSED NOT_STARTED NO_OBJECT"),
-    (r"oca_device_unlock", "CLOSED NOT_STARTED NOTHING NO_OBJECT"),
-    (r"oca_device_set_\w+", f"CLOSED NOT_STARTED {SET}"),
-    (r"oca_link_(submit|ask|call)|oca_panel_begin", f"CLOSED {SUBMITTED}"),
-    (r"oca_panel_begin_[sg]et", f"CLOSED {SUBMITTED} NO_VALUE"),
-    (r"oca_flight_push", "SPAN_FULL"),
-    (r"oca_link_due", "CLOSED TOO_SMALL"),
-    (r"oca_link_take", "CLOSED NOTHING TOO_SMALL"),
-    (r"oca_link_(next_due|answered|next_handle)", "CLOSED NOTHING"),
-    (r"oca_link_(datagram|last_heard|is_lost|is_late|in_flight)", "CLOSED"),
-    (r"oca_((value|text)_put|value_text)", "TOO_SMALL NO_VALUE"),
-    (r"oca_((value|text|names|members|class)_read|value_from_text|[sg]et_request)", "NO_VALUE"),
-    (r"oca_serve", "CLOSED NOT_STARTED NOTHING BAD_SIZE"),
-    (r"oca_store_open", "HELD NO_FILE OPEN BAD_PATH NULL SYSTEM"),
-    (r"oca_store_load", "NOTHING NO_FILE BROKEN TOO_SMALL CLOSED NULL SYSTEM"),
-    (r"oca_store_save", "NO_FILE CLOSED NULL SYSTEM"),
-    (r"oca_socket_open(_towards)?", "OPEN NULL SYSTEM"),
-    (r"oca_socket_(wait|receive)", "NOTHING CLOSED NULL SYSTEM"),
-    (r"oca_socket_send", "CLOSED NULL SYSTEM"),
-]
-
 
 def answers_of(name):
     said = next((said for form, said in ANSWERS if re.fullmatch(form, name)), None)

@@ -27,18 +27,16 @@ from collections import Counter
 from concurrent.futures import ThreadPoolExecutor, as_completed
 from pathlib import Path
 
-HERE = Path(__file__).resolve().parent
-TOP = HERE.parent
-sys.path.insert(0, str(HERE))
 import kit
 
+HERE = Path(__file__).resolve().parent
+TOP = HERE.parent
 BESIDE = 3
 LAST_LINES = 12  # so many are shown of a step that passed
 RUNNING = []
 TABLE = []  # a line for each command that has ended
 WRONG = []  # lines that say what failed
 PROVED = re.compile(r"rt: (\S+) (?:proved$|is kept: )")  # what `rt ci` says of a crate that it has proved
-ENDED = "(ended)"
 SAYS_WRONG = re.compile(r"WRONG: |FAILED|NOT (PROVED|REFUSED|BUILT)|: NOT TRIED|is not what its file")
 SAYS_WELL = ": rightly not refused: "  # of an edit that tries `edits.py` itself: behind it stands why, in the words of one that failed
 MOST_WRONG = 12  # so many of these lines are shown at the end
@@ -102,28 +100,29 @@ def note_wrong(lines):
     WRONG.extend([line for line in lines if SAYS_WRONG.search(line) and SAYS_WELL not in line] or lines[-3:])
 
 
-def took(command, begun, passed, failed, why=""):
+def judged(command, begun, text, status, least):
+    """How many checks of a command that has ended passed and failed, and what is told of it at its end."""
+    passed, failed, why = counted(last_line(text), status, least)
+    if failed:
+        note_wrong(text.splitlines())
     minutes = (time.monotonic() - begun) / 60
     TABLE.append(f"gate: {minutes:5.1f} minutes, {passed:5} passed, {failed} failed: {command[:60]}")
     told = f"gate: {minutes:.1f} minutes for {command[:60]}"
-    return f"gate: FAILED: {why}: {command[:60]}\n{told}" if why else told
+    return (passed, failed), f"gate: FAILED: {why}: {command[:60]}\n{told}" if why else told
 
 
 def watched(command, least, note=lambda _: None):
     """Runs a command, shows what it prints as it prints it, and answers how many checks passed and failed. Each line is handed on."""
     print(f"gate: {command}", flush=True)
-    begun, last, said = time.monotonic(), "", []
+    begun, said = time.monotonic(), []
     with started(command) as process:
         for line in process.stdout:
             print(line, end="", flush=True)
-            last = line.strip() or last
             said.append(line)
             note(line)
-    passed, failed, why = counted(last, process.returncode, least)
-    if failed:
-        note_wrong(said)
-    print(took(command, begun, passed, failed, why), flush=True)
-    return passed, failed
+    count, told = judged(command, begun, "".join(said), process.returncode, least)
+    print(told, flush=True)
+    return count
 
 
 def kept(step):
@@ -136,11 +135,9 @@ def kept(step):
         except subprocess.TimeoutExpired:
             end(process)
             text, status = process.communicate()[0] + "\nit took too long and was ended\n", 1
-    passed, failed, why = counted(last_line(text), status, step.least)
-    if failed:
-        note_wrong(text.splitlines())
-    shown = text if failed else "".join(text.splitlines(keepends=True)[-LAST_LINES:])
-    return (passed, failed), f"gate: {step.command}\n{shown}{took(step.command, begun, passed, failed, why)}"
+    count, told = judged(step.command, begun, text, status, step.least)
+    shown = text if count[1] else "".join(text.splitlines(keepends=True)[-LAST_LINES:])
+    return count, f"gate: {step.command}\n{shown}{told}"
 
 
 def paragraphs(file):
@@ -159,15 +156,19 @@ def left_out(steps, tools):
     return missing + [words.split("/", 1)[1] for words in runs if not any(step.command.endswith(words) for step in steps)]
 
 
+def listed_crates(top=TOP):
+    """The crates of crates.txt, each with the words behind it: those that it uses."""
+    lines = (line.split("#")[0].replace(":", " ").split() for line in (top / "crates.txt").read_text().splitlines())
+    return {words[0]: words[1:] for words in lines if words}
+
+
 def least_of_ci(top=TOP):
-    lines = (line.split("#")[0].strip() for line in (top / "crates.txt").read_text().splitlines())
-    return sum(map(bool, lines)) + len(list(top.glob("crates/*/must-fail/*.edit")))
+    return len(listed_crates(top)) + len(list(top.glob("crates/*/must-fail/*.edit")))
 
 
 def waited_for(top=TOP):
     """The crate that most others use, where it uses none of them: as long as it is not proved hardly any other can be."""
-    lines = [line.split("#")[0].replace(":", " ").split() for line in (top / "crates.txt").read_text().splitlines()]
-    uses = {words[0]: words[1:] for words in lines if words}
+    uses = listed_crates(top)
     used = Counter(name for words in uses.values() for name in words if name in uses)
     return next((name for name, _ in used.most_common(1) if not {*uses[name]} & {*uses}), None)
 
@@ -222,7 +223,7 @@ def of_ci(steps, others, room):
     if first:
         watched(f"rt ci {first}", 1)
     count = watched(f"RT_JOBS={kit.lanes(rt)} rt ci", least_of_ci(), early.note)
-    early.add(ENDED)
+    early.add(kit.ENDED)
     print(f"gate: {processor_minutes():.1f} processor minutes for rt ci", flush=True)
     return count, early.begun
 

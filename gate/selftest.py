@@ -5,8 +5,6 @@ what the prover says. selftest_builds.py has the rows of builds, selftest_tools.
 passed, M failed'."""
 import contextlib
 import functools
-import importlib
-import inspect
 import os
 import re
 import shutil
@@ -30,7 +28,6 @@ from selftest_tools import checks, edits, lossy, snippets
 
 import panel
 import runs
-import unreliable
 from checks import waited
 from tables import data
 
@@ -46,7 +43,7 @@ def gate_over(folder, steps):
     return ran.returncode, run.last_line(ran.stdout), sorted(told)
 
 
-def is_as_wanted(folder, steps, passes, last):
+def is_as_wanted(steps, passes, last, folder):
     return is_same((int(not passes), last), gate_over(folder, steps)[:2])
 
 
@@ -115,17 +112,16 @@ def run_beside(file, crates, most, calls):
             told.writelines(f"{it}\n" for it in calls.get(name, []))
         return name
 
-    tasks = {(name, "edits", 0): ([], 10 - number, 1, lambda given, jobs, name=name: call(name)) for number, name in enumerate(crates)}
     below = {name: FakeCrate(below=lambda its=its: [FakeCrate(name=it) for it in its]) for name, its in crates.items()}
-    given = edits.beside_proofs(tasks, below, most)
-    return [key[0] for key in given], max(at_once)
+    tasks = [(below[name], 10 - number, functools.partial(call, name)) for number, name in enumerate(crates)]
+    return edits.side_by_side(tasks, most), max(at_once)
 
 
 def waits_for_proofs(folder):
     """Beside `rt ci` the edits of a crate wait for the libraries below it and for an idle processor, and only half as many checks run as later."""
     found, real, asked, file = [], edits.is_idle, [], folder / "proved"
     later, free = {"z": "c", "y": "ab", "x": "a", "w": ""}, dict.fromkeys("pqrst", "")
-    tells = {"w": ["a"], "x": ["b"], "y": [edits.ENDED]}
+    tells = {"w": ["a"], "x": ["b"], "y": [kit.ENDED]}
     with patch.object(edits, "is_idle", lambda _: True), patch.dict(os.environ, GATE_PROVED=str(file)):
         found += [edits.proved_beside() is None]
         file.touch()
@@ -133,13 +129,13 @@ def waits_for_proofs(folder):
         found += [run_beside(file, later, 1, tells) == (["w", "x", "y", "z"], 1), edits.proved_beside() is None]
         found += [run_beside(file, free, 4, {})[1] == 4]
         file.write_text("")
-        found += [run_beside(file, free, 4, {})[1] == 2, edits.ENDED == run.ENDED]
-        edits.is_idle = lambda _: asked.append(1) or len(asked) > 3 and not file.write_text(f"{edits.ENDED}\n")
+        found += [run_beside(file, free, 4, {})[1] == 2]
+        edits.is_idle = lambda _: asked.append(1) or len(asked) > 3 and not file.write_text(f"{kit.ENDED}\n")
         found += [run_beside(file, {"p": ""}, 1, {}) == (["p"], 1), len(asked) == 4]
     return all(found) and real(1_000_000) and not real(0)
 
 
-def is_counted(_, command, least, wanted):
+def is_counted(command, least, wanted, _):
     return is_same(wanted, said(run.watched, command, least)[0])
 
 
@@ -185,8 +181,7 @@ def knows_the_lanes(_):
     """The lanes: as many as there are processors, and as memory holds, at least one; or as many as RT_JOBS says."""
     found = []
     for processors, memory, says, _ in DATA.lanes:
-        with without("RT_JOBS"):
-            os.environ |= {"RT_JOBS": says} if says else {}
+        with patch.dict(os.environ, RT_JOBS=says):
             found.append(kit.lanes(fake_tools(processors, memory)))
     return is_same([wanted for *_, wanted in DATA.lanes], found)
 
@@ -238,7 +233,7 @@ def text_of(file):
     return ""
 
 
-def ends_when_told(folder, number, before=None):
+def ends_when_told(number, before, folder):
     """A gate that a signal ends has not passed, and what its steps have started ends with it; not where it was to ignore that one, as one before."""
     begun, file, seconds = folder / f"begun-{number}", folder / "long-steps", f"{60 + number}.{os.getpid()}"
     file.write_text(f"1 2 touch '{begun}'; sleep {seconds}; echo '1 passed, 0 failed'\n")
@@ -299,7 +294,7 @@ def names_functions(_):
 
 def judges_edits(_):
     """An edit is refused only if a goal of its own function fails; one of no function if any does. Why not is told."""
-    functions = {"f": [edits.Function(["m"], None, "f", 0, 1)], "g": [edits.Function(["m"], None, "g", 2, 3)], " ": []}
+    functions = {"f": [edits.Function(["m"], None, "f")], "g": [edits.Function(["m"], None, "g")], " ": []}
     tried = {name: SimpleNamespace(functions=its) for name, its in functions.items()}
     found, told = [], []
     for status, lines, _ in DATA.said_of_edits:
@@ -418,7 +413,7 @@ def told_of_clause(crate, clause, narrow, whole, wanted):
     return said(trial.told)[1].strip().split(": ", 1)[1].startswith(wanted)
 
 
-def is_lost(_, now, wanted):
+def is_lost(now, wanted, _):
     return is_same([*wanted], lost(DATA.steps, now))
 
 
@@ -442,9 +437,7 @@ def loses_no_step(_):
 
 def stands_on_its_sources(_):
     """`make library` makes the library anew where a source or a definition of its own crates is newer."""
-    lines = [line.split("#")[0].split(":") for line in (run.TOP / "crates.txt").read_text().splitlines()]
-    below = {line[0].split()[0]: line[1].split() for line in lines if len(line) == 2}
-    crates, left = set(), ["oca_c"]
+    below, crates, left = run.listed_crates(), set(), ["oca_c"]
     while left:
         name = left.pop()
         left += below.get(name, []) if name not in crates else []
@@ -480,7 +473,7 @@ def judges_lossy_runs(_):
     def judged(copies=1, wrong=0, missing=0, status=0, **report):
         made = object.__new__(lossy.Run)
         made.report = {"executed": 5, "old": 1, **report}
-        made.network = SimpleNamespace(behind=SimpleNamespace(copies=copies))
+        made.network = SimpleNamespace(behind=copies)
         made.wrong, made.missing, made.status = wrong, missing, status
         return made.is_as_promised(5)
 
@@ -528,19 +521,17 @@ def carries_badly(_):
 
 def counts_what_differs(_):
     """What ends or prints otherwise, or is not so, has failed, also in tools that count in a way of their own."""
-    refused, its, before = unreliable.Runs("", ""), runs.Runs(""), (panel.ITS.passed, panel.ITS.failed)
+    its, before = runs.Runs(""), (panel.ITS.passed, panel.ITS.failed)
     for status, prints, fault in DATA.different:
-        said(its.compare, ["a"], {"status": status, "prints": prints, "fault": fault}, (1, b"a\n", b"note: more\nbad words\n"))
+        said(its.compare, ["a"], {"status": status, "prints": prints, "fault": fault}, (b"a\n", b"note: more\nbad words\n", 1))
     found = [said(panel.check, True, "so")[0] is True, said(panel.check, False, "not so")[0] is False]
-    said(refused.expect, True, "so")
-    said(refused.expect, False, "not so")
-    found += [(panel.ITS.passed - before[0], panel.ITS.failed - before[1]) == (1, 1), refused.wrong == 1]
+    found += [(panel.ITS.passed - before[0], panel.ITS.failed - before[1]) == (1, 1)]
     return all(found) and (its.passed, its.failed) == (1, 5)
 
 
-def sees_differences(_, tool):
-    """Whether the tool's checks count what is the same as passed, and any difference as failed, which they tell."""
-    its = tool.Checks(*[None] * sum(it.default is it.empty for it in inspect.signature(tool.Checks).parameters.values()))
+def sees_differences(_):
+    """Checks count what is the same as passed, and any difference as failed, which they tell."""
+    its = checks.Checks()
     quiet = said(its.same, "the same", ("a", 1), ("a", 1))[1]
     told = "".join(said(its.same, "a difference", got, wanted)[1]
                    for got, wanted in ((("a", 1), ("a", 2)), ("", None), (False, None), ([], [[]]), ("ab", "abc")))
@@ -562,22 +553,19 @@ def tells_a_verdict(_):
                     (1, "1 passed, 2 failed\n"), True], found)
 
 
-def tools_with_checks():
-    names = [file.stem for file in sorted((run.TOP / "tools").glob("*.py")) if re.search(r"(?m)^class Checks\b(?!\(checks)", file.read_text())]
-    return [(name, importlib.import_module(name)) for name in names]
+def each(check, rows):
+    """What is tried by each of these rows: what it is called, and what the check is given before its folder."""
+    return [(what, functools.partial(check, *given)) for what, *given in rows]
 
 
-ROWS = [(what, functools.partial(is_as_wanted, steps=steps, passes=passes, last=last)) for what, steps, passes, last in DATA.cases] + [
-    (what, functools.partial(is_counted, command=command, least=least, wanted=wanted)) for what, command, least, wanted in DATA.of_ci] + [
-    (f"a gate that signal {number} ends", functools.partial(ends_when_told, number=number)) for number in (signal.SIGTERM, signal.SIGINT, signal.SIGHUP)] + [
-    ("a gate under nohup goes on", functools.partial(ends_when_told, number=signal.SIGTERM, before=signal.SIGHUP))] + [
-    (f"of two steps {what}", functools.partial(is_lost, now=now, wanted=wanted)) for what, now, wanted in DATA.of_steps] + [
-    (f"{name}.py sees differences", functools.partial(sees_differences, tool=tool)) for name, tool in tools_with_checks()] + [(it.__doc__, it) for it in (
+SIGNALS = [(f"a gate that signal {number} ends", number, None) for number in (signal.SIGTERM, signal.SIGINT, signal.SIGHUP)]
+ROWS = [*each(is_as_wanted, DATA.cases), *each(is_counted, DATA.of_ci), *each(is_lost, DATA.of_steps),
+        *each(ends_when_told, [*SIGNALS, ("a gate under nohup goes on", signal.SIGTERM, signal.SIGHUP)])] + [(it.__doc__, it) for it in (
     finds_what_is_left_out, knows_the_least, knows_what_is_waited_for, ends_all_that_hangs, tells_what_failed,
     goes_on_beside, begins_early, compares_examples, builds_as_asked, compares_documents, lists_each_edit,
     names_functions, judges_edits, loses_no_step, leaves_none_out, stands_on_its_sources, counts_all,
     knows_the_lanes, says_what_is_missing, counts_edits, waits_for_proofs, copies_edits, copies_laws, empties_functions,
-    narrows_contracts, forgives_no_lateness, tells_a_verdict, judges_lossy_runs, carries_badly, counts_what_differs)]
+    narrows_contracts, forgives_no_lateness, tells_a_verdict, judges_lossy_runs, carries_badly, counts_what_differs, sees_differences)]
 
 
 def main():

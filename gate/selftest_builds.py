@@ -68,15 +68,6 @@ class FakeCrate(SimpleNamespace):
     __hash__ = object.__hash__
 
 
-def in_turn(tasks):
-    """What the toolchain's lanes give of tasks, one at a time, each once those that it waits for have ended, else the last first."""
-    given, left = {}, dict(tasks)
-    while left:
-        key = next(it for it in reversed(left) if all(below in given for below in left[it][0]))
-        given[key] = left.pop(key)[3](given, 2)
-    return given
-
-
 def sum_of(file):
     return Path(file).read_text() if Path(file).is_file() else "none"
 
@@ -231,8 +222,7 @@ def begins_in_order(_):
         found.append(is_made and sorted(begun) == [*"abcde"] and max(used) <= most and begun.index("d") > max(map(begun.index, "ac")))
         found.append(most > 1 or begun == ["c", "a", "d", "b", "e"])
     for processors, free, says in ((4, 9e9, ""), (4, 3e9, ""), (2, 99e9, ""), (4, 99e9, "3"), (4, 99e9, "0")):
-        with without("RT_JOBS"), patch.object(build, "side_by_side", lambda _, most, make: number.append(most)):
-            os.environ |= {"RT_JOBS": says} if says else {}
+        with patch.dict(os.environ, RT_JOBS=says), patch.object(build, "side_by_side", lambda _, most, make: number.append(most)):
             build.build_all(fake_tools(processors, free), [])
     found.append(build.chains(crates) == {"a": 1000, "b": 600, "c": 1100, "d": 900, "e": 100} and build.work(crates[0]) == 100)
     return all(found) and number == [2, 1, 2, 3, 4] and build.work(crates_of("oca_tree 1")[0]) == build.SECONDS["oca_tree"]
@@ -336,7 +326,7 @@ def writes_in_memory(folder):
         with memory_at(folder / f"memory-{at}", 0 if is_mounted_so else os.ST_NOEXEC, space):
             before = tempfile.gettempdir()
             kit.MEMORY.chmod(mode)
-            os.environ |= {"RT_JOBS": said} if said else {}
+            os.environ["RT_JOBS"] = said
             with kit.in_memory(fake_tools(processors, free)):
                 found.append(writes() == " in memory" * is_there)
             found.append("TMPDIR" not in os.environ and tempfile.gettempdir() == before and not [*kit.MEMORY.iterdir()])
@@ -416,17 +406,16 @@ def builds_programs_anew(folder):
     """`make install` builds programs that are missing, or older than a source or definition."""
     found, programs = [], ("ocadev", "ocactl", "ocapanel")
     for at, (name, second, _) in enumerate(DATA.sources):
-        made = Made(folder / f"programs-{at}")
-        made("Makefile", 50)
-        (made.folder / "Makefile").write_text((run.TOP / "Makefile").read_text())
-        for file in ("crates/low/src/in/a.rt", "crates/low_tests/src/a.rt"):
-            made(file, 50 if file.startswith("crates/low/") else 200)
+        top = folder / f"programs-{at}"
+        laid(top, {"Makefile": (run.TOP / "Makefile").read_text()})
+        made(top / "crates/low/src/in/a.rt", 50)
+        made(top / "crates/low_tests/src/a.rt", 200)
         if name:
             for program in programs:
-                made(f"bin/{program}", 100)
-            made(f"crates/low/{name}", second)
+                made(top / "bin" / program, 100)
+            made(top / "crates/low" / name, second)
         for program in programs:
-            asked = ["make", "-q", "-C", made.folder, f"bin/{program}"]
+            asked = ["make", "-q", "-C", top, f"bin/{program}"]
             found.append(subprocess.run(asked, env=without_make(), capture_output=True, timeout=60).returncode == 0)
     return found == [is_there for *_, is_there in DATA.sources for _ in programs]
 
@@ -444,28 +433,22 @@ def ci_runs_the_gate(folder):
     return found == [(it, "said\n") for it in (0, 1, 7)] and log.read_text() == f"{top}: test\n" * 3
 
 
-class Made:
-    """Files and folders of crates, each with the second at which it was made."""
-
-    def __init__(self, folder):
-        self.folder = folder
-
-    def __call__(self, name, second):
-        place = self.folder / name
-        (place if name.endswith(".rlib") else place.parent).mkdir(parents=True, exist_ok=True)
-        if not name.endswith(".rlib"):
-            place.touch()
-        os.utime(place, (second, second))
+def made(place, second):
+    """Makes a file anew, or the folder that a library is, as of this second."""
+    is_folder = place.suffix == ".rlib"
+    (place if is_folder else place.parent).mkdir(parents=True, exist_ok=True)
+    if not is_folder:
+        place.touch()
+    os.utime(place, (second, second))
 
 
 def left_crates(folder, changes):
     """Two crates, low below high, as the gate leaves their libraries, with files made anew at a second, or taken away at second 0."""
-    made = Made(folder)
     for name in ("low", "high"):
         for file, second in (("src/lib.rt", 50), ("specs/A.antt", 50), (f"out/rlib/{name}.rlib", 100)):
-            made(f"{name}/{file}", second)
+            made(folder / name / file, second)
     for name, second in changes:
-        made(name, second) if second else (folder / name).rmdir()
+        made(folder / name, second) if second else (folder / name).rmdir()
     low, high = (FakeCrate(name=name, folder=str(folder / name), rlib=str(folder / f"{name}/out/rlib/{name}.rlib"),
                            is_built=lambda: False) for name in ("low", "high"))
     low.below, high.below = list, lambda: [low]

@@ -12,7 +12,7 @@ from unittest.mock import patch
 
 import api
 import run
-from selftest_builds import FakeCrate, edits, fake_tools, in_turn, is_same, laid, memory_at, of_prover, said, stand_in, writes
+from selftest_builds import FakeCrate, edits, fake_tools, is_same, laid, memory_at, of_prover, said, stand_in, writes
 
 import checks
 import fuzz
@@ -55,7 +55,7 @@ def said_by_the_prover(crate, texts, flags, kept):
 def told_by_edits(folder, crates, words, most=60):
     """The status of `edits.py`, what it tells of each edit, and its last line, where these are all crates and a lane tries so many edits at most."""
     tools = fake_tools(1, 99e9, edited=edits.rt.edited, unread=edits.rt.unread, STALE=edits.rt.STALE, PARTS=("src", "specs"),
-                       checked=said_by_the_prover, in_lanes=in_turn, need=lambda _: 1, guarded=list, crates_below=lambda _: crates)
+                       checked=said_by_the_prover, guarded=list, crates_below=lambda _: crates)
     with patch.multiple(edits, ROOT=folder, SELFTEST=folder / "none", rt=tools, MOST=most), memory_at(folder / "memory"), contextlib.chdir(folder):
         status, told = said(edits.main, words)
     return status, dict(re.findall(r"(?m)^crates/(\S+)\.edit: (.*)$", told)), run.last_line(told)
@@ -171,8 +171,8 @@ def refuses_broken_tables(folder):
             (top / name).write_text(text)
             with patch.multiple(snippets, TOP=top, DOCUMENTS=[]):
                 status, last, told = ran_as(snippets, "none")
-            places = [line.split(": ")[0] for line in told.splitlines() if not line.endswith(": as it stands")]
-            is_well = (status, places[:-1]) == (int(bool(wrong)), [f"{name}:{line}" for line in wrong]) and (wrong or last.split(" ")[0] == "1")
+            places = re.findall(r"(?m)^WRONG: (\S+): ", told)
+            is_well = (status, places) == (int(bool(wrong)), [f"{name}:{line}" for line in wrong]) and (wrong or last.split(" ")[0] == "1")
             found.append(is_well or print(f"snippets.py: {text!r}: {status}, {places}"))
         (top / name).unlink()
     return all(found)
@@ -346,7 +346,7 @@ def fails_each_in_turn(_):
         said(runs.failing_ends, ["a"], b"", 1)
         said(runs.pieces_of, ["a"], b"")
         wanted = (slip != ("", 0), 4 - (slip in slips[:4]), 8, 3)
-        wrong += [slip] if (runs.wrong > 0, runs.refused, runs.ends, runs.pieces) != wanted else []
+        wrong += [slip] if (runs.failed > 0, *map(runs.tried.get, ("refused", "ends", "pieces"))) != wanted else []
     for it in wrong:
         print(f"unreliable.py: {it} is passed over")
     return not wrong

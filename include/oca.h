@@ -42,7 +42,7 @@ extern "C" {
 /* Returns the version of the library that is linked, to be compared with OCA_VERSION, the version of this header:
  * 65,536 for each major version, 256 for each minor version, 1 for each patch. A library of the same major version and
  * at least this minor version keeps what this header says. */
-#define OCA_VERSION 0x010B00u
+#define OCA_VERSION 0x010C00u
 uint32_t oca_version(void);
 
 enum oca_result {
@@ -1403,8 +1403,10 @@ struct oca_outcome oca_panel_position_name(struct oca_panel *panel, uint32_t ono
  * oca_asked). OCA_ASKED_LOST or OCA_ASKED_LATE if the panel's link is lost or late: a command that was sent may have
  * been carried out. OCA_ASKED_NOT_SENT with OCA_CLOSED, OCA_HANDLES_SPENT or OCA_SPAN_FULL in `result`: that command
  * was not sent. OCA_ASKED_UNANSWERED if no answer came in time: the command stays in flight under the handle in
- * `result`. OCA_ASKED_REFUSED if the answer's status is not OK, with that status. OCA_ASKED_UNREADABLE if the answer's
- * parameters are not those of the method. */
+ * `result`. OCA_ASKED_REFUSED if the answer's status is not OK, with that status. A small device
+ * (oca_device_start_small) or a small link has room for 262 bytes of names, two more counted for each: a longer answer
+ * is OCA_STATUS_BUFFER_OVERFLOW without parameters. OCA_ASKED_UNREADABLE if the answer's parameters are not those of
+ * the method. */
 struct oca_outcome oca_panel_position_names(struct oca_panel *panel, uint32_t ono, struct oca_names *names);
 
 /* Asks for the numbers of the members of the block with the number `ono`, by GetMembers of OcaBlock (AES70-2). The call
@@ -1414,8 +1416,9 @@ struct oca_outcome oca_panel_position_names(struct oca_panel *panel, uint32_t on
  * OCA_ASKED_NOT_SENT with OCA_CLOSED, OCA_HANDLES_SPENT or OCA_SPAN_FULL in `result`: that command was not sent.
  * OCA_ASKED_UNANSWERED if no answer came in time: the command stays in flight under the handle in `result`.
  * OCA_ASKED_REFUSED if the answer's status is not OK, with that status. The status is OCA_STATUS_BUFFER_OVERFLOW if
- * there are more than a response has room for, some 90. OCA_ASKED_UNREADABLE if the answer's parameters are not those
- * of the method. */
+ * there are more than a response has room for, some 90. A small device (oca_device_start_small) or a small link has
+ * room for 14 to 18: a longer answer is OCA_STATUS_BUFFER_OVERFLOW without parameters. OCA_ASKED_UNREADABLE if the
+ * answer's parameters are not those of the method. */
 struct oca_outcome oca_panel_members(struct oca_panel *panel, uint32_t ono, struct oca_members *members);
 
 /* What a walk finds of an object: its number, and the number of the block that lists it (0 for the root). `described`
@@ -1438,9 +1441,11 @@ typedef bool (*oca_visitor)(void *context, const struct oca_visit *visit);
  * caller's; the call writes over it. One command is in flight at a time. Each answer is waited for until it is there or
  * the link is lost or late, for at most 20,000 ms, whatever the panel's `wait_ms`. Returns OCA_ASKED_DONE if all were
  * visited, or the visitor ended the walk. An object that refuses a question is visited too, and the visit has the
- * reason. OCA_ASKED_LOST or OCA_ASKED_LATE if the link is lost or late. OCA_ASKED_NOT_SENT if the panel is closed or
- * has no place for a command (`result` says why). OCA_ASKED_UNANSWERED if no answer came in that time, for example if
- * the clock stops. After these the walk is over, and the last object is not visited. */
+ * reason. A small device (oca_device_start_small) or a small link has room for a block of 14 to 18 members: a longer
+ * answer is OCA_STATUS_BUFFER_OVERFLOW without parameters, in `listed` of that block, and its members are not visited.
+ * OCA_ASKED_LOST or OCA_ASKED_LATE if the link is lost or late. OCA_ASKED_NOT_SENT if the panel is closed or has no
+ * place for a command (`result` says why). OCA_ASKED_UNANSWERED if no answer came in that time, for example if the
+ * clock stops. After these the walk is over, and the last object is not visited. */
 struct oca_outcome oca_panel_walk(struct oca_panel *panel, struct oca_walk *walk, oca_visitor visit, void *context);
 
 /* ---- over a socket ---- */

@@ -3,13 +3,13 @@
 
 static unsigned long passed, failed;
 
-static void compare(const char *what, long got, long wanted) {
+static inline void compare(const char *what, long got, long wanted) {
     if (got == wanted) passed++;
     else { failed++; printf("WRONG: %s: %ld in place of %ld\n", what, got, wanted); }
 }
 #define same(what, got, wanted) compare(what, (long)(got), (long)(wanted))
 
-static int verdict(void) {
+static inline int verdict(void) {
     printf("%lu passed, %lu failed\n", passed, failed);
     return failed != 0;
 }

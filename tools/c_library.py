@@ -10,6 +10,7 @@ also sanitized. Each call is tried on a closed handle and at its limits (c_libra
 (c_library_random.c), and the panel over a bad network and at wrong peers (c_library_panel.c). Each request for memory
 is refused in turn. Header and library name the same functions. What is installed lies below its folder, one for each
 kind of processor, and `make uninstall` leaves nothing. The last line is 'N passed, M failed'."""
+import filecmp
 import os
 import random
 import re
@@ -30,12 +31,10 @@ import c_rows
 import oca_profile as oca
 from c_rows import LANGUAGES, SANITIZED
 from checks import Checks, bound, free_port, layer, next_line, waited, write
-from embedded import bound_at
+from embedded import bound_at, channels
 from peers import Lossy, Peer
-from tables import data
+from tables import TOP, data
 
-HERE = Path(__file__).resolve().parent
-TOP = HERE.parent
 AMPLIFIER = "1: open 0 dB/10, 2: muted 0 dB/10\n1: open -60 dB/10, 2: muted 0 dB/10\n"
 PANEL = "open channel 1: status 0\ngain to -6 dB: status 0\ngain: -60 dB/10\n"
 STRICT = ["-O2", "-Wall", "-Wextra", "-Werror"]
@@ -109,12 +108,17 @@ def said_by(words, **settings):
     return run.stdout, run.returncode
 
 
-def against_each_other(checks, made, before=(), seconds="3"):
+def device_and_panel(checks, made, device="c11", panel="c11", before=(), seconds=3):
+    """The device of the example, and the panel against it."""
+    run, port = serving([*before, made / f"device-{device}", 0, seconds])
+    checks.same(f"{before}: the panel ({panel})", said_by([*before, made / f"panel-{panel}", port]), (PANEL, 0))
+    checks.same(f"{before}: the device ({device})", rest(run), (AMPLIFIER, 0))
+
+
+def against_each_other(checks, made):
     for device in LANGUAGES:
         for panel in LANGUAGES:
-            run, port = serving([*before, made / f"device-{device}", 0, seconds])
-            checks.same(f"{before}: the panel ({panel})", said_by([*before, made / f"panel-{panel}", port]), (PANEL, 0))
-            checks.same(f"{before}: the device ({device})", rest(run), (AMPLIFIER, 0))
+            device_and_panel(checks, made, device, panel)
 
 
 def against_the_programs(checks, made, folder):
@@ -255,20 +259,11 @@ def started(words):
     return run.stdout, run.stderr.split(" ")[0], run.returncode
 
 
-def objects_of_the_device(checks, asker):
-    """Of each object of the device of the example: its role, and that it can be locked; and a gain's limits."""
-    for channel, block in enumerate((4096, 4112), 1):
-        for ono, role in ((block, f"channel {channel}"), (block + 1, "mute"), (block + 2, "gain")):
-            checks.same(f"the role of {ono}", asker.ask(ono, 1, 5), (0, struct.pack(">H", len(role)) + role.encode()))
-            checks.same(f"{ono} can be locked", asker.ask(ono, 1, 2), (0, b"\1"))
-        checks.same(f"the limits of {block + 2}", asker.ask(block + 2, 5, 1), (0, struct.pack(">hhh", 0, -600, 100)))
-
-
 def examples_alone(checks, made):
     """The device of the example alone: its objects, prints, place, and a taken port; and the panel's words."""
     run, port = serving([made / "device-c11", 0, 600])
     asker = Peer(port)
-    objects_of_the_device(checks, asker)
+    channels(checks, asker, (4096, 4112), -600)
     for ono, level, params, said in ((4113, 4, b"\2", "1: muted 0 dB/10, 2: open 0 dB/10\n"),
                                      (4114, 5, b"\xff\xfb", "1: muted 0 dB/10, 2: open -5 dB/10\n")):
         checks.same(f"set {ono}", asker.ask(ono, level, 2, params), (0, b""))
@@ -513,7 +508,7 @@ def refused_memory(checks, made):
 def arenas(checks, made):
     """The heap of examples/c over arenas of each size, in both languages, under the sanitizers."""
     for language in LANGUAGES:
-        out, status = said_by([compiled(made / f"heap-{language}", *SANITIZED, HERE / "heap.c", language=language)])
+        out, status = said_by([compiled(made / f"heap-{language}", *SANITIZED, TOP / "tools/heap.c", language=language)])
         checks.same(f"arenas of each size ({language})", (re.fullmatch(r"[1-9]\d{6} passed, 0 failed\n", out) is not None, status), (True, 0))
 
 
@@ -570,11 +565,9 @@ def stays_below(checks, made, archive):
     make("install", "/opt/oca", archive, DESTDIR=room)
     os.umask(before)
     checks.same("what `make install` puts there", files_below(room), sorted([f"opt/oca/{it}" for it in whole] + OTHERS))
-    there = [room / "opt/oca/bin" / name for name in PROGRAMS]
-    checks.same("the programs as they were built", [it.exists() and it.read_bytes() == (TOP / "bin" / it.name).read_bytes() for it in there], [True] * 3)
-    there = [room / f"opt/oca/share/man/man1/{name}.1" for name in PROGRAMS]
-    are_same = [it.exists() and it.read_bytes() == (TOP / "man" / it.name).read_bytes() for it in there]
-    checks.same("their pages", are_same, [True] * 3)
+    for place, own, files in (("bin", "bin", [*PROGRAMS]), ("share/man/man1", "man", [f"{name}.1" for name in PROGRAMS])):
+        alike, *others = filecmp.cmpfiles(room / "opt/oca" / place, TOP / own, files, shallow=False)
+        checks.same(f"what is in {place}, as it was made", (alike, others), (files, [[], []]))
     runs = lambda it: it.parent.name == "bin" or ".so" in it.name
     modes = {it.name: oct(it.stat().st_mode & 0o777) for it in room.rglob("*") if it.is_file() and it.stem != "another"
              and it.stat().st_mode & 0o777 != (0o755 if runs(it) else 0o644)}
@@ -750,9 +743,7 @@ def on_arm(checks, made):
         subprocess.run(["aarch64-linux-gnu-gcc", "-std=c11", *STRICT, f"-I{prefix}/include", "-o", made / f"{name}-arm", TOP / source,
                         f"{prefix}/{OF_ARM}/liboca.a"], check=True)
     emulated = ["qemu-aarch64", "-L", "/usr/aarch64-linux-gnu"]
-    run, port = serving([*emulated, made / "device-arm", 0, 6])
-    checks.same("the panel on AArch64", said_by([*emulated, made / "panel-arm", port]), (PANEL, 0))
-    checks.same("the device on AArch64", rest(run), (AMPLIFIER, 0))
+    device_and_panel(checks, made, "arm", "arm", emulated, 6)
     checks.same("each call on AArch64", said_by([*emulated, made / "calls-arm"])[1], 0)
     first = ["qemu-aarch64", "-cpu", "cortex-a53", "-L", "/usr/aarch64-linux-gnu"]
     checks.same("each call on an AArch64 of the first kind", said_by([*first, made / "calls-arm"])[1], 0)
@@ -810,9 +801,7 @@ def main():
         if shutil.which("valgrind"):
             checks.same("each call under valgrind", said_by([*CAREFUL, made / "calls-c11"])[1], 0)
             checks.same("the panel of the library under valgrind", said_by([*CAREFUL, made / "network-c11"])[1], 0)
-            run, port = serving([*CAREFUL, made / "device-c11", 0, 8])
-            checks.same("the panel under valgrind", said_by([*CAREFUL, made / "panel-c11", port]), (PANEL, 0))
-            checks.same("the device under valgrind", rest(run), (AMPLIFIER, 0))
+            device_and_panel(checks, made, before=CAREFUL, seconds=8)
         calls, core = made / "c_library.c", f"{prefix}/lib/liboca_c.a"
         arena = compiled(made / "arena", "-DARENA=(6u<<20)", f"-I{prefix}/include", calls, TOP / "examples/c/heap.c", core)
         checks.same("each call over an arena", said_by([arena])[1], 0)

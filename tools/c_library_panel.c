@@ -169,25 +169,22 @@ static bool is_name(const struct oca_name *name, const char *text) {
     return name->size == strlen(text) && memcmp(name->text, text, name->size) == 0;
 }
 
+/* A strip with a mute, a gain, a polarity and a delay, and beside it a switch and a boolean. */
 static struct oca_device device_of(void) {
     struct oca_device device = OCA_DEVICE_INIT;
-    struct oca_spec gain = oca_spec_of("gain", oca_within(oca_int16(-7), oca_int16(-600), oca_int16(100)));
-    struct oca_spec mode = oca_spec_of("mode", oca_alone(oca_position(1)));
-    const struct oca_spec mute = oca_spec_of("mute", oca_alone(oca_mute(true))), phase = oca_spec_of("phase", oca_alone(oca_polarity(true))),
-        pad = oca_spec_of("pad", oca_alone(oca_boolean(true))), strip = oca_spec_of_block("strip"), delay = oca_spec_of("delay",
-            oca_within(oca_uint64(UINT64_C(0x0102030405060708)), oca_uint64(3), oca_uint64(UINT64_MAX)));
-    gain.label = oca_name_of("Gr\xc3\xb6\xc3\x9f" "e");
-    oca_spec_position(&mode, "off");
-    oca_spec_position(&mode, "low");
-    oca_spec_position(&mode, "h\xe2\x82\xacgh");
+    struct { uint32_t container, ono; struct oca_spec spec; } objects[] = {
+        {100, 4096, oca_spec_of_block("strip")}, {4096, 4097, oca_spec_of("mute", oca_alone(oca_mute(true)))},
+        {4096, 4098, oca_spec_of("gain", oca_within(oca_int16(-7), oca_int16(-600), oca_int16(100)))},
+        {100, 4099, oca_spec_of("mode", oca_alone(oca_position(1)))}, {4096, 4100, oca_spec_of("phase", oca_alone(oca_polarity(true)))},
+        {100, 4101, oca_spec_of("pad", oca_alone(oca_boolean(true)))},
+        {4096, 4102, oca_spec_of("delay", oca_within(oca_uint64(UINT64_C(0x0102030405060708)), oca_uint64(3), oca_uint64(UINT64_MAX)))}};
+    objects[2].spec.label = oca_name_of("Gr\xc3\xb6\xc3\x9f" "e");
+    oca_spec_position(&objects[3].spec, "off");
+    oca_spec_position(&objects[3].spec, "low");
+    oca_spec_position(&objects[3].spec, "h\xe2\x82\xacgh");
     same("open", oca_device_open(&device, 16), OCA_DONE);
-    same("strip", oca_device_add(&device, 100, 4096, &strip), OCA_DONE);
-    same("mute", oca_device_add(&device, 4096, 4097, &mute), OCA_DONE);
-    same("gain", oca_device_add(&device, 4096, 4098, &gain), OCA_DONE);
-    same("mode", oca_device_add(&device, 100, 4099, &mode), OCA_DONE);
-    same("phase", oca_device_add(&device, 4096, 4100, &phase), OCA_DONE);
-    same("pad", oca_device_add(&device, 100, 4101, &pad), OCA_DONE);
-    same("delay", oca_device_add(&device, 4096, 4102, &delay), OCA_DONE);
+    for (size_t k = 0; k < sizeof objects / sizeof *objects; k++)
+        same("an object", oca_device_add(&device, objects[k].container, objects[k].ono, &objects[k].spec), OCA_DONE);
     same("start", oca_device_start(&device, 31, 4), OCA_DONE);
     return device;
 }

@@ -3,13 +3,12 @@
  * one that the header names, what is closed answers so, and what is refused leaves what it would have told.
  * It prints which results each call answered. Usage: random CALLS SEED */
 #include <oca.h>
+#include "c_checks.h"
 #include "c_library_random_calls.h" /* made by c_rows.py of rows/c_library_random_calls.toml */
-#include <stdio.h>
 #include <stdlib.h>
 #include <string.h>
 
 static uint64_t state;
-static unsigned long answered, wrong;
 
 static uint32_t below(uint32_t most) {
     state = state * UINT64_C(6364136223846793005) + UINT64_C(1442695040888963407);
@@ -39,8 +38,8 @@ static void told(enum oca_result result) {
 }
 
 static void expect(bool is_well, const char *what) {
-    answered++;
-    if (!is_well && wrong++ < 9) printf("WRONG: %s\n", what);
+    if (is_well) passed++;
+    else if (failed++ < 9) printf("WRONG: %s\n", what);
 }
 
 /* A place of so many bytes for what a call writes, between others that stay as they are. */
@@ -241,6 +240,5 @@ int main(int count, char **words) {
             if (results_of[k] >> result & 1) printf(" %u", result);
         printf("\n");
     }
-    printf("%lu passed, %lu failed\n", answered - wrong, wrong);
-    return wrong != 0;
+    return verdict();
 }

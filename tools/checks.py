@@ -192,6 +192,11 @@ class Checks:
             print(out, end="")
         self.passed += int(counts[1]) if counts else 0
 
+    def finds(self, where, text, there, other, faults_of):
+        """A check that what is wrong is found: a text with the other one in the place of what stands there once."""
+        is_found = text.count(there) == 1 and bool(faults_of(text.replace(there, other)))
+        self.expect(f"not found: {other!r} in place of {there!r}{where}", is_found)
+
     def start(self, *words, given=None, text=True, **how):
         """A run of a program of the folder, with this input; without one it stays open."""
         how = {"stdin": subprocess.PIPE, "stdout": subprocess.PIPE, "stderr": subprocess.PIPE, **how}
@@ -270,3 +275,20 @@ def layer(name):
     atexit.register(shutil.rmtree, place)
     subprocess.run(["gcc", "-O1", "-Wall", "-shared", "-fPIC", "-o", f"{place}/{name}.so", source, "-ldl"], check=True)
     return f"{place}/{name}.so"
+
+
+def layered(**settings):
+    """The environment of a run over the layer `unreliable.c`, which does what these settings say."""
+    return os.environ | {"LD_PRELOAD": layer("unreliable")} | {name: str(value) for name, value in settings.items()}
+
+
+class Ahead:
+    """Clocks of the layer that are set forward while programs run: what is set for these, and `set` for so many seconds."""
+
+    def __init__(self):
+        self.file = tempfile.NamedTemporaryFile(buffering=0)
+        self.settings = {"AHEAD": self.file.name}
+        self.set(0)
+
+    def set(self, seconds):
+        os.pwrite(self.file.fileno(), int(1000 * seconds).to_bytes(8, sys.byteorder), 0)

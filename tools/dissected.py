@@ -10,31 +10,22 @@ with what `ocadev replay` answers. Each must be well formed, with the fields of 
 without a response the dissector reads the header alone. The last line is 'N passed, M failed'."""
 import re
 import shutil
-import struct
 import subprocess
 import sys
 import tempfile
 from collections import Counter
-from pathlib import Path
 
+import oca_profile as oca
 from checks import verdict
+from python_controller import script_of, worked_bytes
+from tables import TOP
 
-TOP = Path(__file__).resolve().parent.parent
 FIELDS = ("type", "msgcount", "handle", "tono", "mlevel", "midx", "pcount", "status")
-# The fields of a message behind its handle, by the type of its PDU.
-MESSAGES = {1: (("tono", "mlevel", "midx", "pcount"), ">IHHB"), 3: (("status", "pcount"), ">BB")}
-
-
-def commands_of_methods():
-    part = (TOP / "docs" / "PROTOCOL.md").read_text().split("### Each method, byte by byte")[1].split("\n### ")[0]
-    for words in re.findall(r"^\| \d+\.\d+ [^|]*\| `([0-9A-F ]+)` \|", part, re.MULTILINE):
-        message = bytes.fromhex(words)
-        yield b"\x3b\0\1" + struct.pack(">IBH", 9 + len(message), 1, 1) + message
 
 
 def scripts():
     yield from (path.read_text() for path in sorted((TOP / "examples").glob("*.script")))
-    yield "".join(f"{moment} 127.0.0.1:9001 {frame.hex()}\n" for moment, frame in enumerate(commands_of_methods()))
+    yield script_of(worked_bytes())
 
 
 def frames_of(program, script):
@@ -52,22 +43,20 @@ def read(frame):
     """The fields of a datagram, as tshark prints them: those of several PDUs and messages joined by commas."""
     found, at = {name: [] for name in FIELDS}, 0
     while at < len(frame):
-        size, kind, count = struct.unpack_from(">IBH", frame, at + 3)
-        found["type"].append(kind)
-        found["msgcount"].append(count)
-        if kind in MESSAGES:
-            read_messages(frame, at + 10, count, *MESSAGES[kind], found)
-        at += 1 + size
+        kind, count, end = oca.frame_at(frame, at)
+        messages = oca.messages_in(frame, at, end, kind, count) if kind in (1, 3) else ()
+        for fields in ({"type": kind, "msgcount": count}, *map(fields_of, messages)):
+            for name, value in fields.items():
+                found[name].append(value)
+        at = end
     return [",".join(map(str, found[name])) for name in FIELDS]
 
 
-def read_messages(frame, at, count, names, layout, found):
-    for _ in range(count):
-        size, handle = struct.unpack_from(">II", frame, at)
-        found["handle"].append(handle)
-        for name, value in zip(names, struct.unpack_from(layout, frame, at + 8)):
-            found[name].append(value)
-        at += size
+def fields_of(message):
+    """What the dissector reads of a command that asks for a response, or of a response."""
+    if message[0] == "response":
+        return dict(zip(("handle", "status", "pcount"), message[1:]))
+    return dict(zip(("handle", "tono", "mlevel", "midx", "pcount"), (message[2].handle, *message[2].asks())))
 
 
 def dissected(frames):

@@ -24,6 +24,7 @@ ci` left. Beside the gate's `rt ci`, which notes proved crates in the file GATE_
 and for an idle processor, and half as many run. With EDITS_KEPT=1 a check begins with what is kept in out/incremental,
 while edits are written. The last line is 'N passed, M failed', and the exit status 1 if anything failed."""
 import copy
+import functools
 import itertools
 import os
 import re
@@ -53,7 +54,6 @@ GONE = re.compile(r"has no field|is not in scope|has no `|was not admitted|is no
 # What is counted: whether an edit must not be refused, and whether all is well with it.
 KINDS = [(False, True), (False, False), (True, True), (True, False)]
 PRINTING = threading.Lock()
-ENDED = "(ended)"  # the last line of GATE_PROVED
 rt = kit.toolchain(builds=False)
 
 
@@ -63,12 +63,13 @@ def say(text):
 
 
 class Function:
-    """A function of the sources: its module, the type or trait that it belongs to, the trait of its impl, its name and its lines."""
+    """A function of the sources: its module, the type or trait that it belongs to, the trait of its impl, its name, and its
+    first line, the one that opens its body, if any does, and its last."""
 
-    def __init__(self, module, block, name, first, last, is_of_trait=False):
-        self.module, self.name, self.first, self.last = module, name, first, last
+    def __init__(self, module, block, name, lines=(0, None, 0), is_of_trait=False):
+        self.module, self.name, self.is_of_trait = module, name, is_of_trait
         self.of, self.trait = block or (None, "")
-        self.is_of_trait = is_of_trait
+        self.first, self.opens, self.last = lines
 
     def named(self, name):
         other = copy.copy(self)
@@ -115,27 +116,31 @@ def module_of(path):
 
 
 def declares(text, name):
-    return bool(name) and re.search(rf"(?m)^ *(?:pub(?:\([a-z: ]+\))? )?(?:struct|enum|trait) {name}\b", text) is not None
+    return re.search(rf"(?m)^ *(?:pub(?:\([a-z: ]+\))? )?(?:struct|enum|trait) {name}\b", text) is not None
 
 
-def at_its_type(function, folder, text):
-    """The function, in the module of the type that it belongs to, which may be another than that of its impl: so the prover names it."""
-    name = (function.of or "").split("+")[0]
-    if name and not declares(text, name):
-        for file in sorted(Path(folder, "src").rglob("*.rt")):
-            if declares(file.read_text(), name):
-                function.module = module_of(file.relative_to(folder))
-                break
-    return function
+def text_of(crate, path, texts=None):
+    """What stands in a file of the crate, or in these texts by the path in the crate, if it is there."""
+    return (texts or {}).get(str(path)) or Path(crate.folder, path).read_text()
 
 
-def end_of(lines, first, indent):
-    """The last line of a function in the layout of `rt fmt`: a brace as far in as its head, or the end of its head."""
+def sources_of(crate, texts=None):
+    """The sources of the crate by their paths, as they stand or as in these texts."""
+    paths = sorted(it.relative_to(crate.folder) for it in Path(crate.folder, "src").rglob("*.rt"))
+    return {str(it): text_of(crate, it, texts) for it in paths}
+
+
+def lines_of(lines, first, indent):
+    """The first line of a function, the one that opens its body, None if none does, and its last, in the layout of `rt
+    fmt`: a brace as far in as its head, or the end of its head."""
+    opens = None
     for at in range(first, len(lines)):
         is_head = at == first or lines[at].startswith(f"{indent})")
         if lines[at] in (f"{indent}}}", f"{indent}}};", f"{indent}{{}}") or is_head and lines[at].endswith(("}", ";")):
-            return at
-    return len(lines)
+            return first, opens, at
+        if opens is None and (lines[at] == f"{indent}{{" or is_head and lines[at].endswith("{")):
+            opens = at
+    return first, None, len(lines)
 
 
 def functions_of(path, text):
@@ -149,24 +154,33 @@ def functions_of(path, text):
             block = None
         if head:
             is_of_trait = bool(block) and (block[2] == "trait" or bool(block[1][1]))
-            last = end_of(lines, at, head[1])
-            found.append(Function(module, block[1] if block else None, head[2], at, last, is_of_trait))
+            found.append(Function(module, block[1] if block else None, head[2], lines_of(lines, at, head[1]), is_of_trait))
     return found
+
+
+def functions_in(crate, path, text):
+    """The functions of a source, each in the module of the type that it belongs to, which may be another than that of its
+    impl: so the prover names it."""
+    functions = functions_of(path, text)
+    elsewhere = [it for it in functions if it.of and not declares(text, it.of.split("+")[0])]
+    sources = sources_of(crate) if elsewhere else {}
+    for function in elsewhere:
+        homes = [of for of, its in sources.items() if declares(its, function.of.split("+")[0])]
+        function.module = module_of(homes[0]) if homes else function.module
+    return functions
 
 
 def clauses_of(lines, function):
     """What the contract of the function ensures: the name of each clause, if it has one, and its lines."""
     indent, found, is_ensured = re.match(" *", lines[function.first])[0], [], False
-    for at in range(function.first + 1, function.last):
+    for at in range(function.first + 1, function.last if function.opens is None else function.opens):
         head = CLAUSE.match(lines[at])
-        if lines[at] == indent + "{" or lines[at].startswith(f"{indent})") and lines[at].endswith("{"):
-            break
         if head and head[1] == indent + "    ":
             is_ensured = (head[2], head[3]) == ("ensures", "")
             found += [(head[4], [])] if is_ensured else []
         if is_ensured:
             found[-1][1].append(at)
-    return found if not lines[function.first].endswith("{") else []
+    return found
 
 
 class Edit:
@@ -174,19 +188,31 @@ class Edit:
 
     def __init__(self, path, crate, must_pass=False):
         self.path, self.name, self.must_pass = path, path.stem, must_pass
-        self.why, self.functions, self.of, self.is_refused, self.says, self.clause = None, [], [], False, "", ""
-        if path.suffix != ".edit" or not path.is_file():
-            self.why = "it is no edit"
-            return
-        self.text = path.read_text(errors="replace").strip("\n")
-        self.says = "".join(re.findall(r"(?m)^says: (.*)$", self.text)[:1])
-        self.of = re.findall(r"(?m)^of: (\S+)$", self.text)
-        self.is_misnamed = False
-        self.clause = "".join(re.findall(r"(?m)^clause: (.*)$", self.text)[:1])
-        self.why = rt.edited(self.text, crate.folder)[1]
+        self.functions, self.is_refused, self.is_misnamed = [], False, False
+        is_edit = path.suffix == ".edit" and path.is_file()
+        self.text = path.read_text(errors="replace").strip("\n") if is_edit else ""
+        self.files, self.of = self.all_of("file"), self.all_of("of")
+        self.says, self.clause = ("".join(self.all_of(word)[:1]) for word in ("says", "clause"))
+        self.why = rt.edited(self.text, crate.folder)[1] if is_edit else "it is no edit"
         if not self.why:
-            self.find(crate)
+            self.functions = self.touched(crate)
             self.why = self.why_not_its_clause(crate)
+
+    def all_of(self, word):
+        """What stands in the lines that begin with this word, behind it."""
+        return [it.strip() for it in re.findall(rf"(?m)^{word}: (.*)$", self.text)]
+
+    def touched(self, crate):
+        """The function of each old text; none if one of these stands in no function."""
+        found = []
+        for word, said in re.findall(r"(?m)^(file|old): (.*)$", self.text):
+            if word == "file":
+                text = text_of(crate, said.strip())
+                functions = functions_in(crate, said.strip(), text) if said.startswith("src/") else []
+            else:
+                at = text.count("\n", 0, text.find(said)) if said in text else -1
+                found.append([it for it in functions if it.first <= at <= it.last][-1:])
+        return [*itertools.chain(*found)] if all(found) else []
 
     def why_not_its_clause(self, crate):
         """Why the edit can't be refused by the clause that it names, if so."""
@@ -194,27 +220,9 @@ class Edit:
             return None
         if len(self.keys()) != 1:
             return "it names a clause, and does not change one function alone"
-        path = re.search(r"(?m)^file: (.*)$", self.text)[1].strip()
-        lines = Path(crate.folder, path).read_text().split("\n")
+        lines = text_of(crate, self.files[0]).split("\n")
         is_there = any(name == self.clause for name, _ in clauses_of(lines, self.functions[0]))
         return None if is_there else f"its function ensures no clause {self.clause}"
-
-    def find(self, crate):
-        file, lost = "", False
-        for line in self.text.split("\n"):
-            if line.startswith("file: "):
-                file = line[6:].strip()
-                text = Path(crate.folder, file).read_text()
-                functions = functions_of(file, text) if file.startswith("src/") else []
-                functions = [at_its_type(it, crate.folder, text) for it in functions]
-            elif line.startswith("old: "):
-                place = text.find(line[5:])
-                at = text[:place].count("\n")
-                inside = [it for it in functions if it.first <= at <= it.last] if place >= 0 else []
-                lost = lost or not inside
-                self.functions += inside[-1:]
-        if lost:
-            self.functions = []
 
     def keys(self):
         return {(*it.module, it.of, it.name) for it in self.functions}
@@ -227,8 +235,7 @@ class Edit:
         return bool(law) and bool(between(crate, *law))
 
     def can_be_copied(self):
-        counts = [len(re.findall(rf"(?m)^{word}: ", self.text)) for word in ("file", "old")]
-        return counts == [1, len(self.functions)] and len(self.keys()) == 1 and not self.functions[0].is_of_trait
+        return len(self.files) == 1 and len(self.keys()) == 1 and not self.functions[0].is_of_trait
 
 
 def attributes_at(lines, first):
@@ -238,27 +245,33 @@ def attributes_at(lines, first):
 
 
 class Copy:
-    """A copy of a function of a crate under another name: with an edit, or as it stands where there is none."""
+    """A copy of a function of a crate under another name, which stands behind it: with an edit, or as it stands where there
+    is none. `edits` has those that it is tried for."""
 
-    def __init__(self, crate, function, path, edit, other):
-        text = rt.edited(edit.text, crate.folder)[0][path] if edit else Path(crate.folder, path).read_text()
-        lines = text.split("\n")
-        head = re.sub(rf"\bfn {function.name}\b", f"fn {other.name}", lines[function.first], count=1)
+    lemmas = ()
+
+    def __init__(self, crate, path, function, name, edits, edit=None):
+        self.crate, self.path, self.edits, self.edit = crate, path, edits, edit
+        self.origin, self.function = function, function.named(name)
+        lines = text_of(crate, path, edit and rt.edited(edit.text, crate.folder)[0]).split("\n")
+        head = re.sub(rf"\bfn {function.name}\b", f"fn {name}", lines[function.first], count=1)
         attributes = lines[attributes_at(lines, function.first):function.first]
-        self.edit, self.path, self.behind, self.function = edit, path, function.last, other
         self.lines = [*attributes, head, *lines[function.first + 1:function.last + 1]]
-        self.proofs = {}
-        old, new = (Path("proofs", *it.path().split("::")) for it in (function, self.function))
-        for file in proofs_of(crate, function):
-            text = file.read_text().replace(".".join(old.parts) + ".", ".".join(new.parts) + ".")
-            self.proofs[str(new / file.name)] = text
+
+    def put_into(self, texts):
+        """Adds it, and copies of its proofs, to these texts of the crate."""
+        lines, behind = text_of(self.crate, self.path, texts).split("\n"), self.origin.last + 1
+        texts[self.path] = "\n".join([*lines[:behind], "", *self.lines, *lines[behind:]])
+        old, new = (Path("proofs", *it.path().split("::")) for it in (self.origin, self.function))
+        for file in proofs_of(self.crate, self.origin):
+            texts[str(new / file.name)] = file.read_text().replace(".".join(old.parts) + ".", ".".join(new.parts) + ".")
 
 
 class LawFunction(Function):
-    """A copy of a law: the prover means it by a path in its module, or by the name of a copied file of lemmas."""
+    """A law, or a copy of one: the prover means it by a path in its module, or by the name of a copied file of lemmas."""
 
-    def __init__(self, module, name, lemmas):
-        super().__init__([module], None, name, 0, 0)
+    def __init__(self, module, name, lemmas=()):
+        super().__init__([module], None, name)
         self.lemmas = lemmas
 
     def is_named(self, parts):
@@ -267,46 +280,50 @@ class LawFunction(Function):
 
 class LawCopy:
     """A copy of the module of a law under another name, and of these files of specs/ and proofs/ that lie between the
-    law and an edit: with the edit, or as they stand where there is none. `texts` has the copies by their paths, and
-    `listed` the lines that declare the originals: the file, the line, and the line of the copy behind it."""
+    law and an edit: with the edit, or as they stand where there is none."""
 
-    def __init__(self, crate, law, files, edit, ending):
+    edits = ()
+
+    def __init__(self, crate, law, files, ending, edit=None):
         module, name = law
-        self.edit, self.crate, self.texts = edit, crate, {}
-        self.changed = rt.edited(edit.text, crate.folder)[0] if edit else {}
-        lemmas = {it.stem + ending for it in files if it.parts[0] == "proofs"}
-        self.function = LawFunction(module + ending, name, lemmas)
+        self.crate, self.edit, self.ending, self.origin = crate, edit, ending, LawFunction(module, name)
+        self.function = LawFunction(module + ending, name, {it.stem + ending for it in files if it.parts[0] == "proofs"})
         at = rf"\b(Rattle\.{crate.name}\.|crate::)"
         self.renames = [(rf"{at}({it.parts[0]})(\.|::){it.stem}\b", rf"\1\2\3{it.stem}{ending}") for it in files]
         self.renames.append((rf"{at}(proofs)(\.){module}\.", rf"\1\2\3{module}{ending}."))
-        for file in files:
-            self.put(file, file.with_name(f"{file.stem}{ending}.antt"))
-        self.put(Path("src", f"{module}.rt"), Path("src", f"{module}{ending}.rt"))
-        for file in proofs_of_law(crate, module, name):
-            self.put(file, Path("proofs", module + ending, *file.parts[2:]))
-        self.listed = [(f"{it.parts[0]}/Lib.antt", f"mod {it.stem}", f"mod {it.stem}{ending}") for it in files]
-        self.listed.append(("src/lib.rt", f"mod {module};", f"mod {module}{ending};"))
+        changed = rt.edited(edit.text, crate.folder)[0] if edit else {}
+        copied = {file: file.with_name(f"{file.stem}{ending}.antt") for file in files}
+        copied[Path("src", f"{module}.rt")] = Path("src", f"{module}{ending}.rt")
+        copied |= {file: Path("proofs", module + ending, *file.parts[2:]) for file in proofs_of_law(crate, module, name)}
+        self.texts = {str(to): self.renamed(text_of(crate, file, changed)) for file, to in copied.items()}
+        self.lemmas = {path for path in self.texts if path.startswith("proofs/")}
+        self.declared = [(f"{it.parts[0]}/Lib.antt", f"mod {it.stem}", "") for it in files] + [("src/lib.rt", f"mod {module}", ";")]
 
-    def put(self, file, to):
-        text = self.changed.get(str(file)) or Path(self.crate.folder, file).read_text()
+    def renamed(self, text):
         for old, new in self.renames:
             text = re.sub(old, new, text)
-        self.texts[str(to)] = text
+        return text
+
+    def put_into(self, texts):
+        """Adds its files to these texts of the crate, and declares each behind the one that it copies."""
+        for path, line, end in self.declared:
+            both = rf"\g<0>\n\g<1>{line}{self.ending}{end}"
+            texts[path] = re.sub(rf"(?m)^((?:pub )?){line}{end}$", both, text_of(self.crate, path, texts))
+        texts |= self.texts
 
 
 def law_of(edit):
     """The module and the name of the law of an edit of one file of specs/, and this file."""
-    files = [it.strip() for it in re.findall(r"(?m)^file: (.*)$", edit.text)]
     parts = edit.of[0].split("::") if len(edit.of) == 1 else []
-    is_so = len(parts) == 2 and len(files) == 1 and re.fullmatch(r"specs/\w+\.antt", files[0])
-    return (*parts, Path(files[0])) if is_so else None
+    is_so = len(parts) == 2 and len(edit.files) == 1 and re.fullmatch(r"specs/\w+\.antt", edit.files[0])
+    return (*parts, Path(edit.files[0])) if is_so else None
 
 
 def with_called(crate, module, name):
     """The law and the functions of its module that it calls: the text of each, by its name."""
-    text, called, new = Path(crate.folder, "src", f"{module}.rt").read_text(), {}, {name}
-    functions = functions_of(f"src/{module}.rt", text)
-    bodies = {it.name: "\n".join(text.split("\n")[it.first:it.last + 1]) for it in functions}
+    path, called, new = f"src/{module}.rt", {}, {name}
+    text = text_of(crate, path)
+    bodies = {it.name: "\n".join(text.split("\n")[it.first:it.last + 1]) for it in functions_of(path, text)}
     while new:
         called |= {it: bodies[it] for it in new}
         new = {*re.findall(r"\b(\w+)\(", "\n".join(called.values()))} & {*bodies} - {*called}
@@ -321,8 +338,7 @@ def proofs_of_law(crate, module, name):
 def types_of_law(crate, module, name):
     """What the law, or what it calls, has of other modules of the crate: as a path that the prover makes."""
     words = {*re.findall(r"\w+", "\n".join(with_called(crate, module, name).values()))}
-    text = Path(crate.folder, "src", f"{module}.rt").read_text()
-    uses = re.findall(r"(?m)^use crate::([\w:]+)::(?:(\w+)|\{([^}]*)\});", text)
+    uses = re.findall(r"(?m)^use crate::([\w:]+)::(?:(\w+)|\{([^}]*)\});", text_of(crate, f"src/{module}.rt"))
     found = {(path.replace("::", "."), it) for path, *names in uses for it in re.findall(r"\w+", " ".join(names))}
     return {f"specs.declared.{path}.{it}" for path, it in found if it in words}
 
@@ -331,19 +347,19 @@ def between(crate, module, name, edited):
     """The files of specs/ and proofs/ that the law and its proof reach, and which reach the edited one, with this one.
     None if the law can't be copied: it is in no module of its own, or what the prover makes of other sources may depend
     on these files, which a copy would not change."""
-    law, top = Path("src", f"{module}.rt"), Path(crate.folder, "src/lib.rt")
-    if not Path(crate.folder, law).is_file() or f"mod {module};" not in top.read_text():
+    law = Path("src", f"{module}.rt")
+    if not Path(crate.folder, law).is_file() or f"mod {module};" not in text_of(crate, "src/lib.rt"):
         return []
     named = re.compile(rf"(?:\bRattle\.{crate.name}\.|\bcrate::)(specs|proofs)(?:\.|::)(\w+)((?:\.\w+)*)")
     files = [law, *proofs_of_law(crate, module, name)]
-    texts, reached, made, todo = {law: "\n".join(Path(crate.folder, it).read_text() for it in files)}, {}, {}, [law]
+    texts, reached, made, todo = {law: "\n".join(text_of(crate, it) for it in files)}, {}, {}, [law]
     while todo:
         at = todo.pop()
         found = {(Path(kind, f"{stem}.antt"), f"{kind}.{stem}{more}") for kind, stem, more in named.findall(texts[at])}
         reached[at] = {it for it, _ in found if Path(crate.folder, it).is_file()}
         made[at] = {path for it, path in found if it not in reached[at] and not path.startswith(f"proofs.{module}.")}
         todo += reached[at] - {*texts}
-        texts |= {it: Path(crate.folder, it).read_text() for it in reached[at] - {*texts}}
+        texts |= {it: text_of(crate, it) for it in reached[at] - {*texts}}
     made[law] |= types_of_law(crate, module, name)
     copied, is_new = {edited}, True
     while is_new:
@@ -359,8 +375,8 @@ def depends(crate, path, reads):
     """Whether what the prover makes under this path is of a source that reads these definitions: but for an enum, of
     which it makes the cases alone, unless it has a model."""
     parts = re.sub(r"^(specs\.declared|specs|proofs)\.", "", path).split(".")
-    for file in Path(crate.folder, "src").rglob("*.rt"):
-        module, text = module_of(file.relative_to(crate.folder)), file.read_text()
+    for file, text in sources_of(crate).items():
+        module = module_of(file)
         is_its = module and parts[:len(module)] == module
         enums = [it for it in parts if re.search(rf"(?m)^(pub )?enum {it}\b", text) and f"Model for {it}" not in text]
         if is_its and reads.search(text) and not enums:
@@ -368,49 +384,31 @@ def depends(crate, path, reads):
     return False
 
 
-def as_it_stands(function):
-    return function.named(f"{function.name}_as_it_stands")
-
-
 def proofs_of(crate, function):
     folder = Path(crate.folder, "proofs", *function.path().split("::"))
     return sorted([*folder.glob("*.antt"), *folder.with_name(f"+{folder.name}").glob("*.antt")])
 
 
-def body_of(lines, function):
-    """The line that opens a body which can be emptied: some kinds can't, nor a one-liner."""
-    head = lines[function.first]
-    attributes = "\n".join(lines[attributes_at(lines, function.first):function.first])
-    if function.is_of_trait or re.search(r"\bconst fn|extern \"C\"", head) or "cycle(" in attributes:
-        return None
-    indent = re.match(" *", head)[0]
-    for at in range(function.first, function.last):
-        ends = at == function.first or lines[at].startswith(f"{indent})")
-        if lines[at] == f"{indent}{{" or ends and lines[at].endswith("{"):
-            return at if len(re.findall(r"\bfn \w", head)) == 1 and function.last < len(lines) else None
-        if ends and lines[at].endswith((";", "}")):
-            return None
-    return None
+def can_be_empty(lines, function):
+    """Whether the body of the function can be left out: some kinds can't, nor can a one-liner."""
+    head, attributes = lines[function.first], lines[attributes_at(lines, function.first):function.first]
+    is_kept = function.is_of_trait or re.search(r"\bconst fn|extern \"C\"", head) or "cycle(" in "\n".join(attributes)
+    return function.opens is not None and not is_kept and len(re.findall(r"\bfn \w", head)) == 1
 
 
 def emptied(crate, texts, touched):
     """The texts with empty bodies of untouched functions, which callers don't need; and these."""
-    found, paths = [], {it.path() for it in touched}
-    texts = dict(texts)
-    for file in sorted(Path(crate.folder, "src").rglob("*.rt")):
-        path = str(file.relative_to(crate.folder))
-        text = texts.get(path) or file.read_text()
-        lines = text.split("\n")
-        functions = [at_its_type(it, crate.folder, text) for it in functions_of(path, text)]
-        empty = []
+    found, paths, texts = [], {it.path() for it in touched}, dict(texts)
+    for path, text in sources_of(crate, texts).items():
+        before = text.split("\n")
+        lines, empty, functions = [*before], [], functions_in(crate, path, text)
         for function in functions:
-            opens = body_of(lines, function)
-            if opens is not None and function.path() not in paths:
-                body = [f"{lines[opens][:len(lines[opens]) - len(lines[opens].lstrip())]}    {EMPTIED}"]
-                lines[opens + 1:function.last] = (body + [""] * function.last)[:function.last - opens - 1]
+            if can_be_empty(lines, function) and function.path() not in paths:
+                indent = re.match(" *", lines[function.opens])[0]
+                body = [f"{indent}    {EMPTIED}", *[""] * function.last]
+                lines[function.opens + 1:function.last] = body[:function.last - function.opens - 1]
                 empty.append(function)
-        whole = [text.split("\n")[it.first:it.last + 1] == lines[it.first:it.last + 1] for it in functions if it.path() in paths]
-        if all(whole):
+        if all(before[it.first:it.last + 1] == lines[it.first:it.last + 1] for it in functions if it.path() in paths):
             texts[path] = "\n".join(lines)
             found += empty
     return texts, found
@@ -424,13 +422,12 @@ def code_of(text):
 
 def narrowed(crate, texts, wanted):
     """The texts with only wanted clauses of functions that no other code names; and their paths."""
-    sources = {str(it.relative_to(crate.folder)): it.read_text() for it in sorted(Path(crate.folder, "src").rglob("*.rt"))}
-    sources |= {path: text for path, text in texts.items() if path.startswith("src/")}
+    sources = sources_of(crate) | {path: text for path, text in texts.items() if path.startswith("src/")}
     named = Counter(itertools.chain(*(re.findall(r"\w+", code_of(text)) for text in sources.values())))
     texts, found = dict(texts), set()
     for path, text in sources.items():
         lines = text.split("\n")
-        for function in (at_its_type(it, crate.folder, text) for it in functions_of(path, text)):
+        for function in functions_in(crate, path, text):
             if function.path() in wanted and named[function.name] == 1:
                 others = [at for name, places in clauses_of(lines, function) if name not in wanted[function.path()] for at in places]
                 for at in others:
@@ -471,52 +468,44 @@ class Group:
         return False
 
     def copies(self, crate):
+        """The copies of functions, the last ones of a file first, and those of laws; of each of them also one without an edit."""
+        return sorted(self.of_functions(crate), key=lambda it: -it.origin.last) + self.of_their_laws(crate)
+
+    def of_functions(self, crate):
         found, seen = [], set()
         for number, edit in enumerate(self.copied, 1):
-            function, path = edit.functions[0], re.search(r"(?m)^file: (.*)$", edit.text)[1].strip()
+            function, path = edit.functions[0], edit.files[0]
             if not edit.keys() <= seen:
-                found.append(Copy(crate, function, path, None, as_it_stands(function)))
+                others = [it for it in self.copied if it.keys() == edit.keys()]
+                found.append(Copy(crate, path, function, f"{function.name}_as_it_stands", others))
             seen |= edit.keys()
-            found.append(Copy(crate, function, path, edit, function.named(f"{function.name}_edited_{number}")))
+            found.append(Copy(crate, path, function, f"{function.name}_edited_{number}", [edit], edit))
         return found
 
-    def laws(self, crate):
-        """The copies of the laws of edits of definitions, each law once more without an edit."""
+    def of_their_laws(self, crate):
         of, found = {}, []
         for number, edit in enumerate(self.of_laws, len(self.copied) + 1):
             *law, edited = law_of(edit)
             files = between(crate, *law, edited)
             of.setdefault(tuple(law), set()).update(files)
-            found.append(LawCopy(crate, law, files, edit, f"_edited_{number}"))
-        for number, (law, files) in enumerate(sorted(of.items())):
-            found.append(LawCopy(crate, law, sorted(files), None, f"_as_{number}_stands"))
-        return found
+            found.append(LawCopy(crate, law, files, f"_edited_{number}", edit))
+        return found + [LawCopy(crate, law, sorted(files), f"_as_{number}_stands") for number, (law, files) in enumerate(sorted(of.items()))]
 
     def wanted(self, crate, copies):
         """The clauses that refuse a function's edits, by its path, if each names one; none by hand."""
-        of = [(it.functions[0], it.functions[0].path(), it.clause) for it in self.placed if len(it.keys()) == 1]
-        for it in copies:
-            whose = [it.edit] if it.edit else [its for its in self.copied if as_it_stands(its.functions[0]).path() == it.function.path()]
-            of += [(its.functions[0], it.function.path(), its.clause) for its in whose]
+        tried = [(it.functions[0], it.functions[0], [it]) for it in self.placed if len(it.keys()) == 1]
         found = {}
-        for function, path, clause in of:
-            by_hand = any(file.name in BY_HAND for file in proofs_of(crate, function))
-            found.setdefault(path, set()).add("" if by_hand else clause)
-        return {path: clauses for path, clauses in found.items() if "" not in clauses}
+        for origin, function, edits in tried + [(it.origin, it.function, it.edits) for it in copies]:
+            by_hand = any(file.name in BY_HAND for file in proofs_of(crate, origin))
+            found.setdefault(function.path(), set()).update("" if by_hand else it.clause for it in edits)
+        return {path: clauses for path, clauses in found.items() if clauses and "" not in clauses}
 
-    def texts(self, crate, copies, laws=()):
+    def texts(self, crate, copies):
         """The texts of the files that the group changes or adds, by their paths in the crate."""
         texts = dict(rt.edited("\n".join(it.text for it in self.placed), crate.folder)[0]) if self.placed else {}
-        for it in sorted(copies, key=lambda it: -it.behind):
-            text = texts.get(it.path) or Path(crate.folder, it.path).read_text()
-            lines = text.split("\n")
-            texts[it.path] = "\n".join([*lines[:it.behind + 1], "", *it.lines, *lines[it.behind + 1:]])
-        for law in laws:
-            for path, old, new in law.listed:
-                text = texts.get(path) or Path(crate.folder, path).read_text()
-                texts[path] = re.sub(rf"(?m)^((?:pub )?){re.escape(old)}$", lambda it: f"{it[0]}\n{it[1]}{new}", text)
-        texts |= {path: text for it in laws for path, text in it.texts.items()}
-        return texts | {path: text for it in copies for path, text in it.proofs.items()}
+        for it in copies:
+            it.put_into(texts)
+        return texts
 
 
 def grouped(edits, crate, with_copies=False):
@@ -596,8 +585,7 @@ class Trial:
 
     def __init__(self, crate, room, part=0, parts=1):
         self.crate, self.room, self.kept, self.checks, self.why = crate, room, None, 0, None
-        edits = [Edit(it, crate) for it in listed(Path(crate.folder, "wrong"))]
-        edits += [Edit(it, crate, must_pass=True) for it in listed(SELFTEST / crate.name)]
+        edits = [Edit(it, crate, must_pass) for it, must_pass in files_of_edits(crate)]
         self.edits = sorted(edits, key=lambda it: sorted(map(str, it.keys())))[part::parts]  # those of one function in different parts
         earlier = f"{crate.folder}/out/incremental"
         if os.environ.get("EDITS_KEPT") and os.path.isdir(earlier):
@@ -625,29 +613,27 @@ class Trial:
 
     def try_group(self, group, empties=False):
         """Checks a group; the edits that are not refused. Once more whole if other functions fail."""
-        copies, laws = group.copies(self.crate), group.laws(self.crate)
-        copied = {it.edit.name: [it.function] for it in [*copies, *laws] if it.edit}
-        tried = {edit.name: copied.get(edit.name, edit.functions) for edit in group.edits()}
-        functions = [*itertools.chain(*tried.values()), *(it.function for it in [*copies, *laws] if not it.edit)]
+        copies = group.copies(self.crate)
+        copy_of = {it.edit.name: it for it in copies if it.edit}
+        tried = {it.name: [copy_of[it.name].function] if it.name in copy_of else it.functions for it in group.edits()}
+        functions = [*itertools.chain(*tried.values()), *(it.function for it in copies if not it.edit)]
         paths = {path for edit in group.placed for path in edit.of} | {it.path() for it in functions}
         is_whole = any(not it.functions and not it.of for it in group.edits())
-        texts, empty, narrow = group.texts(self.crate, copies, laws), [], set()
+        texts, empty, narrow = group.texts(self.crate, copies), [], set()
         empties = empties and group.empties()
         if empties:
             texts, empty = emptied(self.crate, texts, functions)
             texts, narrow = narrowed(self.crate, texts, group.wanted(self.crate, copies))
-        lemmas = {path for it in laws for path in it.texts if path.startswith("proofs/")}
+        lemmas = set().union(*(it.lemmas for it in copies))
         answer = self.checked(texts, set() if is_whole else paths, empty, lemmas)
         strange = answer.strange(functions, empty) if functions and not answer.why else None
         if empties and (strange or answer.why):
             return self.try_group(group)
         if strange:
             self.why = f"{strange} is not proved, though no edit touches it"
-        unproved = {it.function.path() for it in copies if not it.edit and answer.leaves(it.function)}
-        is_law_unproved = any(answer.leaves(it.function) for it in laws if not it.edit)
+        unproved = {it.origin.path() for it in copies if not it.edit and answer.leaves(it.function)}
         for edit in group.edits():
-            is_void = edit in group.copied and as_it_stands(edit.functions[0]).path() in unproved
-            is_void |= edit in group.of_laws and is_law_unproved
+            is_void = edit.name in copy_of and copy_of[edit.name].origin.path() in unproved
             edit.is_refused = not is_void and answer.refuses(tried[edit.name])
             edit.why = None if edit.is_refused else answer.reason(edit)
             is_narrow = bool(tried[edit.name]) and tried[edit.name][0].path() in narrow
@@ -662,7 +648,7 @@ class Trial:
             if len(groups) > 1:  # to keep what is proved takes two to five seconds of a check
                 self.kept = f"{self.room}/kept"
             missed = []
-            for group in groups if not self.why else []:
+            for group in groups:
                 is_last = len(group.edits()) == 1 and not (is_first and group.empties())
                 missed += [it for it in self.try_group(group, is_first) if not is_last]
             alone = not is_first and len(missed) == len(left) or len(missed) < 3
@@ -688,6 +674,11 @@ def listed(folder):
     return sorted(it for it in folder.iterdir() if it.suffix != ".md") if folder.is_dir() else []
 
 
+def files_of_edits(crate):
+    """The files of the crate's edits, each with whether it must not be refused."""
+    return [(it, False) for it in listed(Path(crate.folder, "wrong"))] + [(it, True) for it in listed(SELFTEST / crate.name)]
+
+
 def tried(crate, part, parts):
     begun = time.monotonic()
     with tempfile.TemporaryDirectory(prefix="edits-") as room:
@@ -701,19 +692,16 @@ def tried(crate, part, parts):
 
 
 def stands(library):
-    """Whether the library is built as it stands: its stamp says so, or it is newer than its sources, as `rt ci` leaves it, which writes no stamp."""
-    if os.path.isfile(f"{library.folder}/out/rlib/stamp"):
-        return library.is_built()
-    made = os.path.getmtime(library.rlib) if os.path.isdir(library.rlib) else 0
-    files = [file for it in [library, *library.below()] for file in rt.files_of(it.folder)]
-    return all(os.path.getmtime(file) < made for file in files)
+    """Whether the library is built as it stands: its stamp says so, or `rt ci`, which writes no stamp, left it."""
+    has_stamp = os.path.isfile(f"{library.folder}/out/rlib/stamp")
+    return library.is_built() if has_stamp else kit.is_left_by_the_gate(rt, library)
 
 
 def proved_beside():
     """The crates that the gate's `rt ci` has proved so far, where it runs beside this; None where none runs."""
     file = Path(os.environ.get("GATE_PROVED") or os.devnull)
-    names = file.read_text().splitlines() if file.is_file() else [ENDED]
-    return None if ENDED in names else {*names}
+    names = file.read_text().splitlines() if file.is_file() else [kit.ENDED]
+    return None if kit.ENDED in names else {*names}
 
 
 def is_idle(number):
@@ -725,18 +713,21 @@ def is_idle(number):
     return True
 
 
-def beside_proofs(tasks, crates, most):
-    """Runs the tasks behind their libraries' proofs, the longest first, half as many till all end."""
-    left, running, given = sorted(tasks, key=lambda it: -tasks[it][1]), {}, {}
+def side_by_side(tasks, most):
+    """What these tasks give, each a crate, its work and a call: so many at once, the longest first. Beside the gate's
+    proofs each waits for its crate's libraries and for an idle processor, and half as many run."""
+    left, running, given = sorted(tasks, key=lambda it: -it[1]), set(), []
     with ThreadPoolExecutor(most) as pool:
         while left or running:
             proved = proved_beside()
-            ready = [it for it in left if proved is None or {below.name for below in crates[it[0]].below()} <= proved]
-            if ready and len(running) < (most if proved is None else max(1, most // 2)) and (proved is None or is_idle(rt.processors())):
+            ready = [it for it in left if proved is None or {below.name for below in it[0].below()} <= proved]
+            has_room = len(running) < (most if proved is None else max(1, most // 2))
+            if ready and has_room and (proved is None or is_idle(rt.processors())):
                 left.remove(ready[0])
-                running[pool.submit(tasks[ready[0]][3], given, 1)] = ready[0]
+                running.add(pool.submit(ready[0][2]))
             elif running:
-                given |= {running.pop(it): it.result() for it in wait(running, 1, FIRST_COMPLETED).done}
+                ended, running = wait(running, 1, FIRST_COMPLETED)
+                given += [it.result() for it in ended]
             else:
                 time.sleep(0.5)
     return given
@@ -755,26 +746,20 @@ def main(names):
     unknown = {*names} - {it.name for it in listed_crates}
     if unknown:
         sys.exit(f"edits: crates.txt has no {', '.join(sorted(unknown))}")
-    crates = [it for it in listed_crates if not names or it.name in names]
-    crates = [it for it in crates if listed(Path(it.folder, "wrong")) or listed(SELFTEST / it.name)]
-    is_beside = proved_beside() is not None
-    for crate in [] if is_beside else crates:
+    crates = [it for it in listed_crates if (not names or it.name in names) and files_of_edits(it)]
+    for crate in crates if proved_beside() is None else []:
         libraries = crate.below()
         if not all(map(stands, libraries)) and any(it.build_rlib(FLAGS, anew=False) for it in libraries):
             sys.exit(f"edits: a library below {crate.name} is not proved")
-    tasks = {}
+    tasks = []
     for crate in crates:
-        number = len(listed(Path(crate.folder, "wrong"))) + len(listed(SELFTEST / crate.name))
+        number = len(files_of_edits(crate))
         parts = -(-number // MOST)
         work = (crate.count(rb"\n") + 30 * number) // parts
-        # Half of what the kit reckons: the most that was taken, measured, is 0.2 to 0.4 of it (oca_web 2.8 GB of 7.3, ocactl_cli 2.7 of 9.1, oca_tree
-        # 1.7 of 6.8, oca_c 1.3 of 7.4), since a group checks few functions.
-        memory = rt.need(crate) // 2
-        for part in range(parts):
-            tasks[crate.name, "edits", part] = ([], work, memory, lambda given, jobs, of=(crate, part, parts): tried(*of))
+        tasks += [(crate, work, functools.partial(tried, crate, part, parts)) for part in range(parts)]
     with kit.in_memory(rt):
-        given = beside_proofs(tasks, {it.name: it for it in crates}, kit.lanes(rt)) if is_beside else rt.in_lanes(tasks)
-    passed, failed = verdict(given.values())
+        given = side_by_side(tasks, kit.lanes(rt))
+    passed, failed = verdict(given)
     print(f"{passed} passed, {failed} failed")
     return 1 if failed else 0
 

@@ -7,6 +7,7 @@ Usage: embedded.py BIN     BIN is the folder with `amplifier`, `panel` and `ocad
 import os
 import re
 import socket
+import struct
 import subprocess
 import sys
 import tempfile
@@ -43,11 +44,6 @@ def shown(levels):
     return f"1: {first} {low} dB/10, 2: {second} {high} dB/10\n"
 
 
-def panel(checks, *words, **settings):
-    done = subprocess.run([f"{checks.folder}/panel", *map(str, words)], capture_output=True, text=True, timeout=60, **settings)
-    return done.stdout
-
-
 def panel_sets(checks):
     """The panel opens channel 1 and sets its gain; a lock of another peer refuses what it keeps."""
     for lock, said, after in ((None, "gain to -6 dB: status 0\ngain: -60 dB/10\n", -60), (LOCK_READONLY, "gain to -6 dB: status 3\ngain: 0 dB/10\n", 0),
@@ -55,7 +51,7 @@ def panel_sets(checks):
         run, port, peer = amplified(checks)
         if lock:
             checks.same("the lock", peer.ask(GAINS[0], 1, lock)[0], 0)
-        checks.same(f"the panel, lock {lock}", panel(checks, port), OPENED + said)
+        checks.same(f"the panel, lock {lock}", checks.ran("panel", port)[0], OPENED + said)
         checks.same(f"the amplifier, lock {lock}", run.stdout.readline(), shown((("open", 0), ("muted", 0))))
         if after == -60:
             checks.same("the gain is shown", run.stdout.readline(), shown((("open", -60), ("muted", 0))))
@@ -68,15 +64,15 @@ def listing(checks):
     for command, printed in DATA["listed"]:
         if command:
             checks.same(f"before a listing, {command}", peer.ask(*command[:3], *map(bytes.fromhex, command[3:]))[0], 0)
-        checks.same(f"a listing behind {command}", panel(checks, port, "objects"), printed)
+        checks.same(f"a listing behind {command}", checks.ran("panel", port, "objects")[0], printed)
     for words, printed in DATA["of_ocadev"]:
-        checks.same(f"a listing of ocadev {words}", panel(checks, checks.serve(*words)[1], "objects"), printed)
+        checks.same(f"a listing of ocadev {words}", checks.ran("panel", checks.serve(*words)[1], "objects")[0], printed)
     with bound() as silent:
         port = silent.getsockname()[1]
-        checks.same("a listing where nobody answers", panel(checks, port, "objects"), "100: lost\n")
-        checks.same("the panel where nobody answers", panel(checks, port), "lost\n")
+        checks.same("a listing where nobody answers", checks.ran("panel", port, "objects")[0], "100: lost\n")
+        checks.same("the panel where nobody answers", checks.ran("panel", port)[0], "lost\n")
     for words in DATA["usage"]:
-        checks.same(f"the words {words}", panel(checks, *words), "usage: panel [PORT [objects]]\n")
+        checks.same(f"the words {words}", checks.ran("panel", *words)[0], "usage: panel [PORT [objects]]\n")
 
 
 def knobs(checks):
@@ -105,17 +101,18 @@ def knobs(checks):
     checks.same("behind the end of the input", peer.levels(), shown(levels))
 
 
-def objects(checks):
-    """What a peer reads of each object of the amplifier: its class, its role, that it can be locked, and a gain's limits."""
-    run, port, peer = amplified(checks)
-    block, mute, gain = (oca.CLASSES[kind] for kind in ("block", "mute", "int16"))
-    for number, (mutes, gains) in enumerate(zip(MUTES, GAINS), 1):
-        for ono, identifier, role in ((mutes - 1, block, f"channel {number}"), (mutes, mute, "mute"), (gains, gain, "gain")):
-            said = oca.u16(len(identifier)) + b"".join(map(oca.u16, identifier)) + oca.u16(2)
-            checks.same(f"{ono}: its class", peer.ask(ono, 1, 1), (0, said))
+def channels(checks, peer, blocks, low):
+    """What a peer reads of each object of an amplifier's channels: its class, its role, that it can be locked, and a gain's limits."""
+    for number, block in enumerate(blocks, 1):
+        for ono, kind, role in ((block, "block", f"channel {number}"), (block + 1, "mute", "mute"), (block + 2, "int16", "gain")):
+            checks.same(f"{ono}: its class", peer.ask(ono, 1, 1), (0, oca.class_bytes(oca.Object(ono, kind, 100, role))))
             checks.same(f"{ono}: its role", peer.ask(ono, 1, 5), (0, oca.text_bytes(role)))
             checks.same(f"{ono}: it can be locked", peer.ask(ono, 1, 2), (0, b"\1"))
-        checks.same(f"{gains}: its limits", peer.ask(gains, 5, 1), (0, b"\0\0" + b"\xfc\xe0" + b"\0\x64"))
+        checks.same(f"{block + 2}: its limits", peer.ask(block + 2, 5, 1), (0, struct.pack(">hhh", 0, low, 100)))
+
+
+def objects(checks):
+    channels(checks, amplified(checks)[2], (4096, 5096), -800)
 
 
 def bound_at(port):
@@ -131,7 +128,8 @@ def at_this_machine(checks):
         checks.start("panel", silent.getsockname()[1])
         checks.same("where the panel's socket is", bound_at(silent.recvfrom(2000)[1][1]), ["127.0.0.1"])
     for port in ("x", "65536", "-1", ""):
-        checks.same(f"the panel at port {port!r}", panel(checks, port).splitlines()[0][:7] in ("", "invalid", "number ", "cannot "), True)
+        said = checks.ran("panel", port)[0].splitlines()[0]
+        checks.same(f"the panel at port {port!r}", said[:7] in ("", "invalid", "number ", "cannot "), True)
 
 
 def closed(checks):
@@ -139,7 +137,7 @@ def closed(checks):
     for descriptor in (0, 1):
         *_, peer = amplified(checks, preexec_fn=lambda: os.close(descriptor))
         checks.same(f"the amplifier with {descriptor} closed", peer.levels(), shown((("muted", 0), ("muted", 0))))
-    checks.same("the panel with 0 closed", panel(checks, amplified(checks)[1], preexec_fn=lambda: os.close(0))[:len(OPENED)], OPENED)
+    checks.same("the panel with 0 closed", checks.ran("panel", amplified(checks)[1], preexec_fn=lambda: os.close(0))[0][:len(OPENED)], OPENED)
     checks.same("an amplifier whose turns are over", checks.ran("amplifier", 0, 2)[2], 0)
 
 

@@ -21,24 +21,15 @@ METHODS = [(1, i) for i in range(0, 8)] + [(2, i) for i in range(1, 14)] + [(3, 
     + [(4, i) for i in range(1, 11)] + [(5, 1), (5, 2), (5, 3), (0, 1), (6, 1)]
 # how many peers have room, and how many channel strips are added to the bench's own objects
 ROOMS, CHANNELS = [16, 1, 2, 15, 17, 64], [0, 0, 0, 1, 5, 30, 1022]
-# (target, method, ParamCount, a maker of parameters): what a panel would send
-USUAL = [
-    (4097, (4, 1), 0, lambda r: b""), (4097, (4, 2), 1, lambda r: bytes([r.choice([1, 2, 2, 1, 3])])),
-    (4098, (4, 1), 0, lambda r: b""), (4098, (4, 2), 1, lambda r: bytes([r.choice([1, 2])])),
-    (4100, (5, 2), 1, lambda r: r.choice([0, 600, -600, 601, -601, 5]).to_bytes(2, "big", signed=True)),
-    (4100, (5, 1), 0, lambda r: b""), (4102, (5, 2), 1, lambda r: bytes([r.choice([0, 100, 101, 7])])),
-    (4102, (5, 1), 0, lambda r: b""), (4101, (5, 2), 1, lambda r: bytes([r.choice([0, 1, 2, 255])])),
-    (4101, (5, 1), 0, lambda r: b""), (4099, (4, 1), 0, lambda r: b""),
-    (4099, (4, 2), 1, lambda r: oca.u16(r.randrange(4))), (4099, (4, 3), 1, lambda r: oca.u16(r.randrange(4))),
-    (4099, (4, 4), 2, lambda r: oca.u16(r.randrange(4)) + text(r)), (4099, (4, 5), 0, lambda r: b""),
-    (4099, (4, 6), 1, lambda r: oca.u16(3) + text(r) + text(r) + text(r)), (4099, (4, 7), 1, lambda r: oca.u16(r.randrange(3))),
-    (4099, (4, 8), 2, lambda r: oca.u16(r.randrange(3)) + bytes([r.randrange(3)])), (4099, (4, 9), 0, lambda r: b""),
-    (4099, (4, 10), 1, lambda r: oca.u16(3) + bytes(r.randrange(2) for _ in range(3))),
-    (4097, (1, 3), 0, lambda r: b""), (4097, (1, 4), 0, lambda r: b""), (4097, (1, 6), 0, lambda r: b""),
-    (4102, (1, 3), 0, lambda r: b""), (4097, (1, 5), 0, lambda r: b""), (4097, (2, 9), 1, lambda r: text(r)),
-    (4097, (2, 8), 0, lambda r: b""), (4096, (2, 10), 0, lambda r: b""), (100, (3, 5), 0, lambda r: b""),
-    (100, (3, 6), 0, lambda r: b""), (4096, (3, 6), 0, lambda r: b""), (100, (1, 1), 0, lambda r: b""),
-]
+ROWS, BENCH = table("fuzz"), {o.ono: o.kind for o in oca.bench()}
+
+
+def methods_of(rows):
+    """Each object of these rows with each of its methods."""
+    return [(int(ono), tuple(map(int, it.split(".")))) for ono, *its in map(str.split, rows) for it in its]
+
+
+USUAL, ASKED = methods_of(ROWS["usual"]), methods_of(ROWS["asked"])
 
 
 def text(r):
@@ -53,6 +44,34 @@ def text(r):
     if kind == 2:
         return whole[:-1]
     return whole
+
+
+def value(r, kind):
+    """A setting of a class: at the limits of the bench's objects and beside them, between, or at the limits of the class."""
+    if kind not in oca.WIDTHS:
+        return r.choice({"switch": [0, 1, 2, 3, 65535], "boolean": [0, 1]}.get(kind, [1, 2]))
+    low, high = oca.LIMITS[kind]
+    return r.choice([n for n in (0, 600, 601, -600, -601, 100, 101, -1, low, high, *r.sample(range(-600, 601), 8)) if low <= n <= high])
+
+
+# A parameter, by the letter that says how it is read (`READERS` of oca_profile.py); `v` of a boolean.
+PARAMETERS = {"b": lambda r: bytes([r.randrange(3)]), "t": text, "1": lambda r: bytes([r.choice([1, 2, 2, 1, 3])]),
+              "2": lambda r: oca.u16(r.randrange(4)), "v": lambda r: bytes([r.choice([0, 1, 2, 255])]),
+              "B": lambda r: oca.u16(3) + bytes(r.randrange(2) for _ in range(3)), "T": lambda r: oca.u16(3) + text(r) + text(r) + text(r)}
+
+
+def parameter(r, letter, kind):
+    if letter == "v" and kind in oca.WIDTHS:
+        size, is_signed = oca.WIDTHS[kind]
+        return value(r, kind).to_bytes(size, "big", signed=is_signed)
+    return PARAMETERS[letter](r)
+
+
+def usual(r, methods=USUAL):
+    """What a panel would send, of one of these methods: the object, level and index, ParamCount, and the parameters."""
+    ono, method = r.choice(methods)
+    letters = oca.METHODS[BENCH[ono]][method][1]
+    return ono, *method, len(letters), b"".join(parameter(r, it, BENCH[ono]) for it in letters)
 
 
 class Panel:
@@ -79,8 +98,8 @@ class Panel:
     def new(self, handle):
         r = self.r
         if r.randrange(5):
-            target, (level, index), count, make = r.choice(USUAL)
-            return oca.Command(handle, self.in_a_strip(target), level, index, count, make(r))
+            target, *asked = usual(r)
+            return oca.Command(handle, self.in_a_strip(target), *asked)
         level, index = r.choice(METHODS)
         params = bytes(r.randrange(256) for _ in range(r.choice([0, 0, 1, 2, 3, 9])))
         return oca.Command(handle, r.choice(ONOS), level, index, r.randrange(3), params)
@@ -124,11 +143,8 @@ def damaged(r, data):
 
 
 def moment(r, now):
-    step = r.choice([0, 0, 1, 5, 100, 251, 750, 2500, 3001, 7500, 15001, 90001, 120000, 120001, -50, -5000])
+    step = r.choice([0, 0, 1, 5, 100, 251, 750, 2500, 3001, 7500, 15001, 90001, 119999, 120000, 120001, -50, -5000, -130000])
     return max(0, now + (step if r.randrange(3) == 0 or step < 3000 else 1))
-
-
-BAD = table("fuzz")["lines"]  # bad ones, and some good ones
 
 
 def hexed(r, data):
@@ -137,7 +153,7 @@ def hexed(r, data):
 
 def finish(r, lines):
     if r.randrange(4) == 0:
-        lines.insert(r.randrange(len(lines) + 1), r.choice(BAD))
+        lines.insert(r.randrange(len(lines) + 1), r.choice(ROWS["lines"]))
     end = "" if r.randrange(3) == 0 else "\n"
     return ("\n".join(lines) + end).encode()
 

@@ -121,14 +121,19 @@ class OldSession(Served):
 
 
 @contextlib.contextmanager
-def silent(port=0):
-    with bound(port=port) as s:
+def silent():
+    with bound() as s:
         yield s.getsockname()[1]
 
 
 def asked(device):
     found = {command.handle: (command.target, method, command.params) for data, _ in device.heard for command, method in commands_in(data)}
     return list(found.values())
+
+
+def address(device):
+    """The address of a device, or of what is at this port of this machine, or this one."""
+    return device if isinstance(device, str) else f"127.0.0.1:{getattr(device, 'port', device)}"
 
 
 class Checks(checks.Checks):
@@ -138,12 +143,16 @@ class Checks(checks.Checks):
 
     def run(self, device, command, *words, own=True, given=""):
         port = ["--port", self.port] if own and "--port" not in words else []
-        return self.ran("ocactl", command, "--device", f"127.0.0.1:{getattr(device, 'port', device)}", *port, *words, given=given)
+        return self.ran("ocactl", command, "--device", address(device), *port, *words, given=given)
 
-    def prints(self, what, device, words, printed, status, said="", given=""):
+    def words(self, device, command, *more):
+        """The words of a run of `ocactl` at a port of its own."""
+        return [f"{self.folder}/ocactl", command, "--device", address(device), "--port", str(free_port()), *more]
+
+    def prints(self, what, device, words, printed, status, said="", given="", own=True):
         """A run prints just that, and says that. `N ms ago` lies within the run; if a command was lost, seconds ago."""
         begun = time.monotonic()
-        out, err, code = self.run(device, *words, given=given)
+        out, err, code = self.run(device, *words, given=given, own=own)
         took = (time.monotonic() - begun) * 1000
         for ago in map(int, re.findall(r"\b(\d+) ms ago", err)):
             self.same(f"{what}: {ago} ms ago of {took:.0f}", (3000 if " lost\n" in out else 0) <= ago <= took, True)
@@ -191,24 +200,44 @@ def of_rows(checks):
 
 
 # Devices by their names in the rows, each of the stage box. At the port of `nobody` there is none.
-DEVICES = {"the second implementation": lambda: Served(stagebox()), "deaf": lambda: Deaf(stagebox(), None), "faint": lambda: Faint(stagebox(), None),
-           "deaf to sets": lambda: Deaf(stagebox(), SETS), "nameless": lambda: Deaf(stagebox(), [NAME]), "in itself": InItself,
-           "nobody": lambda: contextlib.nullcontext(free_port())}
+DEVICES = {
+    "the second implementation": lambda: Served(stagebox()), "in itself": InItself, "missing": lambda: Missing(stagebox()),
+    "deaf": lambda: Deaf(stagebox(), None), "deaf to sets": lambda: Deaf(stagebox(), SETS), "nameless": lambda: Deaf(stagebox(), [NAME]),
+    "faint": lambda: Faint(stagebox(), None), "old": lambda: OldSession(stagebox(), by_turns()[:1]),
+    "old twice": lambda: OldSession(stagebox(), by_turns()), "nobody": lambda: contextlib.nullcontext(free_port()),
+    "another machine": lambda: contextlib.nullcontext("192.0.2.1:65000")}
 
 
-def told(checks):
-    """What is printed and noted where a device answers nothing, or something else than others do; what it is asked, and that all this is commands."""
-    for row in table("hands")["told"]:
-        what = row["name"]
-        with DEVICES[row["device"]]() as device:
-            said = row.get("said", "").replace("DEVICE", str(getattr(device, "port", device))).replace("OWN", str(checks.port))
-            checks.prints(what, device, row["words"].split(), row["printed"], row["status"], said, row.get("given", ""))
+def told(checks, kind="told"):
+    """What is printed and noted where a device answers nothing, or something else than others do; what it is asked, that all this is
+    commands, and what it then has."""
+    for row in table("hands")[kind]:
+        what, is_at_own_ports = row["name"], kind != "told"
+        ports = dict(zip(("OWN", "OTHER"), by_turns())) if is_at_own_ports else {"OWN": checks.port}
+        with DEVICES[row["device"]]() as device, contextlib.ExitStack() as taken:
+            for it in row.get("taken", ()):
+                taken.enter_context(bound(port=ports[it]))
+            places = ports | {"DEVICE": getattr(device, "port", device)}
+            filled = lambda text: re.sub("DEVICE|OWN|OTHER", lambda it: str(places[it[0]]), text)
+            checks.prints(what, device, row["words"].split(), row["printed"], row["status"], filled(row.get("said", "")),
+                          row.get("given", ""), not is_at_own_ports)
             if "asks" in row:
                 checks.same(f"{what}: what it asks", heard_as(device, row["asks"]), row["asks"].split(", "))
                 are_commands = all(message[0] == "command" for data, _ in device.heard for message in oca.check(data))
                 checks.same(f"{what}: whether all that it sends is commands", are_commands, True)
             if "sets" in row:
                 checks.same(f"{what}: what was sent", sorted({c[0] for c in asked(device) if c[1] in SETS}), row["sets"])
+            if "has" in row:
+                checks.same(f"{what}: the device", next(of_object(o) for o in device.tree if o.ono == 4097), filled(row["has"]))
+            if row.get("is_unheard"):
+                checks.same(f"{what}: what is heard", device.heard, [])
+
+
+def at_own_ports(checks):
+    """The same of calls from the two ports that the program takes by turns. Where a session is ahead of the clock, as behind a clock
+    that was set back, the other port is taken before anything is set; a datagram that is lost does not do that. `lock` and `unlock`
+    take no other port than these two, and neither of them may be in use."""
+    told(checks, "at_own_ports")
 
 
 # What is told of a span that a device's window of 32 does not bear.
@@ -250,54 +279,47 @@ def tells_at_once(checks):
         checks.same("set --ahead: the status", run.wait(10), 0)
 
 
+# What is asked until the first line can't be written.
+UNTIL_WRITTEN = {"tree": [(100, CLASS), (100, ROLE), (100, MEMBERS)], "get 4097 4098": [(4097, CLASS), (4097, (4, 1))],
+                 "set 4097 muted 4098 inverted": [(4097, CLASS), (4098, CLASS), (4097, (4, 2))], "lock 4097 4098": [(4097, (1, 3))],
+                 "unlock 4097 4098": [(4097, (1, 4))]}
+
+
+def stops_unwritten(checks):
+    """Behind a line that can't be written nothing more is asked."""
+    for words, wanted in UNTIL_WRITTEN.items():
+        with open("/dev/full", "w") as full, Served(stagebox()) as device:
+            own = f"--device 127.0.0.1:{device.port} --port {checks.port} --first-handle 1"
+            run = checks.start("ocactl", *words.split(), *own.split(), stdout=full)
+            said = run.communicate(timeout=60)[1]
+        checks.same(f"{words}, which can't be written", (said, run.returncode), ("write failed\n", 1))
+        checks.same(f"{words}, which can't be written: what it asks", [it[:2] for it in asked(device)], wanted)
+
+
 def helps(checks):
-    """The help of each command has the name of its own program and command, in its form and in its examples."""
+    """The help of each command has the name of its own program and command, in its form and in its examples. The exit statuses that the
+    help of a command of `ocactl` tells are those with which it ends where the help says so."""
     for program in ("ocactl", "ocadev"):
         text = checks.ran(program, "--help")[0]
         checks.same(f"{program} --help: its form", re.findall(r"^Usage: (.*)", text, re.M), [f"{program} <COMMAND>"])
         commands = [name for name in re.findall(r"^  (\w+)  ", text.split("Options:")[0], re.M) if name != "help"]
-        for name in [f"{program} {command}" for command in commands]:
-            text = checks.ran(*name.split(), "--help")[0]
+        for command in commands:
+            name, text = f"{program} {command}", checks.ran(program, command, "--help")[0]
             checks.same(f"{name} --help: its form", re.findall(r"^Usage: (\S+ \S+)", text, re.M), [name])
             shown = [line.split(":", 1)[1] for line in re.findall(r"^Example.*", text, re.M)]
             named = [re.findall(r"\boca\w+ \w+", line) for line in shown]
             checks.same(f"{name} --help: its examples", named, [[name]])
-
-
-def ends_as_told(checks):
-    """The exit statuses that the help of a command tells are those with which it ends where the help says so."""
-    text = checks.ran("ocactl", "--help")[0]
-    commands = [name for name in re.findall(r"^  (\w+)  ", text.split("Options:")[0], re.M) if name != "help"]
-    for command in commands:
-        told = re.search(r"^Exit status: (.*?)\.\s", checks.ran("ocactl", command, "--help")[0], re.M | re.S)
-        parts = re.split(r", (?=\d )", " ".join(told[1].split())) if told else []
-        said = {condition: int(status) for status, condition in (part.split(" ", 1) for part in parts)}
-        ends = {condition: ended(checks, command, *how) for condition, how in DATA.ends.get(command, {}).items()}
-        checks.same(f"{command} --help: its exit statuses", said, ends)
+            if program == "ocactl":
+                told = re.search(r"^Exit status: (.*?)\.\s", text, re.M | re.S)
+                parts = re.split(r", (?=\d )", " ".join(told[1].split())) if told else []
+                said = {condition: int(status) for status, condition in (part.split(" ", 1) for part in parts)}
+                ends = {condition: ended(checks, command, *how) for condition, how in DATA.ends.get(command, {}).items()}
+                checks.same(f"{command} --help: its exit statuses", said, ends)
 
 
 def ended(checks, command, answers, words, lines):
     with Served(stagebox()) if answers else silent() as device:
         return checks.run(device, command, *words.split(), given=lines)[2]
-
-
-def failed_sends(checks):
-    """Sends that the system refuses, from 127.0.0.1 to another machine: a note says why the last of them failed."""
-    said = "note: a send failed: Invalid argument (os error 22)\nnote: nothing was heard from 192.0.2.1:65000\n"
-    for words, printed in (("get --ip 127.0.0.1 4097", "4097 no answer\n"),
-                           ("send --ip 127.0.0.1 --target 4097 --level 4 --index 1 --count 0", "no answer\n")):
-        got = checks.ran("ocactl", *words.split(), "--device", "192.0.2.1:65000", "--port", checks.port, "--turns", 1)
-        checks.same(f"{words}: a send failed", got, (printed, said, 3))
-
-
-def missed_first(checks):
-    """One datagram that is lost does not make the program take its other port."""
-    for command, printed in (("lock", "4097 locked\n"), ("get", "4097 muted\n")):
-        with Missing(stagebox()) as device:
-            own = by_turns()[0]
-            checks.same(f"{command}: the first copy is lost", checks.run(device, command, 4097, own=False), (printed, "", 0))
-            if command == "lock":
-                checks.same("lock: the holder, where the first copy is lost", [o.lock for o in device.tree if o.ono == 4097], [("total", (127, 0, 0, 1, own))])
 
 
 class Terminal:
@@ -333,7 +355,7 @@ def at_a_terminal(checks):
     """At a terminal typed lines are read, copies sent, and Ctrl-D ends `run` and `lock --hold`."""
     for script in (False, True):
         with Missing(stagebox()) as device:
-            words = [f"{checks.folder}/ocactl", "run", "--device", f"127.0.0.1:{device.port}", "--port", str(free_port())]
+            words = checks.words(device, "run")
             run = Terminal("sh", "-c", f"{' '.join(words)}; exit $?") if script else Terminal(*words)
             for line, answer in ((b"4097 4 1 0 -\n", b"answer 0 1 01"), (b"4098 4 1 0 -\n", b"answer 0 1 01"), (b"4101 5 1 0 -\n", b"answer 0 1 00")):
                 before, run.said = run.said, b""
@@ -342,7 +364,7 @@ def at_a_terminal(checks):
             run.write(b"\x04")
             checks.same(f"run at a terminal, {script}: its end", run.ends(), 0)
     with Served(stagebox()) as device:
-        run = Terminal(f"{checks.folder}/ocactl", "lock", "--hold", "--device", f"127.0.0.1:{device.port}", "--port", str(free_port()), "4097")
+        run = Terminal(*checks.words(device, "lock", "--hold", "4097"))
         checks.same("lock --hold at a terminal", run.says(b"4097 locked"), True)
         run.write(b"a line that is dropped\n")
         checks.same("lock --hold at a terminal: it is kept", run.says(b"unlocked", 1), False)
@@ -354,8 +376,7 @@ def at_a_terminal(checks):
 def at_a_terminal_alone(checks):
     """A terminal is known by the input alone: lines that are typed there are read where the output goes to a file, and Ctrl-D ends the run."""
     with Served(stagebox()) as device, tempfile.TemporaryDirectory() as place:
-        words = [f"{checks.folder}/ocactl", "run", "--device", f"127.0.0.1:{device.port}", "--port", str(free_port())]
-        run = Terminal("sh", "-c", f"{' '.join(words)} > {place}/said 2>&1; exit $?")
+        run = Terminal("sh", "-c", f"{' '.join(checks.words(device, 'run'))} > {place}/said 2>&1; exit $?")
         for count in (1, 2):
             run.write(b"4097 4 1 0 -\n")
             printed = says_in(f"{place}/said", "answer 0 1 01\n" * count)
@@ -383,9 +404,7 @@ print("its status is", run.returncode, flush=True)
 
 
 def in_the_background(checks, device, *words, given="", place=""):
-    command, *more = words
-    return Terminal(sys.executable, "-c", IN_THE_BACKGROUND, given, place, f"{checks.folder}/ocactl", command,
-                    "--device", f"127.0.0.1:{device.port}", "--port", str(free_port()), *more)
+    return Terminal(sys.executable, "-c", IN_THE_BACKGROUND, given, place, *checks.words(device, *words))
 
 
 def behind_a_terminal(checks):
@@ -410,35 +429,6 @@ def behind_a_terminal(checks):
         run = in_the_background(checks, device, "run", given="4097 4 1 0 -\n")
         checks.same(name, (run.says(b"answer 0 1 01"), run.says(b"its status is 0")), (True, True))
         checks.same(f"{name}: its end", run.ends(), 0)
-
-
-def old_sessions(checks):
-    """A session that is ahead of the clock, as behind a clock that was set back: the other port is taken before anything is
-    set. Where that one is in use, the own port is used, and the silence is told."""
-    places = dict(zip(("OWN", "OTHER"), by_turns()))
-    for row in table("hands")["old"]:
-        what, taken = row["name"], silent(places["OTHER"]) if row.get("is_taken") else contextlib.nullcontext()
-        with OldSession(stagebox(), [places[it] for it in row["ahead"]]) as device, taken:
-            filled = lambda text: re.sub("DEVICE|OWN|OTHER", lambda it: str((places | {"DEVICE": device.port})[it[0]]), text)
-            got = checks.run(device, *row["words"].split(), own=False)
-            checks.same(what, got, (row["printed"], filled(row["said"]), row["status"]))
-            if "has" in row:
-                has = next(of_object(o) for o in device.tree if o.ono == 4097)
-                checks.same(f"{what}: the device", has, filled(row["has"]))
-
-
-def own_port_in_use(checks):
-    """`lock` and `unlock` take no other port than the program's own, and neither of its two may be in use; `get` takes another."""
-    first, second = by_turns()
-    for used in (first, second):
-        with Served(stagebox()) as device, silent(used):
-            for command in ("lock", "unlock"):
-                said = f"note: port {used}: Address already in use (os error 98)\nsocket failed\n"
-                checks.same(f"{command}: port {used} is in use", checks.run(device, command, 4097, own=False), ("", said, 1))
-            checks.same("a port in use: what is heard", device.heard, [])
-            checks.same(f"get: port {used} is in use", checks.run(device, "get", 4097, own=False), ("4097 muted\n", "", 0))
-    with Served(stagebox()) as device, silent(first), silent(second):
-        checks.same("get: both ports are in use", checks.run(device, "get", 4097, own=False), ("4097 muted\n", "", 0))
 
 
 def held(checks):
@@ -473,7 +463,6 @@ def held(checks):
 
 
 if __name__ == "__main__":
-    at_own_ports = (old_sessions, own_port_in_use, missed_first)
     sys.exit(Checks(sys.argv[1]).tried(
-        of_rows, told, sets_at_once, tells_at_once, helps, ends_as_told, failed_sends, *at_own_ports,
-        at_a_terminal, at_a_terminal_alone, behind_a_terminal, held, alone=at_own_ports))
+        of_rows, told, sets_at_once, tells_at_once, stops_unwritten, helps, at_own_ports,
+        at_a_terminal, at_a_terminal_alone, behind_a_terminal, held, alone=(at_own_ports,)))

@@ -11,16 +11,15 @@ import sys
 import tempfile
 from pathlib import Path
 
-TOP = Path(__file__).resolve().parent.parent
+from checks import Checks
+from tables import TOP, data
+
 sys.path.insert(0, str(TOP / "gate"))
 import api
 import reference
-from checks import Checks
-from tables import data
 
 CALLS = TOP / "crates/oca_c/src"
 DATA = data("header")
-STRUCTURES = TOP / "crates/oca_calls/src"
 STRUCTS = {name: f"struct {of}" for name, of in DATA.structs.items()}
 NUMBERS = {"bool": "bool", "usize": "size_t", **{f"{sign}{bits}": f"{'u' if sign == 'u' else ''}int{bits}_t" for sign in "iu" for bits in (8, 16, 32, 64)}}
 
@@ -78,34 +77,39 @@ def results(header):
     return {word for name in ("oca_result", "oca_store_result", "oca_socket_result") for word in numbered(header, name)}
 
 
-def upper(name):
-    """A variant's name as a constant's: NoSuchBlock as NO_SUCH_BLOCK."""
-    return re.sub(r"(?<=[a-z])(?=[A-Z])", "_", name).upper()
-
-
-def text(file):
-    return (STRUCTURES / file).read_text()
+def constant(prefix, name):
+    """A variant's name as a constant's: NoSuchBlock as OCA_NO_SUCH_BLOCK, or what the header calls it."""
+    word = prefix + re.sub(r"(?<=[a-z])(?=[A-Z])", "_", name).upper()
+    return DATA.constants.get(word, word)
 
 
 def source(name):
     return (TOP / "crates" / name).read_text()
 
 
-def variants(name, kind, prefix):
-    body = re.search(rf"pub enum {kind} \{{(.*?)\n\}}", source(name), re.S)[1]
-    return {f"{prefix}{upper(of)}": int(number) for of, number in re.findall(r"^    (\w+) = (\d+),", body, re.M)}
+def variants_of(file, kind):
+    return re.search(rf"pub enum {kind} \{{(.*?)\n\}}", source(file), re.S)[1]
+
+
+def variants(file, kind, prefix):
+    return {constant(prefix, of): int(number) for of, number in re.findall(r"^    (\w+) = (\d+),", variants_of(file, kind), re.M)}
+
+
+def arms(file, kind, prefix):
+    found = re.findall(rf"{kind}::(\w+)(?:\(\w+\))? => \(?(\d+)", source(file))
+    return {constant(prefix, name): int(number) for name, number in found}
 
 
 def methods():
     found = {}
     rows = re.search(r"fn place_of\(.*?\n\}", source("oca_types/src/class.rt"), re.S)[0]
     for names, level, index in re.findall(r"((?:Method::\w+[ |\n]*)+) => \((\d+), (\d+)\)", rows):
-        found.update({f"OCA_{upper(name)}": int(level) << 16 | int(index) for name in re.findall(r"Method::(\w+)", names)})
+        found.update({constant("OCA_", name): int(level) << 16 | int(index) for name in re.findall(r"Method::(\w+)", names)})
     return found
 
 
 def struct(name):
-    sources = "\n".join(file.read_text() for file in STRUCTURES.glob("*.rt"))
+    sources = "\n".join(file.read_text() for file in (TOP / "crates/oca_calls/src").glob("*.rt"))
     body = re.search(rf"pub struct {name} \{{(.*?)\n\}}", sources, re.S)[1]
     found = []
     for field, of in re.findall(r"pub (\w+): (.+),", body):
@@ -118,15 +122,10 @@ def struct(name):
 def texts():
     """What the header says of each result that is a fault of a call behind, and of each status."""
     said = {}
-    for name, kind in (("oca_tree/src/builder.rt", "AddFault"), ("oca_tree/src/setting.rt", "SetFault"), ("oca_control/src/fault.rt", "ControlFault")):
-        body = re.search(rf"pub enum {kind} \{{(.*?)\n\}}", source(name), re.S)[1]
-        said.update({f"OCA_{upper(of)}": it for it, of in re.findall(r'#\[error\("([^"{]*)"\)\]\s*(\w+)', body)})
-        said.update({f"OCA_{upper(of)}": it for of, it in re.findall(rf'    {kind}::(\w+) => "([^"]*)",', source(name))})
+    for file, kind in DATA.faults:
+        said.update({constant("OCA_", of): it for it, of in re.findall(r'#\[error\("([^"{]*)"\)\]\s*(\w+)', variants_of(file, kind))})
+        said.update({constant("OCA_", of): it for of, it in re.findall(rf'    {kind}::(\w+) => "([^"]*)",', source(file))})
     return said
-
-
-def arms(source, kind, prefix):
-    return {f"{prefix}{upper(name)}": int(number) for name, number in re.findall(rf"{kind}::(\w+)(?:\(\w+\))? => \(?(\d+)", source)}
 
 
 def number_in(text, form):
@@ -141,16 +140,10 @@ def result_texts(header):
 
 def compared(header):
     """What is compared besides prototypes: by its name what the header has, and what it must have."""
-    due = arms(text("link.rt"), "Due", "OCA_DUE_")
-    due["OCA_DUE_COMMAND"] = due.pop("OCA_DUE_SEND")
-    results_of_calls = {f"OCA_{upper(name)}": int(number) for name, number in re.findall(r"^    (\w+) = (\d+),", text("answer.rt"), re.M)}
-    enums = {
-        "oca_result": results_of_calls, "oca_due": due, "oca_method": methods(),
-        **{of: arms(text(file), kind, prefix) for of, file, kind, prefix in DATA.arms},
-        **{of: variants(file, kind, prefix) for of, file, kind, prefix in DATA.variants},
-    }
-    verdict = re.search(r"\} => \[0, (.*?)\]", text("words.rt"))[1].split(", ")
-    object_words = re.findall(r"(\w+)", " ".join(re.findall(r"^        (?:object\.|)(\w+)(?:\.0|\(object\.class\)|\.len\(\) as u32),", text("words.rt"), re.M)))
+    enums = {name: arms(*of) for name, *of in DATA.arms} | {name: variants(*of) for name, *of in DATA.variants} | {"oca_method": methods()}
+    words = source("oca_calls/src/words.rt")
+    verdict = re.search(r"\} => \[0, (.*?)\]", words)[1].split(", ")
+    object_words = re.findall(r"^        (?:object\.|)(\w+)(?:\.0|\(object\.class\)|\.len\(\) as u32),", words, re.M)
     structs = {
         "oca_verdict": [(name, "uint32_t") for name in ["kind", *verdict[:4], "fault", "at"]],
         "oca_object": [(name, "uint32_t") for name in [*object_words[:2], "class_number", "role_size"]] + [("role[64]", "uint8_t")],
@@ -161,7 +154,7 @@ def compared(header):
         **{f"enum {name}": (numbered(header, name), of) for name, of in enums.items()},
         **{f"struct {name}": (fields(header, name), of) for name, of in structs.items()},
         "size of oca_spec": (number_in(header, r"sizeof\(struct oca_spec\) == (\d+)"),
-                             number_in(text("spec_words.rt"), r"const SPEC_SIZE: u32 = (\d+);")),
+                             number_in(source("oca_calls/src/spec_words.rt"), r"const SPEC_SIZE: u32 = (\d+);")),
         "status texts": (re.findall(r'"(\w+)"', re.search(r"oca_status_text.*?\};", header, re.S)[0]),
                          re.findall(r'Status::\w+ => "(\w+)"', source("oca_types/src/status.rt"))),
         "result texts": result_texts(header),
@@ -205,14 +198,14 @@ def stands(some, text):
     return f" {' '.join(words(some))} " in f" {' '.join(words(text))} "
 
 
-def page_faults(name, page, header, comment, version):
+def page_faults(name, page, header, comment, title):
     declared = re.search(rf"^(?:static inline )?[\w *]+?[ *]{name}\([^)]*\)", header, re.M)[0]
     types = set(re.findall(r"((?:struct|enum) oca_\w+)", declared)) - set(reference.NAMED_ANYWAY)
     about = re.fullmatch(rf"{name} \\- (.+)", part(page, "NAME"))
     about = words(about[1]) if about else []
     answers = set(re.findall(r"\bOCA_\w+", part(page, "RETURN VALUE")))
     tried = [
-        ("is not titled by its name, a day and the version", re.match(rf'\.TH {name} 3 \d{{4}}-\d\d-\d\d "oca {version}" ', page)),
+        (f"is not titled by its name and {title}", page.startswith(f".TH {name} 3 {title}\n")),
         ("does not say in a line what the call does", about and about == comment[:len(about)]),
         ("does not have its declaration", stands(declared, part(page, "SYNOPSIS"))),
         ("does not say what the header says", comment and words(part(page, "DESCRIPTION"))[:len(comment)] == comment),
@@ -229,12 +222,13 @@ def pages_wrong(header, texts):
     inline = set(re.findall(r"^static inline [\w ]+?[ *](oca_\w+)\(", header, re.M))
     calls = prototypes(header).keys() | inline - reference.HELPERS
     version = re.search(r"^Version: (.+)$", (TOP / "include/oca.pc.in").read_text(), re.M)[1]
+    day = re.search(rf"^## \[{re.escape(version)}\] - ([\d-]+)$", (TOP / "CHANGELOG.md").read_text(), re.M)[1]
     said = comments(header)
     wrong = [f"{name}: a page in one of both alone" for name in sorted(calls ^ texts.keys())]
     unsaid = results(header) - {it for name in calls for it in reference.answers_of(name)}
     wrong += [f"{it}: no call answers with it" for it in sorted(unsaid)]
     for name in sorted(calls & texts.keys()):
-        wrong += page_faults(name, texts[name], header, said[name], version)
+        wrong += page_faults(name, texts[name], header, said[name], f'{day} "oca {version}" "OCA (AES70) for C"')
     return 8 * len(calls), wrong
 
 
@@ -263,13 +257,11 @@ def main():
     for compared, wrong in (differences(header), pages_wrong(header, texts), list_wrong(api.PAGE.read_text(), made)):
         checks.all_but(compared, [f"include/oca.h: {line}" for line in wrong])
     for there, other in DATA.wrong:
-        is_found = header.count(there) == 1 and len(differences(header.replace(there, other))[1]) > 0
-        checks.expect(f"not found: {other!r} in place of {there!r}", is_found)
+        checks.finds("", header, there, other, lambda wrong: differences(wrong)[1])
     for name, there, other in DATA.wrong_pages:
         checks.expect(f"not found: {other!r} in place of {there!r} in the page of {name}", is_page_found(header, texts, name, there, other))
     for there, other in DATA.wrong_lists:
-        is_found = made.count(there) == 1 and len(list_wrong(made.replace(there, other), made)[1]) > 0
-        checks.expect(f"not found: {other!r} in place of {there!r} in the list", is_found)
+        checks.finds(" in the list", made, there, other, lambda wrong: list_wrong(wrong, made)[1])
     return checks.verdict()
 
 

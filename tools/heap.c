@@ -2,7 +2,7 @@
  * lie within the arena's bytes, aligned, behind the block before; what is refused must not fit. C11 and C++11. */
 #define ARENA 4096u
 #include "../examples/c/heap.c"
-#include <stdio.h>
+#include "c_checks.h"
 
 /* The arena says how it is aligned: that it lies so here anyway may be the compiler's doing. */
 #if defined(__GNUC__) && defined(__cplusplus)
@@ -10,8 +10,6 @@ static_assert(__alignof__(arena) >= ALIGNMENT, "the arena is aligned");
 #elif defined(__GNUC__)
 _Static_assert(__alignof__(arena) >= ALIGNMENT, "the arena is aligned");
 #endif
-
-static unsigned long passed, failed;
 
 static void expect(bool good, size_t room, size_t size) {
     if (good) passed++;
@@ -77,6 +75,5 @@ int main(void) {
             asks(room, SIZE_MAX - 15, 16);
         }
     }
-    printf("%lu passed, %lu failed\n", passed, failed);
-    return failed != 0;
+    return verdict();
 }

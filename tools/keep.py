@@ -19,6 +19,7 @@ import struct
 import subprocess
 import sys
 import tempfile
+import threading
 import time
 from pathlib import Path
 
@@ -60,8 +61,8 @@ def limit_files(most):
 class Checks(checks.Checks):
     def serve(self, keep, *words, most=None, refusing=False):
         """A device at a port of the system's, what it says first, and its peer; over the layer or not."""
-        layer = {"LD_PRELOAD": checks.layer("unreliable"), "REFUSING": f"{keep}.refusing", "TOLD": f"{keep}.told"} if refusing else {}
-        run = self.start("ocadev", "serve", "--port", "0", "--keep", keep, *words, text=False, env={**os.environ, **layer}, stdin=subprocess.DEVNULL,
+        run = self.start("ocadev", "serve", "--port", "0", "--keep", keep, *words, text=False, stdin=subprocess.DEVNULL,
+                         env=checks.layered(REFUSING=f"{keep}.refusing", TOLD=f"{keep}.told") if refusing else None,
                          preexec_fn=None if most is None else lambda: limit_files(most))
         said = run.stderr.readline().decode()
         listening = re.match(r"listening [\d.]+:(\d+)\n", said)
@@ -69,23 +70,28 @@ class Checks(checks.Checks):
 
     @contextlib.contextmanager
     def served(self, keep, *words, what="", says="", number=signal.SIGKILL, **how):
-        """The peer of such a device, which is killed at the end; where `what` is given it has told just this."""
+        """The peer of such a device, which is killed at the end; where `what` is given it has told just what is of this form."""
         run, _, peer = self.serve(keep, *words, **how)
         yield peer
         told = stop(run, number)
         if what:
-            self.same(f"{what}: what it says", told, says)
+            self.expect(f"{what}: what it says", re.fullmatch(says, told), told)
 
-    def set_once(self, keep, value=5, **how):
-        with self.served(keep, **how) as peer:
-            peer.trims(value)
+    def set_once(self, keep):
+        with self.served(keep) as peer:
+            peer.trims(5)
 
-    def has(self, what, keep, value, *words):
-        with self.served(keep, *words) as peer:
+    def has(self, what, keep, value):
+        with self.served(keep) as peer:
             self.same(what, peer and peer.trim(), value)
 
     def shown(self, keep):
         return subprocess.run([f"{self.folder}/ocadev", "show", "--text", "--tree", keep], capture_output=True, timeout=30, check=False).stdout
+
+    def kept(self, keep):
+        """The trim in the file."""
+        found = re.search(rb"\nobject 4100 .* int16 -600 600 (-?\d+) ", self.shown(keep))
+        return found and int(found[1])
 
     def is_whole(self, what, keep):
         objects = self.shown(keep)
@@ -160,10 +166,11 @@ def kills(checks, folder):
             return
         value = peer.trim()
         checks.same(f"what was there after kill {turn}, {value} of {last}", last <= value <= last + 1, True)
-        killer = subprocess.Popen(["sh", "-c", f"sleep {random.uniform(0.02, 0.25):.3f}; kill -9 {run.pid}"])
+        killer = threading.Timer(random.uniform(0.02, 0.25), run.kill)
+        killer.start()
         while value < 590 and peer.trims(value + 1) is not None:
             value += 1
-        killer.wait()
+        killer.join()
         run.communicate()
         last = value
         if value >= 560:
@@ -183,11 +190,6 @@ def stops(checks, folder):
     checks.same(f"what was answered and forgotten in {STOPS} stops", lost, [])
 
 
-def told_so(checks, what, run, form):
-    told = stop(run)
-    checks.same(what, (told, re.fullmatch(form, told) is not None), (told, True))
-
-
 def full(checks, folder):
     """A file that can't be written is told once, and only readings are answered, until it can be."""
     keep = f"{folder}/full"
@@ -203,8 +205,9 @@ def full(checks, folder):
         checks.same(f"{what}: a copy of it", peer.trims_again(9, copies=2), None)
         resource.prlimit(run.pid, resource.RLIMIT_FSIZE, (resource.RLIM_INFINITY, resource.RLIM_INFINITY))
         checks.same(f"{what}, and then there is room: a copy of it", peer.trims_again(9), DONE)
-        checks.same(f"{what}, and then there is room: it is kept", b"int16 -600 600 9 " in checks.shown(keep), True)
-        told_so(checks, f"{what}: told once, and that there is room", run, NOT_KEPT + re.escape(AGAIN + f"{keep}\n"))
+        checks.same(f"{what}, and then there is room: it is kept", checks.kept(keep), 9)
+        told = stop(run)
+        checks.expect(f"{what}: told once, and that there is room", re.fullmatch(NOT_KEPT + re.escape(f"{AGAIN}{keep}\n"), told), told)
         Path(keep).write_bytes(old)
     goes_away(checks, folder)
 
@@ -214,17 +217,17 @@ def goes_away(checks, folder):
     home = f"{folder}/away"
     keep = f"{home}/state"
     os.mkdir(home)
-    run, _, peer = checks.serve(keep)
-    for value in (7, 17):
-        shutil.rmtree(home)
-        for more in (0, 1):
-            checks.same("without a folder: a command", peer.trims(value + more, copies=2), None)
-        checks.same("without a folder: what was set", peer.trim(), value + 1)
-        os.mkdir(home)
-        for more in (2, 3):
-            checks.same("with its folder: a command", peer.trims(value + more), DONE)
-            checks.same(f"with its folder: {value + more} is kept", trim_in(checks.shown(keep)), value + more)
-    told_so(checks, "without a folder: told each time once, and that it is there", run, (NOT_KEPT + re.escape(AGAIN + f"{keep}\n")) * 2)
+    each_time = NOT_KEPT + re.escape(f"{AGAIN}{keep}\n")
+    with checks.served(keep, what="without a folder, and with it again, twice", says=2 * each_time) as peer:
+        for value in (7, 17):
+            shutil.rmtree(home)
+            for more in (0, 1):
+                checks.same("without a folder: a command", peer.trims(value + more, copies=2), None)
+            checks.same("without a folder: what was set", peer.trim(), value + 1)
+            os.mkdir(home)
+            for more in (2, 3):
+                checks.same("with its folder: a command", peer.trims(value + more), DONE)
+                checks.same(f"with its folder: {value + more} is kept", checks.kept(keep), value + more)
 
 
 def put(path, words):
@@ -241,11 +244,6 @@ def lines_told(keep):
 
 def are_refused(keep, step, count):
     return checks.waited(lambda: lines_told(keep).count(f"refused {step}") >= count, 20) is not None
-
-
-def trim_in(shown):
-    found = re.search(rb"\nobject 4100 .* int16 -600 600 (-?\d+) ", shown)
-    return found and int(found[1])
 
 
 def of_system(code):
@@ -271,11 +269,11 @@ def refused_steps(checks, folder):
         checks.same(f"{what}: the step is tried for a copy", are_refused(keep, step, 3), True)
         checks.same(f"{what}: another reading", peer.ask(MUTE, 4, 1)[0], 0)
         checks.same(f"{what}: answers to what was set", [handle for handle in peer.answered if handle in sent], [])
-        checks.same(f"{what}: the file", trim_in(checks.shown(keep)) in ((5, 7, 8) if is_replaced else (5,)), True)
+        checks.same(f"{what}: the file", checks.kept(keep) in ((5, 7, 8) if is_replaced else (5,)), True)
         os.remove(f"{keep}.refusing")
         peer.handle = sent[-1]
         checks.same(f"behind {what}: a copy of a command", peer.trims_again(8), DONE)
-        checks.same(f"behind {what}: it is kept", trim_in(checks.shown(keep)), 8)
+        checks.same(f"behind {what}: it is kept", checks.kept(keep), 8)
         peer.handle = sent[-1] + 10
         checks.same(f"behind {what}: a command", peer.trims(9), DONE)
         reason = "a write failed" if step == "write" else of_system(code)
@@ -290,7 +288,7 @@ def short_writes(checks, folder):
         put(f"{keep}.refusing", "short 7")
         checks.same("where each write is short: a command", peer.trims(5), DONE)
     checks.is_whole("where each write is short: the file", keep)
-    checks.same("where each write is short: what was set", trim_in(checks.shown(keep)), 5)
+    checks.same("where each write is short: what was set", checks.kept(keep), 5)
 
 
 IN_FLIGHT, STORES = 8, 10
@@ -400,7 +398,7 @@ def linked(checks, folder):
             what = f"a link at FILE, later, to {leads_to}" if leads_to else "no file at FILE, later"
             checks.same(f"{what}: a command", peer.trims(value), DONE)
             checks.same(f"{what}: mode and owner of the file", attributes(keep), mine)
-            checks.same(f"{what}: what was set", trim_in(checks.shown(keep)), value)
+            checks.same(f"{what}: what was set", checks.kept(keep), value)
         checks.same("a link at FILE, later: what it leads to", (Path(target).read_bytes(), attributes(target)), (b"of another\n", before))
         checks.same("a link at FILE, later: nothing is made behind it", os.path.exists(f"{folder}/nothing"), False)
         # A mode that the file got meanwhile stays, too; and a link that is there at a start is refused.
@@ -522,45 +520,39 @@ CALL = re.compile(r"(?:\[pid +\d+\] |\d+ +)?(\w+)\((.*)\) += (-?\d+)")
 
 
 class Disk:
-    """The files and the folder of a device, as the system has them and as they are on the disk: a file's bytes behind
-    its fsync, else as far as any of its writes; names behind the folder's fsync, else as far as any of their changes,
-    in order."""
+    """The files and the folder of a device: the names, and the bytes of each file, as they are on the disk and behind each change since, the last
+    of which is what the system has. An fsync of a file puts its bytes on the disk, and one of the folder the names."""
 
     def __init__(self, keep):
-        self.keep, self.names, self.handles, self.files, self.sure, self.changes = keep, {}, {}, [], {}, []
+        self.keep, self.names, self.files, self.handles = keep, [{}], [], {}
 
     def open(self, path, handle, creates):
-        if creates and path not in self.names:
-            self.files.append([b"", [b""]])
-            self.rename(None, path, len(self.files) - 1)
-        self.handles[handle] = self.names.get(path, path)
+        if creates and path not in self.names[-1]:
+            self.files.append([b""])
+            self.names.append(self.names[-1] | {path: len(self.files) - 1})
+        self.handles[handle] = self.names[-1].get(path, path)
 
-    def rename(self, old, new=None, file=None):
-        """A name goes, and another one, if any, is of its file, or of this one."""
-        moved = self.names.get(old) if file is None else file
-        self.names = {**{name: its for name, its in self.names.items() if name != old}, **({new: moved} if new else {})}
-        self.changes.append(self.names)
+    def rename(self, old, new=None):
+        """A name goes, and another one, if any, is of its file."""
+        left = {name: file for name, file in self.names[-1].items() if name != old}
+        self.names.append(left | ({new: self.names[-1].get(old)} if new else {}))
 
     def write(self, handle, contents):
         file = self.handles.get(handle)
         if isinstance(file, int):
-            self.files[file][0] += contents
-            self.files[file][1].append(self.files[file][0])
+            self.files[file].append(self.files[file][-1] + contents)
 
     def sync(self, handle):
         file = self.handles.get(handle)
         if isinstance(file, int):
-            self.files[file][1] = [self.files[file][0]]
+            del self.files[file][:-1]
         elif file is not None:
-            self.sure, self.changes = self.names, []
+            del self.names[:-1]
 
     def found(self):
         """What the file may hold after a power cut now; nothing where it may not be there."""
-        for names in [self.sure, *self.changes]:
-            if self.keep in names:
-                yield from self.files[names[self.keep]][1]
-            else:
-                yield None
+        for names in self.names:
+            yield from self.files[names[self.keep]] if self.keep in names else [None]
 
     def note(self, name, words, result):
         """A call of the system, with its words and its result, as strace prints them with -xx."""

@@ -13,9 +13,9 @@ import sys
 
 import oca_profile as oca
 from comparing import broken, changed, events_of, in_processes, runs_of, verdict, wrong_rules
-from fuzz import Panel, datagram
+from fuzz import Panel, datagram, moment
 from oca_law import LARGEST_DATAGRAM, Datagram, Local, Tick, Told, shown_objects, walk
-from schedules import peer
+from schedules import PEERS, peer, some_change
 
 # ---- histories
 LONGEST = 2000  # so that a line of a script has at most 4,096 bytes
@@ -38,7 +38,6 @@ class History:
 
     def sets(self, ono, kind, value):
         self.events.append(Local(ono, (kind, value)))
-        return self
 
     def text(self):
         lines = [f"history {self.window} {self.peers} {self.channels}"]
@@ -118,7 +117,7 @@ def forgetting(r):
 
 def crowds(r):
     """One peer more than there is room for, and peers that are forgotten as late ones come."""
-    h = History(r.choice([1, 32]), r.choice(SIZES))
+    h = History(r.choice([1, 32]), r.choice(PEERS))
     count = h.peers + r.choice([1, 1, 2])
     order = list(range(count))
     for n in order:
@@ -195,20 +194,8 @@ def fronts(r):
     h = History(r.choice([1, 32]))
     h.says(0, lock(1, 4100), lock(2, 4097, 6))
     for n in range(12):
-        ono = r.choice([100, 4096, 4097, 4098, 4099, 4100, 4101, 4102, 5000])
-        kind = r.choice(["mute", "polarity", "switch", "boolean", *oca.WIDTHS])
-        value = {"mute": r.choice([1, 2]), "polarity": r.choice([1, 2]), "switch": r.choice([0, 1, 2, 3, 65535]), "boolean": r.randrange(2)}.get(kind)
-        if value is None:
-            low, high = oca.LIMITS[kind]
-            value = r.choice([n for n in (0, 600, 601, -600, -601, 100, 101, -1, low, high) if low <= n <= high])
-        if r.randrange(3):
-            kind, value = {4097: ("mute", r.choice([1, 2])), 4098: ("polarity", r.choice([1, 2])),
-                           4099: ("switch", r.randrange(4)), 4100: ("int16", r.randrange(-601, 602)),
-                           4101: ("boolean", r.randrange(2)), 4102: ("uint8", r.randrange(103))}.get(ono, (kind, value))
-        if r.randrange(3) == 0:
-            kind, value = r.choice([("label", r.choice(["", "Vox", "B\u00fchne", "z" * 64, "z" * 65])), ("enabled", r.randrange(2)), ("unlock", None),
-                                    ("failing", r.randrange(2))])
-        h.sets(ono, kind, value)
+        ono, *change = oca.front_change(some_change(r))
+        h.sets(ono, *change)
         if r.randrange(3) == 0:
             h.at(h.now + r.choice([0, 1, 5001, 15001, 120001])).says(r.randrange(2),
                 r.choice([get(n + 5), trim(n + 5, n), ask(n + 5, 4099, 4, 8, 2, oca.u16(1) + b"\0"), ask(n + 5, ono, 2, r.choice([1, 8])),
@@ -222,22 +209,19 @@ def reading(h, number, handle):
 
 
 def wander(r):
-    h = History(r.choice([1, 2, 3, 8, 31, 32, 32, 32, 63, 64]), r.choice(SIZES), r.choice(CHANNELS))
+    h = History(r.choice([1, 2, 3, 8, 31, 32, 32, 32, 63, 64]), r.choice(PEERS), r.choice(CHANNELS))
     numbers = range(r.choice([1, 2, 3, h.peers + 2]))
     panels, handle = {n: Panel(r, h.channels) for n in numbers}, 1
     for _ in range(r.choice([20, 40, 60, 100])):
         kind = r.randrange(12)
-        step = r.choice([0, 0, 1, 5, 100, 251, 750, 2500, 3001, 7500, 15001, 90001, 119999, 120000, 120001, -50, -5000, -130000])
-        h.at(max(0, h.now + (step if r.randrange(3) == 0 or step < 3000 else 1)))
+        h.at(moment(r, h.now))
         if kind == 0:
             h.tick()
         elif kind == 1:
             reading(h, 40, handle)
             handle += 9
         elif kind == 2:
-            h.sets(*r.choice([(4097, "mute", 1 + r.randrange(2)), (4100, "int16", r.randrange(-601, 602)), (4099, "switch", r.randrange(4)),
-                              (4097, "label", r.choice(["", "a"])), (4099, "enabled", r.randrange(2)), (r.choice([4097, 4098, 4100]), "unlock", None),
-                              (r.choice([4097, 4098, 4099, 4100]), "failing", r.choice([0, 1, 1]))]))
+            h.sets(*oca.front_change(some_change(r)))
         elif kind == 3:
             n = r.choice(numbers)
             h.says(n, ask(min(oca.U32, r.choice([panels[n].next + 1, 1])), r.choice([4097, 4098, 4100]), 1, r.choice([3, 3, 6, 4])))
@@ -247,7 +231,7 @@ def wander(r):
     return h
 
 
-SIZES, CHANNELS = [16, 16, 16, 1, 2, 15, 17, 64], [0, 0, 0, 1, 2, 9]
+CHANNELS = [0, 0, 0, 1, 2, 9]
 KINDS = [lapses, forgetting, crowds, windows, packings, limits, fronts, wander, wander, wander]
 
 
@@ -258,12 +242,10 @@ def made(seed, number):
 
 # ---- tales: what was said of the events of a history
 def verdict_of(text):
-    words = text.split(" ")
-    if words[0] == "malformed":
-        return ("malformed", int(words[1]), int(words[3]))
-    if words[0] == "served":
-        return ("served", *map(int, words[1:4]), int(words[5]) if len(words) > 4 else 0)
-    return (words[0], *map(int, words[1:]))
+    """The word of a verdict and its numbers; no reused command is told by a number that is left out."""
+    name, *rest = text.split(" ")
+    numbers = [int(it) for it in rest if it.isdigit()]
+    return (name, *numbers, 0) if name == "served" and len(numbers) == 3 else (name, *numbers)
 
 
 def tale_of(history, device):

@@ -4,8 +4,8 @@ datagrams.
 
 Usage: lossy.py BIN [COMMANDS] [SEED]     so many commands one at a time, with a window of 32; four times as many with
                                           16 under way, with a window of 31. BIN is the folder with the programs
-       lossy.py BIN directed [WINDOW..]   16 under way: the last overtakes the others and stays unanswered while 15 more
-                                          are executed; then a copy of it comes
+       lossy.py BIN directed              16 under way: the last overtakes the others and stays unanswered while 15 more
+                                          are executed; then a copy of it comes, to a window of 30 and to one of 31
 
 In the gate: lossy.py bin 30
 In the gate: lossy.py bin directed
@@ -13,8 +13,8 @@ In the gate: lossy.py bin directed
 It prints what each run did, and at the end 'N passed, M failed' over the runs. One at a time, each answer must be what
 the second implementation says; with 16 under way the answers tell the commands apart in every order. A run fails if a
 command was executed twice, if a copy was too old before its answer was carried, or if an answer is wrong or missing;
-`directed` also if with a window of 31 or more the copy is not answered from the window, or with a smaller one is not
-too old."""
+`directed` also if with a window of 31 the copy is not answered from the window, or with the smaller one is not too
+old."""
 import heapq
 import random
 import re
@@ -24,33 +24,20 @@ import sys
 import time
 
 import oca_profile as oca
-from checks import Serving, at, bound, free_port, verdict
+from checks import Serving, at, bound, free_port, verdict, write
 
 LOSS, DOUBLING, SLOW = 0.2, 0.2, 0.15
 TURNS = 20000
 
 
-class Behind:
-    """The copies of commands that are carried behind an answer to their command. Only those may be too old: nobody waits for them."""
-
-    def __init__(self):
-        self.answered, self.copies = set(), 0
-
-    def note(self, inward, data):
-        for kind, *message in oca.check(data):
-            if inward and kind == "command":
-                self.copies += message[1].handle in self.answered
-            elif not inward and kind == "response":
-                self.answered.add(message[0])
-
-
 class Network:
-    """Carries datagrams between one controller and one device, as badly as the seed says."""
+    """Carries datagrams between one controller and one device, as badly as the seed says. `behind` is how many copies of commands it
+    carried behind an answer to their command: only those may be too old, since nobody waits for them."""
 
     def __init__(self, device, seed):
         self.random = random.Random(seed)
         self.front, self.back = bound(), bound()  # the controller takes the front for the device
-        self.device, self.controller, self.behind = device, None, Behind()
+        self.device, self.controller, self.answered, self.behind = device, None, set(), 0
         self.due, self.number, self.latest = [], 0, {True: -1, False: -1}
         self.lost = self.doubled = self.overtaken = self.carried = 0
 
@@ -70,7 +57,11 @@ class Network:
         self.number += 1
 
     def carry(self, inward, data):
-        self.behind.note(inward, data)
+        for kind, *message in oca.check(data):
+            if inward and kind == "command":
+                self.behind += message[1].handle in self.answered
+            elif not inward and kind == "response":
+                self.answered.add(message[0])
         if inward:
             self.back.sendto(data, self.device)
         elif self.controller:
@@ -102,7 +93,7 @@ class Directed(Network):
 
     def __init__(self, device):
         super().__init__(device, 0)
-        self.first, self.kept, self.answered = [], [], set()
+        self.first, self.kept = [], []
 
     def accept(self, inward, data):
         self.carried += 1
@@ -116,7 +107,6 @@ class Directed(Network):
                 self.carry(True, waiting)
                 time.sleep(0.002)
         elif handle != self.LATE:
-            self.answered |= set() if inward else {handle}
             self.carry(inward, data)
         elif not inward:
             self.kept = [data]
@@ -132,49 +122,43 @@ class Directed(Network):
 
 
 def set_and_read(r, count):
-    """(the line for `ocactl run`, the command), the last two reading back what was set"""
+    """So many commands, the last two of which read back what was set."""
     mute = lambda: (4097, 4, 2, 1, bytes([r.choice([1, 2])]))
     trim = lambda: (4100, 5, 2, 1, r.randrange(-700, 701).to_bytes(2, "big", signed=True))
     asked = [mute() if r.randrange(2) else trim() for _ in range(count - 2)] + [(4100, 5, 1), (4097, 4, 1)]
-    made = [oca.Command(handle, *its) for handle, its in enumerate(asked, 1)]
-    return [(line_of(c), c) for c in made]
+    return [oca.Command(handle, *its) for handle, its in enumerate(asked, 1)]
 
 
 ONOS = [100, 4096, 4097, 4098, 4099, 4100, 4101, 4102, 5000]
 
 
 def told_apart(r, count):
-    """The same of commands whose answers do not depend on the others: neighbours answer differently."""
+    """So many commands whose answers do not depend on the others: neighbours answer differently."""
     methods = [(1, 1), (1, 2), (1, 5), (2, 10), (3, 5), (5, 2), (7, 7)]
-    asked = [(ONOS[(handle + r.randrange(3)) % len(ONOS)], *methods[handle % len(methods)]) for handle in range(1, count + 1)]
-    made = [oca.Command(handle, *its) for handle, its in enumerate(asked, 1)]
-    return [(line_of(c), c) for c in made]
+    onos = [ONOS[(handle + r.randrange(3)) % len(ONOS)] for handle in range(1, count + 1)]
+    return [oca.Command(handle, ono, *methods[handle % len(methods)]) for handle, ono in enumerate(onos, 1)]
 
 
-def answers_of(made):
+def answers_of(commands):
     tree, printed = oca.bench(), []
-    for _, command in made:
+    for command in commands:
         status, items, params = oca.execute(tree, "the panel", command)
         printed.append(f"answer {status} {items} {oca.hex_text(params)}")
     return printed
 
 
-def line_of(c):
-    return f"{c.target} {c.level} {c.index} {c.count} {oca.hex_text(c.params)}"
-
-
 class Run:
     """A run of the two programs over a network: the answers, the controller's status, and the device's report."""
 
-    def __init__(self, folder, made, window, network_of, words):
+    def __init__(self, folder, commands, window, network_of, words):
         words = [f"{folder}/ocactl", "run", "--first-handle", "1", "--port", str(free_port()), *words]
         with Serving(f"{folder}/ocadev", "serve", "--port", 0, "--turns", TURNS, "--window", window, stdout=subprocess.PIPE) as serving:
             device, self.network = serving.process, network_of((serving.ip, serving.port))
             network = self.network
             panel = subprocess.Popen([*words, "--device", at(network.front)], stdin=subprocess.PIPE, stdout=subprocess.PIPE)
-            panel.stdin.write("".join(line + "\n" for line, _ in made).encode())
-            panel.stdin.close()
-            end = time.time() + 2 * len(made) + 60
+            lines = [f"{c.target} {c.level} {c.index} {c.count} {oca.hex_text(c.params)}\n" for c in commands]
+            write(panel, "".join(lines).encode())
+            end = time.time() + 2 * len(commands) + 60
             while panel.poll() is None and time.time() < end:
                 network.step()
             panel.kill()
@@ -186,22 +170,22 @@ class Run:
                 time.sleep(0.005)
         self.answers, self.status = panel.stdout.read().decode().splitlines(), panel.wait()
         self.report = {name: int(n) for name, n in re.findall(r"([a-z-]+) ([0-9]+)", device.stdout.read())}
-        self.wrong = sum(a != b for a, b in zip(self.answers, answers_of(made)))
-        self.missing = len(made) - len(self.answers)
+        self.wrong = sum(a != b for a, b in zip(self.answers, answers_of(commands)))
+        self.missing = len(commands) - len(self.answers)
 
     def is_as_promised(self, count):
         """A copy may be too old only where it came behind its command's answer: nobody waits for it."""
-        return self.report.get("executed") == count and self.report.get("old", count) <= self.network.behind.copies and self.wrong == 0 \
+        return self.report.get("executed") == count and self.report.get("old", count) <= self.network.behind and self.wrong == 0 \
             and self.missing == 0 and self.status == 0
 
 
-def told(folder, made, window, seed, words):
+def told(folder, commands, window, seed, words):
     """Runs the commands, prints what came of them, and answers whether all was as promised."""
-    run = Run(folder, made, window, lambda device: Network(device, seed), words)
+    run = Run(folder, commands, window, lambda device: Network(device, seed), words)
     network = run.network
-    good = run.is_as_promised(len(made))
-    print(f"{len(made)} commands, window {window}: of {network.carried} datagrams {network.lost} lost, {network.doubled} doubled, "
-          f"{network.overtaken} overtaken; {run.report}, {network.behind.copies} copies behind their answers; {run.wrong} answers wrong, "
+    good = run.is_as_promised(len(commands))
+    print(f"{len(commands)} commands, window {window}: of {network.carried} datagrams {network.lost} lost, {network.doubled} doubled, "
+          f"{network.overtaken} overtaken; {run.report}, {network.behind} copies behind their answers; {run.wrong} answers wrong, "
           f"{run.missing} missing, status {run.status}: {'as promised' if good else 'NOT as promised'}", flush=True)
     return good
 
@@ -218,7 +202,7 @@ def directed(folder, window):
 def main():
     folder, words = sys.argv[1], sys.argv[2:]
     if words[:1] == ["directed"]:
-        good = [directed(folder, int(window)) for window in words[1:] or ["30", "31"]]
+        good = [directed(folder, window) for window in (30, 31)]
     else:
         count, seed = int(words[0]) if words else 200, int(words[1]) if len(words) > 1 else 1
         good = [told(folder, set_and_read(random.Random(seed), count), 32, seed, []),

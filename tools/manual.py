@@ -17,13 +17,13 @@ import sys
 import tempfile
 from pathlib import Path
 
-sys.path.insert(0, str(Path(__file__).resolve().parent.parent / "gate"))
-
-import reference
 from checks import Checks
-from tables import data
+from tables import TOP, data
 
-PAGES = Path(__file__).resolve().parent.parent / "man"
+sys.path.insert(0, str(TOP / "gate"))
+import reference
+
+PAGES = TOP / "man"
 DATA = data("manual")
 
 
@@ -31,22 +31,22 @@ def help_of(program, *words):
     return subprocess.run([program, *words, "--help"], capture_output=True, text=True, timeout=30, check=True).stdout
 
 
-def section(text, name):
-    found = re.search(rf"^{name}:\n((?:.+\n)+)", text, re.MULTILINE)
-    return found[1].splitlines() if found else []
+def listed_in_help(text, heading):
+    """The options or commands below a heading: each with its value, or none, and with what is said of it."""
+    part = re.search(rf"^{heading}:\n((?:.+\n)+)", text, re.MULTILINE)
+    rows = re.findall(r"^ +(?:-\w, )?(?:--)?([a-z-]+)(?:[ =]<([^>]+)>)* *(.*)", part[1] if part else "", re.MULTILINE)
+    return {name: (value or None, said) for name, value, said in rows}
 
 
 def options_in_help(text):
-    """Each option with its value and its default, or none; not `--help` and `--version`, which every program has."""
-    pattern = r"\s+(?:-\w, )?--([a-z-]+)(?:[ =]<([^>]+)>)?(.*)"
-    found = [re.match(pattern, line) for line in section(text, "Options")]
-    return {m[1]: (m[2], default_of(m[3])) for m in found if m and m[1] not in ("help", "version")}
+    """Each option with its value and what is said of it; not `--help` and `--version`, which every program has."""
+    return {name: of for name, of in listed_in_help(text, "Options").items() if name not in ("help", "version")}
 
 
 def commands_in_help(program):
-    found = {line.split()[0]: [line.split()[0]] for line in section(help_of(program), "Commands")}
-    found.pop("help", None)
-    return found or {Path(program).name: []}
+    """The words of each command, none of a program's own name where it has no commands."""
+    names = listed_in_help(help_of(program), "Commands").keys() - {"help"}
+    return {name: [name] for name in sorted(names)} or {Path(program).name: []}
 
 
 def parts_of(text, section):
@@ -89,7 +89,7 @@ def faults_of(text, program):
     faults = [f"command {name} is in one of both alone" for name in documented.keys() ^ there.keys()]
     count = len(there)
     for name in sorted(documented.keys() & there.keys()):
-        said = options_in_help(help_of(program, *there[name]))
+        said = {option: (value, default_of(told)) for option, (value, told) in options_in_help(help_of(program, *there[name])).items()}
         count += len(said) + sum(default is not None for _, default in said.values())
         for option in sorted(documented[name].keys() | said.keys()):
             page_has, help_has = documented[name].get(option), said.get(option)
@@ -106,9 +106,7 @@ def warnings_of(*pages):
 
 
 def said_in_help(text):
-    found = [re.match(r"\s+(?:-\w, )?(?:--)?([a-z-]+)(?:[ =]<[^>]+>)*\s*(.*)", line)
-             for name in ("Options", "Commands") for line in section(text, name)]
-    return {m[1]: m[2] for m in found if m}
+    return {name: said for heading in ("Options", "Commands") for name, (_, said) in listed_in_help(text, heading).items()}
 
 
 def unexplained(text):
@@ -117,12 +115,8 @@ def unexplained(text):
     return [name for name, words in said.items() if not re.match(r"[A-Z]\S* \S", words) or list(said.values()).count(words) > 1]
 
 
-# Help texts that are wrong: what stands in the place of what is said of an option.
-WRONG_HELP = ["", "window", "W", "Help", "Print help"]
-
-
 def explanations(folder):
-    """Which options and commands are not explained, a line each, and how many there are; and texts that are wrong are found."""
+    """Which options and commands are not explained, a line each, and how many there are."""
     faults, count = [], 0
     for name in ("ocadev", "ocactl", "ocapanel"):
         program = f"{folder}/{name}"
@@ -130,12 +124,6 @@ def explanations(folder):
             text = help_of(program, *words)
             count += len(said_in_help(text))
             faults += [f"{name} {' '.join(words)} --help says nothing of {it}" for it in unexplained(text)]
-    text = help_of(f"{folder}/ocadev", "serve")
-    for other in WRONG_HELP:
-        wrong = re.sub(r"(?m)^( +--window <W> +)\S.*$", lambda m: m[1] + other, text)
-        count += 1
-        if wrong == text or "window" not in unexplained(wrong):
-            faults.append(f"not found: {other!r} as the help of --window")
     return faults, count
 
 
@@ -155,29 +143,12 @@ def title_of(program, folder):
     return reference.title(program.upper(), 1, f"Rouxcanyon {version}", "User Commands")
 
 
-def calls_faults(pages):
-    """The pages of the calls from C that are not titled by name, day and version."""
-    version = re.search(r"^Version: (.+)$", (PAGES.parent / "include/oca.pc.in").read_text(), re.MULTILINE)[1]
-    day = re.search(rf"^## \[{re.escape(version)}\] - ([\d-]+)$", (PAGES.parent / "CHANGELOG.md").read_text(), re.MULTILINE)[1]
-    return [f"{name} is not titled by {day} and {version}" for name, text in pages.items()
-            if not text.startswith(f'.TH {Path(name).stem} 3 {day} "oca {version}" "OCA (AES70) for C"\n')]
-
-
-def of_calls(checks):
-    """Checks the pages of the calls from C, and that one without its day, and one of another version, are found."""
+def warned_of_calls():
+    """What groff warns of in the pages of the calls from C, and how many these are."""
     with tempfile.TemporaryDirectory() as folder:
         reference.write(Path(folder))
-        pages = {file.name: file.read_text() for file in sorted(Path(folder).iterdir())}
-        checks.all_but(len(pages), calls_faults(pages) + warnings_of(*sorted(Path(folder).iterdir())))
-    name, text = next(iter(pages.items()))
-    for there, other in ((r" 3 \S+ ", ' 3 "" '), (r'"oca \d', '"oca 9')):
-        checks.expect(f"not found: {other!r} in the title of {name}", len(calls_faults({name: re.sub(there, other, text, count=1)})) == 1)
-
-
-def is_found(name, there, other, folder):
-    text = (PAGES / f"{name}.1").read_text()
-    wrong = text.replace(there, other, 1)
-    return there in text and len(faults_of(wrong, f"{folder}/{name}")[0] + ends_told(wrong, name)) > 0
+        pages = sorted(Path(folder).iterdir())
+        return warnings_of(*pages), len(pages)
 
 
 def main():
@@ -188,11 +159,14 @@ def main():
         faults += warnings_of(page) + ends_told(page.read_text(), name)
         checks.all_but(count + len(DATA.ended[name]), [f"{name}.1: {fault}" for fault in faults])
         checks.expect(f"{name}.1 is titled otherwise than {title_of(name, folder)}", page.read_text().startswith(title_of(name, folder) + "\n"))
-    of_calls(checks)
-    faults, count = explanations(folder)
-    checks.all_but(count, faults)
+    for faults, count in (warned_of_calls(), explanations(folder)):
+        checks.all_but(count, faults)
     for name, there, other in DATA.wrong:
-        checks.expect(f"not found: {other!r} in place of {there!r} in {name}.1", is_found(name, there, other, folder))
+        faults = lambda wrong: faults_of(wrong, f"{folder}/{name}")[0] + ends_told(wrong, name)
+        checks.finds(f" in {name}.1", (PAGES / f"{name}.1").read_text(), there, other, faults)
+    text = help_of(f"{folder}/ocadev", "serve")
+    for other in DATA.wrong_help:
+        checks.finds(" in the help of --window", text, said_in_help(text)["window"], other, lambda wrong: "window" in unexplained(wrong))
     return checks.verdict()
 
 

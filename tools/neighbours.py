@@ -7,7 +7,6 @@ Usage: neighbours.py BIN [SECONDS]     BIN is the folder with `ocadev`; each run
 Datagrams of 1 or 122 keep-alives come in the names of silent hosts, at several rates. A peer that asks twenty times a
 second must get each answer, the slowest within 100 ms longer than alone; at least half of the datagrams must have been
 sent. It needs root and `ip` (iproute2); else it says so, and tries nothing. The last line is 'N passed, M failed'."""
-import contextlib
 import os
 import re
 import socket
@@ -16,7 +15,8 @@ import time
 
 import namespaces
 import oca_profile as oca
-from checks import bound, verdict
+from checks import tries, verdict
+from peers import Peer
 
 DEVICE, PEER, SILENT = "10.91.0.1", "10.91.0.2", "10.91.0.{}"
 PORT = 65000
@@ -56,22 +56,15 @@ def flood(hosts, rate, alive, seconds):
 
 def ask(seconds):
     """Asks for a state twenty times a second: prints how many were asked, how many answered at the first sending, and the slowest in ms."""
-    peer = bound(PEER)
-    asked = answered = slowest = 0
+    peer = Peer(PORT, 1, 1, DEVICE)
+    answered = slowest = 0
     begun = time.monotonic()
     while time.monotonic() < begun + seconds:
-        asked += 1
-        peer.settimeout(1)
         sent = time.monotonic()
-        peer.sendto(oca.command(asked, 4097, 4, 1), (DEVICE, PORT))
-        wanted = oca.response(asked, 0, 1, b"\1")
-        with contextlib.suppress(TimeoutError):
-            while peer.recv(2000) != wanted:
-                pass
-            answered += 1
+        answered += peer.ask(4097, 4, 1) == (0, b"\1")
         slowest = max(slowest, 1000 * (time.monotonic() - sent))
         time.sleep(0.05)
-    print(asked, answered, round(slowest))
+    print(peer.handle, answered, round(slowest))
 
 
 def run(room, folder, silent, seconds):
@@ -96,12 +89,9 @@ def is_well(said, alone, fewest):
 
 def tried(room, folder, silent, seconds, alone=None):
     """What the peer says beside these hosts, when first all is well, else at last; and whether it is."""
-    fewest = silent[1] * seconds // 2 if silent else 0
-    for _ in range(TRIES):
-        said = run(room, folder, silent, seconds)
-        if is_well(said, alone or said, fewest):
-            return said, True
-    return said, False
+    good = lambda said: is_well(said, alone or said, silent[1] * seconds // 2 if silent else 0)
+    said = tries(TRIES, lambda: run(room, folder, silent, seconds), good)[-1]
+    return said, good(said)
 
 
 def main():

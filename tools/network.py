@@ -11,6 +11,7 @@ import contextlib
 import errno
 import itertools
 import os
+import re
 import resource
 import socket
 import struct
@@ -23,7 +24,8 @@ from pathlib import Path
 
 import checks
 import oca_profile as oca
-from checks import at, bound, comes, ended, free_port, heard, layer, next_line, nulls_of, tries, waited, write
+from checks import at, bound, comes, ended, free_port, heard, layered, next_line, nulls_of, tries, waited, write
+from peers import Peer
 from tables import data
 
 GET, ASKS = (4097, 4, 1), ("--target", 4097, "--level", 4, "--index", 1, "--count", 0)
@@ -31,8 +33,6 @@ WAIT_MS, DATA = 50, data("network")
 # Linux's option by which the system tells when a datagram came
 SO_TIMESTAMPNS = 35
 TRIES = 12
-# the stack of each run that is to do with little, in bytes: of the program by its name
-STACK = {"ocadev": 128 * 1024, "ocactl": 256 * 1024}
 # so many turns that no run comes to their end by waiting: it is ended by datagrams, each of which is a turn
 TURNS_OF_A_COPY = 4000
 
@@ -50,27 +50,17 @@ def next_command(device):
     return next(((data, sender) for data, sender in comes(device) if data[7:8] != b"\4"), (b"", None))
 
 
-def answer(peer, handle, to):
-    """The answer to GetState under a handle, and its sender. It is sent again each 300 ms."""
-    for _ in range(40):
-        peer.sendto(get_command(handle), to)
-        until = time.monotonic() + 0.3
-        while (left := until - time.monotonic()) > 0:
-            peer.settimeout(left)
-            try:
-                got = peer.recvfrom(2000)
-            except TimeoutError:
-                break
-            if got[0][7:8] != b"\3" or oca.number(got[0][14:18]) >= handle:  # an answer to an earlier copy is none
-                return got
-    return None, None
+def answered(peer):
+    """The datagram that answers the next GetState of a peer."""
+    peer.ask(*GET)
+    return peer.response
 
 
 class Checks(checks.Checks):
     def start(self, *words, close=(), stack=0, **how):
         """A run in this folder, with these descriptors closed, so much stack where it is said, and what is written in capitals done by the layer."""
-        settings = {name: str(how.pop(name)) for name in list(how) if name.isupper()}
-        env = {**os.environ, **settings, **({"LD_PRELOAD": layer("unreliable")} if settings else {})}
+        settings = {name: how.pop(name) for name in list(how) if name.isupper()}
+        how = {"env": layered(**settings) if settings else None, "stdin": subprocess.DEVNULL, **how}
 
         def prepare():
             for fd in close:
@@ -78,7 +68,7 @@ class Checks(checks.Checks):
             if stack:
                 resource.setrlimit(resource.RLIMIT_STACK, (stack, stack))
 
-        return super().start(*words, env=env, preexec_fn=prepare, **{"stdin": subprocess.DEVNULL, **how})
+        return super().start(*words, preexec_fn=prepare, **how)
 
     def send(self, device, handle, *words, **settings):
         return ended(self.start("ocactl", "send", "--device", device, "--first-handle", handle, *ASKS, *words, **settings))
@@ -105,8 +95,8 @@ class Waits:
         self.one = max(WAIT_MS, sum(self.took) / len(self.took))
 
 
-def report(run):
-    words = run.communicate(timeout=60)[0].split()
+def counts_in(report):
+    words = report.split()
     return {name: int(value) for name, value in zip(words[::2], words[1::2])}
 
 
@@ -124,37 +114,38 @@ def flooded(run, port):
     return run.communicate(timeout=60)
 
 
+def turns_of(checks, turns, settings):
+    """What a run of so many turns counts, how many waits of 50 ms a turn takes, and whether one is shorter than such a wait."""
+    begun = time.monotonic()
+    run, _ = checks.serve("--turns", turns, **settings)
+    with Waits() as waits:
+        listening = time.monotonic()
+        counts = counts_in(run.communicate(timeout=60)[0])
+    ended = time.monotonic()
+    # the turns lie between the start and the end of the run, however late this script hears of either
+    return counts, (ended - listening) * 1000 / turns / waits.one, (ended - begun) * 1000 / turns < 0.9 * WAIT_MS
+
+
 def quiet_turns(checks):
     """A turn without a datagram waits 50 ms, with signals too; each failing receive waits as long and is counted."""
     turns = 20
     for failing, settings in ((0, {}), (0, {"SIGNALS": 30}), (0, {"SIGNALS": 1000}), (0, {"INTERRUPT": 5}),
                               (7, {"FAIL_RECEIVE": 7, "ERRNO": errno.ENETDOWN}), (20, {"FAIL_RECEIVE": 99, "ERRNO": errno.ENOBUFS, "SIGNALS": 1000})):
-        took, short = [], False
-        for _ in range(TRIES):
-            begun = time.monotonic()
-            run, _ = checks.serve("--turns", turns, **settings)
-            with Waits() as waits:
-                listening = time.monotonic()
-                counts = report(run)
-            ended = time.monotonic()
-            took.append((ended - listening) * 1000 / turns / waits.one)
-            # the turns lie between the start and the end of the run, however late this script hears of either
-            short = short or (ended - begun) * 1000 / turns < 0.9 * WAIT_MS
-            if {name: counts.get(name) for name in ("quiet", "failed-receives")} != {"quiet": turns - failing, "failed-receives": failing}:
-                checks.expect(f"{settings}: quiet turns and failed ones", False, counts)
-            if took[-1] < 1.2:
-                break
-        checks.expect(f"{settings}: no turn is shorter than a wait of 50 ms", not short, f"{took} of such a wait")
-        checks.expect(f"{settings}: a turn takes as long as a wait of 50 ms", min(took) < 1.2, f"{took} of such a wait", is_time=True)
+        found = tries(TRIES, lambda: turns_of(checks, turns, settings), lambda it: it[1] < 1.2)
+        took = f"{[turn for _, turn, _ in found]} of such a wait"
+        counted = {(counts.get("quiet"), counts.get("failed-receives")) for counts, _, _ in found}
+        checks.same(f"{settings}: quiet turns and failed ones", counted, {(turns - failing, failing)})
+        checks.expect(f"{settings}: no turn is shorter than a wait of 50 ms", not any(is_short for _, _, is_short in found), took)
+        checks.expect(f"{settings}: a turn takes as long as a wait of 50 ms", found[-1][1] < 1.2, took, is_time=True)
 
 
 def signals(checks):
     """Commands are answered while signals come, and before each call of a socket some."""
     for settings in ({"SIGNALS": 30}, {"SIGNALS": 1000}, {"INTERRUPT": 5}):
         run, port = checks.serve(**settings)
-        with bound() as peer:
-            for handle in range(1, 31):
-                checks.same(f"{settings}: answer {handle} of `serve`", answer(peer, handle, ("127.0.0.1", port))[0], response(handle))
+        peer = Peer(port)
+        for handle in range(1, 31):
+            checks.same(f"{settings}: answer {handle} of `serve`", answered(peer), response(handle))
         for handle in range(1, 4):
             got = checks.send(f"127.0.0.1:{port}", handle, **settings)
             checks.same(f"{settings}: `send`", got, ("answer 0 1 01\n", "", 0), is_time=got[0] == "lost\n")
@@ -182,10 +173,9 @@ def refused_sends(checks):
     for number, count, words in ((errno.ENETUNREACH, 1, ()), (errno.ENOBUFS, 2, ()), (errno.EPERM, 3, ()), (errno.EPERM, 2, ("--verbose",)),
                                  (errno.EPERM, 2, ("--stats", 86400)), (errno.EPERM, 2, ("--keep", f"{place.name}/state"))):
         run, port = checks.serve("--turns", TURNS_OF_A_COPY, *words, FAIL_SEND=count, ERRNO=number)
-        with bound() as peer:
-            checks.same(f"error {number}: the answer to a copy", answer(peer, 5, ("127.0.0.1", port))[0], response(5))
+        checks.same(f"error {number}: the answer to a copy", answered(Peer(port)), response(1))
         out, told = flooded(run, port)
-        counts, lines = dict(zip(out.split()[::2], map(int, out.split()[1::2]))), told.splitlines()
+        counts, lines = counts_in(out), told.splitlines()
         counted = [counts.get("executed"), counts.get("kept", 0) >= count, counts.get("failed-sends")]
         checks.same(f"error {number} {words}: executed, kept, failed sends", counted, [1, True, count])
         notes = [line for line in lines if line.startswith("note: ")]
@@ -200,14 +190,25 @@ def refused_sends(checks):
 SENT = ("--target", 1, "--level", 1, "--index", 1, "--count", 0)
 
 
-def refused_sockets(checks):
-    """A socket that the system refuses: a note has the system's reason, with the port where the program chose one or was given one for objects."""
-    with bound() as taken, bound() as device:
-        places = {"TAKEN": str(taken.getsockname()[1]), "DEVICE": at(device)}
-        for words, why in DATA.refused_sockets:
-            words = [places.get(word, word) for word in words.split()]
-            said = ("", f"note: {why.replace('TAKEN', places['TAKEN'])}\nsocket failed\n", 1)
-            checks.same(f"a refused socket of {words}", ended(checks.start(*words)), said)
+def runs(checks):
+    """Sockets that the system refuses, descriptors that are closed, pipes that nobody reads, and little stack: what each run prints and
+    says, as far as its row tells, and its status."""
+    reader, unread = os.pipe()
+    os.close(reader)
+    _, port = checks.serve(stack=128 * 1024)
+    with bound() as taken, bound() as silent:
+        places = {"TAKEN": str(taken.getsockname()[1]), "SILENT": at(silent), "SERVED": f"127.0.0.1:{port}"}
+        filled = lambda text: re.sub("|".join(places), lambda place: places[place[0]], text)
+        for row in DATA.run:
+            streams = {"stdin": subprocess.PIPE} | dict.fromkeys(row.get("unread", ()), unread)
+            run = checks.start(*filled(row["words"]).split(), given=row.get("given", ""), close=row.get("closed", ()),
+                               stack=1024 * row.get("kib_of_stack", 0), **streams)
+            printed, said, status = ended(run)
+            printed, said = printed or "", said or ""
+            got = {"printed": printed, "begins": printed[:len(row.get("begins", ""))], "said": said, "last": said.rstrip("\n").split("\n")[-1]}
+            wanted = {name: filled(row[name]) for name in got if name in row}
+            checks.same(f"{row}", (status, {name: got[name] for name in wanted}), (row["status"], wanted))
+    os.close(unread)
 
 
 def with_a_buffer(checks, granted, *words):
@@ -278,32 +279,37 @@ def a_lost_address(checks):
             checks.same(f"{settings}: what is sent besides the command", {*heard(silent)} - {wanted}, asks)
 
 
-def sends_lines(checks, device, count):
-    """How many ms each line took that `ocactl run` gets 60 ms behind the answer before."""
-    words = ("--device", at(device), "--first-handle", 1, "--port", free_port())
-    run = checks.start("ocactl", "run", *words, stdin=subprocess.PIPE)
-    took, given = [], []
-    for handle in range(1, count + 1):
-        begun = time.monotonic()
-        write(run, "4097 4 1 0 -\n", ends=False)
-        data, sender = next_command(device)
-        took.append((time.monotonic() - begun) * 1000)
-        if sender:
-            device.sendto(response(handle), sender)
-        given.append((data, sender and next_line(run)))
-        if not given[-1][1]:
-            break
-        time.sleep(1.2 * WAIT_MS / 1000)
-    checks.same("`run`: its lines", given, [(get_command(handle), "answer 0 1 01\n") for handle in range(1, count + 1)])
-    checks.same("`run`: its end", ended(run), ("", "", 0))
-    return took
+def gets_lines(checks, what, pauses, delay=0):
+    """Of `ocactl run` with a line behind each of these pauses, whose command is answered so many seconds behind its coming: how many ms each
+    command took to come, and how often it had come by then."""
+    took, copies, given = [], [], []
+    with bound() as device:
+        words = ("--device", at(device), "--first-handle", 1, "--port", free_port())
+        run = checks.start("ocactl", "run", *words, stdin=subprocess.PIPE)
+        for handle, pause in enumerate(pauses, 1):
+            time.sleep(pause)
+            begun = time.monotonic()
+            write(run, "4097 4 1 0 -\n", ends=False)
+            data, sender = next_command(device)
+            took.append((time.monotonic() - begun) * 1000)
+            time.sleep(delay)
+            copies.append([data, *heard(device)].count(get_command(handle)))
+            device.settimeout(10)
+            if sender:
+                device.sendto(response(handle), sender)
+            given.append((data, sender and next_line(run)))
+            if not given[-1][1]:
+                break
+        checks.same(f"{what}: its lines", given, [(get_command(handle), "answer 0 1 01\n") for handle in range(1, len(pauses) + 1)])
+        checks.same(f"{what}: its end", ended(run), ("", "", 0))
+    return took, copies
 
 
 def lines_at_once(checks):
     """A line of `ocactl run` is sent at once where nothing is under way: the fourth of seven sooner than half a wait of 50 ms ends."""
     def take():
-        with bound() as device, Waits() as waits:
-            took = sends_lines(checks, device, 8)
+        with Waits() as waits:
+            took, _ = gets_lines(checks, "`run`", [0, *7 * [1.2 * WAIT_MS / 1000]])
         return sorted(took[1:])[3] / waits.one if len(took) == 8 else None  # the first line waits for the program to begin
 
     fourth = tries(TRIES, take, lambda it: it is None or it < 0.5)
@@ -311,51 +317,33 @@ def lines_at_once(checks):
         checks.expect("`run`: a line is sent sooner than half a wait of 50 ms ends", fourth[-1] < 0.5, f"{fourth} of such a wait", is_time=True)
 
 
-def copies_behind_a_pause(checks):
-    """How often the second command comes, a second behind the first answer, that is answered behind a wait of 50 ms."""
-    with bound() as device:
-        device.setsockopt(socket.SOL_SOCKET, SO_TIMESTAMPNS, 1)
-        to = ("--device", at(device))
-        run = checks.start("ocactl", "run", *to, "--first-handle", 1, "--port", free_port(), stdin=subprocess.PIPE)
-        printed, heard = [], []
-        for handle, pause in ((1, 0), (2, 1)):
-            time.sleep(pause)
-            write(run, "4097 4 1 0 -\n", ends=False)
-            data, sender = next_command(device)
-            time.sleep(WAIT_MS / 1000)
-            heard = [data, *(more for more, _, _ in arrivals(device))]
-            device.settimeout(10)
-            if sender:
-                device.sendto(response(handle), sender)
-            printed.append(sender and next_line(run))
-        checks.same("`run` with a pause: its lines", printed, ["answer 0 1 01\n"] * 2)
-        checks.same("`run` with a pause: its end", ended(run), ("", "", 0))
-    return heard.count(get_command(2))
-
-
 def a_line_behind_a_pause(checks):
     """A command behind a pause is sent at its own moment: it is sent again 250 ms later, and not at once."""
-    times = tries(3, lambda: copies_behind_a_pause(checks), lambda it: it == 1)
-    checks.same("`run` with a pause: how often the second command is sent in 50 ms", times[-1], 1, is_time=True)
+    copies = tries(3, lambda: gets_lines(checks, "`run` with a pause", (0, 1), WAIT_MS / 1000)[1], lambda it: it[-1] == 1)
+    checks.same("`run` with a pause: how often the second command is sent in 50 ms", copies[-1][-1], 1, is_time=True)
 
 
 def a_stalled_neighbour(checks):
     """Datagrams to a host that takes none hold up nobody else."""
-    with bound() as stalled, bound() as peer:
+    with bound() as stalled:
         run, port = checks.serve(STALL=stalled.getsockname()[1])
-        slowest, handle = [], 0
-        for _ in range(TRIES):
+        peer = Peer(port)
+
+        def take():
+            """How many ms each of twenty answers took, and by how many waits of 50 ms the one in their middle."""
+            took = []
             with Waits() as waits:
-                for handle in range(handle + 1, handle + 21):
+                for handle in range(peer.handle + 1, peer.handle + 21):
                     for copy in range(5):
                         stalled.sendto(get_command(5 * handle + copy), ("127.0.0.1", port))
                     begun = time.monotonic()
-                    checks.same(f"behind a stalled neighbour: answer {handle}", answer(peer, handle, ("127.0.0.1", port))[0], response(handle))
-                    slowest.append((time.monotonic() - begun) * 1000)
-            soon = sorted(slowest[-20:])[10] / waits.one
-            if soon < 1.2:
-                break
-        checks.expect("behind five sends without room an answer comes as soon as a wait of 50 ms ends", soon < 1.2, f"{slowest} ms", is_time=True)
+                    checks.same(f"behind a stalled neighbour: answer {handle}", answered(peer), response(handle))
+                    took.append((time.monotonic() - begun) * 1000)
+            return took, sorted(took)[10] / waits.one
+
+        found = tries(TRIES, take, lambda it: it[1] < 1.2)
+        what = "behind five sends without room an answer comes as soon as a wait of 50 ms ends"
+        checks.expect(what, found[-1][1] < 1.2, f"{found} ms", is_time=True)
 
 
 def closed_descriptors(checks):
@@ -370,27 +358,6 @@ def closed_descriptors(checks):
         checks.same("`run` without an input", ended(run), ("", "", 0))
         time.sleep(0.1)
         checks.same("a stranger's line is not sent", heard(device), [])
-    for closed, last, begins, status in (((1,), ["write failed"], "", 1), ((2,), [], "turns 2 ", 0), ((0, 1, 2), [], "", 1)):
-        out, told, code = ended(checks.start("ocadev", "serve", "--port", 0, "--turns", 2, close=closed))
-        checks.same(f"`serve` with {closed} closed", (told.splitlines()[-1:], out[:8], code), (last, begins, status))
-
-
-def broken_pipes(checks):
-    """A pipe that nobody reads does not end a program: an output that can't be written is a fault, and a place for faults that can't be is none."""
-    reader, writer = os.pipe()
-    os.close(reader)
-    with bound() as silent:
-        to = ("--device", at(silent))
-        send, serve = ("ocactl", "send", *to, *SENT, "--turns", 0), ("ocadev", "serve", "--port", 0, "--turns", 2)
-        for words in (("ocadev", "show"), serve, send):
-            run = checks.start(*words, stdout=writer)
-            said = run.communicate(timeout=60)[1].splitlines()[-1:]
-            checks.same(f"{words}: its output is a broken pipe", (said, run.returncode), (["write failed"], 1))
-        for words, begins, status in ((serve, "turns 2 ", 0), (send, "no answer\n", 3)):
-            run = checks.start(*words, stderr=writer)
-            printed = run.communicate(timeout=60)[0][:len(begins)]
-            checks.same(f"{words}: its errors are a broken pipe", (printed, run.returncode), (begins, status))
-    os.close(writer)
 
 
 def null_at_closed(checks):
@@ -406,34 +373,28 @@ def null_at_closed(checks):
                 run.communicate(timeout=60)
 
 
-@contextlib.contextmanager
 def locked(checks, what, **settings):
-    """A device with such a sleep whose mute a peer has locked: that peer, and what another one gets that asks for the mute."""
+    """Of a device with such a sleep: the socket of a peer that has locked the mute, and a check of what another peer gets for it."""
     run, port = checks.serve(**settings)
-    with bound() as holder, bound() as other:
-        def gets(handle, status, behind=""):
-            got = answer(other, handle, ("127.0.0.1", port))[0]
-            checks.same(f"{what}: what another peer gets{behind}", got and got[18], status)
-
-        holder.connect(("127.0.0.1", port))
-        holder.send(oca.command(1, 4097, 1, 3))
-        checks.same(f"{what}: the lock", holder.recv(2000), oca.response(1))
-        yield holder, gets
+    holder, other = Peer(port, 10, 1), Peer(port)
+    holder.ask(4097, 1, 3)
+    checks.same(f"{what}: the lock", holder.response, oca.response(1))
+    return holder.socket, lambda status, behind="": checks.same(f"{what}: what another peer gets{behind}", other.status(*GET), status)
 
 
 def asleep(checks):
     """A machine's sleep counts: locks lapse in it, and 15 seconds behind its submit no command is sent again."""
     for seconds, status in ((20, 0), (10, 3), (0, 3)):
-        with locked(checks, f"a sleep of {seconds} seconds", SLEPT=seconds) as (_, gets):
-            gets(1, status)
+        _, gets = locked(checks, f"a sleep of {seconds} seconds", SLEPT=seconds)
+        gets(status)
     what = "no clock that counts sleep, and the date is set"
-    with locked(checks, what, UNBOOTED=1000) as (holder, gets):
-        gets(1, 3)
-        beat = oca.pdu(4, [b"\0\1"])
-        holder.send(beat)
-        checks.same(f"{what}: a heartbeat of a second", holder.recv(2000), beat)
-        time.sleep(3.5)
-        gets(2, 0, " behind a silence of three")
+    holder, gets = locked(checks, what, UNBOOTED=1000)
+    gets(3)
+    beat = oca.pdu(4, [b"\0\1"])
+    holder.send(beat)
+    checks.same(f"{what}: a heartbeat of a second", holder.recv(2000), beat)
+    time.sleep(3.5)
+    gets(0, " behind a silence of three")
     for seconds, copies in ((16, 1), (5, 20)):
         with bound() as silent:
             got = checks.send(at(silent), 1, SLEPT=seconds)
@@ -477,11 +438,10 @@ def a_failed_receive(checks):
 def reports_behind_a_sleep(checks):
     """`--stats 1`: behind a sleep of 20 seconds one report is told, and not one for each second of it."""
     run, port = checks.serve("--stats", 1, SLEPT=20)
-    with bound() as peer:
-        checks.same("--stats: the answer", answer(peer, 1, ("127.0.0.1", port))[0], response(1))
-        begun = time.monotonic()
-        lines = [run.stderr.readline() for _ in range(3)]
-        took = time.monotonic() - begun
+    checks.same("--stats: the answer", answered(Peer(port)), response(1))
+    begun = time.monotonic()
+    lines = [run.stderr.readline() for _ in range(3)]
+    took = time.monotonic() - begun
     checks.same("--stats behind a sleep: what is told", [line[:12] for line in lines], ["note: turns "] * 3)
     checks.expect("--stats behind a sleep: three reports take more than a second", took > 1, f"{took:.2f} s")
 
@@ -503,32 +463,11 @@ def other_addresses(checks):
     """A device at another address of the machine answers from there."""
     run, port = checks.serve("--ip", "127.0.0.2")
     checks.same("a device at 127.0.0.2", checks.send(f"127.0.0.2:{port}", 1), ("answer 0 1 01\n", "", 0))
-    with bound() as peer:
-        checks.same("its answer comes from there", answer(peer, 9, ("127.0.0.2", port)), (response(9), ("127.0.0.2", port)))
-
-
-def small_stacks(checks):
-    """Each command of `ocactl` does with 256 KiB of stack, also where no answer comes, and `ocadev` with 128 KiB."""
-    def ran(name, *words, given=""):
-        return ended(checks.start(name, *words, given=given, stdin=subprocess.PIPE, stack=STACK[name]))
-
-    run, port = checks.serve(stack=STACK["ocadev"])
-    to = ("--device", f"127.0.0.1:{port}")
-    for words, given, printed in DATA.little_stack:
-        command, *more = words.split()
-        checks.same(f"{command} with 256 KiB of stack", ran("ocactl", command, *to, *more, given=given), (printed, "", 0))
-    printed, told, status = ran("ocactl", "tree", *to)
-    checks.same("tree with 256 KiB of stack", ([line.split()[0] for line in printed.splitlines()], told, status),
-                ([str(o.ono) for o in oca.bench()], "", 0))
-    with bound() as silent:
-        for command, words, given, printed in (("get", ("--turns", 2, 4097), "", "4097 no answer\n"), ("run", (), "4097 4 1 0 -\n", "lost\n")):
-            got = ran("ocactl", command, "--device", at(silent), *words, given=given)
-            checks.same(f"{command} with 256 KiB of stack, without an answer", (got[0], got[2]), (printed, 3))
-    checks.same("show with 128 KiB of stack", ran("ocadev", "show")[2], 0)
+    checks.same("its answer comes from there", answered(Peer(port, ip="127.0.0.2")), response(1))
 
 
 if __name__ == "__main__":
     sys.exit(Checks(sys.argv[1]).tried(
-        closed_descriptors, broken_pipes, null_at_closed, quiet_turns, signals, runs_under_signals, refused_sends, refused_sockets,
-        send_buffers, is_a_program_there, a_lost_address, lines_at_once, a_line_behind_a_pause, a_stalled_neighbour, asleep,
-        a_failed_receive, reports_behind_a_sleep, kept_safely, calls_in_a_row, other_addresses, small_stacks, alone=(small_stacks,)))
+        runs, closed_descriptors, null_at_closed, quiet_turns, signals, runs_under_signals, refused_sends, send_buffers,
+        is_a_program_there, a_lost_address, lines_at_once, a_line_behind_a_pause, a_stalled_neighbour, asleep,
+        a_failed_receive, reports_behind_a_sleep, kept_safely, calls_in_a_row, other_addresses, alone=(runs,)))

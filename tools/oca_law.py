@@ -205,9 +205,6 @@ def are_groups(answers, groups):
 
 # ---- objects: what executing one command gives, locks released, a change at the front
 
-EXECUTE, SET, WRITES = oca.execute, oca.set_local, oca.writes
-
-
 # `tree` is a tuple of objects, which never change.
 Execution = namedtuple("Execution", "tree status count parameters wrote")
 
@@ -218,8 +215,8 @@ def with_copies(tree, ones):
 
 def execution(tree, p, c):
     own = with_copies(tree, [c.target])
-    status, count, parameters = EXECUTE(own, p, oca.Command(*c))
-    wrote = WRITES(own, oca.Command(*c), (status, count, parameters))
+    status, count, parameters = oca.execute(own, p, oca.Command(*c))
+    wrote = oca.writes(own, oca.Command(*c), (status, count, parameters))
     return Execution(own if status == 0 else tree, status, count, parameters, wrote)
 
 
@@ -234,7 +231,7 @@ def released(tree, p):
 
 def after_set(tree, ono, value):
     own = with_copies(tree, [ono])
-    return own if SET(own, ono, *value) is None else tree
+    return own if oca.set_local(own, ono, *value) is None else tree
 
 
 # ---- what happened (LawByEvents.antt)
@@ -535,7 +532,7 @@ class Walk:
             written = law.written(self.H)
             self.expect(told.written in (None, written), "written_are", f"{told.written}, where {written} were written")
         elif isinstance(event, Local):
-            fault = SET(with_copies(before, [event.ono]), event.ono, *event.value)
+            fault = oca.set_local(with_copies(before, [event.ono]), event.ono, *event.value)
             self.expect(told.verdict == (("set",) if fault is None else ("refused", fault)), "set_fault",
                         f"{told.verdict}, where the fault is {fault}")
         objects = shown_objects(law.objects(self.H))

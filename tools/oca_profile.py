@@ -290,9 +290,12 @@ class Reader:
             raise Bad
         return [read() for _ in obj.names]
 
-    def finish(self):
-        if self.data:
+    def all(self, obj, count, letters):
+        """The parameters that these letters stand for, which are so many, and nothing behind them."""
+        args = [READERS[letter](self, obj) for letter in letters]
+        if self.data or count != len(letters):
             raise Bad
+        return args
 
 
 def u16(n):
@@ -385,20 +388,9 @@ OF_VALUE = {(5, 1): ("R", "", lambda tree, obj: [flag(obj.state)] if obj.kind ==
 METHODS = {kind: OF_ALL | {"block": OF_BLOCK, "mute": OF_STATE, "polarity": OF_STATE, "switch": OF_SWITCH}.get(kind, OF_VALUE) for kind in CLASSES}
 
 
-def method(obj, level, index):
-    """(access, number of parameters), "left out", or None."""
-    if (level, index) in METHODS[obj.kind]:
-        access, letters, *_ = METHODS[obj.kind][level, index]
-        return access, len(letters)
-    is_left_out = level == 2 and 3 <= index <= 13 or obj.kind == "block" and level == 3 and 1 <= index <= 20
-    return "left out" if is_left_out else None
-
-
-def read_parameters(obj, key, params):
-    r = Reader(params)
-    args = [READERS[letter](r, obj) for letter in METHODS[obj.kind][key][1]]
-    r.finish()
-    return args
+def is_left_out(obj, level, index):
+    """Whether the standard has a method of the object that the profile leaves out."""
+    return level == 2 and 3 <= index <= 13 or obj.kind == "block" and level == 3 and 1 <= index <= 20
 
 
 def execute(tree, peer, c):
@@ -407,18 +399,13 @@ def execute(tree, peer, c):
     if obj is None:
         return BAD_ONO, 0, b""
     key = (c.level, c.index)
-    known = method(obj, *key)
-    if known is None:
-        return BAD_METHOD, 0, b""
-    if known == "left out":
-        return NOT_IMPLEMENTED, 0, b""
-    access, count = known
+    if key not in METHODS[obj.kind]:
+        return NOT_IMPLEMENTED if is_left_out(obj, *key) else BAD_METHOD, 0, b""
+    access, letters, told, change = METHODS[obj.kind][key]
     if obj.lock and obj.lock[1] != peer and (obj.lock[0] == "total" or access != "R"):
         return LOCKED, 0, b""
     try:
-        if c.count != count:
-            raise Bad
-        args = read_parameters(obj, key, c.params)
+        args = Reader(c.params).all(obj, c.count, letters)
     except Bad:
         return PARAMETER_ERROR, 0, b""
     level, index = key
@@ -434,27 +421,19 @@ def execute(tree, peer, c):
         return INVALID, 0, b""
     if key == (1, 4) and obj.lock is None:
         return INVALID, 0, b""
-    items = answer(tree, obj, key, args)
+    items = told(tree, obj, *args)
     params = b"".join(items)
     if len(params) > 1452:
         return OVERFLOW, 0, b""
     if access == "W" and obj.failing:
         return FAILED, 0, b""
-    change(obj, peer, key, args)
+    change(obj, peer, *args)
     return OK, len(items), params
 
 
 def writes(tree, c, reply):
     """Whether the command wrote: it was carried out, and its method writes."""
-    return reply[0] == OK and method(next(o for o in tree if o.ono == c.target), c.level, c.index)[0] == "W"
-
-
-def answer(tree, obj, key, args):
-    return METHODS[obj.kind][key][2](tree, obj, *args)
-
-
-def change(obj, peer, key, args):
-    METHODS[obj.kind][key][3](obj, peer, *args)
+    return reply[0] == OK and METHODS[next(o.kind for o in tree if o.ono == c.target)][c.level, c.index][0] == "W"
 
 
 # ---- changes at the front

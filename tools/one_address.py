@@ -8,7 +8,6 @@ The machines are network namespaces. A program sets a mute, it is executed, and 
 back, and the first link goes: with its address or without. A copy may come over the second link only from the first
 address, if that is still there. It needs root and `ip` (iproute2); else it says so, and tries nothing. The last line is
 'N passed, M failed'."""
-import contextlib
 import http.client
 import json
 import os
@@ -17,7 +16,6 @@ import subprocess
 import sys
 
 import namespaces
-import oca_profile as oca
 import peers
 from checks import Checks, Serving, bound, ended, next_line, read_until, waited, write
 
@@ -51,12 +49,6 @@ class Machines(namespaces.Machines):
         self.ip(f"-n {self.device} route replace {FIRST[0]}/32 via {SECOND[0]}")
 
 
-def sets_mute(data):
-    with contextlib.suppress(oca.Fault):
-        return any(m[0] == "command" and m[2].asks()[:3] == (MUTE, 4, 2) for m in oca.check(data))
-    return False
-
-
 class Relay(peers.Relay):
     """Before `ocadev serve`: loses the first mute's answer, then all until the link is gone."""
 
@@ -67,11 +59,9 @@ class Relay(peers.Relay):
     def goes_forth(self, _):
         return self.passes
 
-    def goes_back(self, _):
-        return True
-
     def forth(self, data, way):
-        if not super().forth(data, way) or not sets_mute(data):
+        sets_mute = any(command.asks()[:3] == (MUTE, 4, 2) for _, command in peers.messages_in(data, "command"))
+        if not super().forth(data, way) or not sets_mute:
             return
         is_first = not self.setting
         self.setting.add(way)
@@ -107,18 +97,6 @@ def order(host):
     print(*fared() or ["not told"])
 
 
-def cut_between(machines, relay, keeps_address):
-    """Cuts the first link once the mute is executed, and lets what comes pass."""
-    executed = next_line(relay, 30) == "executed\n"
-    machines.cut(keeps_address)
-    write(relay, "gone\n", ends=False)
-    return executed
-
-
-def told_by(relay):
-    return relay.communicate("ended\n", timeout=60)[0].split()
-
-
 def relayed(machines, folder):
     relay = machines.start(machines.device, sys.executable, os.path.abspath(__file__), "relay", folder, stdin=subprocess.PIPE)
     if relay.stdout.readline() != "listening\n":
@@ -126,32 +104,36 @@ def relayed(machines, folder):
     return relay
 
 
-def by_ocactl(checks, folder, words, lines, keeps_address):
+def cut_between(checks, what, machines, relay, run, keeps_address):
+    """Cuts the first link once the mute is executed, lets what comes pass, and answers how the run ended."""
+    executed = next_line(relay, 30) == "executed\n"
+    machines.cut(keeps_address)
+    write(relay, "gone\n", ends=False)
+    how = ended(run)
+    state = relay.communicate("ended\n", timeout=60)[0].split()
+    checks.same(f"{what}: executed, then set back, by one peer", (executed, state), (True, ["unmuted", "1"]))
+    return how
+
+
+def by_ocactl(checks, folder, what, words, lines, keeps_address):
     with Machines() as machines:
         relay = relayed(machines, folder)
         run = machines.start(machines.peers, f"{folder}/ocactl", words[0], "--device", f"{DEVICE}:{PORT}", "--port", OWN_PORT,
                              "--first-handle", 1, *words[1:], stdin=subprocess.PIPE)
         write(run, lines)
-        executed = cut_between(machines, relay, keeps_address)
-        out, told, status = ended(run)
-        what = f"`{words[0]}`, {'the link' if keeps_address else 'the address'} goes"
-        checks.same(f"{what}: executed, then set back, by one peer", (executed, told_by(relay)), (True, ["unmuted", "1"]))
+        out, told, status = cut_between(checks, what, machines, relay, run, keeps_address)
         gone = f"note: the address {FIRST[0]} is gone\n" in told
         checks.same(f"{what}: status, whether it is lost, whether the address is said to be gone", (status, "lost" in out, gone),
                     (0, False, False) if keeps_address else (3, True, True))
 
 
-def by_ocapanel(checks, folder, keeps_address):
+def by_ocapanel(checks, folder, what, keeps_address):
     with Machines() as machines:
         relay = relayed(machines, folder)
         panel = machines.start(machines.peers, f"{folder}/ocapanel", "--device", f"{DEVICE}:{PORT}", "--listen", "127.0.0.1:0", "--no-token", "--verbose")
         host = re.search(r"http://([\d.:]+)/", panel.stderr.readline())[1]
         page = machines.start(machines.peers, sys.executable, os.path.abspath(__file__), "order", host)
-        executed = cut_between(machines, relay, keeps_address)
-        fared = page.communicate(timeout=60)[0]
-        what = f"`ocapanel`, {'the link' if keeps_address else 'the address'} goes"
-        state = told_by(relay)
-        checks.same(f"{what}: executed, then set back, by one peer", (executed, state), (True, ["unmuted", "1"]))
+        fared, _, _ = cut_between(checks, what, machines, relay, page, keeps_address)
         notes = b"" if keeps_address else read_until(panel.stderr.fileno(), lambda said: b"gone" in said, 20)
         panel.kill()
         panel.wait()
@@ -167,10 +149,10 @@ def main():
     if not namespaces.is_able("one_address"):
         return 0
     folder, checks = os.path.abspath(sys.argv[1]), Checks()
-    for keeps_address in (False, True):
+    for what, keeps_address in (("the address goes", False), ("the link goes", True)):
         for words, lines in BY_OCACTL:
-            by_ocactl(checks, folder, words, lines, keeps_address)
-        by_ocapanel(checks, folder, keeps_address)
+            by_ocactl(checks, folder, f"`{words[0]}`, {what}", words, lines, keeps_address)
+        by_ocapanel(checks, folder, f"`ocapanel`, {what}", keeps_address)
     return checks.verdict()
 
 

@@ -5,7 +5,8 @@ Usage: page.py     writes page.rt; `tools/panel_trial.py` compares it with what 
 
 Comments and spaces are left out, and the names that the script itself declares are cut short, each to another one: so nothing in
 the sources may rely on a name of a function or of a constant as a text. In the sources of the script a comment begins its line, no
-regular expression has a space or a quote, no template is used, and a statement ends in a semicolon or a brace.
+regular expression has a space or a quote, no template is used, and a statement ends in a semicolon or a brace. A function that a
+source declares at its top ends with the next line that is one brace.
 
 No step of the gate."""
 import base64
@@ -36,6 +37,8 @@ pub const PAGE: &str = r###"{page}"###;
 '''
 TOKEN = re.compile(r"""("(?:[^"\\\n]|\\.)*"|'(?:[^'\\\n]|\\.)*')|((?:(?<=[(=:,!&|?{};>])|(?<=[(=:,!&|?>]\s))/(?![/*=\s])(?:[^/\\\n\[]|\\.|\[(?:[^\]\\\n]|\\.)*\])+/[a-z]*)|([A-Za-z_$][\w$]*)|(\d[\w.]*)|(\s+)|(.)""")
 
+FUNCTION = re.compile(r"^(async )?function (\w+)\((.*?)\) \{\n(.*?)^\}$", re.MULTILINE | re.DOTALL)
+
 
 def style(folder):
     text = re.sub(r"/\*.*?\*/", "", (folder / "page.css").read_text(), flags=re.DOTALL)
@@ -47,24 +50,19 @@ def style(folder):
     return text.replace(";}", "}").strip()
 
 
-def is_word(character):
-    return character.isalnum() or character in "_$"
+def tight(match):
+    """A token as it stands. Of spaces one is left where what is before and behind them would else be read as one token."""
+    start, end = match.span()
+    if not match[0].isspace():
+        return match[0]
+    return " " if re.fullmatch(r"[\w$]{2}|[+-]{2}", match.string[start - 1:start] + match.string[end:end + 1]) else ""
 
 
 def without_spaces(text):
     """A script without its comments and the spaces that it does not need."""
     text = "\n".join(line for line in text.splitlines() if not line.lstrip().startswith("//"))
-    text = re.sub(r"; {2,}//.*", ";", text)
-    out = ""
-    tokens = [match.group(0) for match in TOKEN.finditer(text)]
-    for at, token in enumerate(tokens):
-        if not token.isspace():
-            out += token
-            continue
-        after = tokens[at + 1][0] if at + 1 < len(tokens) else ""
-        if out and after and (is_word(out[-1]) and is_word(after) or out[-1] in "+-" and after in "+-"):
-            out += " "
-    return re.sub(r",([}\])])", r"\1", out.replace(";}", "}"))
+    text = TOKEN.sub(tight, re.sub(r"; {2,}//.*", ";", text))
+    return re.sub(r",([}\])])", r"\1", text.replace(";}", "}"))
 
 
 @functools.cache
@@ -82,30 +80,6 @@ def shorten(text, folder=None):
     names = short_names(folder or SOURCES)
     shorter = names | {"const": "let", "true": "!0", "false": "!1"}
     return "".join(shorter.get(match.group(3), match.group(0)) for match in TOKEN.finditer(text))
-
-
-def as_arrows(text):
-    """The script with each function that is declared at its top as an arrow function, which is shorter. So none is called before it is declared."""
-    tokens = [match.group(0) for match in TOKEN.finditer(text)]
-    out, depth, at, ends = [], 0, 0, set()
-    while at < len(tokens):
-        token = tokens[at]
-        if token == "function" and depth == 0:
-            close = tokens.index(")", at)
-            given = "".join(tokens[at + 4:close])
-            is_async = out[-2:] == ["async", " "]
-            del out[len(out) - 2 * is_async:]
-            out.append(f"let {tokens[at + 2]}={'async' if is_async else ''}" + (f"{' ' * is_async}{given}" if re.fullmatch(r"[\w$]+", given) else f"({given})") + "=>")
-            at = close + 1
-            ends.add(depth)
-            continue
-        depth += (token in "([{") - (token in ")]}")
-        out.append(token)
-        if token == "}" and depth in ends:
-            ends.discard(depth)
-            out.append(";")
-        at += 1
-    return "".join(out)
 
 
 def joined(text):
@@ -132,12 +106,19 @@ def joined(text):
     return "".join(out)
 
 
+def as_arrow(found):
+    """A function that is declared at the top of a script, as an arrow function, which is shorter. So none is called before it is declared."""
+    is_async, name, given, body = found.groups(default="")
+    given = given if re.fullmatch(r"[\w$]+", given) else f"({given})"
+    return f"const {name} = {is_async}{given} => {{\n{body}}};"
+
+
 def sources(folder):
-    return without_spaces("\n".join((folder / f"{name}.js").read_text() for name in SCRIPTS))
+    return without_spaces(FUNCTION.sub(as_arrow, "\n".join((folder / f"{name}.js").read_text() for name in SCRIPTS)))
 
 
 def script(folder):
-    return '"use strict";' + joined(as_arrows(shorten(sources(folder), folder)))
+    return '"use strict";' + joined(shorten(sources(folder), folder))
 
 
 def page(folder=None):

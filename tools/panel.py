@@ -16,7 +16,6 @@ import re
 import select
 import signal
 import socket
-import subprocess
 import sys
 import tempfile
 import time
@@ -26,7 +25,7 @@ from pathlib import Path
 from unittest.mock import patch
 
 import oca_profile as oca
-from checks import Checks, Serving, bound, by_turns, free_port, layer, waited
+from checks import Ahead, Checks, Serving, bound, by_turns, free_port, layered, tries, waited
 from hands import SETS, Deaf, OldSession, stagebox
 from peers import Lossy, Other, Peer, Served, commands_in
 from tables import TOP, each, octets, table
@@ -34,7 +33,7 @@ from tables import TOP, each, octets, table
 TREE = (TOP / "examples/stagebox.tree").read_text()
 MUTE, POLARITY, TRIM, SOURCE = 4098, 4099, 4100, 4101
 JSON, LATE = "application/json", "not sent: too late"
-ITS, OWN_PORTS = Checks(), {}
+ITS, OWN_PORT = Checks(), free_port()
 TABLE = table("panel", **dict.fromkeys("host port next token short other".split(), ""))
 same = ITS.same
 
@@ -50,11 +49,11 @@ def is_walked(values):
 class Device(Serving):
     """`ocadev serve` at a port, of the objects of a text, or of its own."""
 
-    def __init__(self, folder, port=0, tree=TREE):
+    def __init__(self, port=0, tree=TREE):
         with tempfile.NamedTemporaryFile("w") as file:
             file.write(tree or "")
             file.flush()
-            super().__init__(f"{folder}/ocadev", "serve", "--port", port, "--peers", 64, *(["--tree", file.name] if tree else []))
+            super().__init__(f"{ITS.folder}/ocadev", "serve", "--port", port, "--peers", 64, *(["--tree", file.name] if tree else []))
 
 
 def request(row):
@@ -82,9 +81,9 @@ def whole_answer(s):
 class Panel(Serving):
     """`ocapanel` at a port that the system chose, unless another is given, with no token unless `token` says so."""
 
-    def __init__(self, folder, device_port, *words, address=None, ip="127.0.0.1", port=0, token=False, notes=0, **more):
+    def __init__(self, device_port, *words, address=None, ip="127.0.0.1", port=0, token=False, notes=0, **more):
         device, token = address or f"127.0.0.1:{device_port}", [] if token else ["--no-token"]
-        super().__init__(f"{folder}/ocapanel", "--device", device, "--listen", f"{ip}:{port}", *words, *token, notes=notes, env=os.environ | more)
+        super().__init__(f"{ITS.folder}/ocapanel", "--device", device, "--listen", f"{ip}:{port}", *words, *token, notes=notes, env=layered(**more) if more else None)
         self.told_ip, self.ip, self.host = self.ip, ip, f"{ip}:{self.port}"
         self.since, self.epoch, self.run, self.shown, self.told = 0, 0, None, {}, {}
 
@@ -93,6 +92,12 @@ class Panel(Serving):
         names = {"port": str(self.port), "next": str(self.port + 1), "token": token, "short": token[:-1], "other": token[:-1] + "12"[token[-1] == "1"]}
         read = table("panel", host=self.host, **names)
         return [one for row in read[kind] for one in each((default or read["order"]) | row, *row)]
+
+    def asked(self, kind, **default):
+        """Each request of the rows of this kind: its bytes, its row, and the status, the fields and the text of the answer."""
+        for row in self.rows(kind, **default):
+            data = request(row)
+            yield data, row, *self.exchange(data)
 
     def connected(self, small=False):
         """A connection; of one that takes little the system keeps few bytes that come."""
@@ -174,60 +179,42 @@ class Panel(Serving):
 
 
 @contextlib.contextmanager
-def walked(folder, device=None, *words, **more):
+def walked(device=None, *words, **more):
     """A device, `ocadev` unless another is given, and a panel that has found its objects."""
-    with device or Device(folder) as its, Panel(folder, its.port, *words, **more) as panel:
+    with device or Device() as its, Panel(its.port, *words, **more) as panel:
         panel.comes(is_walked, "the objects are found")
         yield its, panel
 
 
-def ocactl(folder, device_port, *words):
-    """What `ocactl` prints, from a port of this tool's own: each port is a session at the device."""
-    port = OWN_PORTS.setdefault(device_port, free_port())
-    given = [f"{folder}/ocactl", words[0], "--device", f"127.0.0.1:{device_port}", "--port", port, *words[1:]]
-    return subprocess.run([*map(str, given)], capture_output=True, text=True, timeout=60).stdout
+def ocactl(device_port, *words):
+    """What `ocactl` prints, from a port of this tool's own."""
+    return ITS.ran("ocactl", words[0], "--device", f"127.0.0.1:{device_port}", "--port", OWN_PORT, *words[1:])[0]
 
 
 @contextlib.contextmanager
-def locked(folder, device_port, ono):
+def locked(device_port, ono):
     """While this lasts a different controller holds the lock of an object."""
-    words = ["lock", "--hold", "--device", f"127.0.0.1:{device_port}", "--port", str(free_port()), str(ono)]
-    holder = subprocess.Popen([f"{folder}/ocactl", *words], stdin=subprocess.PIPE, stdout=subprocess.PIPE, text=True)
+    holder = ITS.start("ocactl", "lock", "--hold", "--device", f"127.0.0.1:{device_port}", "--port", free_port(), ono)
     same("a different controller locks", holder.stdout.readline(), f"{ono} locked\n")
     yield
     holder.stdin.close()
     holder.wait()
 
 
-def ran(folder, *words):
-    r = subprocess.run([f"{folder}/ocapanel", *map(str, words)], capture_output=True, text=True, timeout=30)
-    return r.returncode, r.stdout, r.stderr
-
-
-def words(folder):
-    device = ("--device", "127.0.0.1:65000")
-    status, out, err = ran(folder, "--help")
-    check(status == 0 and "--listen" in out and not err, "--help")
-    status, out, err = ran(folder, "--version")
-    check(status == 0 and out.startswith("ocapanel "), "--version")
-    for given, note in TABLE["bad_words"]:
-        status, out, err = ran(folder, *given.split())
-        check(status == 2 and not out and err.startswith("note: ") and note in err and err.endswith("bad words\n"), f"words {given}: {status} {err!r}")
-    with socket.create_server(("127.0.0.1", 0)) as s:
-        status, out, err = ran(folder, *device, "--listen", f"127.0.0.1:{s.getsockname()[1]}")
-    check(status == 1 and err.startswith("note: 127.0.0.1:") and err.endswith("socket failed\n"), f"a port in use: {status} {err!r}")
-    with tempfile.TemporaryDirectory() as room:
-        path = Path(room, "file")
-        for option, line, note, texts in TABLE["bad_files"]:
-            for text in texts:
-                path.write_bytes(octets(text))
-                status, _, err = ran(folder, *device, "--listen", "127.0.0.1:0", option, path)
-                is_told = err.startswith(f"note: {path}: line {line}: ") and note in err.splitlines()[0] and err.endswith("bad words\n")
-                check(status == 2 and is_told, f"{option} with {text[:60]!r}: {status} {err!r}")
-        for option in ("--token", "--units"):
-            for path in (f"{room}/none", room):
-                status, _, err = ran(folder, *device, option, path)
-                check(status == 1 and err.startswith(f"note: {path}: ") and err.endswith("read failed\n"), f"{option} with no file: {status} {err!r}")
+def words():
+    """The words that only print, and those with which the panel ends at once, with a note and a fault."""
+    for word, form in (("--help", "(?s).*--listen"), ("--version", "ocapanel ")):
+        out, err, status = ITS.ran("ocapanel", word)
+        check((status, err) == (0, "") and re.match(form, out), word)
+    with socket.create_server(("127.0.0.1", 0)) as taken, tempfile.TemporaryDirectory() as room:
+        places = {"TAKEN": str(taken.getsockname()[1]), "FILE": f"{room}/file", "NONE": f"{room}/none", "FOLDER": room}
+        filled = lambda text: re.sub("|".join(places), lambda place: places[place[0]], text)
+        for row in (one for row in TABLE["ended"] for one in each(row, "words", "file")):
+            Path(room, "file").write_bytes(octets(row.get("file", "")))
+            out, err, status = ITS.ran("ocapanel", *filled(row["words"]).split())
+            begins, ends = f"note: {filled(row.get('begins', ''))}", f"{row.get('fault', 'bad words')}\n"
+            is_told = err.startswith(begins) and row.get("has", "") in err.splitlines()[0] and err.endswith(ends)
+            check((status, out) == (row.get("status", 2), "") and is_told, f"{row}: {status} {err!r}")
 
 
 def page(panel):
@@ -250,7 +237,7 @@ def page(panel):
         same(name, fields.get(name), value)
 
 
-def objects(folder, device, panel):
+def objects(device, panel):
     """What is shown is what the device says, and orders fare as it answers."""
     panel.comes(lambda v: v["walked"] and len(panel.shown) >= 42, "the objects are found")
     by_ono = {o["ono"]: o for o in panel.get("/tree")["objects"]}
@@ -262,26 +249,26 @@ def objects(folder, device, panel):
         same(f"{ono} is set to {value}", panel.fare("/set", ono, value), None)
         same(f"{ono} where its order is told", panel.value(ono), value)
         panel.comes(lambda _, o=ono, v=value: panel.value(o) == v, f"{ono} shows {value}")
-    said = ocactl(folder, device.port, "get", MUTE, TRIM, SOURCE)
+    said = ocactl(device.port, "get", MUTE, TRIM, SOURCE)
     same("what the device has", said, f"{MUTE} unmuted\n{TRIM} -60\n{SOURCE} 2 Stage left\n")
     same("out of range", panel.fare("/set", TRIM, "601"), "ParameterOutOfRange")
     same("no such value", [panel.order("/set", TRIM, value)[0] for value in ("loud", "99999")], [422, 422])
     refused = [panel.order("/set", 4097, "on"), panel.order("/set", 9, "on"), panel.order("/lock", 9)]
     same("no such object", [status for status, _ in refused], [422, 404, 404])
     check(panel.fare("/lock", MUTE) is None and panel.wait(lambda _: panel.lock(MUTE) == "own") is not None, "its own lock")
-    check("Locked" in ocactl(folder, device.port, "set", MUTE, "muted"), "a different controller is kept out")
+    check("Locked" in ocactl(device.port, "set", MUTE, "muted"), "a different controller is kept out")
     check(panel.fare("/unlock", MUTE) is None and panel.wait(lambda _: panel.lock(MUTE) == "free") is not None, "unlocked")
-    others(folder, device, panel)
+    others(device, panel)
 
 
-def others(folder, device, panel):
+def others(device, panel):
     """What a different controller does is shown."""
-    with locked(folder, device.port, POLARITY):
+    with locked(device.port, POLARITY):
         panel.comes(lambda _: panel.lock(POLARITY) == "other", "a lock of a different controller is shown")
         same("an order under its lock", panel.fare("/set", POLARITY, "non-inverted"), "Locked")
     panel.comes(lambda _: panel.lock(POLARITY) == "free", "it is free again")
     for value in ("100", "200", "300"):
-        ocactl(folder, device.port, "set", TRIM, value)
+        ocactl(device.port, "set", TRIM, value)
         panel.comes(lambda _, v=value: panel.value(TRIM) == v, "a change by a different controller is shown")
 
 
@@ -290,11 +277,8 @@ def hostile(panel):
     panel.fare("/set", MUTE, "unmuted")
     _, before = panel.order("/set", MUTE, "unmuted")
     panel.settled([before])
-    for row in panel.rows("hostile"):
-        data = request(row)
-        same(f"{data[:120]!r}", panel.exchange(data)[0], row["status"])
-    for path in ("/set", "/lock", "/unlock"):
-        same(f"GET {path}", panel.status(path), 405)
+    for data, row, status, *_ in panel.asked("hostile"):
+        same(f"{data[:120]!r}", status, row["status"])
     generator = random.Random(1)
     for _ in range(60):
         panel.exchange(generator.randbytes(generator.randrange(1, 3000)) + b"\r\n\r\n", 0.3)
@@ -306,9 +290,7 @@ def hostile(panel):
 
 def protected(panel):
     """Each answer, also a refusal, forbids keeping, guessing types and framing; JSON says that it is JSON."""
-    for row in panel.rows("protected"):
-        data = request(row)
-        status, fields, text = panel.exchange(data)
+    for data, row, status, fields, text in panel.asked("protected"):
         has = {name: fields.get(name) for name in TABLE["protection"]}
         same(f"{data[:60]!r}: the head", (status, has), (row["status"], TABLE["protection"]))
         has_text = row.get("has_text", False)
@@ -476,15 +458,15 @@ def taken_late(panel):
         same("a connection whose answers were taken, 8 s later", answered(panel, [s]), 1)
 
 
-def lossy(folder):
+def lossy():
     """Over a network that loses 20 % each way, each order is told as it was carried out."""
-    with Device(folder) as device, Lossy(device.port) as relay, Panel(folder, relay.port) as panel:
+    with Device() as device, Lossy(device.port) as relay, Panel(relay.port) as panel:
         panel.comes(is_walked, "the objects are found at 20 % loss", 90)
         generator, wrong = random.Random(2), 0
         for _ in range(30):
             ono, value = generator.choice([TRIM, 4105, 4110, 4115]), str(generator.randrange(-600, 601))
             told = panel.fare("/set", ono, value)
-            wrong += told is not None or f"{ono} {value}\n" != ocactl(folder, device.port, "get", ono)
+            wrong += told is not None or f"{ono} {value}\n" != ocactl(device.port, "get", ono)
         same("of 30 orders those that are not as they were told", wrong, 0)
         link = panel.look()["link"]
         check(link["again"] > 0 and link["lost"] == 0, f"retransmissions are counted: {link}")
@@ -493,12 +475,12 @@ def lossy(folder):
         tickets = [ticket for _, ticket in many]
         panel.comes(lambda _: all(t in panel.told for t in tickets), "and told", 60)
         same("and carried out", panel.settled(tickets), 16 * [None])
-        same("the last value of each object stands", ocactl(folder, device.port, "get", TRIM, 4105), f"{TRIM} 7\n4105 7\n")
+        same("the last value of each object stands", ocactl(device.port, "get", TRIM, 4105), f"{TRIM} 7\n4105 7\n")
 
 
-def cut_off(folder):
+def cut_off():
     """A network that is cut for longer than the link holds, over a device that lives on: the link is lost, and found again over the same session."""
-    with Device(folder) as device, Lossy(device.port, share=0) as relay, Panel(folder, relay.port) as panel:
+    with Device() as device, Lossy(device.port, share=0) as relay, Panel(relay.port) as panel:
         panel.comes(is_walked, "the objects are found")
         same("and take orders", panel.fare("/set", MUTE, "unmuted"), None)
         for times in (1, 2):
@@ -509,7 +491,7 @@ def cut_off(folder):
             same("cut off, an order", (panel.told.get(ticket), panel.look()["link"]["lost"] >= times), ("lost", True))
             relay.share = 0
             panel.comes(lambda v: v["walked"] and v["epoch"] > epoch and v["link"]["lost_for"] is None, "a device that lived on is found again", 60)
-            fared = panel.fare("/set", TRIM, str(10 * times)), ocactl(folder, device.port, "get", TRIM)
+            fared = panel.fare("/set", TRIM, str(10 * times)), ocactl(device.port, "get", TRIM)
             same("and takes orders", fared, (None, f"{TRIM} {10 * times}\n"))
 
 
@@ -518,21 +500,21 @@ def notes_of(panel):
     return panel.process.communicate(timeout=20)[1].splitlines()
 
 
-def gone_and_back(folder):
+def gone_and_back():
     """A device that goes is lost, with its orders; one that comes back is walked anew."""
-    with Device(folder) as first, Panel(folder, first.port, "--verbose") as panel, Panel(folder, first.port) as other:
+    with Device() as first, Panel(first.port, "--verbose") as panel, Panel(first.port) as other:
         check(panel.wait(is_walked) is not None and other.wait(is_walked) is not None, "found")
         epoch = panel.look()["epoch"]
         first.end()
         is_lost(panel, other)
-        with Device(folder, first.port, None):
+        with Device(first.port, None):
             panel.comes(lambda v: v["walked"] and v["epoch"] > epoch, "a device that came back is walked anew", 30)
             check({o["role"] for o in panel.get("/tree")["objects"]} >= {"desk"}, "with the objects that it has now")
             same("and is no longer lost", panel.look()["link"]["lost_for"], None)
             same("and takes orders", panel.fare("/set", 4097, "muted"), None)
             other.comes(lambda v: v["walked"] and v["link"]["lost"] >= 1, "the other panel lost it too, and found it again", 30)
             epoch = panel.look()["epoch"]
-        with Device(folder, first.port):  # at once, with other objects: the link does not notice, but its answers do
+        with Device(first.port):  # at once, with other objects: the link does not notice, but its answers do
             is_new = lambda v: v["walked"] and v["epoch"] > epoch and 4130 in {o["ono"] for o in panel.get("/tree")["objects"]}
             panel.comes(is_new, "a device that was away for a moment, and has other objects, is walked anew", 30)
         same("what is told without --verbose", notes_of(other), [])
@@ -574,15 +556,15 @@ def many_tree():
     return "\n".join(lines) + "\n", last
 
 
-def many(folder):
+def many():
     text, last = many_tree()
-    with Device(folder, 0, text) as device, Panel(folder, device.port) as panel:
+    with Device(0, text) as device, Panel(device.port) as panel:
         panel.comes(is_walked, "4,096 objects are walked", 60)
         same("objects of 4,096", len(panel.get("/tree")["objects"]), 4096)
         panel.comes(lambda _: panel.value(last) == "0", "the last object is read", 60)
         times = []
         for value in ("5", "6", "7"):
-            ocactl(folder, device.port, "set", last, value)
+            ocactl(device.port, "set", last, value)
             times.append(panel.wait(lambda _, v=value: panel.value(last) == v, 60) or 60)
         check(max(times) < 60, "a change of the last object is shown")
         same("an order among 4,096 objects", panel.fare("/set", last, "-5"), None)
@@ -598,17 +580,17 @@ def used_by(panel, seconds):
     return (ticks() - begun) / os.sysconf("SC_CLK_TCK") / seconds
 
 
-def rest(folder):
+def rest():
     """With no page open, next to no work is done."""
-    with walked(folder) as (_, panel):
+    with walked() as (_, panel):
         time.sleep(3.5)
         check(used_by(panel, 4) < 0.05, "an idle panel uses no processor")
 
 
-def classes(folder):
+def classes():
     """An object of each class: its class, its value and its limits are those of the device, to the last digit."""
     tree = stagebox()
-    with walked(folder, Served(tree)) as (_, panel):
+    with walked(Served(tree)) as (_, panel):
         panel.comes(lambda _: all(panel.value(o.ono) is not None for o in tree if o.kind != "block"), "each class is read")
         told = {o["ono"]: o for o in panel.get("/tree")["objects"]}
         for o in tree:
@@ -623,35 +605,41 @@ def classes(folder):
                 same(f"{o.ono}: its value and limits", (shown["value"], shown["limits"]), (str(o.state), [str(o.low), str(o.high)]))
 
 
-def command(port, *words):
-    return (Peer(port).ask(*words) or (None,))[0]
-
-
 class Noting(Other):
-    """The second implementation's device, which notes what came when; `says` answers."""
+    """The second implementation's device, which notes what came when. It does what is given, and may change: of its answers about one
+    thing, a value of an object or what another method answers, it keeps back those that come while it `holds`, says DeviceError while it
+    `fails`, and needs so many seconds for each; before all answers it sends `noise`."""
 
-    def __init__(self, tree=None, ono=TRIM, method=(5, 1)):
+    def __init__(self, tree=None, ono=TRIM, method=(5, 1), **does):
         super().__init__(tree)
         self.what, self.came, self.asked, self.copies = (ono, *method), {}, {}, Counter()
+        self.holds, self.fails, self.needs, self.noise = False, False, 0.0, []
+        self.held, self.answered = [], 0.0  # what is kept back, and when the last of the other answers was asked for
+        vars(self).update(does)
+
+    def hears(self, *_):
+        return True
 
     def datagram(self, peer, data, now):
         for one, method in commands_in(data):
             self.came.setdefault(one.handle, time.monotonic())
             self.asked[one.handle] = (one.target, *method)
             self.copies[one.handle] += 1
-        return self.says(peer, data, now)
+        about_it = [one.handle for one, method in commands_in(data) if (one.target, *method) == self.what]
+        time.sleep(self.needs if about_it else 0)
+        said, packets = super().datagram(peer, data, now)
+        if about_it and self.holds:
+            self.held.append(packets)
+            return said, []
+        if about_it and self.fails:
+            packets = [oca.pdu(3, [oca.response_body(handle, 2, 0, b"") for handle in about_it])]
+        self.answered = max([self.answered, *(self.came[handle] for handle in about_it)])
+        return said, packets and [*self.noise, *packets]
 
-    def says(self, peer, data, now):
-        return self.answers(peer, data, now)
 
-    def asks_it(self, data):
-        """The handles by which a datagram asks what this device is about: the value of one object, or another method of it."""
-        return [one.handle for one, method in commands_in(data) if (one.target, *method) == self.what]
-
-
-def without_a_page(folder):
+def without_a_page():
     """Once no page asks any more the panel asks nothing: there are two seconds in which no command comes."""
-    with walked(folder, Served(oca.bench())) as (device, _):
+    with walked(Served(oca.bench())) as (device, _):
         def commands():
             device.heard.clear()
             time.sleep(2)
@@ -659,25 +647,25 @@ def without_a_page(folder):
         check(waited(lambda: commands() == 0, 30) is not None, "commands in the last two seconds without a page")
 
 
-def seldom(folder):
+def seldom():
     """What changes seldom is shown too, there and back: a label, whether an object is enabled, and which positions are."""
-    with walked(folder) as (device, panel):
+    with walked() as (device, panel):
         for label, enabled in (("Vox", False), ("", True)):
             flag = bytes([enabled])
-            answers = [*(command(device.port, ono, 2, 9, oca.text_bytes(label)) for ono in (MUTE, 4097)),
-                       *(command(device.port, ono, 2, 2, flag) for ono in (TRIM, 4097)), command(device.port, SOURCE, 4, 8, b"\0\1", flag)]
+            answers = [*(Peer(device.port).status(ono, 2, 9, oca.text_bytes(label)) for ono in (MUTE, 4097)),
+                       *(Peer(device.port).status(ono, 2, 2, flag) for ono in (TRIM, 4097)), Peer(device.port).status(SOURCE, 4, 8, b"\0\1", flag)]
             same("another controller sets labels and flags", answers, 5 * [0])
             for ono, name, wanted in ((MUTE, "label", label), (4097, "label", label), (TRIM, "enabled", enabled), (4097, "enabled", enabled),
                                       (SOURCE, "flags", [True, enabled, True, True])):
                 panel.comes(lambda _, o=ono, n=name, w=wanted: panel.shown[o][n] == w, f"the {name} of {ono} is shown as {wanted}", 60)
 
 
-def of_other_classes(folder):
+def of_other_classes():
     """A device that is back at once with the same numbers, one of another class, is walked anew."""
     other = TREE.replace(f"{MUTE} 4097 mute muted lockable mute", f"{MUTE} 4097 int16 -5 5 0 lockable mute")
-    with walked(folder) as (first, panel):
+    with walked() as (first, panel):
         first.end()
-        with Device(folder, first.port, other):
+        with Device(first.port, other):
             def is_new(values):
                 """A walk that is over, or the next one by the time of the second question, which may list less."""
                 listed = panel.get("/tree")["objects"] if values["walked"] else []
@@ -686,11 +674,11 @@ def of_other_classes(folder):
 
 
 @contextlib.contextmanager
-def listing(folder, tree, block, lists, where):
+def listing(tree, block, lists, where):
     """A panel of a device that lists an object twice, by what this block lists: its walk stands, and found each object once."""
     real = oca.members
     listed = lambda tree, ono: lists(real(tree, ono)) if ono == block.ono else real(tree, ono)
-    with patch.object(oca, "members", listed), walked(folder, Noting(tree, block.ono, (3, 5))) as (device, panel):
+    with patch.object(oca, "members", listed), walked(Noting(tree, block.ono, (3, 5))) as (device, panel):
         found = sorted(o["ono"] for o in panel.get("/tree")["objects"])
         same(f"each object that is listed {where} is found once", found, sorted(o.ono for o in tree))
         device.asked.clear()
@@ -700,24 +688,24 @@ def listing(folder, tree, block, lists, where):
         yield panel
 
 
-def listed_twice(folder):
+def listed_twice():
     """A device that lists an object in two blocks, before the others of the second one, is walked once. So is one whose
     block lists an object twice, and again once the block lists something else."""
     tree, is_twice = oca.bench(2), [True]
     first, second = [o for o in tree if o.kind == "block" and o.ono != 100][:2]
     one = next(o for o in tree if o.container == first.ono)
-    with listing(folder, tree, second, lambda its: [one, *its], "in two blocks"):
+    with listing(tree, second, lambda its: [one, *its], "in two blocks"):
         pass
-    with listing(folder, oca.bench(2), first, lambda its: [*its, its[0]] if is_twice else its, "twice") as panel:
+    with listing(oca.bench(2), first, lambda its: [*its, its[0]] if is_twice else its, "twice") as panel:
         is_twice.clear()
         panel.comes(lambda v: v["walked"] and v["epoch"] > 1, "it is walked again once the block lists something else", 30)
 
 
-def visible_first(folder):
+def visible_first():
     """What a page shows is read at most ten times a second, a block at most once, and all else once in five seconds. A page shows at most eight
     ranges."""
     tree = oca.bench(60)
-    with walked(folder, Noting(tree)) as (device, panel):
+    with walked(Noting(tree)) as (device, panel):
         places = {o["ono"]: at for at, o in enumerate(panel.get("/tree")["objects"])}
         *_, other, seen = (o for o in sorted(places, key=places.get) if next(t for t in tree if t.ono == o).kind == "int16")
         block = next(t.container for t in tree if t.ono == other)
@@ -736,32 +724,18 @@ def visible_first(folder):
         check(total <= counts[seen] + counts[block] + (took / 5 + 1) * len(places), f"{total} commands in {took:.1f} s")
 
 
-def often(folder):
+def often():
     """What a page shows is read some ten times a second: within a minute eight times in two seconds."""
-    with Noting(oca.bench()) as device, Panel(folder, device.port) as panel:
+    with Noting(oca.bench()) as device, Panel(device.port) as panel:
         def came():
             return [device.came[handle] for handle, what in list(device.asked.items()) if what == device.what]
         took = panel.wait(lambda _: any(last - first <= 2 for first, last in zip(came(), came()[7:])), 60)
         check(took is not None, f"what a page shows is read at {came()[-20:]} s")
 
 
-class Withheld(Noting):
-    """The same, which keeps back its answers about one object while it `holds` them."""
-
-    holds, answered = False, 0.0
-
-    def says(self, peer, data, now):
-        said, packets = self.answers(peer, data, now)
-        asked = self.asks_it(data)
-        if asked and self.holds:
-            return said, []
-        self.answered = max([self.answered, *(self.came[handle] for handle in asked)])
-        return said, packets
-
-
-def aged(folder):
+def aged():
     """How old a reading is is told where it is older than a second, and it is never told as younger than it is."""
-    with walked(folder, Withheld(oca.bench())) as (device, panel):
+    with walked(Noting(oca.bench())) as (device, panel):
         place, wrong = [o["ono"] for o in panel.get("/tree")["objects"]].index(TRIM), []
 
         def age():
@@ -780,25 +754,20 @@ def aged(folder):
 
 
 class Stale(Noting):
-    """The same, which gives its old answer about one object behind the answer to its set."""
+    """The same, which gives the first answer that it keeps back behind the answer to a set of the object."""
 
-    holds, held = False, ()
-
-    def says(self, peer, data, now):
-        said, packets = self.answers(peer, data, now)
-        if self.holds and self.asks_it(data):
-            self.held = self.held or packets
-            return said, []
+    def datagram(self, peer, data, now):
+        said, packets = super().datagram(peer, data, now)
         sets_it = any((one.target, method) == (TRIM, (5, 2)) for one, method in commands_in(data))
-        return said, packets + [*self.held] * (self.holds and sets_it)
+        return said, packets + (self.held[0] if self.holds and self.held and sets_it else [])
 
 
-def newer_than_an_answer(folder):
+def newer_than_an_answer():
     """An answer older than an order takes nothing back of it. Tried again if the link was lost on a busy machine."""
-    with Stale(oca.bench()) as device, Panel(folder, device.port) as panel:
+    with Stale(oca.bench()) as device, Panel(device.port) as panel:
         for value in ("5", "6", "7"):
             panel.wait(lambda v: v["walked"] and panel.value(TRIM) is not None)
-            device.held, device.holds = (), True
+            device.held, device.holds = [], True
             is_asked = panel.wait(lambda _: device.held) is not None
             told, shown = panel.fare("/set", TRIM, value), [panel.value(TRIM)]
             for _ in range(20):
@@ -811,11 +780,11 @@ def newer_than_an_answer(folder):
         same(f"what is shown behind an order that sets {value}, where an older answer comes", set(shown) - {None}, {value})
 
 
-def beside_an_order(folder):
+def beside_an_order():
     """While an order waits for its answer, pages are answered: the fastest of five counts, each at a panel whose link is still there."""
     took, taken = [], []
     while len(took) < 5 and min(took, default=9) >= 0.25:
-        with walked(folder, Deaf(stagebox(), SETS)) as (_, panel):
+        with walked(Deaf(stagebox(), SETS)) as (_, panel):
             taken.append(panel.order("/set", 4097, "unmuted")[0])
             begun = time.monotonic()
             panel.look()
@@ -824,18 +793,11 @@ def beside_an_order(folder):
     check(min(took) < 0.25, f"a page beside an order without an answer waits {1000 * min(took):.0f} ms")
 
 
-def right_behind(folder):
+def right_behind():
     """A page that asks right behind the answer to an order is told how the order ended, where the device needs 2 ms: for 4 ms the panel waits for it.
     Of 40 tries three in a row must be told so; where the page itself took more than 1 ms it is no try."""
-    told, device = [], Noting(oca.bench(), 4097, (4, 2))
-
-    def says(peer, data, now):
-        if device.asks_it(data):
-            time.sleep(0.002)
-        return device.answers(peer, data, now)
-
-    device.says = says
-    with walked(folder, device) as (_, panel), panel.connected() as s:
+    told = []
+    with walked(Noting(oca.bench(), 4097, (4, 2), needs=0.002)) as (_, panel), panel.connected() as s:
         for _ in range(400):
             s.sendall(panel.orders_by("/set", {"ono": 4097, "value": "muted"}))
             ticket, begun = ticket_in(whole_answer(s)), time.monotonic()
@@ -849,62 +811,44 @@ def right_behind(folder):
     check(told[-3:] == 3 * [True], f"whether a page is told how an order ended behind which it asks: {told}")
 
 
-def failing(folder):
+def failing():
     """While each receive fails the panel waits as long as ever, and takes next to no processor."""
-    fails = {"LD_PRELOAD": layer("unreliable"), "FAIL_RECEIVE": str(10**9), "ERRNO": str(errno.ENETDOWN)}
-    with bound() as silent, Panel(folder, silent.getsockname()[1], **fails) as panel:
+    with bound() as silent, Panel(silent.getsockname()[1], FAIL_RECEIVE=10**9, ERRNO=errno.ENETDOWN) as panel:
         time.sleep(0.5)
         used = used_by(panel, 2)
         check(used < 0.4, f"a panel whose receives fail uses {used:.2f} of a processor")
         same("and answers its pages", panel.look()["link"]["heard"], None)
 
 
-def beside_large(folder):
+def beside_large():
     """Datagrams that are too large, eight before each answer of the device, hold none of its answers up. It is tried again where the machine was so
     busy that commands were repeated."""
-    def says(peer, data, now):
-        said, packets = device.answers(peer, data, now)
-        return said, packets and [*8 * [bytes(1473)], *packets]
+    def link():
+        with walked(Noting(oca.bench(), noise=8 * [bytes(1473)])) as (_, panel):
+            same("its orders", {panel.fare("/set", 4097, word) for word in 9 * ("muted", "unmuted")}, {None})
+            return panel.look()["link"]
 
-    links = []
-    while len(links) < 5 and (not links or links[-1]["again"] > 8):
-        with Noting(oca.bench()) as device:
-            device.says = says
-            with Panel(folder, device.port) as panel:
-                panel.comes(is_walked, "a device that sends large datagrams too is found")
-                same("its orders", {panel.fare("/set", 4097, word) for word in 9 * ("muted", "unmuted")}, {None})
-                links.append(panel.look()["link"])
+    links = tries(5, link, lambda it: it["again"] < 9)
     same(f"beside large datagrams: {links[-1]}", (links[-1]["lost"], links[-1]["again"] < 9), (0, True))
 
 
-def unwatched(folder):
+def unwatched():
     """Without a page answers wake the panel: the fastest of nine finds a device within a second."""
     took, is_found = [], False
     while len(took) < 9 and min(took, default=9) >= 1:
-        with Served(oca.bench(80)) as device, Panel(folder, device.port) as panel:
+        with Served(oca.bench(80)) as device, Panel(device.port) as panel:
             took.append(waited(lambda: len(device.heard) >= 1300, 9) or 9)
             is_found = panel.wait(is_walked) is not None
     check(min(took) < 1, f"without a page 1,300 datagrams take {min(took):.1f} s")
     check(is_found, "and the device is found")
 
 
-def troubled(folder):
+def troubled():
     """Why a block's members can't be listed is shown, and of all others that there is no trouble."""
     tree = oca.bench(1) + [oca.Object(6000 + n, "mute", 4096, "m", state=1) for n in range(100)]
-    with walked(folder, Served(tree)) as (_, panel):
+    with walked(Served(tree)) as (_, panel):
         told = {ono: o["trouble"] for ono, o in panel.shown.items() if o["trouble"] is not None}
         same("why a block has no members", (told, len(panel.shown) > 4), ({4096: "BufferOverflow"}, True))
-
-
-class Ailing(Noting):
-    """The same, which answers DeviceError where it is asked for one thing of one object, as long as it ails."""
-
-    ails = True
-
-    def says(self, peer, data, now):
-        said, packets = self.answers(peer, data, now)
-        asked = self.asks_it(data)
-        return said, [oca.pdu(3, [oca.response_body(handle, 2, 0, b"") for handle in asked])] if self.ails and asked else packets
 
 
 def trouble_of(panel, ono, trouble, value=None):
@@ -912,19 +856,18 @@ def trouble_of(panel, ono, trouble, value=None):
     panel.comes(is_so, f"the trouble of {ono} is shown as {trouble}, and its value as {value}: {panel.shown.get(ono)}")
 
 
-def ailing(folder):
+def ailing():
     """Why the value of an object can't be read is shown, beside the last one that was, and no longer once it is read again."""
-    with Ailing(oca.bench()) as device, Panel(folder, device.port) as panel:
+    with Noting(oca.bench(), fails=True) as device, Panel(device.port) as panel:
         for value in (None, "0"):
-            device.ails = True
+            device.fails = True
             trouble_of(panel, TRIM, "DeviceError")
             same("a value that can't be read any more is the last one", panel.value(TRIM), value)
-            device.ails = False
+            device.fails = False
             trouble_of(panel, TRIM, None, "0")
-    with Ailing(oca.bench(), 4096, (3, 5)) as device, Panel(folder, device.port) as panel:
-        device.ails = False
+    with Noting(oca.bench(), 4096, (3, 5)) as device, Panel(device.port) as panel:
         panel.wait(lambda v: v["walked"] and panel.value(TRIM) is not None)
-        for device.ails, trouble in ((True, "DeviceError"), (False, None)):
+        for device.fails, trouble in ((True, "DeviceError"), (False, None)):
             trouble_of(panel, 4096, trouble)
 
 
@@ -938,26 +881,13 @@ def commands_at(silent, seconds):
     return found
 
 
-def asleep(folder):
+def asleep():
     """The sleep of the machine counts: a command that was sent before it is not sent again."""
     for seconds, again in ((16, False), (10, True)):
-        with bound() as silent, Panel(folder, silent.getsockname()[1], LD_PRELOAD=layer("unreliable"), SLEPT=str(seconds)):
+        with bound() as silent, Panel(silent.getsockname()[1], SLEPT=seconds):
             heard = commands_at(silent, 2)
         same(f"a sleep of {seconds} seconds: whether the first command is sent again", bool(heard) and heard.count(min(heard)) > 1, again)
         check(heard, f"a sleep of {seconds} seconds: commands are sent")
-
-
-class Ahead:
-    """Clocks that are set forward while a program runs: the words of its environment, and `set` for so many seconds."""
-
-    def __init__(self):
-        self.file = tempfile.NamedTemporaryFile(buffering=0)
-        self.words = {"LD_PRELOAD": layer("unreliable"), "AHEAD": self.file.name}
-        self.set(0)
-
-    def set(self, seconds):
-        self.file.seek(0)
-        self.file.write(int(1000 * seconds).to_bytes(8, sys.byteorder))
 
 
 @contextlib.contextmanager
@@ -976,10 +906,10 @@ def ticket_in(answer):
     return int(answer.rsplit(b"\r\n\r\n", 1)[1]) if answer.startswith(b"HTTP/1.1 202") else 0
 
 
-def late_orders(folder):
+def late_orders():
     """An order that waited over a stop, or past its moment, is told as not sent; the next is done."""
     ahead = Ahead()
-    with walked(folder, **ahead.words) as (device, panel):
+    with walked(**ahead.settings) as (device, panel):
         same("an order beside no standstill", panel.fare("/set", MUTE, "muted"), None)
         now = panel.look()["now"]
         for before, told in ((0, LATE), (now - 1, LATE), (now + 60_000, None), (2**64 - 1, None)):
@@ -998,7 +928,7 @@ def late_orders(folder):
                 page.sendall(panel.orders_by("/set", {"ono": TRIM, "value": "9", "before": now + 4000}))
             answers = [whole_answer(s) for s in (old, new, page)]
         same("orders that waited for 6 s", panel.settled([ticket_in(it) for it in answers]), 3 * [LATE])
-        same("and did nothing", ocactl(folder, device.port, "get", MUTE, TRIM), f"{MUTE} muted\n{TRIM} 7\n")
+        same("and did nothing", ocactl(device.port, "get", MUTE, TRIM), f"{MUTE} muted\n{TRIM} 7\n")
         same("the next order is carried out", panel.fare("/set", MUTE, "unmuted"), None)
 
 
@@ -1023,10 +953,10 @@ def last_answer(s):
     return rest[rest.rfind(b"HTTP/1.1"):]
 
 
-def behind_untaken_answers(folder):
+def behind_untaken_answers():
     """An order that is read late, behind untaken answers, is told as not sent. Tried again if slow."""
     ahead = Ahead()
-    with walked(folder, **ahead.words) as (device, panel):
+    with walked(**ahead.settings) as (device, panel):
         same("an order before answers that nobody takes", panel.fare("/set", MUTE, "muted"), None)
         for tried in range(1, 10):
             with filled(panel) as s:
@@ -1038,15 +968,15 @@ def behind_untaken_answers(folder):
             if ticket_in(answer):
                 break
         same("an order that waited behind answers that nobody took, and over 2 s", panel.settled([ticket_in(answer)]), [LATE])
-        same("and did nothing", ocactl(folder, device.port, "get", MUTE), f"{MUTE} muted\n")
+        same("and did nothing", ocactl(device.port, "get", MUTE), f"{MUTE} muted\n")
 
 
-def over_a_stop(folder):
+def over_a_stop():
     """An order in flight over a stop of 20 s is lost, and not sent again. Tried again if the link was lost before."""
     for _ in range(9):
         ahead = Ahead()
-        with walked(folder, Noting(stagebox(), 4097, (4, 2)), **ahead.words) as (device, panel):
-            device.says = lambda peer, data, now: ("", []) if device.asks_it(data) else device.answers(peer, data, now)
+        with walked(Noting(stagebox(), 4097, (4, 2)), **ahead.settings) as (device, panel):
+            device.holds = True
             copies = lambda: {handle: device.copies[handle] for handle, what in list(device.asked.items()) if what == device.what}
             _, ticket = panel.order("/set", 4097, "unmuted")
             waited(copies, 20)
@@ -1068,40 +998,24 @@ def address_towards(device):
         return s.getsockname()[0]
 
 
-def bound_for(folder):
+def bound_for():
     """The socket is at the one address that reaches the device, or the given one, or nowhere."""
     rows = [(device, (), address_towards(device)) for device in ("127.0.0.1:9", "127.255.0.2:9", "10.255.255.254:9", "126.0.0.1:9", "192.0.2.1:9")]
     same("the system reaches itself from 127.0.0.1", [wanted for _, _, wanted in rows[:2]], ["127.0.0.1"] * 2)
     for device, given, wanted in [*rows, ("127.0.0.1:9", ("--ip", "127.0.0.2"), "127.0.0.2"), ("127.0.0.1:9", ("--ip", "0.0.0.0"), "127.0.0.1")]:
         if not wanted:
-            status, _, err = ran(folder, "--device", device, "--listen", "127.0.0.1:0")
+            _, err, status = ITS.ran("ocapanel", "--device", device, "--listen", "127.0.0.1:0")
             same(f"no route to {device}", (status, err.splitlines()[1:]), (1, ["socket failed"]))
             continue
-        with Panel(folder, 0, *given, address=device) as panel:
+        with Panel(0, *given, address=device) as panel:
             links = [os.readlink(it) for it in Path(f"/proc/{panel.process.pid}/fd").iterdir()]
             udp = [line.split() for line in Path("/proc/net/udp").read_text().splitlines()[1:]]
             at = [socket.inet_ntoa(bytes.fromhex(row[1].split(":")[0])[::-1]) for row in udp if f"socket:[{row[9]}]" in links]
             same(f"where the socket for {device} {given} is", at, [wanted])
 
 
-# What a device with one mute answers, each with ParamCount and parameters and status 0: in the order in which it is asked, and then to the order that
-# sets the mute, and to the order that locks it.
-FOUND = {tuple(asks): (1, bytes.fromhex(answer)) for answer, *asks in TABLE["found"]}
-ORDERED = dict.fromkeys([(4097, 4, 2), (4097, 1, 3)], (0, b""))
-
-
-class OneMute(Noting):
-    def __init__(self):
-        super().__init__()
-        self.its = FOUND | ORDERED
-
-    def says(self, peer, data, now):
-        packets = [oca.pdu(4, [message[1]]) for message in oca.check(data) if message[0] == "keep-alive"]
-        for one, method in commands_in(data):
-            if method == (4, 2):
-                self.its |= {(4097, 4, 1): (1, b"\2")}
-            packets.append(oca.response(one.handle, 0, *self.its[one.target, *method]))
-        return "", packets
+# What a device with one mute is asked in this order, to find its objects, and then for the order that sets the mute and for the one that locks it.
+FOUND, ORDERED = [*map(tuple, TABLE["found"])], [(4097, 4, 2), (4097, 1, 3)]
 
 
 def finds_a_mute(device, panel):
@@ -1113,7 +1027,7 @@ def finds_a_mute(device, panel):
     if not values["walked"]:
         return None
     link, ago = values["link"], 1000 * (time.monotonic() - list(device.came.values())[len(FOUND) - 1]) + 1
-    same("what is asked of a device with one mute", list(device.asked.values())[:len(FOUND)], list(FOUND))
+    same("what is asked of a device with one mute", list(device.asked.values())[:len(FOUND)], FOUND)
     same("what is told of it", (values["epoch"], link["commands"], link["in_flight"]), (1, len(FOUND), 0))
     # what came in the millisecond in which the link was made is not told of
     check((link["heard"] or 0) <= ago, f"the device is heard {link['heard']} ms ago, and answered {ago:.0f} ms ago")
@@ -1121,19 +1035,18 @@ def finds_a_mute(device, panel):
     return same("what can be locked", {o["ono"]: o["lockable"] for o in panel.get("/tree")["objects"]}, {100: True, 4097: True})
 
 
-def a_mute(folder):
+def a_mute():
     """One mute is found by one question a thing, and its orders fare. Again if a page was early."""
     for _ in range(9):
-        with OneMute() as device, Panel(folder, device.port) as panel:
+        tree = [oca.Object(100, "block", 0, "root"), oca.Object(4097, "mute", 100, "mute", state=1)]
+        with Noting(tree) as device, Panel(device.port) as panel:
             if finds_a_mute(device, panel) is None:
                 continue
-            for row in panel.rows("mute"):
-                data = request(row)
-                status, _, text = panel.exchange(data)
+            for data, row, status, _, text in panel.asked("mute"):
                 same(f"{data!r}", (status, text.endswith(row.get("ends", "").encode())), (row["status"], True))
             same("how two orders fared", panel.settled([1, 2]), [None, None])
             panel.comes(lambda _: (panel.value(4097), panel.lock(4097)) == ("unmuted", "own"), f"the mute is shown: {panel.shown[4097]}")
-            same("the orders that came", [asked for asked in device.asked.values() if asked in ORDERED], list(ORDERED))
+            same("the orders that came", [asked for asked in device.asked.values() if asked in ORDERED], ORDERED)
             values = panel.look()
             same("the device is heard, and not walked again", (values["epoch"], values["link"]["heard"] is None), (1, False))
             _, fields, body = panel.exchange(panel.asks("GET", "/"))
@@ -1143,15 +1056,15 @@ def a_mute(folder):
     check(False, "a device with one mute is found")
 
 
-def limits_of_orders(folder):
+def limits_of_orders():
     """The last 512 orders are told. Behind one in flight 256 wait, and no more. Tried again if the link was lost."""
-    with walked(folder, Served(oca.bench())) as (_, panel):
+    with walked(Served(oca.bench())) as (_, panel):
         same("how 514 orders fared", {panel.fare("/set", 4097, "unmuted") for _ in range(514)}, {None})
         for query, first in (("", 3), ("&told=510", 510)):
             told = [t["ticket"] for t in panel.get(f"/values?since=0{query}")["told"]]
             same(f"which of 514 orders are told{query}", told, list(range(first, 515)))
     for _ in range(9):
-        with walked(folder, Deaf(oca.bench(), SETS)) as (device, panel):
+        with walked(Deaf(oca.bench(), SETS)) as (device, panel):
             statuses = [panel.order("/set", 4097, "unmuted")[0]]
             panel.wait(lambda v: any(b"\0\0\x10\1\0\4\0\2" in data for data, _ in list(device.heard)))
             statuses += [panel.order("/set", 4097, "unmuted")[0] for _ in range(257)]
@@ -1161,20 +1074,20 @@ def limits_of_orders(folder):
     return check(False, "orders behind one without an answer are all lost")
 
 
-def spans(folder):
+def spans():
     """Half of the span is for what the panel asks by itself; of a device that says nothing it asks five things."""
     for given, most in ((["--span", "2"], 1), (["--span", "4"], 2), (["--span", "8"], 4), ([], 5)):
-        with bound() as silent, Panel(folder, silent.getsockname()[1], *given) as panel:
+        with bound() as silent, Panel(silent.getsockname()[1], *given) as panel:
             got = len({*commands_at(silent, 2)})
             same(f"{given}: commands in flight, and how many the page is told of", (got, panel.look()["link"]["in_flight"]), (most, most))
 
 
-def counted(folder):
+def counted():
     """Commands, copies and the last hearing are told as they came; nine first copies are missed."""
     with Noting(oca.bench()) as device:
         misses = lambda data: any(device.copies[one.handle] == 1 and [*device.came].index(one.handle) < 9 for one, _ in commands_in(data))
-        device.says = lambda peer, data, now: ("", []) if misses(data) else device.answers(peer, data, now)
-        with Panel(folder, device.port) as panel:
+        device.hears = lambda _, data: not misses(data)
+        with Panel(device.port) as panel:
             beats = lambda: sum(data[7] == 4 for data, _ in list(device.heard))
             waited(lambda: beats() > 1 and len(device.came) >= 9)  # they come while no page asks for anything
             check(beats() > 1 and len(device.came) >= 9, f"{beats()} keep-alives and {len(device.came)} commands came")
@@ -1184,27 +1097,27 @@ def counted(folder):
             panel.comes(lambda v: ago.append(v["link"]["heard"]) or ago[-1] < ago[-2], f"the device is heard again and again: {ago[-20:]} ms ago")
 
 
-def at_its_port(folder):
+def at_its_port():
     """The socket for the device is at the port that is given; and a panel that follows another one at its port is answered."""
     port = str(free_port())
-    with bound() as silent, Panel(folder, silent.getsockname()[1], "--port", port):
+    with bound() as silent, Panel(silent.getsockname()[1], "--port", port):
         silent.settimeout(20)
         same(f"--port {port}: from where the device is asked", silent.recvfrom(2000)[1], ("127.0.0.1", int(port)))
     turn, answered = None, []
     while turn != by_turns():  # again where the handles began again from 0 meanwhile, as they do every six hours
         turn, answered = by_turns(), []
-        with Device(folder) as device:
+        with Device() as device:
             for _ in range(2):
-                with Panel(folder, device.port, "--port", port) as panel:
+                with Panel(device.port, "--port", port) as panel:
                     answered.append(panel.wait(is_walked) is not None)
     check(answered[0], "a panel at a port that is given is answered")
     check(answered[1], "a panel that follows another one at its port is answered")
 
 
-def at_an_old_port(folder):
+def at_an_old_port():
     """At a port whose session has higher handles a panel says so, and is answered at another port."""
     port = free_port()
-    with walked(folder, OldSession(stagebox(), [port]), "--port", str(port), notes=1) as (device, panel):
+    with walked(OldSession(stagebox(), [port]), "--port", str(port), notes=1) as (device, panel):
         begins = f"note: 127.0.0.1:{device.port} answers no command from port {port}: port "
         told = re.fullmatch(re.escape(begins) + r"(\d+) is used instead\n", panel.notes[0])
         check(told and int(told[1]) != port, f"a panel at the port of an old session: {panel.notes}")
@@ -1218,23 +1131,22 @@ def is_free(port):
     return False
 
 
-def by_its_names(folder):
+def by_its_names():
     """A panel is asked by its own address, and one at 127.0.0.1 also as localhost; a page orders under the name by
     which it was asked, and under no other. At port 80 browsers leave the port out; where it can't be had this is left out."""
     for ip, port in (("127.0.0.1", 0), ("127.0.0.2", 0), *[("127.0.0.1", 80)] * is_free(80)):
-        with walked(folder, ip=ip, port=port) as (_, panel):
+        with walked(ip=ip, port=port) as (_, panel):
             if same(f"--listen {ip}:{port}: where it tells that it is", panel.told_ip, ip):
-                for row in panel.rows(f"at {ip}:{port}"):
-                    data = request(row)
-                    same(f"{data!r} at {panel.host}", panel.exchange(data)[0], row["status"])
+                for data, row, status, *_ in panel.asked(f"at {ip}:{port}"):
+                    same(f"{data!r} at {panel.host}", status, row["status"])
 
 
-def runs(folder):
+def runs():
     """Each start has another run. A page of another run is answered all, its orders are refused, and nothing of them is taken."""
-    with Device(folder) as device:
+    with Device() as device:
         here, numbers = f"127.0.0.1:{device.port}", []
         for _ in range(2):
-            with Panel(folder, device.port) as panel:
+            with Panel(device.port) as panel:
                 panel.comes(is_walked, "the objects are found")
                 tree, values = panel.get("/tree"), panel.look()
                 numbers.append(values["run"])
@@ -1245,7 +1157,7 @@ def runs(folder):
                     got = len(panel.get(f"/values?since={values['change']}&run={run}")["objects"])
                     same(f"of how many objects a page of run {run!r} is told", got, count)
         check(numbers[0] != numbers[1], f"two runs: {numbers}")
-        with Panel(folder, device.port) as panel:
+        with Panel(device.port) as panel:
             panel.comes(is_walked, "the objects are found")
             own = panel.look()["run"]
             for run, status in ((numbers[0], 409), ("", 409), (own + "0", 409), (" " + own, 409), (int(own), 400), (None, 400), (own, 202)):
@@ -1255,9 +1167,9 @@ def runs(folder):
             same("the next ticket", panel.orders([{"ono": MUTE, "lock": True}])[1], {"tickets": [3]})
 
 
-def many_orders(folder):
+def many_orders():
     """Many orders in one body are taken all or none, each with its ticket; locks among them."""
-    with walked(folder) as (device, panel):
+    with walked() as (device, panel):
         good = {"ono": MUTE, "set": "muted"}
         for none in ([], [good] * 65):
             same(f"{len(none)} orders", panel.orders(none), (400, None))
@@ -1270,7 +1182,7 @@ def many_orders(folder):
         same("three orders", taken, (202, {"tickets": [2, 3, 4]}))
         same("how they fared", panel.settled([1, 2, 3, 4]), 4 * [None])
         same("what is shown where they are told", (panel.value(MUTE), panel.value(TRIM), panel.lock(TRIM)), ("muted", "-30", "own"))
-        same("another controller sets the label of the root", command(device.port, 100, 2, 9, oca.text_bytes("Stage A")), 0)
+        same("another controller sets the label of the root", Peer(device.port).status(100, 2, 9, oca.text_bytes("Stage A")), 0)
         panel.comes(lambda v: v["name"] == "Stage A", "the label of the root is the device's name", 60)
         same("unlocked", panel.fare("/unlock", TRIM), None)
         batches = [[good | {"set": ("muted", "unmuted")[n % 2]} for n in range(64)]]
@@ -1284,23 +1196,23 @@ def many_orders(folder):
         same("many with a moment that has passed", (panel.settled(body["tickets"]), panel.value(TRIM)), (2 * [LATE], "21"))
 
 
-def labels(folder):
+def labels():
     """A label that is ordered is set in the device as it is, of a block too, and is shown once the device says it."""
-    with walked(folder, Served(oca.bench())) as (device, panel):
+    with walked(Served(oca.bench())) as (device, panel):
         for ono in (4097, MUTE):
             one = next(t for t in device.tree if t.ono == ono)
             for text in ('Lead "vocal" <b>\\', 64 * "x", 32 * "ü", "\u202ela\u0301 \U0001f3a4", ""):
                 status, body = panel.orders([{"ono": ono, "label": text}])
                 same(f"the label {text!r} of {ono}", (status, panel.settled(body["tickets"]), one.label), (202, [None], text))
                 panel.comes(lambda _, o=ono, t=text: panel.shown[o]["label"] == t, f"{text!r} is shown: {panel.shown[ono]['label']!r}")
-        same("another controller locks", command(device.port, MUTE, 1, 3), 0)
+        same("another controller locks", Peer(device.port).status(MUTE, 1, 3), 0)
         _, body = panel.orders([{"ono": MUTE, "label": "mine"}])
         same("a label of what another one locks", (panel.settled(body["tickets"]), panel.lock(MUTE)), (["Locked"], "other"))
 
 
-def lost_stays_told(folder):
+def lost_stays_told():
     """That an order was lost is told also behind the walk with which the device returns, and a block whose lock went is free."""
-    with walked(folder) as (device, panel):
+    with walked() as (device, panel):
         device.process.send_signal(signal.SIGSTOP)
         _, ticket = panel.order("/set", MUTE, "muted")
         same("an order to a device that stands still", panel.settled([ticket]), ["lost"])
@@ -1308,18 +1220,18 @@ def lost_stays_told(folder):
         panel.wait(lambda v: v["link"]["lost_for"] is None and v["walked"], 30)
         told = {t["ticket"]: t["trouble"] for t in panel.get("/values?since=0&told=1")["told"]}
         same("what is told behind the walk", told, {ticket: "lost"})
-        with locked(folder, device.port, 4097):
+        with locked(device.port, 4097):
             panel.comes(lambda _: panel.lock(4097) == "other", "a block's lock of a different controller is shown", 60)
         panel.comes(lambda _: panel.lock(4097) == "free", "a block that can be listed again is free", 60)
 
 
-def tokens(folder):
+def tokens():
     """Without the token nothing is answered but 401; with it the page, and its cookie opens all else."""
-    with tempfile.TemporaryDirectory() as room, Device(folder) as device:
+    with tempfile.TemporaryDirectory() as room, Device() as device:
         path, made = Path(room) / "token", []
         for text in (None, None, "A-b_9" + 123 * "z"):
             path.write_text(f"{text}\r\nmore\n")
-            with Panel(folder, device.port, *([] if text is None else ["--token", path]), token=True) as panel:
+            with Panel(device.port, *([] if text is None else ["--token", path]), token=True) as panel:
                 made.append(panel.token)
                 check(panel.token == text or text is None and re.fullmatch("[0-9a-f]{32}", panel.token), f"the token: {panel.token}")
                 by_token(panel)
@@ -1330,18 +1242,16 @@ def by_token(panel):
     status, fields, body = panel.exchange(panel.asks("GET", f"/?token={panel.token}"))
     check(status == 200 and body.startswith(b"<!doctype html>"), f"the page with its token: {status}")
     same("the cookie", fields.get("set-cookie"), f"ocapanel-{panel.port}={panel.token}; HttpOnly; SameSite=Strict; Path=/")
-    for row in panel.rows("token", method="GET", Host=panel.host):
-        status, fields, body = panel.exchange(request(row))
+    for _, row, status, fields, body in panel.asked("token", method="GET", Host=panel.host):
         is_told = status != 401 or body == b"open the address that ocapanel printed\n" and fields["content-type"].startswith("text/plain")
         same(f"{row['path']} with {row.get('Cookie', 'no cookie'):.60}", (status, is_told), (row["status"], True))
-    for row in panel.rows("order_by_token"):
-        data = request(row | {"path": "/lock", "text": '{"ono":9}'})
-        same(f"an order {data!r}", panel.exchange(data)[0], row["status"])
+    for data, row, status, *_ in panel.asked("order_by_token"):
+        same(f"an order {data!r}", status, row["status"])
 
 
-def only_shown(folder):
+def only_shown():
     """A panel that only shows takes no order."""
-    with walked(folder, None, "--read-only") as (_, panel):
+    with walked(None, "--read-only") as (_, panel):
         values = panel.look()
         same("it says that it only shows", values["read_only"], True)
         for path in ("/set", "/lock", "/unlock", "/orders", "/nothing"):
@@ -1351,21 +1261,21 @@ def only_shown(folder):
         same("what was ordered", (panel.look()["told"], panel.get("/values")["link"]["in_flight"]), ([], 0))
 
 
-def units(folder):
-    with tempfile.TemporaryDirectory() as room, Device(folder) as device:
+def units():
+    with tempfile.TemporaryDirectory() as room, Device() as device:
         path = Path(room) / "units"
         path.write_text(TABLE["units"]["text"])
         wanted = [dict.fromkeys(("class", "ono")) | row for row in TABLE["units"]["found"]]
         for given, found in ((("--units", path), wanted), ((), [])):
-            with Panel(folder, device.port, *given) as panel:
+            with Panel(device.port, *given) as panel:
                 same(f"units {given}", panel.get("/tree")["units"], found)
 
 
-def steady(folder):
+def steady():
     """A connection with a request each half second, for longer than one on which nothing moves is kept (30 seconds): how many are asked and answered;
     and how long one is kept on which nothing moves behind its first request."""
     asked, answered, idled = 0, 0, 0
-    with Device(folder) as device, Panel(folder, device.port) as panel, panel.connected() as s, panel.connected() as idle, contextlib.suppress(OSError):
+    with Device() as device, Panel(device.port) as panel, panel.connected() as s, panel.connected() as idle, contextlib.suppress(OSError):
         begun = time.monotonic()
         idle.sendall(panel.asks("GET", "/nothing"))
         whole_answer(idle)
@@ -1381,21 +1291,21 @@ def steady(folder):
 
 
 def main():
-    folder, pool = sys.argv[1], ThreadPoolExecutor(1)
-    beside = pool.submit(steady, folder)
+    ITS.folder = os.path.abspath(sys.argv[1])
+    beside = ThreadPoolExecutor(1).submit(steady)
     for part in (words, spans, bound_for, classes, seldom, of_other_classes, listed_twice, visible_first, often, aged,
                  newer_than_an_answer, beside_an_order, right_behind, late_orders, behind_untaken_answers, over_a_stop, asleep, failing, beside_large,
                  unwatched, troubled, ailing, counted, without_a_page, at_its_port, at_an_old_port, by_its_names, a_mute, limits_of_orders, runs,
                  many_orders, labels, lost_stays_told, tokens, only_shown, units):
-        part(folder)
-    with Device(folder) as device, Panel(folder, device.port) as panel:
+        part()
+    with Device() as device, Panel(device.port) as panel:
         page(panel)
         in_one_piece(panel)
-        objects(folder, device, panel)
+        objects(device, panel)
         for part in (hostile, protected, ends, slow, little_by_little, taken_late, crowd, all_known):
             part(panel)
     for part in (lossy, cut_off, gone_and_back, many, rest):
-        part(folder)
+        part()
     asked, came, idled = beside.result()
     check(asked == came > 1, f"a connection with a request each half second: {came} of {asked} are answered")
     check(30 <= idled < 40, f"a connection on which nothing moves is closed after {idled:.1f} s, not after 30")

@@ -229,11 +229,11 @@ class Window:
         self.browser.call("Target.closeTarget", targetId=self.target)
 
 
-def program(folder, device_port, *words, port=0, token=False):
+def program(device_port, *words, port=0, token=False):
     """`ocapanel` for the device at this port; tried again while its own port is still another one's."""
     until = time.monotonic() + 20
     while True:
-        panel = Panel(folder, device_port, *words, port=port, token=token)
+        panel = Panel(device_port, *words, port=port, token=token)
         if panel.port or not port or time.monotonic() > until:
             panel.address = f"http://{panel.host}/"
             return panel
@@ -241,10 +241,10 @@ def program(folder, device_port, *words, port=0, token=False):
 
 
 @contextlib.contextmanager
-def opened(browser, address, what, seconds=30.0, **size):
-    """A window with the page, once it shows what is so; it is closed at the end."""
+def opened(browser, address, what, seconds=30.0, shown="", **size):
+    """A window with the page, once it shows all, or just what is given; it is closed at the end."""
     window = Window(browser, address, **size)
-    window.holds(LIVE, what, seconds)
+    window.holds(shown or LIVE, what, seconds)
     yield window
     window.close()
 
@@ -253,7 +253,7 @@ def row(ono, rest=""):
     return f"rows.get({ono}){rest}"
 
 
-FADER, CAP = row(TRIM, ".view.second"), row(TRIM, ".view.second.children[4]")
+CAP = row(TRIM, ".view.second.children[4]")
 
 
 def part(ono):
@@ -296,8 +296,8 @@ def cases_in_browser(browser, address):
     return lines
 
 
-def said(folder, device, *onos):
-    return [line.split(" ", 1)[1] for line in ocactl(folder, device.port, "get", *map(str, onos)).splitlines()]
+def said(device, *onos):
+    return [line.split(" ", 1)[1] for line in ocactl(device.port, "get", *map(str, onos)).splitlines()]
 
 
 def comes_to(one, wanted):
@@ -311,39 +311,26 @@ def comes_to(one, wanted):
     return False
 
 
-def by_hand(folder, device, browser, address):
+def by_hand(device, browser, address):
     """What a person does in one window, and sees in another."""
     one, two = Window(browser, address), Window(browser, address)
-    for window in (one, two):
-        window.holds(LIVE, "a window shows the device", 30)
-    for place in ("document.title", "document.querySelector('h1').textContent"):
-        check(f"127.0.0.1:{device.port}" in one.run(place), f"{place} names the device")
-    one.run("times.length=0")
+    steps(device, one, "first_seen", two)
     for n in range(100):
         wanted = ["unmuted", "muted"][n % 2]
         if not comes_to(one, wanted):
             check(False, f"a click changes the mute: {one.run(row(MUTE, '.strip.message.textContent'))}")
             break
-    answered = len(one.run("times"))
-    check(answered >= 100, f"100 clicks were answered: {answered}")
-    same("the mute is what the page shows", said(folder, device, MUTE), ["muted"])
-    two.holds(shows(MUTE, "muted"), "and what the other window shows")
-    one.drag(CAP, 60)
-    one.holds(idle(TRIM), "a dragged fader comes to rest")
-    value = said(folder, device, TRIM)[0]
-    one.holds(f"{shows(TRIM, value)}&&{FADER}.getAttribute('aria-valuenow')==='{value}'", f"the last value of the drag stands: {value}")
-    check(int(value) > 60, f"the drag went up: {value}")
-    for name in ("keys", "deliberate", "locks", "labels", "names"):
-        steps(folder, device, one, name, two)
+    for name in ("clicked", "dragged", "keys", "deliberate", "locks", "labels", "names"):
+        steps(device, one, name, two)
     if one.run(row(MUTE, ".value")) == "muted":
         one.click(part(MUTE))
     for name in ("many", "held"):
-        steps(folder, device, one, name, two)
+        steps(device, one, name, two)
     return one, two
 
 
-def steps(folder, device, one, name, two=None, panel=None, relay=None):
-    """What is done in a window by the rows of this name of tools/rows/by_hand.toml, and what then holds."""
+def steps(device, one, name, two=None, panel=None, relay=None, place=None):
+    """What is done in a window by the rows of this name of tools/rows/by_hand.toml, and what then holds. DEVICE is the device's address there."""
     sends = lambda number: lambda whom: (device if whom == "device" else panel).process.send_signal(number)
     lock = contextlib.ExitStack()
     does = {"run": one.run, "wait": one.wait, "holds": one.holds, "click": one.click, "wheel": one.wheel, "key": one.key, "type": one.type,
@@ -351,87 +338,53 @@ def steps(folder, device, one, name, two=None, panel=None, relay=None):
             "loses": lambda share: setattr(relay, "share", share), "other runs": lambda script: two.run(script),
             "choose": one.choose, "other chooses": lambda *place: two.choose(*place), "other holds": lambda *what: two.holds(*what),
             "size": one.size, "prefers": one.prefers, "looks": lambda script, value, what: same(what, one.looks(script), value),
-            "locks": lambda ono: lock.enter_context(locked(folder, device.port, ono)), "unlocks": lock.close,
-            "label": lambda ono, text: give_label(folder, device, ono, text),
-            "is told": lambda words, told, what: check(told in ocactl(folder, device.port, *words.split()), what),
-            "agrees": lambda what: same(what, said(folder, device, MUTE), [one.run(row(MUTE, ".value"))]),
+            "locks": lambda ono: lock.enter_context(locked(device.port, ono)), "unlocks": lock.close,
+            "label": lambda ono, text: give_label(device, ono, text), "picture": lambda file: Path(place, file).write_bytes(one.picture()),
+            "is told": lambda words, told, what: check(told in ocactl(device.port, *words.split()), what),
+            "agrees": lambda ono, what: same(what, said(device, ono), [one.run(row(ono, ".value"))]),
             "is": lambda script, value, what: same(what, one.run(script), value),
             "fares": lambda ono, value, what: one.holds(shows(ono, value), what),
             "both": lambda value, what: one.holds(f"{shows(MUTE, value)}&&{shows(OTHER_MUTE, value)}", what),
-            "each holds": lambda script, what: [window.holds(script, what) for window in (one, two)],
-            "device": lambda onos, values, what: same(what, said(folder, device, *onos), values)}
+            "each holds": lambda *what: [window.holds(*what) for window in (one, two)],
+            "device": lambda onos, values, what: same(what, said(device, *onos), values)}
     for action, *given in BY_HAND[name]:
-        does[action](*given)
+        does[action](*(it.replace("DEVICE", f"127.0.0.1:{device.port}") if isinstance(it, str) else it for it in given))
 
 
-def give_label(folder, device, ono, text):
+def give_label(device, ono, text):
     params = (len(text).to_bytes(2, "big") + text.encode()).hex()
-    ocactl(folder, device.port, "send", *f"--target {ono} --level 2 --index 9 --count 1 --params {params}".split())
+    ocactl(device.port, "send", *f"--target {ono} --level 2 --index 9 --count 1 --params {params}".split())
 
 
-def looks(folder, device, one):
-    """Contrast in light and dark, sizes of targets, no sideways scroll, a name for each control."""
-    steps(folder, device, one, "one_muted")
-    for scheme in ("light", "dark"):
-        one.prefers("color-scheme", scheme)
-        texts, edges = one.looks("contrasts()")
-        check(texts[0] >= 4.5, f"contrast of texts, {scheme}: {texts}")
-        check(edges[0] >= 3, f"contrast of edges, {scheme}: {edges}")
-    steps(folder, device, one, "sizes")
-
-
-def pictures(folder, browser, place):
+def pictures(browser, place):
     """The pictures of the documents: a stage box with names and levels."""
     with tempfile.TemporaryDirectory() as units:
         Path(units, "units").write_text("class int16 0.1 dB\n")
-        with Device(folder) as device, program(folder, device.port, "--units", Path(units, "units")) as panel, \
+        with Device() as device, program(device.port, "--units", Path(units, "units")) as panel, \
                 opened(browser, panel.address, "the device of the pictures is shown") as one:
-            give_label(folder, device, 100, "Stage box A")
-            for n, (name, level, state) in enumerate(DATA.of_pictures):
-                give_label(folder, device, 4097 + 5 * n, name)
-                one.run(f"change({row(4100 + 5 * n)},'{level}')")
-                if state == "unmuted":
-                    one.run(f"change({row(4098 + 5 * n)},'unmuted')")
-            one.holds(f"{row(4132, '.label')}==='Talkback'&&{shows(4135, '-300')}&&program.name==='Stage box A'", "its names and levels are set")
-            one.run("document.activeElement.blur();scrollTo(0,0)")
-            for name, width, height, scheme in [("panel.png", 1280, 800, "light"), ("panel-tablet.png", 834, 1112, "dark")]:
-                one.size(width, height, scheme == "dark")
-                one.prefers("color-scheme", scheme)
-                time.sleep(1)
-                Path(place, name).write_bytes(one.picture())
+            steps(device, one, "pictures", place=place)
 
 
-def begun_anew(folder, browser):
+def begun_anew(browser):
     """The program ends, and begins again: for the same device, and for another one."""
     desk, port = "".join(f"{ono} 100 mute muted lockable \"desk {ono}\"\n" for ono in (4096, 4097, MUTE, 5000)), free_port()
-    with Device(folder) as first, Device(folder, 0, desk) as second:
-        with program(folder, first.port, port=port) as panel:
+    with Device() as first, Device(0, desk) as second:
+        with program(first.port, port=port) as panel:
             one = Window(browser, panel.address)
-            one.holds(LIVE, "the page is live", 30)
-            one.run(f"change({row(MUTE)},'unmuted')")
-            one.holds(shows(MUTE, "unmuted"), "a channel is open")
-            run = one.run("program.run")
-        one.holds("program.state==='stale'", "a program that ended is said")
-        ocactl(folder, first.port, "set", MUTE, "muted")
-        with program(folder, first.port, port=port):
-            one.holds(f"program.run!=='{run}'&&{LIVE}&&{shows(MUTE, 'muted')}", "begun anew, the page shows what is so", 30)
-            same("in words too", one.run(f"{part(MUTE)}.textContent"), "MUTED")
-            one.run(f"change({row(MUTE)},'unmuted')")
-            one.holds(shows(MUTE, "unmuted"), "and its orders are told")
-            first_strips = one.run("strips.length")
-        with program(folder, second.port, port=port):
-            is_named = f"document.title.includes('127.0.0.1:{second.port}')"
-            one.holds(f"{is_named}&&{LIVE}&&rows.size===5", "for another device the page shows that one, and names it", 30)
-            check(one.run("strips.length") == 1 != first_strips, "no strip of the other one stays")
-            same("the object of the same number is shown as it is", one.run(f"{part(MUTE)}.textContent"), "MUTED")
-            same("nothing was done to either", said(folder, second, MUTE) + said(folder, first, MUTE), ["muted", "unmuted"])
+            steps(first, one, "before_its_end")
+        steps(first, one, "ended")
+        with program(first.port, port=port):
+            steps(first, one, "begun_anew")
+        with program(second.port, port=port):
+            steps(second, one, "of_another_device")
+            same("nothing was done to the first one", said(first, MUTE), ["unmuted"])
         one.close()
 
 
-def bad_network(folder, browser):
+def bad_network(browser):
     """At 20 % loss, and over a device that restarts."""
     strip = "".join(line for line in TREE.splitlines(True) if line[:4] in ("4096", "4097", "4098", "4099", "4100", "4101"))
-    with Device(folder, 0, strip) as device, Lossy(device.port, 3) as relay, program(folder, relay.port) as panel, \
+    with Device(0, strip) as device, Lossy(device.port, 3) as relay, program(relay.port) as panel, \
             opened(browser, panel.address, "the page is built at 20 % loss", 120) as window:
         wrong = 0
         for n in range(10):
@@ -439,7 +392,7 @@ def bad_network(folder, browser):
             window.wait("isOpen()", 60)
             window.run(f"change({row(MUTE)},'{wanted}')")
             window.wait(shows(MUTE, wanted), 20)
-            wrong += said(folder, device, MUTE) != [window.run(row(MUTE, ".value"))]
+            wrong += said(device, MUTE) != [window.run(row(MUTE, ".value"))]
         same("of 10 clicks at 20 % loss those that show another value", wrong, 0)
         wrong = 0
         for n in range(5):
@@ -448,23 +401,23 @@ def bad_network(folder, browser):
             for kind in ("lock", "unlock"):
                 window.run(f"order({row(TRIM)},'{kind}')")
                 window.wait(idle(TRIM), 30)
-            wrong += said(folder, device, TRIM) != [window.run(row(TRIM, ".value"))]
+            wrong += said(device, TRIM) != [window.run(row(TRIM, ".value"))]
         same("of 5 drags at 20 % loss with a lock at once those that end at another value", wrong, 0)
         device.end()
         window.holds("program.state==='lost'&&$('banner').textContent.includes('is lost')", "a device that is gone is shown as lost", 30)
-        with Device(folder, device.port, strip):
+        with Device(device.port, strip):
             window.holds(LIVE, "and found again", 60)
 
 
 SEEN = f"(()=>{{const r={row(TRIM)};return[r.value,isOpen()&&isSure(r),program.unsure]}})()"
 
 
-def ages(folder, browser, seconds=20):
+def ages(browser, seconds=20):
     """At 20 % loss what is shown as confirmed was so within the last 2 s; and another's change is seen."""
-    with Device(folder) as device, Lossy(device.port, 5) as relay, program(folder, relay.port) as panel, \
+    with Device() as device, Lossy(device.port, 5) as relay, program(relay.port) as panel, \
             opened(browser, panel.address, "a stage box is shown at 20 % loss", 120, height=1600) as window:
         # what the device had, each with the moment at which it was there and the one from which on it was surely gone
-        had = [(said(folder, device, TRIM)[0], time.monotonic(), None)]
+        had = [(said(device, TRIM)[0], time.monotonic(), None)]
         seen, wrong, looks, set_at, value = 0, [], 0, 0.0, 0
         until = time.monotonic() + seconds
         while time.monotonic() < until:
@@ -478,7 +431,7 @@ def ages(folder, browser, seconds=20):
                 seen, set_at = seen + 1, 0.0
             if not set_at and begun > had[-1][1] + 1:
                 value += 1
-                ocactl(folder, device.port, "set", TRIM, value)
+                ocactl(device.port, "set", TRIM, value)
                 set_at = time.monotonic()
                 had[-1:] = [(*had[-1][:2], set_at), (str(value), set_at, None)]
             time.sleep(0.02)
@@ -486,40 +439,9 @@ def ages(folder, browser, seconds=20):
         check(looks > 0 and seen > 0, "changes are seen")
 
 
-def cut_off(folder, browser):
-    """A network that is cut over a device that lives on: that is said, and the page goes on where it was."""
-    with Device(folder) as device, Lossy(device.port, share=0) as relay, program(folder, relay.port) as panel, \
-            opened(browser, panel.address, "the page is live") as window:
-        steps(folder, device, window, "cut_off", relay=relay)
-
-
-def large(folder, browser):
-    """4,096 objects: what is near is built, and the rest when it comes near."""
-    with Device(folder, 0, many_tree()[0]) as device, program(folder, device.port) as panel:
-        window = Window(browser, panel.address)
-        window.holds("rows.size>4000&&isOpen()", "4,096 objects are walked", 90)
-        usable = "rows.size>4000&&isOpen()&&inView.size>0&&[...inView].flatMap(s=>s.rows).every(r=>r.view&&r.value!==null)"
-        window.holds(usable, "what is visible can be used", 60)
-        made = window.run("[...rows.values()].filter(r=>r.view).length")
-        check(0 < made < 1000, f"controls are made for what is near alone: {made}")
-        steps(folder, device, window, "large")
-        window.close()
-
-
-def hostile(folder, browser):
-    """Texts of a device run nothing."""
-    text = "".join(f'{5000 + 2 * n} 100 block lockable "{role}"\n{5001 + 2 * n} {5000 + 2 * n} mute muted lockable "{role}"\n'
-                   for n, role in enumerate(DATA.hostile))
-    with Device(folder, 0, text) as device, program(folder, device.port) as panel, opened(browser, panel.address, "a hostile device is shown") as window:
-        steps(folder, device, window, "hostile")
-        names = window.run("strips.map(s=>s.name.textContent)")
-        check(any(name.startswith("<img src=x") for name in names), f"they are shown as texts: {names}")
-        check(all(len(name) <= 120 for name in names), "and not without an end")
-
-
-def with_token(folder, browser):
+def with_token(browser):
     """The token goes out of the address bar; a window without it is told what to open."""
-    with Device(folder) as device, program(folder, device.port, "--verbose", token=True) as panel, \
+    with Device() as device, program(device.port, "--verbose", token=True) as panel, \
             opened(browser, f"{panel.address}?token={panel.token}", "a page that has the token shows the device") as window:
         same("the address bar without the token", window.run("location.search+location.pathname"), "/")
         clean = Window(browser, panel.address, browserContextId=browser.call("Target.createBrowserContext")["browserContextId"])
@@ -528,7 +450,7 @@ def with_token(folder, browser):
 
 
 # How many rows there are of each part; a part that has fewer tried too little.
-ROWS = {"sources": 2, "node": 125, "wrong pages": 66, "chromium": 125, "by hand": 52, "looks": 20, "programs": 53}
+ROWS = {"sources": 2, "node": 125, "wrong pages": 66, "chromium": 125, "by hand": 52, "looks": 20, "programs": 56}
 
 
 def counted(name, part_of, *given):
@@ -545,31 +467,46 @@ def sources():
     check(size < page.MOST, f"the page has {size} bytes, not below {page.MOST}")
 
 
-def programs(folder, browser):
-    for name, words in (("stalls", ()), ("watching", ("--read-only",))):
-        with Device(folder) as device, program(folder, device.port, *words) as panel, opened(browser, panel.address, f"{name}: the page is live") as one:
-            steps(folder, device, one, name, panel=panel)
-    for tries in (begun_anew, bad_network, ages, cut_off, large, hostile, with_token):
-        tries(folder, browser)
+HOSTILE = "".join(f'{5000 + 2 * n} 100 block lockable "{role}"\n{5001 + 2 * n} {5000 + 2 * n} mute muted lockable "{role}"\n'
+                  for n, role in enumerate(DATA.hostile))
+# What is tried by rows alone, each with a device and a program of its own: the device's objects, further words of the program, what is so once the page
+# can be used, and whether the program reaches the device by a way that may lose datagrams.
+BY_ROWS = {"stalls": (TREE, (), LIVE, False), "watching": (TREE, ("--read-only",), LIVE, False), "cut_off": (TREE, (), LIVE, True),
+           "large": (many_tree()[0], (), "rows.size>4000&&isOpen()", False), "hostile": (HOSTILE, (), LIVE, False)}
 
 
-def in_chromium(folder, chromium, place):
+def by_rows(browser, name):
+    tree, words, shown, is_by_way = BY_ROWS[name]
+    with Device(0, tree) as device, Lossy(device.port, share=0) as way, \
+            program((way if is_by_way else device).port, *words) as panel, \
+            opened(browser, panel.address, f"{name}: the page is live", 90, shown) as one:
+        steps(device, one, name, panel=panel, relay=way)
+
+
+def programs(browser):
+    for name in BY_ROWS:
+        by_rows(browser, name)
+    for tries in (begun_anew, bad_network, ages, with_token):
+        tries(browser)
+
+
+def in_chromium(chromium, place):
     # (a process of the browser that is not yet gone may still write there)
     with tempfile.TemporaryDirectory(ignore_cleanup_errors=True) as profile:
         browser = Browser(chromium, profile)
         try:
-            with Device(folder) as device, program(folder, device.port) as panel:
+            with Device() as device, program(device.port) as panel:
                 same("the page that the program sends", panel.exchange(panel.asks("GET", "/"))[2].decode(), page.page()[0])
                 counted("chromium", lambda: note_cases(cases_in_browser(browser, panel.address), "in Chromium"))
                 browser.lines.clear()
                 windows = []
-                counted("by hand", lambda: windows.extend(by_hand(folder, device, browser, panel.address)))
-                counted("looks", looks, folder, device, windows[0])
+                counted("by hand", lambda: windows.extend(by_hand(device, browser, panel.address)))
+                counted("looks", steps, device, windows[0], "looks")
                 for window in windows:
                     window.close()
-            counted("programs", programs, folder, browser)
+            counted("programs", programs, browser)
             if place:
-                pictures(folder, browser, place)
+                pictures(browser, place)
             lines = [line for line in browser.lines if "ERR_" not in str(line) and "Failed to load resource" not in str(line)]
             check(not lines, f"no line in the console: {lines[:3]}")
         finally:
@@ -588,7 +525,8 @@ def main():
             print("LEFT OUT: the page's cases in node, and wrong pages: there is no node here")
         chromium = shutil.which("chromium") or shutil.which("chromium-browser") or shutil.which("google-chrome")
         if chromium:
-            in_chromium(sys.argv[1], chromium, sys.argv[2] if len(sys.argv) > 2 else None)
+            ITS.folder = os.path.abspath(sys.argv[1])
+            in_chromium(chromium, sys.argv[2] if len(sys.argv) > 2 else None)
         else:
             print("LEFT OUT: the page in Chromium: there is none here (apt-get install chromium)")
     return ITS.verdict()

@@ -14,11 +14,11 @@ from checks import bound
 class Peer:
     """A controller of the device at this port of this machine, that waits so many seconds for an answer, and sends so many copies."""
 
-    def __init__(self, port, patience=0.25, copies=40):
+    def __init__(self, port, patience=0.25, copies=40, ip="127.0.0.1"):
         self.socket = socket.socket(socket.AF_INET, socket.SOCK_DGRAM)
-        self.socket.connect(("127.0.0.1", port))
+        self.socket.connect((ip, port))
         self.socket.settimeout(patience)
-        self.copies, self.handle, self.answered = copies, 0, []
+        self.copies, self.handle, self.answered, self.response = copies, 0, [], None
 
     def copy(self, handle, target, level, index, *params):
         self.socket.send(oca.command(handle, target, level, index, len(params), b"".join(params)))
@@ -34,7 +34,8 @@ class Peer:
         return self.again(*command, copies=copies)
 
     def again(self, *command, copies=0):
-        """The same by copies of the command that was sent last."""
+        """The same by copies of the command that was sent last. The datagram with the response is kept."""
+        self.response = None
         for _ in range(copies or self.copies):
             try:
                 self.copy(self.handle, *command)
@@ -46,8 +47,13 @@ class Peer:
             handle, status = struct.unpack(">IB", got[14:19])
             self.answered.append(handle)
             if handle == self.handle:
+                self.response = got
                 return status, got[20:]
         return None
+
+    def status(self, *command):
+        """The status of the response; nothing where there is none."""
+        return (self.ask(*command) or (None,))[0]
 
 
 class Relay:
@@ -72,6 +78,9 @@ class Relay:
                         self.forth(data, self.ways[sender])
                     elif self.goes_back(data):
                         self.front.sendto(data, controllers[end])
+
+    def goes_back(self, _):
+        return True
 
     def forth(self, data, way):
         goes_on = self.goes_forth(data)
@@ -140,6 +149,13 @@ class Served:
         self.ends = True
         self.thread.join()
         self.socket.close()
+
+
+def messages_in(data, kind):
+    """What each message of this kind in a datagram has; of a datagram that is none, nothing."""
+    with contextlib.suppress(oca.Fault):
+        return [message[1:] for message in oca.check(data) if message[0] == kind]
+    return []
 
 
 def commands_in(data):

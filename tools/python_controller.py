@@ -152,9 +152,8 @@ class Watch:
     """What a controller sends into a bad network, held against the rules, and how many of its commands were in flight."""
 
     def __init__(self, network):
-        self.network, self.carries, self.accepts = network, network.carry, network.accept
-        network.carry, network.accept = self.carry, self.accept
-        self.senders, self.sent, self.copies, self.wrong, self.answered = set(), {}, {}, [], set()
+        self.network, self.accepts, network.accept = network, network.accept, self.accept
+        self.senders, self.sent, self.copies, self.wrong = set(), {}, {}, []
         self.most = self.alive = 0
 
     def accept(self, inward, data):
@@ -162,11 +161,6 @@ class Watch:
             self.senders.add(self.network.controller)
             self.note(data)
         self.accepts(inward, data)
-
-    def carry(self, inward, data):
-        if not inward:
-            self.answered |= {message[0] for kind, *message in oca.check(data) if kind == "response"}
-        self.carries(inward, data)
 
     def note(self, data):
         """A datagram that the controller sent, held against the rules."""
@@ -181,7 +175,7 @@ class Watch:
         else:
             self.wrong += ["no next handle"] if self.sent and handle != max(self.sent) + 1 else []
             self.sent[handle], self.copies[handle] = data, 1
-            in_flight = self.sent.keys() - self.answered
+            in_flight = self.sent.keys() - self.network.answered
             self.wrong += ["beyond the span"] if handle >= min(in_flight) + SPAN else []
             self.most = max(self.most, len(in_flight))
 
@@ -233,15 +227,23 @@ def executed_once(checks, device, watches):
     for watch in watches:
         executed, old, reused = device.executed(watch.network.back.getsockname()[1])
         checks.same("executed once", (executed, reused), (len(watch.sent), 0))
-        checks.same("too old", old <= watch.network.behind.copies, True)
+        checks.same("too old", old <= watch.network.behind, True)
+
+
+def worked_bytes():
+    """The rows of worked bytes in PROTOCOL: a command and what answers it, in digits, where `...` stands for the rest."""
+    return [[it.replace(" ", "").lower() for it in row] for row in re.findall(ROW, (TOP / "docs/PROTOCOL.md").read_text())]
+
+
+def script_of(rows):
+    """The commands of these rows for `ocadev replay`, each in a datagram of its own."""
+    return "".join(f"{at} 127.0.0.1:9001 {oca.pdu(1, [bytes.fromhex(asked)]).hex()}\n" for at, (asked, _) in enumerate(rows))
 
 
 def worked(checks, folder):
-    rows = re.findall(ROW, (TOP / "docs/PROTOCOL.md").read_text())
-    rows = [[it.replace(" ", "").lower() for it in row] for row in rows]
+    rows = worked_bytes()
     checks.same("rows", len(rows) > 30, True)
-    script = "".join(f"{at} 127.0.0.1:9001 {oca.pdu(1, [bytes.fromhex(asked)]).hex()}\n" for at, (asked, _) in enumerate(rows))
-    printed, status = ran(f"{folder}/ocadev", "replay", input=script)
+    printed, status = ran(f"{folder}/ocadev", "replay", input=script_of(rows))
     checks.same("replayed", (printed[::2], status), (["served 1 0 0"] * len(rows), 0))
     for (asked, wanted), line in zip(rows, printed[1::2]):
         got, shown = line[2 + 20:], wanted.split("...")[0]

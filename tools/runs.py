@@ -21,7 +21,6 @@ Usage: runs.py BIN     BIN is the folder with `ocadev` and `ocactl`
 A list of words, of inputs or of trees is a run for each. Readers and writers that fail at each place, and writers that take a little at a time, are tried
 in `oca_program_tests`; here a read or a write of the system fails. The last line is 'N passed, M failed'."""
 import array
-import contextlib
 import fcntl
 import os
 import re
@@ -35,7 +34,7 @@ import tempfile
 import termios
 import time
 
-from checks import Checks, at, bound, comes, free_port, heard, write
+from checks import Checks, at, bound, comes, ended, free_port, heard, write
 from tables import each, octets, table
 
 # Runs a program without any word, not even its own name: a system may make a word of nothing of that.
@@ -53,7 +52,7 @@ class Runs(Checks):
 
     def compare(self, words, row, said):
         """Whether a run ended, printed and told what its row says."""
-        (status, out, told), (given, prints) = said, of_row(row)
+        (out, told, status), (given, prints) = said, of_row(row)
         fault = octets(row.get("fault", "") and row["fault"] + "\n")
         is_open = "note" in row or status and "cut" not in row and "room" not in row
         notes = re.match(rb"(note: [^\n]*\n)*", told)[0] if is_open else b""
@@ -78,8 +77,7 @@ def ran_in_pieces(runs, words, given, size):
         await_read(reader, run)
     for end in (reader, writer):
         os.close(end)
-    out, told = run.communicate(timeout=120)
-    return run.returncode, out, told
+    return ended(run, 120)
 
 
 def ran_cut(runs, words, given, prints):
@@ -93,9 +91,9 @@ def ran_cut(runs, words, given, prints):
     run = runs.start(*words, stdin=reader, text=False)
     begin = os.read(run.stdout.fileno(), len(prints)) if prints else await_read(reader, run) or b""
     writer.close()
-    rest, told = run.communicate(timeout=120)
+    rest, told, status = ended(run, 120)
     reader.close()
-    return run.returncode, begin + rest, told
+    return begin + rest, told, status
 
 
 def ran_in_room(runs, words, given, most):
@@ -103,7 +101,7 @@ def ran_in_room(runs, words, given, most):
         limit = lambda: resource.setrlimit(resource.RLIMIT_FSIZE, (most, most))
         run = runs.ran(words, given, stdout=out, preexec_fn=limit, restore_signals=False)
         out.seek(0)
-        return run.returncode, out.read(), run.stderr
+        return out.read(), run.stderr, run.returncode
 
 
 def handles_heard(end, run, least):
@@ -124,13 +122,11 @@ def handles_heard(end, run, least):
 
 def lets_ahead(runs, words, given, end, ahead):
     """Whether so many commands are under way, of more than that."""
-    run = runs.start(*words, given=None, text=False)
-    with contextlib.suppress(BrokenPipeError):
-        run.stdin.write(given)
-        run.stdin.flush()
+    run = runs.start(*words, text=False)
+    write(run, given, ends=False)
     handles = handles_heard(end, run, ahead)
     run.kill()
-    runs.check(words, len(handles) == ahead, (sorted(handles), run.communicate(timeout=120)))
+    runs.check(words, len(handles) == ahead, (sorted(handles), ended(run, 120)))
 
 
 def next_new(end, seen):
@@ -157,8 +153,7 @@ def talks(runs, words, talk, end):
         elif kind == "=":
             there = bool(select.select([run.stdout], [], [], 4)[0])
             runs.same(f"{' '.join(words)}: what is printed", there and os.read(run.stdout.fileno(), len(said) + 1), octets(said + "\n"))
-    out, told = run.communicate(timeout=120)
-    return run.returncode, out, told
+    return ended(run, 120)
 
 
 def of_row(row):
@@ -203,7 +198,7 @@ def tried(runs, row, path):
             run = runs.ran(words, given, **unread)
             for stream in unread.values():
                 os.close(stream)
-            all_said = [(run.returncode, run.stdout, run.stderr)]
+            all_said = [(run.stdout, run.stderr, run.returncode)]
         for said in all_said:
             runs.compare(words, row, said)
         if "sent" in row:

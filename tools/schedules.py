@@ -1,7 +1,7 @@
 """Schedules for a device and links over a network: random ones, and directed ones for pairs of sizes. tools/world.py
 runs them and holds them against the laws."""
 import oca_profile as oca
-from fuzz import USUAL
+from fuzz import ASKED, BENCH, usual, value
 
 PEERS = [16, 16, 16, 16, 16, 1, 2, 15, 17, 64]
 PAIRS = [(w, s) for s in range(1, 33) for w in range(2 * s - 1, 65)]
@@ -13,7 +13,7 @@ class Schedule:
     def __init__(self, window, span, starts, peers=16):
         self.window, self.span, self.starts, self.peers = window, span, starts, peers
         self.steps, self.outcomes, self.now, self.refusal = [], [], 0, None
-        self.network = oca.Network(window, span, starts, peers)
+        self.network, self.came = oca.Network(window, span, starts, peers), {"to-device": 0, "to-link": 0}
 
     def add(self, *step):
         said = self.network.step(step)
@@ -25,11 +25,30 @@ class Schedule:
     def timed(self, kind, *fields):
         return self.add(kind, self.now, *fields)
 
+    def due(self, link):
+        """What a link sends when it is asked: the number of its datagram, or nothing."""
+        said = self.timed("due", link).split()
+        return [int(said[1])] if said[0] == "sent" else []
+
+    def sends(self, link):
+        """The same, asked until it sends nothing more."""
+        numbers = []
+        while more := self.due(link):
+            numbers += more
+        return numbers
+
+    def sent(self, way):
+        return self.network.to_device if way == "to-device" else self.network.to_links
+
     def deliver(self, way, numbers=None, holds=lambda k: True):
-        sent = self.network.to_device if way == "to-device" else self.network.to_links
-        for k in range(len(sent)) if numbers is None else numbers:
+        for k in range(len(self.sent(way))) if numbers is None else numbers:
             if holds(k):
                 self.timed(way, k)
+
+    def deliver_new(self, way, holds=lambda k: True):
+        """What was sent this way since the last time."""
+        first, self.came[way] = self.came[way], len(self.sent(way))
+        self.deliver(way, range(first, self.came[way]), holds)
 
     def take_all(self):
         for i, (_, link) in enumerate(self.network.links):
@@ -68,8 +87,10 @@ def peer(number):
     return (127, 0, 0, 1 + number % 3, 9001 + number)
 
 
-def starts(r, count):
-    return [(peer(n), r.choice([0, 1, 1, 5, 1000, 2**31, oca.U32 - 300, oca.U32 - 3])) for n in range(count)]
+def linked(r, window, span, count):
+    """A schedule with so many links, and room for some number of peers."""
+    starts = [(peer(n), r.choice([0, 1, 1, 5, 1000, 2**31, oca.U32 - 300, oca.U32 - 3])) for n in range(count)]
+    return Schedule(window, span, starts, r.choice(PEERS))
 
 
 CALM = [0] * 8 + [1, 1, 2, 5, 20, 100, 250, 300]
@@ -92,9 +113,8 @@ def some_datagram(r, count, delivered):
 
 
 def submit(r, schedule, link):
-    target, (level, index), count, make = r.choice(USUAL)
-    params = make(r) if r.randrange(60) else bytes(r.choice([1445, 1446]))
-    return schedule.timed("submit", link, target, level, index, count, params)
+    *asked, params = usual(r)
+    return schedule.timed("submit", link, *asked, params if r.randrange(60) else bytes(r.choice([1445, 1446])))
 
 
 def others_bytes(r):
@@ -103,7 +123,7 @@ def others_bytes(r):
 
 
 def wander(r, window, span):
-    schedule = Schedule(window, span, starts(r, r.choice([1, 1, 1, 2, 2, 3, 4, 4, 16])), r.choice(PEERS))
+    schedule = linked(r, window, span, r.choice([1, 1, 1, 2, 2, 3, 4, 4, 16]))
     network, pace = schedule.network, r.choice([CALM, CALM, WILD])
     length, links = r.choice([10, 16, 24, 40, 80, 150, 250]), len(network.links)
     strangers = [peer(n) for n in range(16, 16 + r.choice([0, 0, 1, 3, 20]))]
@@ -129,45 +149,31 @@ def wander(r, window, span):
             schedule.timed("other", r.choice(strangers), others_bytes(r))
         elif kind == "set":
             schedule.add(*some_change(r))
-        else:
-            sent = network.to_device if kind == "to-device" else network.to_links
-            if sent:
-                k = some_datagram(r, len(sent), heard[kind])
-                heard[kind].add(k)
-                schedule.timed(kind, k)
+        elif schedule.sent(kind):
+            k = some_datagram(r, len(schedule.sent(kind)), heard[kind])
+            heard[kind].add(k)
+            schedule.timed(kind, k)
     return schedule
 
 
 def some_change(r):
-    """A step at the device's own front, now and then one that is refused."""
-    if r.randrange(2):
-        return ("set", *r.choice([(4097, "mute", r.randrange(1, 3)), (4099, "switch", r.randrange(4)),
-                                  (4100, "int16", r.randrange(-601, 602)), (4101, "boolean", r.randrange(2)),
-                                  (4096, "boolean", 1), (4100, "mute", 1), (4097, "polarity", 1), (4100, "int8", 3), (5000, "uint64", 0)]))
-    ono = r.choice([4096, 4097, 4097, 4097, 4099, 4100, 4101, 5000])
-    return r.choice([("label", ono, r.choice(["", "Vox", "B\u00fchne", "z" * 64, "z" * 65])), ("enabled", ono, r.randrange(2)),
-                     ("unlock", ono, None), ("failing", ono, r.choice([0, 0, 1]))])
-
-
-# What a link asks while the front changes objects: GetEnabled, SetEnabled, GetLabel, SetLabel, and values.
-ASKED = [(4097, (2, 1), 0, lambda r: b""), (4097, (2, 2), 1, lambda r: bytes([r.randrange(2)])), (4097, (2, 8), 0, lambda r: b""),
-         (4097, (2, 9), 1, lambda r: oca.text_bytes(r.choice(["", "Solo"]))), (4099, (2, 1), 0, lambda r: b""),
-         (4097, (4, 1), 0, lambda r: b""), (4097, (4, 2), 1, lambda r: bytes([r.choice([1, 2])])), (4099, (4, 1), 0, lambda r: b""),
-         (4100, (5, 1), 0, lambda r: b""), (4101, (5, 1), 0, lambda r: b""), (4097, (1, 3), 0, lambda r: b"")]
+    """A step at the device's own front, now and then one that is refused: of another object or class, or beyond the limits."""
+    ono = r.choice([*BENCH, 4097, 4097, 5000])
+    kind = BENCH.get(ono, "block") if r.randrange(4) else "block"
+    kind = kind if kind != "block" else r.choice([*oca.WORDS, "switch", *oca.WIDTHS])
+    return r.choice([("set", ono, kind, value(r, kind))] * 3 + [("label", ono, r.choice(["", "Vox", "B\u00fchne", "z" * 64, "z" * 65])),
+        ("enabled", ono, r.randrange(2)), ("unlock", ono, None), ("failing", ono, r.choice([0, 0, 1]))])
 
 
 def fronts(r, window, span):
     """A link asks for and sets objects, one after another, and the device's own front changes them in between."""
-    schedule, came = Schedule(window, span, starts(r, 1), r.choice(PEERS)), 0
+    schedule = linked(r, window, span, 1)
     for _ in range(r.choice([10, 20, 40])):
         for _ in range(r.choice([0, 1, 1, 2])):
             schedule.add(*some_change(r))
-        target, (level, index), count, make = r.choice(ASKED)
-        schedule.timed("submit", 0, target, level, index, count, make(r))
-        said = schedule.timed("due", 0).split()
-        schedule.deliver("to-device", [int(said[1])] if said[0] == "sent" else [])
-        schedule.deliver("to-link", range(came, len(schedule.network.to_links)))
-        came = len(schedule.network.to_links)
+        schedule.timed("submit", 0, *usual(r, ASKED))
+        schedule.deliver("to-device", schedule.due(0))
+        schedule.deliver_new("to-link")
         goes_on(r, schedule, [0, 1, 100])
     return schedule
 
@@ -178,10 +184,9 @@ def noise(r, schedule):
         return
     kind = r.randrange(14)
     schedule.now = later(r, schedule.now, [0, 0, 0, 1, 7])
-    if kind == 0 and schedule.network.to_device:
-        schedule.timed("to-device", r.randrange(len(schedule.network.to_device)))
-    elif kind == 1 and schedule.network.to_links:
-        schedule.timed("to-link", r.randrange(len(schedule.network.to_links)))
+    if kind < 2:
+        way = ("to-device", "to-link")[kind]
+        schedule.deliver(way, [r.randrange(len(schedule.sent(way)))] if schedule.sent(way) else [])
     elif kind == 2:
         schedule.timed("other", peer(20), others_bytes(r))
     elif kind == 3:
@@ -192,7 +197,7 @@ def noise(r, schedule):
 
 def crowd(r, window, span):
     """Others have all the room when a link's first datagrams come; later they are forgotten, and its commands are executed."""
-    schedule = Schedule(window, span, starts(r, r.choice([1, 1, 2])), r.choice(PEERS))
+    schedule = linked(r, window, span, r.choice([1, 1, 2]))
     links = range(len(schedule.starts))
     for n in range(schedule.peers):
         schedule.timed("other", peer(16 + n), oca.pdu(4, [oca.u16(1)]))
@@ -212,19 +217,17 @@ def crowd(r, window, span):
 
 def visitors(r, window, span):
     """Links go on while others come one after another, more than have room; most are forgotten when the next comes."""
-    schedule = Schedule(window, span, starts(r, r.choice([1, 1, 2])), r.choice(PEERS))
-    network, links, pace = schedule.network, range(len(schedule.starts)), r.choice([[60001], [1, 60001], [119999, 120000]])
+    schedule = linked(r, window, span, r.choice([1, 1, 2]))
+    links, pace = range(len(schedule.starts)), r.choice([[60001], [1, 60001], [119999, 120000]])
     for n in range(min(schedule.peers + 3, 20)):
         schedule.timed("other", peer(16 + n), r.choice([oca.pdu(4, [oca.u16(1)]), others_bytes(r)]))
         for i in links:
             for _ in range(r.choice([1, 1, 2])):
                 submit(r, schedule, i)
             schedule.timed("due", i)
-        for _ in range(3):
-            if network.to_device:
-                schedule.timed("to-device", some_datagram(r, len(network.to_device), ()))
-            if network.to_links:
-                schedule.timed("to-link", some_datagram(r, len(network.to_links), ()))
+        for way in ("to-device", "to-link") * 3:
+            if schedule.sent(way):
+                schedule.timed(way, some_datagram(r, len(schedule.sent(way)), ()))
         goes_on(r, schedule, pace)
     return schedule
 
@@ -237,43 +240,32 @@ def goes_on(r, schedule, pace):
 
 def lossy(r, window, span):
     """Links that are asked at least every 250 ms until no command is left, over a network that loses most datagrams."""
-    schedule = Schedule(window, span, starts(r, r.choice([1, 1, 2])), r.choice(PEERS))
-    network, links, pace = schedule.network, range(len(schedule.starts)), r.choice([[1, 20, 100], [100, 200, 250], [249, 250]])
-    loss, came = r.choice([1, 2, 4, 30]), {"to-device": 0, "to-link": 0}
+    schedule = linked(r, window, span, r.choice([1, 1, 2]))
+    links, pace, loss = range(len(schedule.starts)), r.choice([[1, 20, 100], [100, 200, 250], [249, 250]]), r.choice([1, 2, 4, 30])
     for _ in range(r.choice([8, 12, 24, 60])):
         for i in links:
             for _ in range(r.choice([0, 0, 1, 2])):
                 submit(r, schedule, i)
-            while schedule.timed("due", i).startswith("sent"):
-                pass
-        for way, sent in (("to-device", network.to_device), ("to-link", network.to_links)):
-            schedule.deliver(way, range(came[way], len(sent)), lambda k: r.randrange(loss + 1) == 0)
-            came[way] = len(sent)
+            schedule.sends(i)
+        for way in ("to-device", "to-link"):
+            schedule.deliver_new(way, lambda k: r.randrange(loss + 1) == 0)
         goes_on(r, schedule, pace)
     return schedule
 
 
 def slow(r, window, span):
     """Links asked for 15,000 ms, datagrams held for 100,000 ms; some a little too late."""
-    schedule = Schedule(window, span, starts(r, r.choice([1, 1, 2])), r.choice(PEERS))
+    schedule = linked(r, window, span, r.choice([1, 1, 2]))
     network, left = schedule.network, {}
-
-    def ask(link):
-        while True:
-            said = schedule.timed("due", link).split()
-            if said[0] != "sent":
-                break
-            left[int(said[1])] = schedule.now
-
     for _ in range(r.choice([2, 3, 4])):
         for i in range(len(schedule.starts)):
             first, begun = len(network.to_device), schedule.now
             for _ in range(r.choice([1, 1, 2])):
                 submit(r, schedule, i)
-            ask(i)
+            left |= dict.fromkeys(schedule.sends(i), schedule.now)
             schedule.deliver("to-device", range(first, len(network.to_device)), lambda k: r.randrange(4))
             schedule.now = begun + r.choice([250, 14999, 15000, 15000] + [15001] * (r.randrange(8) == 0))
-            ask(i)
+            left |= dict.fromkeys(schedule.sends(i), schedule.now)
             schedule.now += r.choice([0, 99999, 100000, 100000] + [105001] * (r.randrange(8) == 0))
             schedule.deliver("to-device", range(first, len(network.to_device)), lambda k: schedule.now - left[k] <= 100000 or r.randrange(8) == 0)
         schedule.deliver("to-link")
@@ -293,8 +285,7 @@ def marked_sent(schedule, count, r):
             schedule.timed("submit", 0, 4097, 4, 1, 0, b"")
     for _ in range(count):
         noise(r, schedule)
-        said = schedule.timed("due", 0).split()
-        numbers += [int(said[1])] if said[0] == "sent" else []
+        numbers += schedule.due(0)
     return numbers
 
 

@@ -203,8 +203,7 @@ def main():
     counts, files = Checks(), sorted([*TOP.glob("*.md"), *TOP.glob("docs/*.md")])
     all_tables = ((f"{file.relative_to(TOP)}:{number}", fault) for file in files for number, fault in tables(file.read_text()))
     for where, fault in [*(it for name in DOCUMENTS for it in checks_of(name, os.path.abspath(sys.argv[1]))), *examples(), *all_tables]:
-        counts.passed, counts.failed = counts.passed + (fault is None), counts.failed + (fault is not None)
-        print(f"{where}: {'as it stands' if fault is None else fault}")
+        counts.expect(where, fault is None, fault)
     return counts.verdict()
 
 

@@ -12,34 +12,21 @@ import fcntl
 import os
 import select
 import signal
-import struct
 import subprocess
 import sys
-import tempfile
 import threading
 import time
 from pathlib import Path
 
 import checks
-import oca_profile as oca
 import peers
-from checks import ended, free_port, layer, waited, write
+from checks import Ahead, ended, free_port, layered, waited, write
 from tables import data, octets
 
-HOST, DATA = "127.0.0.1", data("standstill")
-MUTE, MUTED, UNMUTED = 4097, 1, 2
+DATA = data("standstill")
+MUTE, MUTED, UNMUTED = 4097, b"\1", b"\2"
 GET_LINE, MUTE_LINE = b"4097 4 1 0 -\n", b"4097 4 2 1 01\n"
 PATIENCE = 60  # seconds that a busy machine may take for what takes none
-
-
-def wait_for(holds, patience=PATIENCE):
-    return waited(holds, patience, 0.002) is not None
-
-
-def messages_in(datagram, kind):
-    with contextlib.suppress(oca.Fault):
-        return [it[1:] for it in oca.check(datagram) if it[0] == kind]
-    return []
 
 
 def sets(command):
@@ -62,7 +49,7 @@ class Relay(peers.Relay):
         self.passed += super().forth(datagram, way) and self.is_set
 
     def goes_forth(self, datagram):
-        found = messages_in(datagram, "command")
+        found = peers.messages_in(datagram, "command")
         setting = [command.handle for _, command in found if sets(command)]
         self.is_set = bool(setting)
         self.handles.update(setting)
@@ -72,7 +59,7 @@ class Relay(peers.Relay):
         return goes_on
 
     def goes_back(self, datagram):
-        found = [handle for handle, *_ in messages_in(datagram, "response")]
+        found = [handle for handle, *_ in peers.messages_in(datagram, "response")]
         if any(handle > self.last or self.loses_answers and handle in self.handles for handle in found):
             self.kept.append(datagram)
             return False
@@ -84,52 +71,40 @@ class Relay(peers.Relay):
             self.front.sendto(datagram, *self.ways)
 
 
-class Peer(peers.Peer):
-    def __init__(self, device):
-        super().__init__(device, 0.3, PATIENCE)
-
-    def set(self, state):
-        return (self.ask(MUTE, 4, 2, bytes([state])) or (None,))[0]
-
-    def state(self):
-        return (self.ask(MUTE, 4, 1) or (None, b""))[1]
-
-
 class Scene:
     """A device, a way to it, another controller, and the time of both programs."""
 
     def __init__(self, checks):
-        self.checks, self.folder = checks, tempfile.TemporaryDirectory()
-        self.time = os.open(f"{self.folder.name}/time", os.O_RDWR | os.O_CREAT, 0o600)
-        self.is_at(0)
+        self.checks, self.time = checks, Ahead()
         device = self.start("ocadev", "serve", "--port", "0")
         self.device = int(device.stderr.readline().split(b":")[1])
         threading.Thread(target=device.stderr.read, daemon=True).start()
-        self.relay, self.peer = Relay(self.device), Peer(self.device)
-
-    def is_at(self, seconds):
-        os.pwrite(self.time, struct.pack("q", seconds * 1000), 0)
+        self.relay, self.peer = Relay(self.device), peers.Peer(self.device, 0.3, PATIENCE)
 
     def start(self, *words, **streams):
-        env = dict(os.environ, LD_PRELOAD=layer("unreliable"), AHEAD=f"{self.folder.name}/time")
-        return self.checks.start(*words, env=env, text=False, **streams)
+        return self.checks.start(*words, env=layered(**self.time.settings), text=False, **streams)
 
     def control(self, command, *words, stdout=subprocess.PIPE):
-        return self.start("ocactl", command, "--device", f"{HOST}:{self.relay.port}", "--port", str(free_port()), "--first-handle", "1",
+        return self.start("ocactl", command, "--device", f"127.0.0.1:{self.relay.port}", "--port", str(free_port()), "--first-handle", "1",
                           *words, stdin=subprocess.PIPE, stdout=stdout, stderr=subprocess.DEVNULL)
 
     def close(self):
         self.relay.close()
-        os.close(self.time)
-        self.folder.cleanup()
 
 
 class Checks(checks.Checks):
     def scene(self):
         return contextlib.closing(Scene(self))
 
+    def comes(self, what, holds):
+        self.expect(what, waited(holds, PATIENCE, 0.002) is not None)
+
+    def unmuted(self, what, scene, moment):
+        scene.time.set(moment)
+        self.same(f"{what}: another unmutes", scene.peer.status(MUTE, 4, 2, UNMUTED), 0)
+
     def stands(self, what, scene, passed=1):
-        self.same(f"{what}: the state", scene.peer.state(), bytes([UNMUTED]))
+        self.same(f"{what}: the state", scene.peer.ask(MUTE, 4, 1), (0, UNMUTED))
         self.same(f"{what}: copies that came to the device", scene.relay.passed, passed)
 
 
@@ -139,16 +114,15 @@ def stopped(checks):
         with checks.scene() as scene:
             relay, run = scene.relay, scene.control(name, *words.split())
             write(run, octets(given))
-            checks.same(f"{name}: the first copy", wait_for(lambda: relay.passed == 1), True)
+            checks.comes(f"{name}: the first copy", lambda: relay.passed == 1)
             run.send_signal(signal.SIGSTOP)
-            scene.is_at(60)
-            checks.same(f"{name}: another unmutes", scene.peer.set(UNMUTED), 0)
+            checks.unmuted(name, scene, 60)
             before = relay.copies
             for moment in (95, 190):
-                scene.is_at(moment)
+                scene.time.set(moment)
                 relay.loses_copies = moment < 190
                 run.send_signal(signal.SIGCONT)
-                wait_for(lambda: relay.copies > before or run.poll() is not None)
+                waited(lambda: relay.copies > before or run.poll() is not None)
                 before = relay.copies
                 run.send_signal(signal.SIGSTOP)
             relay.loses_answers = False
@@ -200,16 +174,15 @@ def read_rarely(checks):
         relay, reader = scene.relay, Reader()
         run = scene.control("run", "--ahead", "4", stdout=reader.into)
         write(run, GET_LINE * 2 + MUTE_LINE + GET_LINE * 5)
-        checks.same("a slow reader: the first copy", wait_for(lambda: relay.passed == 1 and reader.is_blocked(run)), True)
-        scene.is_at(60)
-        checks.same("a slow reader: another unmutes", scene.peer.set(UNMUTED), 0)
-        scene.is_at(95)
+        checks.comes("a slow reader: the first copy", lambda: relay.passed == 1 and reader.is_blocked(run))
+        checks.unmuted("a slow reader", scene, 60)
+        scene.time.set(95)
         relay.is_cut, before = True, relay.commands
         reader.look()
-        wait_for(lambda: relay.commands > before or run.poll() is not None, 2)
+        waited(lambda: relay.commands > before or run.poll() is not None, 2)
         reader.fill()
-        wait_for(lambda: reader.is_blocked(run) or run.poll() is not None, 2)
-        scene.is_at(190)
+        waited(lambda: reader.is_blocked(run) or run.poll() is not None, 2)
+        scene.time.set(190)
         relay.is_cut = relay.loses_copies = relay.loses_answers = False
         lines = reader.rest().split(b"\n")
         checks.same("a slow reader: its status", run.wait(timeout=PATIENCE), 3)
@@ -225,18 +198,17 @@ def waits_behind(checks):
         relay.loses_answers = False
         run = scene.control("run", stdout=reader.into)
         write(run, GET_LINE + MUTE_LINE * 3, ends=False)
-        checks.same("a line that waits: it waits", wait_for(lambda: relay.answers == 1 and reader.is_blocked(run)), True)
-        scene.is_at(20)
-        checks.same("a line that waits: another unmutes", scene.peer.set(UNMUTED), 0)
+        checks.comes("a line that waits: it waits", lambda: relay.answers == 1 and reader.is_blocked(run))
+        checks.unmuted("a line that waits", scene, 20)
         reader.look()
-        checks.same("a line that waits: all are told", wait_for(lambda: told_in(reader) == 4), True)
+        checks.comes("a line that waits: all are told", lambda: told_in(reader) == 4)
         checks.stands("a line that waits", scene, 0)
         # what is read now is sent
         write(run, MUTE_LINE)
         lines = reader.rest().split(b"\n")
         checks.same("a line that waits: what it printed, and its status", (lines, run.wait(timeout=PATIENCE)),
                     ([b"answer 0 1 01", *[b"lost"] * 3, b"answer 0 0 -", b""], 3))
-        checks.same("a line that waits: the state at last", scene.peer.state(), bytes([MUTED]))
+        checks.same("a line that waits: the state at last", scene.peer.ask(MUTE, 4, 1), (0, MUTED))
 
 
 LEFT = b"4098 not sent\n4101 not sent\n"
@@ -248,9 +220,9 @@ def stopped_between(checks):
         for _ in range(20):
             with checks.scene() as scene:
                 relay, run = scene.relay, scene.control(name, *words.split())
-                checks.same(f"{name} of three: the first copy", wait_for(lambda: relay.passed == 1 and relay.kept), True)
+                checks.comes(f"{name} of three: the first copy", lambda: relay.passed == 1 and relay.kept)
                 run.send_signal(signal.SIGSTOP)
-                scene.is_at(20)
+                scene.time.set(20)
                 relay.give()
                 relay.loses_answers = relay.loses_copies = False
                 run.send_signal(signal.SIGCONT)
@@ -270,8 +242,8 @@ def read_between(checks):
             relay, reader = scene.relay, Reader()
             relay.loses_answers = relay.loses_copies = False
             run = scene.control(name, *words.split(), stdout=reader.into)
-            checks.same(f"{name}, read late: it waits", wait_for(lambda: len(relay.handles) == 1 and reader.is_blocked(run)), True)
-            scene.is_at(20)
+            checks.comes(f"{name}, read late: it waits", lambda: len(relay.handles) == 1 and reader.is_blocked(run))
+            scene.time.set(20)
             lines = reader.rest()
             checks.same(f"{name}, read late: what it printed, its status, and how many were sent",
                         (lines, run.wait(timeout=PATIENCE), len(relay.handles)), (octets(answered) + b"\n" + LEFT, 3, 1))
@@ -290,14 +262,14 @@ def in_time(checks):
         relay.loses_answers = relay.loses_copies = False
         run = scene.control("run")
         for moment in (0, 100, 300):
-            scene.is_at(moment)
+            scene.time.set(moment)
             write(run, MUTE_LINE, ends=False)
             checks.same(f"a line in second {moment}", run.stdout.readline(), b"answer 0 0 -\n")
         relay.last = 3
         write(run, MUTE_LINE * 4, ends=False)
         for handle in range(4, 8):
-            checks.same(f"line {handle} of 7: it is sent", wait_for(lambda: handle in relay.handles), True)
-            scene.is_at(300 + 7 * (handle - 3))
+            checks.comes(f"line {handle} of 7: it is sent", lambda: handle in relay.handles)
+            scene.time.set(300 + 7 * (handle - 3))
             relay.last = handle
             checks.same(f"line {handle} of 7, which is answered late", run.stdout.readline(), b"answer 0 0 -\n")
         write(run, b"")

@@ -7,7 +7,6 @@ Usage: words.py BIN     BIN is the folder with `ocadev` and `ocactl`
 This script is the device that hears `ocactl`, and the controller that speaks to `ocadev serve`. The last line is 'N
 passed, M failed'."""
 import contextlib
-import errno
 import os
 import random
 import re
@@ -21,13 +20,13 @@ from pathlib import Path
 
 import oca_profile as oca
 from checks import (
-    NOTE, Checks, are_few, at, bound, by_turns, comes, ended, free_port, heard, next_line, nulls_of, read_note,
-    read_until, write)
-from tables import TOP, data
+    NOTE, Checks, are_few, at, bound, by_turns, comes, ended, free_port, heard, next_line, read_note, read_until, write)
+from manual import commands_in_help, help_of, options_in_help
+from tables import TOP, data, table
 
 TURNS = 80
 ALIVE = oca.pdu(4, [b"\0\5"])  # a keep-alive of five seconds
-DATA = data("words")
+DATA, SERVED = data("words"), table("words")["served"]
 
 
 def controls(checks, device, command, *words, given=None, first=1):
@@ -89,33 +88,27 @@ def next_command(device, before=b""):
 
 
 def at_own_ports(checks):
-    """`run` and `lock` take 65001 or 65002 by turns and ask first; `run` avoids a port in use, `lock` is refused."""
+    """`run` and `lock` take 65001 or 65002 by turns and ask first; `run` takes another port where that one is in use."""
     own = by_turns()[0]
-    for taken in (False, True):
+    line = ["run"], "1 2 3 0 -\n", (1, 2, 3), "answer 0 0 -\n"
+    for taken, words, given, command, printed in ((False, *line), (True, *line), (False, ["lock", 4097], "", (4097, 1, 3), "4097 locked\n")):
         with bound() as device, bound(port=own) if taken else contextlib.nullcontext():
-            for words, given, command, printed in ((["run"], "1 2 3 0 -\n", (1, 2, 3), "answer 0 0 -\n"),
-                                                   (["lock", 4097], "", (4097, 1, 3), "4097 locked\n")):
-                run = checks.start("ocactl", words[0], "--device", at(device), *words[1:], given=given)
-                if taken and words[0] == "lock":
-                    out, said, status = ended(run)
-                    got = out, said[:17], said.splitlines()[1:], status
-                    checks.same("lock: its own port is in use", got, ("", f"note: port {own}:", ["socket failed"], 1))
-                    continue
-                data, first = b"", 0
-                if not taken:
-                    data, sender = next_command(device)
-                    first = int.from_bytes(data[14:18], "big")
-                    checks.same(f"{words[0]}: what is asked first", data, oca.command(first, 100, 1, 1))
-                    device.sendto(oca.response(first), sender)
-                data, sender = next_command(device, data)
-                handle = int.from_bytes(data[14:18], "big")
-                checks.same(f"{words[0]}: its bytes", data, oca.command(handle, *command))
-                checks.same(f"{words[0]}: its own port", sender[1] == own, not taken)
-                checks.same(f"{words[0]}: a handle by the clock", (int(time.time() * 100000) - handle) % 2**31 < 60 * 100000, True)
-                if not taken:
-                    checks.same(f"{words[0]}: the handle behind the first", handle, first + 1)
-                device.sendto(oca.response(handle), sender)
-                checks.same(f"{words[0]}: what it prints", ended(run), (printed, "", 0))
+            run = checks.start("ocactl", words[0], "--device", at(device), *words[1:], given=given)
+            data, first = b"", 0
+            if not taken:
+                data, sender = next_command(device)
+                first = int.from_bytes(data[14:18], "big")
+                checks.same(f"{words[0]}: what is asked first", data, oca.command(first, 100, 1, 1))
+                device.sendto(oca.response(first), sender)
+            data, sender = next_command(device, data)
+            handle = int.from_bytes(data[14:18], "big")
+            checks.same(f"{words[0]}: its bytes", data, oca.command(handle, *command))
+            checks.same(f"{words[0]}: its own port", sender[1] == own, not taken)
+            checks.same(f"{words[0]}: a handle by the clock", (int(time.time() * 100000) - handle) % 2**31 < 60 * 100000, True)
+            if not taken:
+                checks.same(f"{words[0]}: the handle behind the first", handle, first + 1)
+            device.sendto(oca.response(handle), sender)
+            checks.same(f"{words[0]}: what it prints", ended(run), (printed, "", 0))
 
 
 def faults(checks):
@@ -125,17 +118,12 @@ def faults(checks):
         checks.same(f"{program}: words that are no UTF-8", said, (b"", b"note: an argument is not UTF-8\nbad words\n", 2))
 
 
-SENT = "--target 1 --level 1 --index 1 --count 0"
-
-
 def commands_of(checks):
-    """Each command of each program, with its options that take a value, and what its help says of each."""
+    """Each command of each program, with its options that take a value: this value, and what its help says of each."""
     for program in ("ocadev", "ocactl", "ocapanel"):
-        listed = re.search(r"^Commands:\n((?:.+\n)+)", checks.ran(program, "--help")[0], re.M)
-        names = [name for name in re.findall(r"^  (\w+)", listed[1], re.M) if name != "help"] if listed else [""]
-        for name in names:
-            shown = checks.ran(program, *[name] * bool(name), "--help")[0]
-            yield program, name, dict(re.findall(r"^ +(?:-\w, )?--([a-z-]+)[ =]<[^>]+> +(.*)", shown, re.M))
+        path = f"{checks.folder}/{program}"
+        for words in commands_in_help(path).values():
+            yield program, "".join(words), {name: of for name, of in options_in_help(help_of(path, *words)).items() if of[0]}
 
 
 def words_of(program, name, options):
@@ -156,7 +144,7 @@ def form_of(program, name, option):
 def bad_values(checks):
     """A value that is not valid is named with its option and form; the help's span is the form's."""
     for program, name, options in commands_of(checks):
-        for option, told in options.items():
+        for option, (_, told) in options.items():
             form, values = form_of(program, name, option)
             for said in re.findall(r"\b(\d+) to (\d+)\b", told) if form.startswith("a number ") else []:
                 checks.same(f"{program} {name} --{option}: its help", "a number from {} to {}".format(*said), form.split(",")[0])
@@ -168,11 +156,11 @@ def bad_values(checks):
 
 def missing_options(checks):
     """Each option that a command wants is named, in one line, where it is missing."""
+    options = {f"{program} {name}": its for program, name, its in commands_of(checks)}
     for command, wanted in DATA.wanted.items():
         program, name = command.split(" ")
-        shown = checks.ran(program, *[name] * bool(name), "--help")[0]
         for option in wanted:
-            kind = re.search(rf"--{option}[ =]<([^>]+)>", shown)[1]
+            kind = options[command][option][0]
             words = words_of(program, name, {which: that for which, that in wanted.items() if which != option})
             said = f"note: error: the following required arguments were not provided: --{option} <{kind}>\nbad words\n"
             checks.same(" ".join(words), checks.ran(*words), ("", said, 2))
@@ -258,23 +246,32 @@ def typed(checks):
 def unwritten(checks):
     """What can't be written is a fault, of each command, and of help."""
     with open("/dev/full", "w") as full, bound() as device:
-        to = f"--device {at(device)} --first-handle 1"
-        for words, given in (("ocadev serve --port 0 --turns 0", ""), ("ocadev show", ""), ("ocadev --help", ""), ("ocadev replay", "0 quiet\n"),
-                             (f"ocactl send {to} {SENT}", ""), (f"ocactl run {to}", "1 2 3 0 -\n"), ("ocactl send --help", ""),
-                             ("ocapanel --help", ""), ("ocapanel --version", "")):
-            run = checks.start(*words.split(), given=given, stdout=full)
-            if "--device" in words:
+        for words, given in DATA.unwritten:
+            run = checks.start(*words.replace("DEVICE", at(device)).split(), given=given, stdout=full)
+            if "DEVICE" in words:
                 answers(device, 1)
             _, said, status = ended(run)
             checks.same(f"{words}, which can't be written", (said.splitlines()[-1:], status), (["write failed"], 1))
 
 
-def without_streams(checks):
-    """Where the standard streams are closed, no socket takes the place of one of them, to which what is printed would go."""
-    with bound() as device:
-        for words in ("ocadev serve --port 0", f"ocactl send --device {at(device)} {SENT}", f"ocapanel --device {at(device)} --listen 127.0.0.1:0"):
-            run = checks.start(*words.split(), stdin=None, stdout=None, stderr=None, preexec_fn=lambda: [os.close(stream) for stream in range(3)])
-            checks.same(f"{words} without standard streams: what they are", (nulls_of(run) or [])[:3], [0, 1, 2])
+def bytes_of(datagram):
+    if isinstance(datagram, str):
+        return bytes.fromhex(datagram)
+    kind, *commands = datagram
+    asked = [(handle, ono, *DATA.methods[name]) for name, handle, ono in commands]
+    return oca.pdu(kind, [oca.Command(*target, bool(params), bytes.fromhex(params)).body() for *target, params in asked])
+
+
+def tells_of(checks, run, port, rows, first, second, name="serve --verbose"):
+    """What a device tells of each of these datagrams of two peers."""
+    for what, peer, datagram, said in rows:
+        end = {"first": first, "second": second}[peer]
+        end.sendto(bytes_of(datagram), ("127.0.0.1", port))
+        checks.same(f"{name}: {what}", run.stderr.readline(), said.replace("PEER", at(end)) + "\n")
+
+
+EVERY_ADDRESS = ("note: 0.0.0.0 is every address of this machine: a reply may leave from a different address than the one that the "
+                 "controller sent to, and the controller then drops it\n")
 
 
 def serves_until_stopped(checks):
@@ -282,27 +279,13 @@ def serves_until_stopped(checks):
     run = checks.start("ocadev", "serve", "--port", 0, "--ip", "0.0.0.0", "--peers", 1, "--channels", 2, "--verbose")
     said = re.fullmatch(r"listening 0\.0\.0\.0:(\d+)\n", run.stderr.readline())
     checks.same("serve at 0.0.0.0: where it listens", said is not None, True)
-    checks.same("serve at 0.0.0.0: a note", run.stderr.readline()[:14], "note: 0.0.0.0 ")
+    checks.same("serve at 0.0.0.0: a note", run.stderr.readline(), EVERY_ADDRESS)
     checks.same("serve: a note where little is granted", read_note(run), True)
-    both = [oca.Command(1, 4108, 4, 2, 1, b"\2").body(), oca.Command(2, 4110, 5, 2, 1, b"\0\5").body()]
     with bound() as first, bound() as second:
-        told = []
-        for sender, data in ((first, oca.pdu(1, both)), (first, oca.pdu(1, both[:1])), (first, oca.command(1, 4108, 4, 1)),
-                             (second, oca.command(1, 4108, 4, 1)), (second, b"\x3b"), (second, b"\0" * 1473)):
-            sender.sendto(data, ("127.0.0.1", int(said[1])))
-            told.append(run.stderr.readline())
-        checks.same("serve --verbose: what it tells", told, [
-            f"{at(first)} served 2 0 0 wrote 4108 4110\n", f"{at(first)} served 0 1 0\n", f"{at(first)} served 0 0 0 reused 1\n",
-            f"{at(second)} no-room\n", f"{at(second)} malformed 9 at 1\n", "oversize\n"])
-    run.terminate()
-    checks.same("serve: stopped by a signal", ended(run), ("", "", -15))
-    run, port = checks.serve("--window", 1, "--verbose")
-    with bound() as peer:
-        told = []
-        for handle in (1, 2, 1):
-            peer.sendto(oca.command(handle, 4097, 4, 1), ("127.0.0.1", port))
-            told.append(run.stderr.readline().split(" ", 1)[1])
-        checks.same("serve --verbose: an old command", told, ["served 1 0 0\n", "served 1 0 0\n", "served 0 0 1\n"])
+        tells_of(checks, run, int(said[1]), SERVED["strips"], first, second)
+        run.terminate()
+        checks.same("serve: stopped by a signal", ended(run), ("", "", -15))
+        tells_of(checks, *checks.serve("--window", 1, "--verbose"), SERVED["window_of_1"], first, second)
     run, port = checks.serve()
     with bound() as peer:
         for handle in range(1, 3001):
@@ -319,24 +302,11 @@ def serves_until_stopped(checks):
 
 def tells_locks(checks, *keep):
     """`serve --verbose`, with and without `--keep`: locks, unlocks and refusals of executed commands, and a lapse."""
-    run, port = checks.serve(*keep, "--verbose")
-    serve = " ".join(["serve", *keep[:1], "--verbose"])
-    lock = lambda handle, target, index=3: oca.Command(handle, target, 1, index).body()
-    put = lambda handle, target: oca.Command(handle, target, 4, 2, 1, b"\1").body()
-
-    def told(peer, data):
-        peer.sendto(data, ("127.0.0.1", port))
-        sender, _, said = run.stderr.readline().rstrip("\n").partition(" ")
-        return said if sender == at(peer) else f"{sender} in place of {at(peer)}: {said}"
-
+    name, served = " ".join(["serve", *keep[:1], "--verbose"]), checks.serve(*keep, "--verbose")
     with bound() as first, bound() as second:
-        for what, peer, kind, commands, said in DATA.of_locks:
-            bodies = [{"lock": lock, "set": put}[name](*given) for name, *given in commands]
-            checks.same(f"{serve}: {what}", told({"first": first, "second": second}[peer], oca.pdu(kind, bodies)), said)
-        checks.same(f"{serve}: a heartbeat of a second", told(first, oca.pdu(4, [b"\0\1"])), "served 0 0 0")
+        tells_of(checks, *served, SERVED["locks"], first, second, name)
         time.sleep(3.5)
-        lapsed = told(second, oca.pdu(1, [put(6, 4097)]))
-        checks.same(f"{serve}: a set after the locks lapsed", lapsed, "served 1 0 0 wrote 4097")
+        tells_of(checks, *served, SERVED["locks_that_lapsed"], first, second, name)
 
 
 def tells_stats(checks, *keep):
@@ -435,21 +405,9 @@ def trees(checks):
         out = checks.ran("ocadev", "replay", "--tree", path, given=f"0 127.0.0.1:9001 {get.hex()}\n")[0]
         said, packets = oca.Device(oca.tree_of_text(texts[0])).datagram((127, 0, 0, 1, 9001), get, 0)
         checks.same("replay --tree", out, f"{said}\n> {packets[0].hex()}\n")
-        comments = (b"#" * 127 + b"\n") * (2**24 // 128)
-        for text, fault, code in ((comments, "", 0), (comments + b"\n", "too much input\n", 1)):
-            Path(path).write_bytes(text)
-            checks.same(f"show --tree of {len(text)} bytes", checks.ran("ocadev", "show", "--tree", path), ("" if fault else "100 1.1.3 0 root\n", fault, code))
-        for words, fault, code, reason in ((["--tree", path, "--channels", "1"], "bad words", 2, "--channels"),
-                                           (["--tree", f"{folder}/none"], "read failed", 1, os.strerror(errno.ENOENT)),
-                                           (["--tree", folder], "read failed", 1, os.strerror(errno.EISDIR))):
-            out, said, status = checks.ran("ocadev", "show", *words)
-            checks.same(f"show {words}", (out, said.splitlines()[-1:], said[:6], status), ("", [fault], "note: ", code))
-            checks.same(f"show {words}: the reason, {reason}", reason in said.splitlines()[0], True)
-            if code == 1:
-                checks.same(f"show {words}: {said!r} begins with the file's name", said.startswith(f"note: {words[1]}: "), True)
 
 
 if __name__ == "__main__":
     sys.exit(Checks(sys.argv[1]).tried(
         drives_while_it_waits, typed, spans_of_hands, at_own_ports, faults, bad_values, missing_options, versions, unwritten,
-        without_streams, serves, serves_until_stopped, tells, trees, alone=(at_own_ports, unwritten)))
+        serves, serves_until_stopped, tells, trees, alone=(at_own_ports, unwritten)))

@@ -74,63 +74,71 @@ def set_by(o, method, params):
         o.enabled = bool(params[0])
 
 
-class Waiting:
-    """A command without an answer: when it was submitted, last unasked, the longest such time, and when it was sent."""
+class Given:
+    """A command that a link was given: at which step and when, when its link was asked last and had nothing to send, the longest time
+    since, when it was sent, the step of its last execution and what a get method gave there, and the answer that came to its link."""
 
-    def __init__(self, since):
-        self.since = self.asked = since
-        self.ms, self.given = 0, []
+    def __init__(self, command, step, now):
+        self.command, self.step, self.since, self.asked = command, step, now, now
+        self.ms, self.sent, self.met, self.owed = 0, [], (-1, None), None
+        self.is_answered = self.is_owed = self.is_taken = False
+
+
+class Link:
+    """What is known of a link: its peer, its clock, its commands by handle, and the executions of them, each a command and its reply."""
+
+    def __init__(self, peer):
+        self.peer, self.clock, self.commands, self.executions = peer, 0, {}, []
+        self.is_lost, self.is_in_time = False, True
+
+    def go_on(self, now):
+        self.clock = max(self.clock, now)
+
+    def waiting(self):
+        return [it for it in self.commands.values() if not (it.is_answered or self.is_lost)]
+
+    def under(self, handle):
+        return [(command, reply) for command, reply in self.executions if command.handle == handle]
 
 
 class Laws:
     """Holds each step against the laws, by datagrams, commands, answers and executions alone."""
 
     def __init__(self, schedule, lines, fit):
-        self.fit, self.window, self.most, self.count = fit, schedule.window, schedule.peers, collections.Counter()
-        self.places, self.number = collections.defaultdict(list), 0  # steps whose outcome a law speaks of
-        self.peers = [p for p, _ in schedule.starts]
-        self.steps = schedule.steps
-        if len(lines) < len(self.steps) + 2 or lines[0] != "schedule":
-            raise Break("second", 0, f"no transcript: {lines[:2]}")
-        self.outcomes = lines[1:len(self.steps) + 1]
-        self.sent = {"to-device": [], "to-link": []}
+        self.fit, self.window, self.most, self.steps = fit, schedule.window, schedule.peers, schedule.steps
+        self.count, self.number, self.clock = collections.Counter(), 0, 0
+        self.places = collections.defaultdict(list)  # steps whose outcome a law speaks of
+        self.expect(len(lines) >= len(self.steps) + 2 and lines[0] == "schedule", "second", f"no transcript: {lines[:2]}")
+        self.outcomes, self.sent = lines[1:len(self.steps) + 1], {"to-device": [], "to-link": []}
         for line in lines[len(self.steps) + 1:-1]:
             way, to, data = line.split(" ")
             self.sent[way].append((oca.peer_of(to), oca.hex_of(data)))
-        self.submitted = [{} for _ in self.peers]     # by handle
-        self.untaken = [{} for _ in self.peers]
-        self.executions = {p: [] for p in self.peers}  # (command, reply)
-        self.clock, self.came, self.admitted, self.refused, self.forgotten = 0, set(), {}, set(), set()
+        self.links = [Link(p) for p, _ in schedule.starts]
+        self.of_peer = {link.peer: link for link in self.links}
+        self.came, self.admitted, self.refused, self.forgotten = set(), {}, set(), set()
         self.spoke = {}  # by peer, when its last well-formed datagram came
-        self.within = False
-        self.trips, self.answered, self.owed = {}, [set() for _ in self.peers], [{} for _ in self.peers]
-        self.answers_sent = 0
-        self.clocks, self.waiting = [0 for _ in self.peers], [{} for _ in self.peers]
-        self.heard = {"to-device": collections.Counter(), "to-link": collections.Counter()}
-        self.latest = {}
+        self.within, self.answers_sent = False, 0
+        self.trips = {}  # by the number of a datagram to a link, the command that it answers, and how
+        self.left = {}   # by the number of a datagram to the device, when it left
+        self.heard, self.latest = {"to-device": collections.Counter(), "to-link": collections.Counter()}, {}
         # how objects are set, by the law of what is said; nothing of an object that others' commands may have set
         self.settings = {o.ono: o for o in oca.bench()}
-        self.called_at = [{} for _ in self.peers]      # by handle, the step of the submit
-        self.met = {p: {} for p in self.peers}         # by handle, the step of the execution and what a get method gives
-        # what a link in time is: when its unanswered commands were submitted, and when its datagrams left
-        self.unanswered, self.left, self.out_of_time = [{} for _ in self.peers], {}, set()
+
+    def expect(self, holds, law, what):
+        if not holds:
+            raise Break(law, self.number, what)
 
     def walk(self):
         for self.number, (step, said) in enumerate(zip(self.steps, self.outcomes)):
-            try:
-                getattr(self, step[0].replace("-", "_"))(step, said)
-            except Break as fault:
-                fault.at = self.number
-                raise
+            getattr(self, step[0].replace("-", "_"))(step, said)
             self.count[("front " if step[0] in oca.FRONT else "said ") + said.split(" ")[0]] += 1
             self.count["said too old"] += said == "served 0 0 1"
-        if self.answers_sent != len(self.sent["to-link"]):
-            raise Break("untaken", len(self.steps) - 1, "datagrams were sent to links that answer nothing")
+        self.expect(self.answers_sent == len(self.sent["to-link"]), "untaken", "datagrams were sent to links that answer nothing")
         self.count["steps"] = len(self.steps)
         for way in self.heard:
             self.count["losses"] += len(self.sent[way]) - len(self.heard[way])
             self.count["doubles"] += sum(n - 1 for n in self.heard[way].values())
-        self.within = not self.forgotten and self.refused.isdisjoint(self.peers)
+        self.within = not self.forgotten and self.refused.isdisjoint(self.of_peer)
         if self.fit and self.within:
             self.count["premises met"] = 1
             self.count["premises met, with loss, double and overtaking"] = \
@@ -141,8 +149,7 @@ class Laws:
         """Counts; an overtaking is a datagram that comes for the first time after a later one that was sent the same way."""
         self.count["deliveries"] += 1
         key = (way, self.sent[way][k][0])
-        if self.heard[way][k] == 0 and self.latest.get(key, -1) > k:
-            self.count["overtakings"] += 1
+        self.count["overtakings"] += self.heard[way][k] == 0 and self.latest.get(key, -1) > k
         self.heard[way][k] += 1
         self.latest[key] = max(self.latest.get(key, -1), k)
 
@@ -170,57 +177,46 @@ class Laws:
         if sum(self.clock - at <= 120000 for at in self.spoke.values()) <= self.most:
             self.count["room"] += 1
             self.count["room, of more peers ever"] += len(self.came) > self.most
-            if said == "no-room":
-                raise Break("room", 0, f"few spoke of late, and a datagram of {oca.peer_text(p)} finds no room")
+            self.expect(said != "no-room", "room", f"few spoke of late, and a datagram of {oca.peer_text(p)} finds no room")
 
     def submit(self, step, said):
         if said.startswith("handle "):
-            handle = int(said.split(" ")[1])
-            if handle in self.submitted[step[2]]:
-                raise Break("answers", 0, f"two commands have handle {handle}")
-            self.submitted[step[2]][handle] = self.untaken[step[2]][handle] = oca.Command(handle, *step[3:])
-            self.called_at[step[2]][handle] = self.number
-            self.go_on(step[2], step[1])
-            self.waiting[step[2]][handle] = Waiting(self.clocks[step[2]])
-            self.unanswered[step[2]][handle] = self.clocks[step[2]]
-            self.called(step[2])
+            link, handle = self.links[step[2]], int(said.split(" ")[1])
+            self.expect(handle not in link.commands, "answers", f"two commands have handle {handle}")
+            link.go_on(step[1])
+            link.commands[handle] = Given(oca.Command(handle, *step[3:]), self.number, link.clock)
+            self.called(link)
 
     def due(self, step, said):
-        _, now, link = step
-        self.go_on(link, now)
-        if any(self.clocks[link] - at > 15000 for at in self.unanswered[link].values()):
-            self.out_of_time.add(link)
-        if said.startswith("sent "):
-            self.left[int(said.split(" ")[1])] = self.clocks[link]
-        if said == "lost":
-            self.waiting[link].clear()
-        p, data = self.sent["to-device"][int(said.split(" ")[1])] if said.startswith("sent ") else (None, None)
+        link, number = self.links[step[2]], int(said.split(" ")[1]) if said.startswith("sent ") else None
+        link.go_on(step[1])
+        link.is_in_time &= all(link.clock - it.since <= 15000 for it in link.commands.values() if not it.is_answered)
+        link.is_lost |= said == "lost"
+        self.left[number] = link.clock
+        p, data = self.sent["to-device"][number] if number is not None else (None, None)
         message = oca.check(data)[0] if data else ("nothing",)
-        if message[0] != "command":
-            for command in self.waiting[link].values():
-                command.asked = self.clocks[link]
-        else:
+        if message[0] == "command":
             handle = message[2].handle
-            if p != self.peers[link] or data != oca.pdu(1, [self.submitted[link][handle].body()]):
-                raise Break("through", 0, f"what is sent for handle {handle} is no copy of its command")
-            if handle in self.waiting[link]:
-                self.waiting[link][handle].given.append(self.clocks[link])
+            held = link.commands.get(handle)
+            self.expect(p == link.peer and held and data == oca.pdu(1, [held.command.body()]), "through",
+                        f"what is sent for handle {handle} is no copy of its command")
+            held.sent.append(link.clock)
+        else:
+            for held in link.waiting():
+                held.asked = link.clock
         self.called(link)
-
-    def go_on(self, link, now):
-        self.clocks[link] = max(self.clocks[link], now)
 
     def called(self, link):
         """After a call of the link: what waits is sent in time."""
-        now = self.clocks[link]
-        for handle, command in self.waiting[link].items():
-            command.ms = max(command.ms, now - command.asked)
-            late = now >= command.given[-1] + 250 + command.ms if command.given else now > command.since + command.ms
-            if late or now > command.since + command.ms + 20 * (250 + command.ms):
-                raise Break("through", 0, f"handle {handle} waits, and was not sent in time")
+        now = link.clock
+        for it in link.waiting():
+            it.ms = max(it.ms, now - it.asked)
+            is_late = now >= it.sent[-1] + 250 + it.ms if it.sent else now > it.since + it.ms
+            self.expect(not is_late and now <= it.since + it.ms + 20 * (250 + it.ms), "through",
+                        f"handle {it.command.handle} waits, and was not sent in time")
             self.count["waiting"] += 1
-            self.count["waiting, asked every 250 ms"] += command.ms <= 250
-            self.count["waiting, asked so, and sent again"] += command.ms <= 250 and len(command.given) > 1
+            self.count["waiting, asked every 250 ms"] += it.ms <= 250
+            self.count["waiting, asked so, and sent again"] += it.ms <= 250 and len(it.sent) > 1
 
     def tick(self, step, said):
         self.clock = max(self.clock, step[1])
@@ -245,137 +241,126 @@ class Laws:
                 if message[0] == "command" and message[2].level > 1:
                     self.settings.pop(message[2].target, None)
 
-    def meets(self, p, command, reply):
-        """A command of a link is executed: what its object gives to a get method, or None; and what it is set to."""
-        o, method = self.settings.get(command.target), (command.level, command.index)
-        self.met[p][command.handle] = self.number, o and held_by(o, method)
-        if o and reply and reply[1] == 0:
-            set_by(o, method, command.params)
-
-    def says(self, link, answer):
-        """An answer of a link in time: its execution lies behind the call, and a reading is what the object held."""
-        handle, status, count, params = answer
-        number, held = self.met[self.peers[link]][handle]
-        self.count["said"] += 1
-        self.count["said, of readings"] += bool(held) and status == 0
-        if number <= self.called_at[link][handle]:
-            raise Break("said", 0, f"handle {handle} was executed before it was submitted")
-        if held and status == 0 and (count, params) != held:
-            raise Break("said", 0, f"the answer under {handle} is {oca.hex_text(params)}, and held was {oca.hex_text(held[1])}")
-
-    def to_link(self, step, said):
-        self.note_delivery("to-link", step[2])
-        if step[2] in self.trips:
-            self.came_back(said, *self.trips[step[2]])
-        p, data = self.sent["to-link"][step[2]]
-        message, link = oca.check(data)[0], self.peers.index(p)
-        self.go_on(link, step[1])
-        if message[0] == "response" and said == "answered 1":
-            self.answered[link].add(message[1])
-            self.waiting[link].pop(message[1], None)
-            self.unanswered[link].pop(message[1], None)
-        self.called(link)
-
-    def came_back(self, said, link, handle, reply):
-        """The datagram came that the device sent when a copy came of a command that this link held untaken."""
-        self.count["round trips"] += 1
-        if handle not in self.untaken[link]:
-            return
-        self.count["round trips of a command that is still untaken"] += 1
-        if handle not in self.answered[link]:
-            self.places["round trip"].append(self.number)
-            if said != "answered 1":
-                raise Break("round trip", 0, f"the answer to handle {handle} came, and its link says: {said}")
-        kept = self.peers[link] not in self.forgotten
-        self.owed[link][handle] = reply if kept else self.owed[link].get(handle)
-
     def to_device(self, step, said):
         _, now, k = step
         p, data = self.sent["to-device"][k]
         self.note_delivery("to-device", k)
-        finds_room = self.came_from(p, now, data, said)
-        link = self.peers.index(p)
-        if not self.left[k] <= self.clock <= self.left[k] + 100000:
-            self.out_of_time.add(link)
+        finds_room, link = self.came_from(p, now, data, said), self.of_peer[p]
+        link.is_in_time &= self.left[k] <= self.clock <= self.left[k] + 100000
         (message,) = oca.check(data)
         executed, kept = {"served 1 0 0": (1, 0), "served 0 1 0": (0, 1)}.get(said, (0, 0))
         answered = said.startswith("served") and (executed + kept > 0 or message[0] == "keep-alive")
         reply = self.next_answer(p) if answered else None
         if message[0] == "keep-alive":
             return
-        command = message[2]
+        held = link.commands[message[2].handle]
         self.count["executions"] += executed
         self.count["duplicates answered"] += kept
+        self.count["in time, copies to a forgotten peer"] += kept and link.is_in_time and p in self.forgotten
         if kept:
             self.places["once"].append(self.number)
         if executed:
-            if p not in self.forgotten and any(c.handle == command.handle for c, _ in self.executions[p]):
-                raise Break("once", 0, f"handle {command.handle} of {oca.peer_text(p)} is executed twice")
-            if link not in self.out_of_time:
-                self.count["in time"] += 1
-                self.count["in time, of a forgotten peer"] += p in self.forgotten
-                if any(c.handle == command.handle for c, _ in self.executions[p]):
-                    raise Break("in time", 0, f"handle {command.handle} of {oca.peer_text(p)} is executed twice")
-            self.executions[p].append((command, reply))
-            self.meets(p, command, reply)
-            self.count["once"] += p not in self.forgotten
-        in_time = link not in self.out_of_time
-        self.count["in time, copies to a forgotten peer"] += kept and in_time and p in self.forgotten
-        held = self.untaken[link].get(command.handle)
-        if finds_room and held and data == oca.pdu(1, [held.body()]):
-            self.untaken_came(p, command, said, reply)
+            self.executes(link, held, message[2], reply)
+        if finds_room and not held.is_taken and data == oca.pdu(1, [held.command.body()]):
+            self.untaken_came(link, held, said, reply)
+
+    def executes(self, link, held, command, reply):
+        """A command of a link is executed; noted is what its object gives to a get method, or None, and what it is set to."""
+        is_again, is_forgotten = bool(link.under(command.handle)), link.peer in self.forgotten
+        what = f"handle {command.handle} of {oca.peer_text(link.peer)} is executed twice"
+        self.expect(is_forgotten or not is_again, "once", what)
+        self.expect(not (link.is_in_time and is_again), "in time", what)
+        self.count["once"] += not is_forgotten
+        self.count["in time"] += link.is_in_time
+        self.count["in time, of a forgotten peer"] += link.is_in_time and is_forgotten
+        link.executions.append((command, reply))
+        o, method = self.settings.get(command.target), (command.level, command.index)
+        held.met = self.number, o and held_by(o, method)
+        if o and reply and reply[1] == 0:
+            set_by(o, method, command.params)
 
     def next_answer(self, p):
-        if self.answers_sent == len(self.sent["to-link"]) or self.sent["to-link"][self.answers_sent][0] != p:
-            raise Break("untaken", 0, "no datagram was sent to the link")
+        self.expect(self.sent["to-link"][self.answers_sent:] and self.sent["to-link"][self.answers_sent][0] == p, "untaken",
+                    "no datagram was sent to the link")
         messages = oca.check(self.sent["to-link"][self.answers_sent][1])
         self.answers_sent += 1
         return messages[0][1:] if len(messages) == 1 and messages[0][0] == "response" else None
 
-    def untaken_came(self, p, command, said, reply):
-        """A copy came, and found room, of a command that the link of p holds untaken."""
-        if not self.fit or p in self.forgotten:
+    def untaken_came(self, link, held, said, reply):
+        """A copy came, and found room, of a command that the link holds untaken."""
+        if not self.fit or link.peer in self.forgotten:
             return
+        handle = held.command.handle
         self.count["untaken"] += 1
         self.count["untaken, of more peers ever"] += len(self.came) > self.most
         if said == "served 0 1 0":
             self.places["untaken"].append(self.number)
-            places = [i for i, (c, _) in enumerate(self.executions[p]) if c.handle == command.handle]
-            later = len(self.executions[p]) - 1 - max(places)
+            later = [command.handle for command, _ in link.executions[::-1]].index(handle)
             self.count["untaken, the oldest of a full window"] += later == self.window - 1
-        if said not in ("served 1 0 0", "served 0 1 0"):
-            raise Break("untaken", 0, f"a copy of handle {command.handle}, which its link holds untaken: {said}")
-        under = [(c.asks(), r) for c, r in self.executions[p] if c.handle == command.handle]
-        if (command.asks(), reply) not in under or reply[0] != command.handle:
-            raise Break("untaken", 0, f"a copy of handle {command.handle} gets a reply of no execution of it")
-        self.trips[self.answers_sent - 1] = self.peers.index(p), command.handle, reply
+        self.expect(said in ("served 1 0 0", "served 0 1 0"), "untaken", f"a copy of handle {handle}, which its link holds untaken: {said}")
+        under = [(command.asks(), its) for command, its in link.under(handle)]
+        self.expect((held.command.asks(), reply) in under and reply[0] == handle, "untaken",
+                    f"a copy of handle {handle} gets a reply of no execution of it")
+        self.trips[self.answers_sent - 1] = link, held, reply
+
+    def to_link(self, step, said):
+        _, now, k = step
+        self.note_delivery("to-link", k)
+        if k in self.trips:
+            self.came_back(said, *self.trips[k])
+        p, data = self.sent["to-link"][k]
+        message, link = oca.check(data)[0], self.of_peer[p]
+        link.go_on(now)
+        if message[0] == "response" and said == "answered 1":
+            link.commands[message[1]].is_answered = True
+        self.called(link)
+
+    def came_back(self, said, link, held, reply):
+        """The datagram came that the device sent when a copy came of a command that this link held untaken."""
+        self.count["round trips"] += 1
+        if held.is_taken:
+            return
+        self.count["round trips of a command that is still untaken"] += 1
+        if not held.is_answered:
+            self.places["round trip"].append(self.number)
+            self.expect(said == "answered 1", "round trip", f"the answer to handle {held.command.handle} came, and its link says: {said}")
+        held.is_owed = True
+        if link.peer not in self.forgotten:
+            held.owed = reply
 
     def take(self, step, said):
-        _, link, handle = step
+        _, number, handle = step
+        link = self.links[number]
+        held = link.commands.get(handle)
         if said == "none":
-            if handle in self.owed[link]:
-                raise Break("round trip", 0, f"the answer to handle {handle} came, and its link has none")
+            is_owed = held and held.is_owed and not held.is_taken
+            self.expect(not is_owed, "round trip", f"the answer to handle {handle} came, and its link has none")
             return
         _, status, count, params = said.split(" ")
-        answer = (handle, int(status), int(count), oca.hex_of(params))
-        p, command = self.peers[link], self.submitted[link].get(handle)
+        answer, under = (handle, int(status), int(count), oca.hex_of(params)), link.under(handle)
         self.count["answers"] += 1
         self.places["answers"].append(self.number)
-        under = [(c, r) for c, r in self.executions[p] if c.handle == handle]
-        if command is None or not any(c.asks() == command.asks() and r == answer for c, r in under):
-            raise Break("answers", 0, f"the answer under {handle} is none of an execution of its command")
-        if self.owed[link].pop(handle, None) not in (None, answer):
-            raise Break("round trip", 0, f"the answer to handle {handle} is another than the one that came")
-        if p not in self.forgotten:
+        self.expect(held and any(command.asks() == held.command.asks() and reply == answer for command, reply in under), "answers",
+                    f"the answer under {handle} is none of an execution of its command")
+        self.expect(held.owed in (None, answer), "round trip", f"the answer to handle {handle} is another than the one that came")
+        if link.peer not in self.forgotten:
             self.count["only"] += 1
-            self.count["only, of a peer that found no room before"] += p in self.refused
-            if len(under) != 1:
-                raise Break("only", 0, f"{len(under)} executions under {handle}")
-        if link not in self.out_of_time and len(under) != 1:
-            raise Break("in time", 0, f"{len(under)} executions under {handle} of a link in time")
-        if link not in self.out_of_time:
-            self.says(link, answer)
-        self.untaken[link].pop(handle, None)
+            self.count["only, of a peer that found no room before"] += link.peer in self.refused
+            self.expect(len(under) == 1, "only", f"{len(under)} executions under {handle}")
+        if link.is_in_time:
+            self.expect(len(under) == 1, "in time", f"{len(under)} executions under {handle} of a link in time")
+            self.says(held, answer)
+        held.is_taken = True
+
+    def says(self, held, answer):
+        """An answer of a link in time: its execution lies behind the call, and a reading is what the object held."""
+        (handle, status, count, params), (number, reading_then) = answer, held.met
+        is_reading = bool(reading_then) and status == 0
+        self.count["said"] += 1
+        self.count["said, of readings"] += is_reading
+        self.expect(number > held.step, "said", f"handle {handle} was executed before it was submitted")
+        self.expect(not is_reading or (count, params) == reading_then, "said",
+                    f"the answer under {handle} is {oca.hex_text(params)}, and held was {reading_then}")
 
 
 # ---- runs
@@ -483,24 +468,24 @@ def refuses(job):
 
 
 def first_broken(program, schedules):
-    """The first of the schedules that breaks 'untaken' for sizes that do not fit, as text, and the break."""
+    """The first of the schedules that breaks 'untaken' for sizes that do not fit, as text, and the break; or twice None."""
     for schedule, lines in zip(schedules, transcripts(program, schedules)):
         fault = broken(laws, schedule, lines, True)
         if fault and fault.law == "untaken" and lines == schedule.expected():
             return "\n".join(shown(schedule, lines, fault)), fault
-    return None
+    return None, None
 
 
 def sizes(program, seed):
     """Whether each pair of W = 2 * S - 2 breaks 'untaken', and random schedules do at two pairs; prints what was found."""
-    found = [span for span in range(2, 33) if first_broken(program, [directed(2 * span - 2, span)])]
+    found = [span for span in range(2, 33) if first_broken(program, [directed(2 * span - 2, span)])[1]]
     print(f"windows of 2 * S - 2: {len(found)} of 31 directed schedules break 'untaken'")
     random_found = 0
     for window, span in ((2, 2), (4, 3)):
         r = random.Random(f"{seed} {window}")
-        result = first_broken(program, [wander(r, window, span) if n % 2 else directed(window, span, r) for n in range(400)])
-        random_found += result is not None
-        print(f"window {window}, span {span}: {f'a random schedule breaks at step {result[1].at}' if result else 'none breaks'}")
+        _, fault = first_broken(program, [wander(r, window, span) if n % 2 else directed(window, span, r) for n in range(400)])
+        random_found += fault is not None
+        print(f"window {window}, span {span}: {f'a random schedule breaks at step {fault.at}' if fault else 'none breaks'}")
     return len(found) == 31 and random_found == 2
 
 
@@ -530,10 +515,8 @@ def summary(total):
 def main():
     program = f"{sys.argv[1]}/trials"
     if sys.argv[2] == "broken":
-        window, span = int(sys.argv[3]), int(sys.argv[4])
-        result = first_broken(program, [directed(window, span)])
-        print(result[0] if result else "no break")
-        return 0
+        text, _ = first_broken(program, [directed(*map(int, sys.argv[3:]))])
+        return print(text or "no break")
     count, seed, total, wrong = in_processes(work, "schedules", BATCH, refuses, RULES)
     for _, said in wrong:
         print(said)

@@ -37,15 +37,8 @@ pub extern "C" fn oca_device_add_block(
     add(alloc, handle, container, ono, role, lockable, Kind::Block)
 }
 
-/// Adds an OcaMute (AES70-2) to the tree, before the start. `container` is the number of the block that contains the
-/// object (the number of the root is 100), `ono` is the object's own number, and `role` is its role, 1 to 64 bytes of
-/// UTF-8. `lockable` says whether the object can be locked. `muted` is its first state.
-///
-/// Returns the number of an answer: `Done`. Otherwise the first of these that applies, and then nothing is changed.
-/// `Closed` if the device is closed. `Started` after its start. `BadText` if the role is not UTF-8. `Full` if there is
-/// no room for another object. `Reserved` if `ono` is below 4,096. `Taken` if an object has that number. `NoSuchBlock`
-/// if no block has the number `container`. `TooDeep` if the object would be at depth 9 (the root is at depth 1).
-/// `BadText` if the role is empty or has more than 64 bytes.
+/// Adds an OcaMute (AES70-2) to the tree, before the start. `muted` is its first state. The other arguments are those
+/// of `oca_device_add_block`, and so are the answers.
 #[unsafe(no_mangle)]
 pub extern "C" fn oca_device_add_mute(
     alloc: Global,
@@ -77,15 +70,8 @@ pub extern "C" fn oca_device_add_mute(
     )
 }
 
-/// Adds an OcaPolarity (AES70-2) to the tree, before the start. `container` is the number of the block that contains
-/// the object (the number of the root is 100), `ono` is the object's own number, and `role` is its role, 1 to 64 bytes
-/// of UTF-8. `lockable` says whether the object can be locked. `inverted` is its first state.
-///
-/// Returns the number of an answer: `Done`. Otherwise the first of these that applies, and then nothing is changed.
-/// `Closed` if the device is closed. `Started` after its start. `BadText` if the role is not UTF-8. `Full` if there is
-/// no room for another object. `Reserved` if `ono` is below 4,096. `Taken` if an object has that number. `NoSuchBlock`
-/// if no block has the number `container`. `TooDeep` if the object would be at depth 9 (the root is at depth 1).
-/// `BadText` if the role is empty or has more than 64 bytes.
+/// Adds an OcaPolarity (AES70-2) to the tree, before the start. `inverted` is its first state. The other arguments are
+/// those of `oca_device_add_block`, and so are the answers.
 #[unsafe(no_mangle)]
 pub extern "C" fn oca_device_add_polarity(
     alloc: Global,
@@ -153,15 +139,8 @@ pub extern "C" fn oca_device_add_switch(
     answer.number()
 }
 
-/// Adds an OcaBooleanActuator (AES70-2) to the tree, before the start. `container` is the number of the block that
-/// contains the object (the number of the root is 100), `ono` is the object's own number, and `role` is its role, 1 to
-/// 64 bytes of UTF-8. `lockable` says whether the object can be locked. `setting` is its first setting.
-///
-/// Returns the number of an answer: `Done`. Otherwise the first of these that applies, and then nothing is changed.
-/// `Closed` if the device is closed. `Started` after its start. `BadText` if the role is not UTF-8. `Full` if there is
-/// no room for another object. `Reserved` if `ono` is below 4,096. `Taken` if an object has that number. `NoSuchBlock`
-/// if no block has the number `container`. `TooDeep` if the object would be at depth 9 (the root is at depth 1).
-/// `BadText` if the role is empty or has more than 64 bytes.
+/// Adds an OcaBooleanActuator (AES70-2) to the tree, before the start. `setting` is its first setting. The other
+/// arguments are those of `oca_device_add_block`, and so are the answers.
 #[unsafe(no_mangle)]
 pub extern "C" fn oca_device_add_boolean(
     alloc: Global,
@@ -188,17 +167,9 @@ pub extern "C" fn oca_device_add_boolean(
     )
 }
 
-/// Adds an OcaInt8Actuator (AES70-2) to the tree, before the start. `container` is the number of the block that
-/// contains the object (the number of the root is 100), `ono` is the object's own number, and `role` is its role, 1 to
-/// 64 bytes of UTF-8. `lockable` says whether the object can be locked. `setting` is its first setting. Its settings
-/// must lie within `least` to `greatest`, now and later.
-///
-/// Returns the number of an answer: `Done`. Otherwise the first of these that applies, and then nothing is changed.
-/// `Closed` if the device is closed. `Started` after its start. `BadText` if the role is not UTF-8. `Full` if there is
-/// no room for another object. `Reserved` if `ono` is below 4,096. `Taken` if an object has that number. `NoSuchBlock`
-/// if no block has the number `container`. `TooDeep` if the object would be at depth 9 (the root is at depth 1).
-/// `BadText` if the role is empty or has more than 64 bytes. `BadRange` if the setting is outside `least` to
-/// `greatest`.
+/// Adds an OcaInt8Actuator (AES70-2) to the tree, before the start. `setting` is its first setting. Its settings must
+/// lie within `least` to `greatest`, now and later. The other arguments are those of `oca_device_add_block`, and so are
+/// the answers, with one more behind them: `BadRange` if the setting is outside `least` to `greatest`.
 #[unsafe(no_mangle)]
 pub extern "C" fn oca_device_add_int8(
     alloc: Global,
@@ -224,17 +195,9 @@ pub extern "C" fn oca_device_add_int8(
     add(alloc, handle, container, ono, role, lockable, kind)
 }
 
-/// Adds an OcaInt16Actuator (AES70-2) to the tree, before the start. `container` is the number of the block that
-/// contains the object (the number of the root is 100), `ono` is the object's own number, and `role` is its role, 1 to
-/// 64 bytes of UTF-8. `lockable` says whether the object can be locked. `setting` is its first setting. Its settings
-/// must lie within `least` to `greatest`, now and later.
-///
-/// Returns the number of an answer: `Done`. Otherwise the first of these that applies, and then nothing is changed.
-/// `Closed` if the device is closed. `Started` after its start. `BadText` if the role is not UTF-8. `Full` if there is
-/// no room for another object. `Reserved` if `ono` is below 4,096. `Taken` if an object has that number. `NoSuchBlock`
-/// if no block has the number `container`. `TooDeep` if the object would be at depth 9 (the root is at depth 1).
-/// `BadText` if the role is empty or has more than 64 bytes. `BadRange` if the setting is outside `least` to
-/// `greatest`.
+/// Adds an OcaInt16Actuator (AES70-2) to the tree, before the start. `setting` is its first setting. Its settings must
+/// lie within `least` to `greatest`, now and later. The other arguments are those of `oca_device_add_block`, and so are
+/// the answers, with one more behind them: `BadRange` if the setting is outside `least` to `greatest`.
 #[unsafe(no_mangle)]
 pub extern "C" fn oca_device_add_int16(
     alloc: Global,
@@ -260,17 +223,9 @@ pub extern "C" fn oca_device_add_int16(
     add(alloc, handle, container, ono, role, lockable, kind)
 }
 
-/// Adds an OcaInt32Actuator (AES70-2) to the tree, before the start. `container` is the number of the block that
-/// contains the object (the number of the root is 100), `ono` is the object's own number, and `role` is its role, 1 to
-/// 64 bytes of UTF-8. `lockable` says whether the object can be locked. `setting` is its first setting. Its settings
-/// must lie within `least` to `greatest`, now and later.
-///
-/// Returns the number of an answer: `Done`. Otherwise the first of these that applies, and then nothing is changed.
-/// `Closed` if the device is closed. `Started` after its start. `BadText` if the role is not UTF-8. `Full` if there is
-/// no room for another object. `Reserved` if `ono` is below 4,096. `Taken` if an object has that number. `NoSuchBlock`
-/// if no block has the number `container`. `TooDeep` if the object would be at depth 9 (the root is at depth 1).
-/// `BadText` if the role is empty or has more than 64 bytes. `BadRange` if the setting is outside `least` to
-/// `greatest`.
+/// Adds an OcaInt32Actuator (AES70-2) to the tree, before the start. `setting` is its first setting. Its settings must
+/// lie within `least` to `greatest`, now and later. The other arguments are those of `oca_device_add_block`, and so are
+/// the answers, with one more behind them: `BadRange` if the setting is outside `least` to `greatest`.
 #[unsafe(no_mangle)]
 pub extern "C" fn oca_device_add_int32(
     alloc: Global,
@@ -296,17 +251,9 @@ pub extern "C" fn oca_device_add_int32(
     add(alloc, handle, container, ono, role, lockable, kind)
 }
 
-/// Adds an OcaInt64Actuator (AES70-2) to the tree, before the start. `container` is the number of the block that
-/// contains the object (the number of the root is 100), `ono` is the object's own number, and `role` is its role, 1 to
-/// 64 bytes of UTF-8. `lockable` says whether the object can be locked. `setting` is its first setting. Its settings
-/// must lie within `least` to `greatest`, now and later.
-///
-/// Returns the number of an answer: `Done`. Otherwise the first of these that applies, and then nothing is changed.
-/// `Closed` if the device is closed. `Started` after its start. `BadText` if the role is not UTF-8. `Full` if there is
-/// no room for another object. `Reserved` if `ono` is below 4,096. `Taken` if an object has that number. `NoSuchBlock`
-/// if no block has the number `container`. `TooDeep` if the object would be at depth 9 (the root is at depth 1).
-/// `BadText` if the role is empty or has more than 64 bytes. `BadRange` if the setting is outside `least` to
-/// `greatest`.
+/// Adds an OcaInt64Actuator (AES70-2) to the tree, before the start. `setting` is its first setting. Its settings must
+/// lie within `least` to `greatest`, now and later. The other arguments are those of `oca_device_add_block`, and so are
+/// the answers, with one more behind them: `BadRange` if the setting is outside `least` to `greatest`.
 #[unsafe(no_mangle)]
 pub extern "C" fn oca_device_add_int64(
     alloc: Global,
@@ -332,17 +279,9 @@ pub extern "C" fn oca_device_add_int64(
     add(alloc, handle, container, ono, role, lockable, kind)
 }
 
-/// Adds an OcaUint8Actuator (AES70-2) to the tree, before the start. `container` is the number of the block that
-/// contains the object (the number of the root is 100), `ono` is the object's own number, and `role` is its role, 1 to
-/// 64 bytes of UTF-8. `lockable` says whether the object can be locked. `setting` is its first setting. Its settings
-/// must lie within `least` to `greatest`, now and later.
-///
-/// Returns the number of an answer: `Done`. Otherwise the first of these that applies, and then nothing is changed.
-/// `Closed` if the device is closed. `Started` after its start. `BadText` if the role is not UTF-8. `Full` if there is
-/// no room for another object. `Reserved` if `ono` is below 4,096. `Taken` if an object has that number. `NoSuchBlock`
-/// if no block has the number `container`. `TooDeep` if the object would be at depth 9 (the root is at depth 1).
-/// `BadText` if the role is empty or has more than 64 bytes. `BadRange` if the setting is outside `least` to
-/// `greatest`.
+/// Adds an OcaUint8Actuator (AES70-2) to the tree, before the start. `setting` is its first setting. Its settings must
+/// lie within `least` to `greatest`, now and later. The other arguments are those of `oca_device_add_block`, and so are
+/// the answers, with one more behind them: `BadRange` if the setting is outside `least` to `greatest`.
 #[unsafe(no_mangle)]
 pub extern "C" fn oca_device_add_uint8(
     alloc: Global,
@@ -368,17 +307,9 @@ pub extern "C" fn oca_device_add_uint8(
     add(alloc, handle, container, ono, role, lockable, kind)
 }
 
-/// Adds an OcaUint16Actuator (AES70-2) to the tree, before the start. `container` is the number of the block that
-/// contains the object (the number of the root is 100), `ono` is the object's own number, and `role` is its role, 1 to
-/// 64 bytes of UTF-8. `lockable` says whether the object can be locked. `setting` is its first setting. Its settings
-/// must lie within `least` to `greatest`, now and later.
-///
-/// Returns the number of an answer: `Done`. Otherwise the first of these that applies, and then nothing is changed.
-/// `Closed` if the device is closed. `Started` after its start. `BadText` if the role is not UTF-8. `Full` if there is
-/// no room for another object. `Reserved` if `ono` is below 4,096. `Taken` if an object has that number. `NoSuchBlock`
-/// if no block has the number `container`. `TooDeep` if the object would be at depth 9 (the root is at depth 1).
-/// `BadText` if the role is empty or has more than 64 bytes. `BadRange` if the setting is outside `least` to
-/// `greatest`.
+/// Adds an OcaUint16Actuator (AES70-2) to the tree, before the start. `setting` is its first setting. Its settings must
+/// lie within `least` to `greatest`, now and later. The other arguments are those of `oca_device_add_block`, and so are
+/// the answers, with one more behind them: `BadRange` if the setting is outside `least` to `greatest`.
 #[unsafe(no_mangle)]
 pub extern "C" fn oca_device_add_uint16(
     alloc: Global,
@@ -405,17 +336,9 @@ pub extern "C" fn oca_device_add_uint16(
     add(alloc, handle, container, ono, role, lockable, kind)
 }
 
-/// Adds an OcaUint32Actuator (AES70-2) to the tree, before the start. `container` is the number of the block that
-/// contains the object (the number of the root is 100), `ono` is the object's own number, and `role` is its role, 1 to
-/// 64 bytes of UTF-8. `lockable` says whether the object can be locked. `setting` is its first setting. Its settings
-/// must lie within `least` to `greatest`, now and later.
-///
-/// Returns the number of an answer: `Done`. Otherwise the first of these that applies, and then nothing is changed.
-/// `Closed` if the device is closed. `Started` after its start. `BadText` if the role is not UTF-8. `Full` if there is
-/// no room for another object. `Reserved` if `ono` is below 4,096. `Taken` if an object has that number. `NoSuchBlock`
-/// if no block has the number `container`. `TooDeep` if the object would be at depth 9 (the root is at depth 1).
-/// `BadText` if the role is empty or has more than 64 bytes. `BadRange` if the setting is outside `least` to
-/// `greatest`.
+/// Adds an OcaUint32Actuator (AES70-2) to the tree, before the start. `setting` is its first setting. Its settings must
+/// lie within `least` to `greatest`, now and later. The other arguments are those of `oca_device_add_block`, and so are
+/// the answers, with one more behind them: `BadRange` if the setting is outside `least` to `greatest`.
 #[unsafe(no_mangle)]
 pub extern "C" fn oca_device_add_uint32(
     alloc: Global,
@@ -442,17 +365,9 @@ pub extern "C" fn oca_device_add_uint32(
     add(alloc, handle, container, ono, role, lockable, kind)
 }
 
-/// Adds an OcaUint64Actuator (AES70-2) to the tree, before the start. `container` is the number of the block that
-/// contains the object (the number of the root is 100), `ono` is the object's own number, and `role` is its role, 1 to
-/// 64 bytes of UTF-8. `lockable` says whether the object can be locked. `setting` is its first setting. Its settings
-/// must lie within `least` to `greatest`, now and later.
-///
-/// Returns the number of an answer: `Done`. Otherwise the first of these that applies, and then nothing is changed.
-/// `Closed` if the device is closed. `Started` after its start. `BadText` if the role is not UTF-8. `Full` if there is
-/// no room for another object. `Reserved` if `ono` is below 4,096. `Taken` if an object has that number. `NoSuchBlock`
-/// if no block has the number `container`. `TooDeep` if the object would be at depth 9 (the root is at depth 1).
-/// `BadText` if the role is empty or has more than 64 bytes. `BadRange` if the setting is outside `least` to
-/// `greatest`.
+/// Adds an OcaUint64Actuator (AES70-2) to the tree, before the start. `setting` is its first setting. Its settings must
+/// lie within `least` to `greatest`, now and later. The other arguments are those of `oca_device_add_block`, and so are
+/// the answers, with one more behind them: `BadRange` if the setting is outside `least` to `greatest`.
 #[unsafe(no_mangle)]
 pub extern "C" fn oca_device_add_uint64(
     alloc: Global,

@@ -86,9 +86,7 @@ pub extern "C" fn oca_device_start(
 /// Packets for which there is no room are left out, as if the network had lost them: a controller that sends such a
 /// command again gets the retained reply. A datagram never gets more packets than it has commands and keep-alives.
 ///
-/// Returns the number of an answer: `Done`. Otherwise the first of these that applies. `Closed` if the device is
-/// closed, `Started` if it is started already, `BadSize` if a size is outside its range: then nothing is changed.
-/// `NoMemory` if memory was refused: then the objects are lost and the struct is closed; it can be opened again.
+/// Returns the number of an answer, as `oca_device_start` does.
 #[unsafe(no_mangle)]
 pub extern "C" fn oca_device_start_within(
     alloc: Global,
@@ -113,9 +111,7 @@ pub extern "C" fn oca_device_start_within(
 /// (14), ParamCount 0 and no parameters; only commands that read have such replies. A datagram of at most 91 bytes gets
 /// at most 7 packets.
 ///
-/// Returns the number of an answer: `Done`. Otherwise the first of these that applies. `Closed` if the device is
-/// closed, `Started` if it is started already, `BadSize` if a size is outside its range: then nothing is changed.
-/// `NoMemory` if memory was refused: then the objects are lost and the struct is closed; it can be opened again.
+/// Returns the number of an answer, as `oca_device_start` does.
 #[unsafe(no_mangle)]
 pub extern "C" fn oca_device_start_small(
     alloc: Global,

@@ -5,8 +5,8 @@ use Rattle.oca_tree.specs.declared.object.Object.{Object}
 use Rattle.oca_device.specs.Devices.{DeviceState, RepresentsWithin}
 use Rattle.oca_device.specs.Events.{Event}
 use Rattle.oca_calls.specs.LinkRooms.{Rooms, full_rooms, small_rooms}
-use Rattle.oca_calls.specs.declared.any_device.Sized.{Sized}
-use Rattle.oca_calls.specs.declared.any_device.Sized.TheVariants.{Full, Small}
+use Rattle.oca_calls.specs.declared.any_device.EitherSize.{EitherSize}
+use Rattle.oca_calls.specs.declared.any_device.EitherSize.TheVariants.{Full, Small}
 
 -- a device's state with its rooms
 pub record RoomedDevice : Type 0 where
@@ -14,7 +14,7 @@ pub record RoomedDevice : Type 0 where
   pub rooms : Rooms
 
 -- the state of a device of either size
-abbrev pub roomed_device : Sized → RoomedDevice
+abbrev pub roomed_device : EitherSize → RoomedDevice
 roomed_device (Full d) = record { device = d; rooms = full_rooms }
 roomed_device (Small d) = record { device = d; rooms = small_rooms }
 

@@ -2,8 +2,8 @@
 ghost use Rattle.oca_tree.specs.Objects.{Store};
 ghost use Rattle.oca_calls.specs.Calls.{HandleAdds, HandleBuilds, RefusesClosed, RefusesRunning};
 
-use crate::answer::Answer;
 use crate::device_handle::DeviceHandle;
+use crate::with_open;
 use oca_tree::Kind;
 use std::alloc::Global;
 
@@ -30,10 +30,10 @@ pub fn add(
     ensures adds { (B : Store) → HandleBuilds handle.old.slot.inner B →
         HandleAdds result handle.new.slot.inner B container ono role.now lockable kind.entry }
 {
-    let Some(mut behind) = handle.take(alloc) else {
-        return Answer::Closed.number();
-    };
-    let answer = behind.add(container, ono, role, lockable, kind);
-    handle.put(behind);
-    answer.number()
+    with_open!(
+        alloc,
+        handle,
+        |it| it.add(container, ono, role, lockable, kind)
+    )
+    .number()
 }

@@ -25,7 +25,7 @@ use std::marker::Model;
 
 /// A device of the full size, or a small one.
 #[derive(Drop)]
-enum Sized {
+enum EitherSize {
     Full(Device),
     Small(SmallDevice),
 }
@@ -34,7 +34,7 @@ enum Sized {
 /// it is small ([`SmallDevice`]): for commands with 64 bytes of parameters, and replies with 264.
 #[derive(Drop)]
 pub struct AnyDevice {
-    device: Sized,
+    device: EitherSize,
 }
 
 impl Model for AnyDevice {
@@ -88,8 +88,8 @@ impl AnyDevice {
             result ≡ verdict_within r.command w T E from bytes.now now }
     {
         match &mut self.device {
-            Sized::Full(device) => device.datagram_within(from, bytes, now, outbox),
-            Sized::Small(device) => device.datagram_within(from, bytes, now, outbox),
+            EitherSize::Full(device) => device.datagram_within(from, bytes, now, outbox),
+            EitherSize::Small(device) => device.datagram_within(from, bytes, now, outbox),
         }
     }
 
@@ -99,8 +99,8 @@ impl AnyDevice {
             RunsWithin r w self.new T (Tick now ∷ E) }
     {
         match &mut self.device {
-            Sized::Full(device) => device.tick(now),
-            Sized::Small(device) => device.tick(now),
+            EitherSize::Full(device) => device.tick(now),
+            EitherSize::Small(device) => device.tick(now),
         }
     }
 
@@ -110,8 +110,8 @@ impl AnyDevice {
             MatchOption result (NeverLapses w (state_after w T E)) (λ t. IsNextLapse w (state_after w T E) t) }
     {
         match &self.device {
-            Sized::Full(device) => device.next_lapse(),
-            Sized::Small(device) => device.next_lapse(),
+            EitherSize::Full(device) => device.next_lapse(),
+            EitherSize::Small(device) => device.next_lapse(),
         }
     }
 
@@ -124,8 +124,8 @@ impl AnyDevice {
             result_err result ≡ set_fault (state_after w T E).tree ono.0 value }
     {
         match &mut self.device {
-            Sized::Full(device) => device.set(ono, value),
-            Sized::Small(device) => device.set(ono, value),
+            EitherSize::Full(device) => device.set(ono, value),
+            EitherSize::Small(device) => device.set(ono, value),
         }
     }
 
@@ -138,8 +138,8 @@ impl AnyDevice {
             result_err result ≡ front_fault (state_after w T E).tree ono.0 (asked.SetLabel label.now) }
     {
         match &mut self.device {
-            Sized::Full(device) => device.set_label(ono, label),
-            Sized::Small(device) => device.set_label(ono, label),
+            EitherSize::Full(device) => device.set_label(ono, label),
+            EitherSize::Small(device) => device.set_label(ono, label),
         }
     }
 
@@ -152,8 +152,8 @@ impl AnyDevice {
             result_err result ≡ front_fault (state_after w T E).tree ono.0 (asked.SetEnabled enabled) }
     {
         match &mut self.device {
-            Sized::Full(device) => device.set_enabled(ono, enabled),
-            Sized::Small(device) => device.set_enabled(ono, enabled),
+            EitherSize::Full(device) => device.set_enabled(ono, enabled),
+            EitherSize::Small(device) => device.set_enabled(ono, enabled),
         }
     }
 
@@ -166,8 +166,8 @@ impl AnyDevice {
             result_err result ≡ front_fault (state_after w T E).tree ono.0 asked.Unlock }
     {
         match &mut self.device {
-            Sized::Full(device) => device.unlock(ono),
-            Sized::Small(device) => device.unlock(ono),
+            EitherSize::Full(device) => device.unlock(ono),
+            EitherSize::Small(device) => device.unlock(ono),
         }
     }
 
@@ -180,8 +180,8 @@ impl AnyDevice {
             result_err result ≡ front_fault (state_after w T E).tree ono.0 (asked.SetEnabled failing) }
     {
         match &mut self.device {
-            Sized::Full(device) => device.set_failing(ono, failing),
-            Sized::Small(device) => device.set_failing(ono, failing),
+            EitherSize::Full(device) => device.set_failing(ono, failing),
+            EitherSize::Small(device) => device.set_failing(ono, failing),
         }
     }
 
@@ -191,8 +191,8 @@ impl AnyDevice {
             result ≡ failing_at (state_after w T E).tree ono.0 }
     {
         match &self.device {
-            Sized::Full(device) => device.is_failing(ono),
-            Sized::Small(device) => device.is_failing(ono),
+            EitherSize::Full(device) => device.is_failing(ono),
+            EitherSize::Small(device) => device.is_failing(ono),
         }
     }
 
@@ -202,8 +202,8 @@ impl AnyDevice {
             result.now ≡ (state_after w T E).tree }
     {
         match &self.device {
-            Sized::Full(device) => device.tree(),
-            Sized::Small(device) => device.tree(),
+            EitherSize::Full(device) => device.tree(),
+            EitherSize::Small(device) => device.tree(),
         }
     }
 
@@ -213,8 +213,8 @@ impl AnyDevice {
             result ≡ length (known_after (state_after w T E)) }
     {
         match &self.device {
-            Sized::Full(device) => device.sessions(),
-            Sized::Small(device) => device.sessions(),
+            EitherSize::Full(device) => device.sessions(),
+            EitherSize::Small(device) => device.sessions(),
         }
     }
 
@@ -224,8 +224,8 @@ impl AnyDevice {
             result ≡ slice_get (known_after (state_after w T E)) index }
     {
         match &self.device {
-            Sized::Full(device) => device.peer_at(index),
-            Sized::Small(device) => device.peer_at(index),
+            EitherSize::Full(device) => device.peer_at(index),
+            EitherSize::Small(device) => device.peer_at(index),
         }
     }
 
@@ -237,8 +237,8 @@ impl AnyDevice {
             numbers_of result.now ≡ written w T E }
     {
         match &self.device {
-            Sized::Full(device) => device.written(),
-            Sized::Small(device) => device.written(),
+            EitherSize::Full(device) => device.written(),
+            EitherSize::Small(device) => device.written(),
         }
     }
 }
@@ -250,7 +250,7 @@ fn full(alloc: Global, tree: Tree, sizes: Sizes) -> Result<AnyDevice, NoMemory>
 {
     let device = Device::with_sizes(alloc, tree, sizes)?;
     Ok(AnyDevice {
-        device: Sized::Full(device),
+        device: EitherSize::Full(device),
     })
 }
 
@@ -261,6 +261,6 @@ fn small(alloc: Global, tree: Tree, sizes: Sizes) -> Result<AnyDevice, NoMemory>
 {
     let device = SmallDevice::with_sizes(alloc, tree, sizes)?;
     Ok(AnyDevice {
-        device: Sized::Small(device),
+        device: EitherSize::Small(device),
     })
 }

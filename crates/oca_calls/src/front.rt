@@ -3,8 +3,8 @@ ghost use Rattle.oca_calls.specs.Calls.{HandleSets, KeepsPackets, RefusesBuildin
 ghost use Rattle.oca_calls.specs.FrontCalls.{HandleSetsEntry, Integer};
 ghost use Rattle.oca_calls.specs.Storings.{KeepsUnstored};
 
-use crate::answer::Answer;
 use crate::device_handle::DeviceHandle;
+use crate::with_open;
 use oca_tree::Value;
 use std::alloc::Global;
 
@@ -19,12 +19,7 @@ pub fn set(alloc: Global, handle: &mut DeviceHandle, ono: u32, value: Value) -> 
     ensures unstored { KeepsUnstored handle.old.slot.inner handle.new.slot.inner }
     ensures sets { HandleSets result handle.old.slot.inner handle.new.slot.inner ono value }
 {
-    let Some(mut behind) = handle.take(alloc) else {
-        return Answer::Closed.number();
-    };
-    let answer = behind.set(ono, value);
-    handle.put(behind);
-    answer.number()
+    with_open!(alloc, handle, |it| it.set(ono, value)).number()
 }
 
 /// Sets an actuator of integers at the local front panel of the device of the struct `handle`. Returns the number of an
@@ -38,10 +33,5 @@ pub fn set_integer(alloc: Global, handle: &mut DeviceHandle, ono: u32, number: i
     ensures unstored { KeepsUnstored handle.old.slot.inner handle.new.slot.inner }
     ensures sets { HandleSetsEntry result handle.old.slot.inner handle.new.slot.inner ono (Integer number) }
 {
-    let Some(mut behind) = handle.take(alloc) else {
-        return Answer::Closed.number();
-    };
-    let answer = behind.set_integer(ono, number);
-    handle.put(behind);
-    answer.number()
+    with_open!(alloc, handle, |it| it.set_integer(ono, number)).number()
 }

@@ -6,6 +6,7 @@ pub mod adding;
 pub mod answer;
 pub mod answer_words;
 pub mod any_device;
+mod calling;
 pub mod device;
 pub mod device_handle;
 pub mod device_slot;

@@ -1,6 +1,6 @@
 -- For private contracts: the reply of an execution, where a device makes it.
 use Rattle.oca_types.specs.Replies.{Reply}
-use Rattle.oca_device.specs.declared.device.Made.{Made}
+use Rattle.oca_device.specs.declared.made.Made.{Made}
 
 -- its status, ParamCount and parameters
 abbrev pub reply_made : Made → Reply

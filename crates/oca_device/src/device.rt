@@ -2,10 +2,7 @@
 ghost use Rattle.std.specs.Prelude.{◌≡◌, ◌+◌, ◌<◌, ◌≤◌, List, [], ◌∷◌, ◌++◌, length, max, IfOk, OnErr, MatchOption};
 ghost use Rattle.std.specs.Prelude.{true, IsTrue, IsSome, if◌then◌else◌, Ok, Err, slice_get};
 ghost use Rattle.oca_types.specs.Peers.{fields_of};
-ghost use Rattle.oca_types.specs.Replies.{reply_in};
-ghost use Rattle.oca_types.specs.Sizes.{most_command_parameter_bytes, most_parameter_bytes};
 ghost use Rattle.oca_types.specs.Sizes.{window_size, sizes_of, DeviceSizes};
-ghost use Rattle.oca_pdu.specs.declared.fault.PduFaultKind.TheVariants.{TooLong};
 ghost use Rattle.std.specs.List.{AllByRecursion};
 ghost use Rattle.oca_pdu.specs.Messages.{Msg, Command as Commands, msg_of};
 ghost use Rattle.oca_pdu.specs.Limits.{most_answered, most_commands};
@@ -23,8 +20,7 @@ ghost use Rattle.oca_tree.specs.Readers.{failing_at};
 ghost use Rattle.oca_model.specs.declared.request.Request.TheVariants as asked;
 ghost use Rattle.std.specs.Result.{result_err};
 ghost use Rattle.oca_device.specs.Answers.{packets_of, answers_to_reading};
-ghost use Rattle.oca_device.specs.Rooms.{shortened_reply, shortened_answers, packets_within};
-ghost use Rattle.oca_device.specs.Rooms.{told, is_short_enough, verdict_within};
+ghost use Rattle.oca_device.specs.Rooms.{is_short_enough, shortened_answers, packets_within, told, verdict_within};
 ghost use Rattle.oca_device.specs.Outboxes.{first_packets, may_be_answered};
 ghost use Rattle.oca_pdu.specs.Reading.{read_datagram};
 ghost use Rattle.oca_device.specs.Written.{numbers_of, written, written_by_execution};
@@ -35,22 +31,20 @@ use crate::bounded::BoundedOutbox;
 use crate::counts::{Counts, NONE};
 use crate::effect::{CommandOutcome, Effect, Effects, MOST_COMMANDS};
 use crate::lapse::released_from;
+use crate::made::{Made, is_taken, shortened, too_long};
 use crate::outbox::Outbox;
 use crate::verdict::Verdict;
 use arrayvec::ArrayVec;
-use oca_pdu::{Form, Message, Messages, PduFault, PduFaultKind, check};
+use oca_pdu::{Form, Message, Messages, check};
 use oca_session::{Admission, JudgedOf, SessionsOf};
 use oca_tree::{FrontFault, SetFault, Tree, Value};
 use oca_types::{
     Command, MOST_COMMAND_PARAMETER_BYTES, MOST_PARAMETER_BYTES, MOST_PEERS, NoMemory, Ono, Params,
-    Peer, Peers, ReplyParts, Sizes, Status, Window, sooner,
+    Peer, Peers, Sizes, Status, Window, sooner,
 };
 use std::alloc::Global;
 use std::fmt;
 use std::marker::Model;
-
-/// A datagram with one command has so many bytes beside those of its parameters.
-const BESIDE_PARAMETERS: usize = 27;
 
 /// A device: a tree of objects, and the sessions of its peers.
 ///
@@ -721,14 +715,6 @@ fn note(effects: &mut Effects, command: &Command, respond: bool, outcome: Comman
     });
 }
 
-/// The reply of the last execution, whatever room a device has. It has no model: it is read where it lies.
-#[derive(Drop)]
-struct Made {
-    status: Status,
-    count: u8,
-    params: Params,
-}
-
 /// Executes a command of a peer, puts its reply in the place of another, and adds its object to those written where it
 /// wrote.
 fn execute(
@@ -750,47 +736,6 @@ fn execute(
     made.count = done.count;
     if done.wrote {
         written.push(command.target);
-    }
-}
-
-/// Whether the device takes so many bytes.
-#[inline(always)]
-fn is_taken<const COMMAND: usize>(bytes: &[u8]) -> bool
-    ensures { result ≡ is_short_enough COMMAND bytes.now }
-{
-    COMMAND >= MOST_COMMAND_PARAMETER_BYTES || bytes.len() <= COMMAND + BESIDE_PARAMETERS
-}
-
-/// The fault of a datagram that is longer.
-fn too_long<const COMMAND: usize>() -> PduFault
-    requires { COMMAND < most_command_parameter_bytes }
-    ensures { result ≡ record { kind = TooLong; at = COMMAND + 27 } }
-{
-    PduFault {
-        kind: PduFaultKind::TooLong,
-        at: (COMMAND + BESIDE_PARAMETERS) as u16,
-    }
-}
-
-/// The reply that was made; BufferOverflow, if its parameters are more bytes than there is room for.
-#[inline(always)]
-fn shortened<const ANSWER: usize>(made: &Made) -> ReplyParts<'_>
-    ensures shortened { reply_in result ≡ shortened_reply ANSWER (reply_made made.now) }
-    ensures short { length result.params.now ≤ ANSWER }
-    ensures most { length result.params.now ≤ most_parameter_bytes }
-{
-    let params = made.params.as_slice();
-    if ANSWER < MOST_PARAMETER_BYTES && params.len() > ANSWER {
-        return ReplyParts {
-            status: Status::BufferOverflow,
-            count: 0,
-            params: &params[..0],
-        };
-    }
-    ReplyParts {
-        status: made.status,
-        count: made.count,
-        params,
     }
 }
 

@@ -16,6 +16,7 @@ mod electronics;
 mod keeping;
 mod lapse;
 mod law;
+mod made;
 mod outbox;
 mod report;
 mod serving;

@@ -13,11 +13,13 @@ ghost use Rattle.oca_model.specs.Answers.{shaped_in};
 use crate::item::Item;
 use crate::list::{put_list, read_list};
 use crate::member::{Descendant, Member, whole_class};
-use crate::parameters::whole;
+use crate::parameters::{whole, whole_field};
 use crate::reading::Reading;
 use crate::request::{Flags, Names};
 use arrayvec::ArrayVec;
-use oca_types::{Class, Method, Ono, Params, PutFault, Text, put_class_identification, put_text};
+use oca_types::{
+    Class, Method, Ono, Params, PutFault, Text, put_class_identification, put_text, put_u32,
+};
 
 /// The members of a block, in the block's order: from 0 to 181. A response has no room for more.
 pub type Members = ArrayVec<Member, 181>;
@@ -147,7 +149,7 @@ fn shaped(shape: Shape, class: Class, params: &[u8]) -> Option<Answer>
         Shape::Done if params.is_empty() => Some(Answer::Done),
         Shape::Truth => whole(params).map(Answer::Truth),
         Shape::Text => read_text(params).map(Answer::Text),
-        Shape::Owner => Some(Answer::Owner(Ono(whole(params)?))),
+        Shape::Owner => Some(Answer::Owner(Ono(whole_field(params)?))),
         Shape::Reading => Reading::read(class, params).map(Answer::Reading),
         Shape::Names => Some(Answer::Names(read_list(params)?)),
         Shape::Flags => Some(Answer::Flags(read_list(params)?)),
@@ -189,7 +191,7 @@ impl Answer {
             Answer::Done => Ok(()),
             Answer::Truth(truth) => truth.put_item(params),
             Answer::Text(text) => put_text(params, text),
-            Answer::Owner(ono) => ono.0.put_item(params),
+            Answer::Owner(ono) => put_u32(params, ono.0),
             Answer::Reading(reading) => reading.put(params),
             Answer::Names(names) => put_names(params, names),
             Answer::Flags(flags) => put_flags(params, flags),

@@ -1,22 +1,21 @@
-//! What a parameter or an item of a list is: numbers, Booleans, texts and members, each with its codec.
-ghost use Rattle.std.specs.Prelude.{◌≡◌, ℕ, ◌++◌, ◌<◌, ◌^◌, List, Option, Some, FitsSigned};
-ghost use Rattle.std.specs.Int.{w8, w16, w32, w64, byte_len};
-ghost use Rattle.oca_types.specs.Numbers.{unsigned_encoding, signed_encoding, bool_encoding};
+//! What a parameter or an item of a list is: positions, Booleans, texts and members, each with its codec.
+ghost use Rattle.std.specs.Prelude.{◌≡◌, ℕ, ◌++◌, ◌<◌, ◌^◌, List, Option, Some};
+ghost use Rattle.std.specs.Int.{w16, byte_len};
+ghost use Rattle.oca_types.specs.Numbers.{unsigned_encoding, bool_encoding};
 ghost use Rattle.oca_types.specs.Putting.{Puts};
-ghost use Rattle.oca_types.specs.Reading.{unsigned_at, signed_at, bool_at, text_at};
+ghost use Rattle.oca_types.specs.Reading.{unsigned_at, bool_at, text_at};
 ghost use Rattle.oca_types.specs.Taking.{bytes_left, ReadsAs};
 ghost use Rattle.oca_types.specs.Texts.{text_encoding};
 ghost use Rattle.oca_model.specs.Lists.{IsText};
 ghost use Rattle.oca_model.specs.Members.{member_at, member_encoding, IsMember, descendant_at, descendant_encoding};
 ghost use Rattle.oca_model.specs.Members.{IsDescendant};
 ghost use Rattle.oca_model.specs.MemberFronts.{member_front, descendant_front};
-ghost use Rattle.oca_model.specs.Fronts.{u8_front, u16_front, u32_front, u64_front, i8_front, i16_front, i32_front};
-ghost use Rattle.oca_model.specs.Fronts.{i64_front, bool_front, front_of_text};
+ghost use Rattle.oca_model.specs.Fronts.{u16_front, bool_front, front_of_text};
 
 use crate::member::{Descendant, Member, take_class};
 use oca_types::{
-    Cursor, Ono, Params, PutFault, ReadFault, Text, put_bool, put_class_identification, put_i8,
-    put_i16, put_i32, put_i64, put_text, put_u8, put_u16, put_u32, put_u64,
+    Cursor, Ono, Params, PutFault, ReadFault, Text, put_bool, put_class_identification, put_text,
+    put_u16, put_u32,
 };
 
 /// A value that can be an item of a list, of whatever length its encoding is.
@@ -41,26 +40,6 @@ pub(crate) trait Item: Default + Drop {
     ghost read_back: { (v : Self) (rest : List ℕ) → IsItem v → read_at (encoding v ++ rest) ≡ Some (v, rest) };
 }
 
-impl Item for u8 {
-    ghost IsItem = { λ n. n < 256 ^ byte_len w8 };
-
-    ghost encoding = { unsigned_encoding w8 };
-
-    ghost read_at = { unsigned_at w8 };
-
-    ghost read_back = { u8_front };
-
-    /// Takes an unsigned number of 8 bits.
-    fn take_item(cursor: &mut Cursor<'_>) -> Result<u8, ReadFault> {
-        cursor.take_u8()
-    }
-
-    /// Appends the unsigned number of 8 bits. Refusal: `Full`.
-    fn put_item(&self, params: &mut Params) -> Result<(), PutFault> {
-        put_u8(params, *self)
-    }
-}
-
 impl Item for u16 {
     ghost IsItem = { λ n. n < 256 ^ byte_len w16 };
 
@@ -78,126 +57,6 @@ impl Item for u16 {
     /// Appends the unsigned number of 16 bits. Refusal: `Full`.
     fn put_item(&self, params: &mut Params) -> Result<(), PutFault> {
         put_u16(params, *self)
-    }
-}
-
-impl Item for u32 {
-    ghost IsItem = { λ n. n < 256 ^ byte_len w32 };
-
-    ghost encoding = { unsigned_encoding w32 };
-
-    ghost read_at = { unsigned_at w32 };
-
-    ghost read_back = { u32_front };
-
-    /// Takes an unsigned number of 32 bits.
-    fn take_item(cursor: &mut Cursor<'_>) -> Result<u32, ReadFault> {
-        cursor.take_u32()
-    }
-
-    /// Appends the unsigned number of 32 bits. Refusal: `Full`.
-    fn put_item(&self, params: &mut Params) -> Result<(), PutFault> {
-        put_u32(params, *self)
-    }
-}
-
-impl Item for u64 {
-    ghost IsItem = { λ n. n < 256 ^ byte_len w64 };
-
-    ghost encoding = { unsigned_encoding w64 };
-
-    ghost read_at = { unsigned_at w64 };
-
-    ghost read_back = { u64_front };
-
-    /// Takes an unsigned number of 64 bits.
-    fn take_item(cursor: &mut Cursor<'_>) -> Result<u64, ReadFault> {
-        cursor.take_u64()
-    }
-
-    /// Appends the unsigned number of 64 bits. Refusal: `Full`.
-    fn put_item(&self, params: &mut Params) -> Result<(), PutFault> {
-        put_u64(params, *self)
-    }
-}
-
-impl Item for i8 {
-    ghost IsItem = { FitsSigned w8 };
-
-    ghost encoding = { signed_encoding w8 };
-
-    ghost read_at = { signed_at w8 };
-
-    ghost read_back = { i8_front };
-
-    /// Takes a signed number of 8 bits.
-    fn take_item(cursor: &mut Cursor<'_>) -> Result<i8, ReadFault> {
-        cursor.take_i8()
-    }
-
-    /// Appends the signed number of 8 bits. Refusal: `Full`.
-    fn put_item(&self, params: &mut Params) -> Result<(), PutFault> {
-        put_i8(params, *self)
-    }
-}
-
-impl Item for i16 {
-    ghost IsItem = { FitsSigned w16 };
-
-    ghost encoding = { signed_encoding w16 };
-
-    ghost read_at = { signed_at w16 };
-
-    ghost read_back = { i16_front };
-
-    /// Takes a signed number of 16 bits.
-    fn take_item(cursor: &mut Cursor<'_>) -> Result<i16, ReadFault> {
-        cursor.take_i16()
-    }
-
-    /// Appends the signed number of 16 bits. Refusal: `Full`.
-    fn put_item(&self, params: &mut Params) -> Result<(), PutFault> {
-        put_i16(params, *self)
-    }
-}
-
-impl Item for i32 {
-    ghost IsItem = { FitsSigned w32 };
-
-    ghost encoding = { signed_encoding w32 };
-
-    ghost read_at = { signed_at w32 };
-
-    ghost read_back = { i32_front };
-
-    /// Takes a signed number of 32 bits.
-    fn take_item(cursor: &mut Cursor<'_>) -> Result<i32, ReadFault> {
-        cursor.take_i32()
-    }
-
-    /// Appends the signed number of 32 bits. Refusal: `Full`.
-    fn put_item(&self, params: &mut Params) -> Result<(), PutFault> {
-        put_i32(params, *self)
-    }
-}
-
-impl Item for i64 {
-    ghost IsItem = { FitsSigned w64 };
-
-    ghost encoding = { signed_encoding w64 };
-
-    ghost read_at = { signed_at w64 };
-
-    ghost read_back = { i64_front };
-
-    /// Takes a signed number of 64 bits.
-    fn take_item(cursor: &mut Cursor<'_>) -> Result<i64, ReadFault> {
-        cursor.take_i64()
-    }
-
-    /// Appends the signed number of 64 bits. Refusal: `Full`.
-    fn put_item(&self, params: &mut Params) -> Result<(), PutFault> {
-        put_i64(params, *self)
     }
 }
 

@@ -9,6 +9,7 @@ ghost use Rattle.oca_model.specs.Parameters.{whole};
 ghost use Rattle.oca_model.specs.Members.{class_with, class_id_at, class_id_in, class_at, class_in, members_in};
 
 use crate::list::{read_list, take_items};
+use crate::value::with_integers;
 use arrayvec::ArrayVec;
 use oca_types::{Class, Cursor, Ono, ReadFault, class_fields};
 
@@ -50,7 +51,7 @@ fn has_fields(class: Class, fields: &[u16]) -> bool
 }
 
 /// The first of these classes whose identifier has these fields.
-macro_rules! first_with {
+macro_rules! first_of {
     ($fields:expr, $($class:ident)*) => {
         $(if has_fields(Class::$class, $fields) {
             Some(Class::$class)
@@ -67,7 +68,12 @@ macro_rules! first_with {
 pub fn class_with(fields: &[u16]) -> Option<Class>
     ensures { result ≡ class_with fields.now }
 {
-    first_with!(fields, Block Mute Polarity Switch Boolean Int8 Int16 Int32 Int64 Uint8 Uint16 Uint32 Uint64)
+    macro_rules! first_with {
+        ($($integer:ident $type:ty),*) => {
+            first_of!(fields, Block Mute Polarity Switch Boolean $($integer)*)
+        };
+    }
+    with_integers!(first_with)
 }
 
 /// An OcaClassIdentification: the fields of its identifier. Its version may be any.

@@ -5,10 +5,9 @@ ghost use Rattle.oca_model.specs.Readings.{ranged_in, ranged_encoding, value_wit
 ghost use Rattle.oca_model.specs.Readings.{reading_encoding};
 ghost use Rattle.oca_model.specs.Readings.{reading_in, value_read};
 
-use crate::item::Item;
-use crate::parameters::whole;
-use crate::value::{MuteState, PolarityState, Value, mute_of, polarity_of};
-use oca_types::{Class, Cursor, Params, PutFault};
+use crate::parameters::whole_field;
+use crate::value::{MuteState, PolarityState, Value, mute_of, polarity_of, with_integers};
+use oca_types::{Class, Cursor, Field, Params, PutFault};
 
 /// A setting with its limits, as a device answers them: the least and the greatest setting.
 #[derive(Clone, Copy, Debug, PartialEq, Eq)]
@@ -53,13 +52,13 @@ pub enum Reading {
 }
 
 /// A setting and its limits, which are all of the bytes.
-fn read_ranged<F: Item>(params: &[u8]) -> Option<Ranged<F>>
-    ensures { result ≡ ranged_in F.read_at params.now }
+fn read_ranged<F: Field>(params: &[u8]) -> Option<Ranged<F>>
+    ensures { result ≡ ranged_in F.codec.read_at params.now }
 {
     let mut cursor = Cursor::new(params);
-    let setting = F::take_item(&mut cursor).ok()?;
-    let least = F::take_item(&mut cursor).ok()?;
-    let greatest = F::take_item(&mut cursor).ok()?;
+    let setting = cursor.take::<F>().ok()?;
+    let least = cursor.take::<F>().ok()?;
+    let greatest = cursor.take::<F>().ok()?;
     cursor.finish().ok()?;
     Some(Ranged {
         setting,
@@ -69,12 +68,12 @@ fn read_ranged<F: Item>(params: &[u8]) -> Option<Ranged<F>>
 }
 
 /// Appends a setting, its least and its greatest.
-fn put_ranged<F: Item>(params: &mut Params, ranged: &Ranged<F>) -> Result<(), PutFault>
-    ensures { Puts result params.old.items params.new.items (ranged_encoding F.encoding ranged.now) }
+fn put_ranged<F: Field>(params: &mut Params, ranged: &Ranged<F>) -> Result<(), PutFault>
+    ensures { Puts result params.old.items params.new.items (ranged_encoding F.codec.encoding ranged.now) }
 {
-    ranged.setting.put_item(params)?;
-    ranged.least.put_item(params)?;
-    ranged.greatest.put_item(params)
+    ranged.setting.put(params)?;
+    ranged.least.put(params)?;
+    ranged.greatest.put(params)
 }
 
 impl Reading {
@@ -83,20 +82,18 @@ impl Reading {
     pub fn value(self) -> Value
         ensures { result ≡ value_without_limits self }
     {
-        match self {
-            Reading::Mute(state) => Value::Mute(state),
-            Reading::Polarity(state) => Value::Polarity(state),
-            Reading::Switch(ranged) => Value::Switch(ranged.setting),
-            Reading::Boolean(truth) => Value::Boolean(truth),
-            Reading::Int8(ranged) => Value::Int8(ranged.setting),
-            Reading::Int16(ranged) => Value::Int16(ranged.setting),
-            Reading::Int32(ranged) => Value::Int32(ranged.setting),
-            Reading::Int64(ranged) => Value::Int64(ranged.setting),
-            Reading::Uint8(ranged) => Value::Uint8(ranged.setting),
-            Reading::Uint16(ranged) => Value::Uint16(ranged.setting),
-            Reading::Uint32(ranged) => Value::Uint32(ranged.setting),
-            Reading::Uint64(ranged) => Value::Uint64(ranged.setting),
+        macro_rules! value {
+            ($($integer:ident $type:ty),*) => {
+                match self {
+                    Reading::Mute(state) => Value::Mute(state),
+                    Reading::Polarity(state) => Value::Polarity(state),
+                    Reading::Switch(ranged) => Value::Switch(ranged.setting),
+                    Reading::Boolean(truth) => Value::Boolean(truth),
+                    $(Reading::$integer(ranged) => Value::$integer(ranged.setting),)*
+                }
+            };
         }
+        with_integers!(value)
     }
 
     /// Returns the number of parameters of the reading, which is ParamCount of the response (AES70-3). The result is 3
@@ -119,20 +116,18 @@ impl Reading {
     pub fn put(self, params: &mut Params) -> Result<(), PutFault>
         ensures { Puts result params.old.items params.new.items (reading_encoding self) }
     {
-        match self {
-            Reading::Mute(state) => (state as u8).put_item(params),
-            Reading::Polarity(state) => (state as u8).put_item(params),
-            Reading::Switch(ranged) => put_ranged(params, &ranged),
-            Reading::Boolean(truth) => truth.put_item(params),
-            Reading::Int8(ranged) => put_ranged(params, &ranged),
-            Reading::Int16(ranged) => put_ranged(params, &ranged),
-            Reading::Int32(ranged) => put_ranged(params, &ranged),
-            Reading::Int64(ranged) => put_ranged(params, &ranged),
-            Reading::Uint8(ranged) => put_ranged(params, &ranged),
-            Reading::Uint16(ranged) => put_ranged(params, &ranged),
-            Reading::Uint32(ranged) => put_ranged(params, &ranged),
-            Reading::Uint64(ranged) => put_ranged(params, &ranged),
+        macro_rules! put {
+            ($($integer:ident $type:ty),*) => {
+                match self {
+                    Reading::Mute(state) => (state as u8).put(params),
+                    Reading::Polarity(state) => (state as u8).put(params),
+                    Reading::Switch(ranged) => put_ranged(params, &ranged),
+                    Reading::Boolean(truth) => truth.put(params),
+                    $(Reading::$integer(ranged) => put_ranged(params, &ranged),)*
+                }
+            };
         }
+        with_integers!(put)
     }
 
     /// Reads the answer to the get method of an object of this class from `params` (AES70-2): the setting, and for a
@@ -143,21 +138,19 @@ impl Reading {
     pub fn read(class: Class, params: &[u8]) -> Option<Reading>
         ensures { result ≡ reading_in class params.now }
     {
-        match class {
-            Class::Block => None,
-            Class::Mute => whole(params).and_then(mute_of).map(Reading::Mute),
-            Class::Polarity => whole(params).and_then(polarity_of).map(Reading::Polarity),
-            Class::Switch => read_ranged(params).map(Reading::Switch),
-            Class::Boolean => whole(params).map(Reading::Boolean),
-            Class::Int8 => read_ranged(params).map(Reading::Int8),
-            Class::Int16 => read_ranged(params).map(Reading::Int16),
-            Class::Int32 => read_ranged(params).map(Reading::Int32),
-            Class::Int64 => read_ranged(params).map(Reading::Int64),
-            Class::Uint8 => read_ranged(params).map(Reading::Uint8),
-            Class::Uint16 => read_ranged(params).map(Reading::Uint16),
-            Class::Uint32 => read_ranged(params).map(Reading::Uint32),
-            Class::Uint64 => read_ranged(params).map(Reading::Uint64),
+        macro_rules! read {
+            ($($integer:ident $type:ty),*) => {
+                match class {
+                    Class::Block => None,
+                    Class::Mute => whole_field(params).and_then(mute_of).map(Reading::Mute),
+                    Class::Polarity => whole_field(params).and_then(polarity_of).map(Reading::Polarity),
+                    Class::Switch => read_ranged(params).map(Reading::Switch),
+                    Class::Boolean => whole_field(params).map(Reading::Boolean),
+                    $(Class::$integer => read_ranged(params).map(Reading::$integer),)*
+                }
+            };
         }
+        with_integers!(read)
     }
 }
 

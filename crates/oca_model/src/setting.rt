@@ -3,7 +3,7 @@ ghost use Rattle.std.specs.Prelude.{◌≡◌};
 ghost use Rattle.oca_model.specs.Settings.{class_of_reading, is_within, with_value, set_to};
 
 use crate::reading::{Ranged, Reading};
-use crate::value::Value;
+use crate::value::{Value, with_integers};
 use oca_types::Class;
 
 /// Why a reading cannot be set to a value: the first fault in this order that applies.
@@ -32,18 +32,16 @@ impl Reading {
     pub fn is_within(self) -> bool
         ensures { result ≡ is_within self }
     {
-        match self {
-            Reading::Switch(r) => r.least <= r.setting && r.setting <= r.greatest,
-            Reading::Int8(r) => r.least <= r.setting && r.setting <= r.greatest,
-            Reading::Int16(r) => r.least <= r.setting && r.setting <= r.greatest,
-            Reading::Int32(r) => r.least <= r.setting && r.setting <= r.greatest,
-            Reading::Int64(r) => r.least <= r.setting && r.setting <= r.greatest,
-            Reading::Uint8(r) => r.least <= r.setting && r.setting <= r.greatest,
-            Reading::Uint16(r) => r.least <= r.setting && r.setting <= r.greatest,
-            Reading::Uint32(r) => r.least <= r.setting && r.setting <= r.greatest,
-            Reading::Uint64(r) => r.least <= r.setting && r.setting <= r.greatest,
-            _ => true,
+        macro_rules! lies {
+            ($($integer:ident $type:ty),*) => {
+                match self {
+                    Reading::Switch(r) => r.least <= r.setting && r.setting <= r.greatest,
+                    $(Reading::$integer(r) => r.least <= r.setting && r.setting <= r.greatest,)*
+                    _ => true,
+                }
+            };
         }
+        with_integers!(lies)
     }
 
     /// Returns the reading with another value and the same limits (AES70-2). The value can be outside the limits;
@@ -53,21 +51,21 @@ impl Reading {
     pub fn with_value(self, value: Value) -> Option<Reading>
         ensures { result ≡ with_value self value }
     {
-        match (self, value) {
-            (Reading::Mute(_), Value::Mute(state)) => Some(Reading::Mute(state)),
-            (Reading::Polarity(_), Value::Polarity(state)) => Some(Reading::Polarity(state)),
-            (Reading::Switch(r), Value::Switch(n)) => Some(Reading::Switch(set_in_limits(r, n))),
-            (Reading::Boolean(_), Value::Boolean(truth)) => Some(Reading::Boolean(truth)),
-            (Reading::Int8(r), Value::Int8(n)) => Some(Reading::Int8(set_in_limits(r, n))),
-            (Reading::Int16(r), Value::Int16(n)) => Some(Reading::Int16(set_in_limits(r, n))),
-            (Reading::Int32(r), Value::Int32(n)) => Some(Reading::Int32(set_in_limits(r, n))),
-            (Reading::Int64(r), Value::Int64(n)) => Some(Reading::Int64(set_in_limits(r, n))),
-            (Reading::Uint8(r), Value::Uint8(n)) => Some(Reading::Uint8(set_in_limits(r, n))),
-            (Reading::Uint16(r), Value::Uint16(n)) => Some(Reading::Uint16(set_in_limits(r, n))),
-            (Reading::Uint32(r), Value::Uint32(n)) => Some(Reading::Uint32(set_in_limits(r, n))),
-            (Reading::Uint64(r), Value::Uint64(n)) => Some(Reading::Uint64(set_in_limits(r, n))),
-            _ => None,
+        macro_rules! set {
+            ($($integer:ident $type:ty),*) => {
+                match (self, value) {
+                    (Reading::Mute(_), Value::Mute(state)) => Some(Reading::Mute(state)),
+                    (Reading::Polarity(_), Value::Polarity(state)) => Some(Reading::Polarity(state)),
+                    (Reading::Switch(r), Value::Switch(n)) => Some(Reading::Switch(set_in_limits(r, n))),
+                    (Reading::Boolean(_), Value::Boolean(truth)) => Some(Reading::Boolean(truth)),
+                    $((Reading::$integer(r), Value::$integer(n)) => {
+                        Some(Reading::$integer(set_in_limits(r, n)))
+                    })*
+                    _ => None,
+                }
+            };
         }
+        with_integers!(set)
     }
 
     /// Returns the reading that an object has after it is set to this value: the value, with the same limits (AES70-2).

@@ -7,9 +7,18 @@ ghost use Rattle.oca_model.specs.Values.{class_of_value, value_encoding, value_i
 ghost use Rattle.oca_model.specs.Values.{then_find, or_fault};
 ghost use Rattle.oca_model.specs.declared.value.ValueFault.TheVariants.{Unlisted};
 
-use crate::item::Item;
-use crate::parameters::whole;
-use oca_types::{Class, Params, PutFault};
+use crate::parameters::whole_field;
+use oca_types::{Class, Field, Params, PutFault};
+
+/// Calls the macro `$each` with the name and the type of each class of integers. `Class`, `Value` and `Reading` have
+/// variants of these names. A new class of integers is added here.
+macro_rules! with_integers {
+    ($each:ident) => {
+        $each!(Int8 i8, Int16 i16, Int32 i32, Int64 i64, Uint8 u8, Uint16 u16, Uint32 u32, Uint64 u64)
+    };
+}
+
+pub(crate) use with_integers;
 
 /// The state of an OcaMute, with its number in AES70-2.
 #[derive(Clone, Copy, Debug, PartialEq, Eq)]
@@ -92,10 +101,10 @@ pub(crate) fn polarity_of(number: u8) -> Option<PolarityState>
 }
 
 /// The value of one field, which is all of the bytes.
-fn all<F: Item>(params: &[u8]) -> Result<F, ValueFault>
-    ensures { result ≡ Rattle.oca_model.specs.Values.all F.read_at params.now }
+fn all<F: Field>(params: &[u8]) -> Result<F, ValueFault>
+    ensures { result ≡ Rattle.oca_model.specs.Values.all F.codec.read_at params.now }
 {
-    whole(params).ok_or(ValueFault::Malformed)
+    whole_field(params).ok_or(ValueFault::Malformed)
 }
 
 /// The listed state of a mute whose number is all of the bytes.
@@ -120,20 +129,18 @@ impl Value {
     pub fn class(self) -> Class
         ensures { result ≡ class_of_value self }
     {
-        match self {
-            Value::Mute(_) => Class::Mute,
-            Value::Polarity(_) => Class::Polarity,
-            Value::Switch(_) => Class::Switch,
-            Value::Boolean(_) => Class::Boolean,
-            Value::Int8(_) => Class::Int8,
-            Value::Int16(_) => Class::Int16,
-            Value::Int32(_) => Class::Int32,
-            Value::Int64(_) => Class::Int64,
-            Value::Uint8(_) => Class::Uint8,
-            Value::Uint16(_) => Class::Uint16,
-            Value::Uint32(_) => Class::Uint32,
-            Value::Uint64(_) => Class::Uint64,
+        macro_rules! class {
+            ($($integer:ident $type:ty),*) => {
+                match self {
+                    Value::Mute(_) => Class::Mute,
+                    Value::Polarity(_) => Class::Polarity,
+                    Value::Switch(_) => Class::Switch,
+                    Value::Boolean(_) => Class::Boolean,
+                    $(Value::$integer(_) => Class::$integer,)*
+                }
+            };
         }
+        with_integers!(class)
     }
 
     /// Appends the encoding of the value to the parameters (AES70-3): from 1 to 8 bytes. A mute or a polarity has the
@@ -143,20 +150,18 @@ impl Value {
     pub fn put(self, params: &mut Params) -> Result<(), PutFault>
         ensures { Puts result params.old.items params.new.items (value_encoding self) }
     {
-        match self {
-            Value::Mute(state) => (state as u8).put_item(params),
-            Value::Polarity(state) => (state as u8).put_item(params),
-            Value::Switch(position) => position.put_item(params),
-            Value::Boolean(truth) => truth.put_item(params),
-            Value::Int8(setting) => setting.put_item(params),
-            Value::Int16(setting) => setting.put_item(params),
-            Value::Int32(setting) => setting.put_item(params),
-            Value::Int64(setting) => setting.put_item(params),
-            Value::Uint8(setting) => setting.put_item(params),
-            Value::Uint16(setting) => setting.put_item(params),
-            Value::Uint32(setting) => setting.put_item(params),
-            Value::Uint64(setting) => setting.put_item(params),
+        macro_rules! put {
+            ($($integer:ident $type:ty),*) => {
+                match self {
+                    Value::Mute(state) => (state as u8).put(params),
+                    Value::Polarity(state) => (state as u8).put(params),
+                    Value::Switch(position) => position.put(params),
+                    Value::Boolean(truth) => truth.put(params),
+                    $(Value::$integer(setting) => setting.put(params),)*
+                }
+            };
         }
+        with_integers!(put)
     }
 
     /// Reads the value of an object of this class from `params`, the one parameter of a set method (AES70-2). It does
@@ -167,20 +172,18 @@ impl Value {
     pub fn read(class: Class, params: &[u8]) -> Result<Value, ValueFault>
         ensures { result ≡ value_in class params.now }
     {
-        match class {
-            Class::Block => Err(ValueFault::Malformed),
-            Class::Mute => mute_in(params).map(Value::Mute),
-            Class::Polarity => polarity_in(params).map(Value::Polarity),
-            Class::Switch => all(params).map(Value::Switch),
-            Class::Boolean => all(params).map(Value::Boolean),
-            Class::Int8 => all(params).map(Value::Int8),
-            Class::Int16 => all(params).map(Value::Int16),
-            Class::Int32 => all(params).map(Value::Int32),
-            Class::Int64 => all(params).map(Value::Int64),
-            Class::Uint8 => all(params).map(Value::Uint8),
-            Class::Uint16 => all(params).map(Value::Uint16),
-            Class::Uint32 => all(params).map(Value::Uint32),
-            Class::Uint64 => all(params).map(Value::Uint64),
+        macro_rules! read {
+            ($($integer:ident $type:ty),*) => {
+                match class {
+                    Class::Block => Err(ValueFault::Malformed),
+                    Class::Mute => mute_in(params).map(Value::Mute),
+                    Class::Polarity => polarity_in(params).map(Value::Polarity),
+                    Class::Switch => all(params).map(Value::Switch),
+                    Class::Boolean => all(params).map(Value::Boolean),
+                    $(Class::$integer => all(params).map(Value::$integer),)*
+                }
+            };
         }
+        with_integers!(read)
     }
 }

@@ -1,7 +1,7 @@
 //! The value of a class that has a number.
 ghost use Rattle.oca_model.specs.ValueNumbers.{integer_in, state_in, IsValueWith};
 
-use crate::value::{MuteState, PolarityState, Value};
+use crate::value::{MuteState, PolarityState, Value, with_integers};
 use oca_types::Class;
 
 impl Value {
@@ -33,16 +33,14 @@ impl Value {
     pub fn of_integer(class: Class, number: i128) -> Option<Value>
         ensures { IsValueWith integer_in class number result }
     {
-        match class {
-            Class::Int8 => i8::try_from(number).ok().map(Value::Int8),
-            Class::Int16 => i16::try_from(number).ok().map(Value::Int16),
-            Class::Int32 => i32::try_from(number).ok().map(Value::Int32),
-            Class::Int64 => i64::try_from(number).ok().map(Value::Int64),
-            Class::Uint8 => u8::try_from(number).ok().map(Value::Uint8),
-            Class::Uint16 => u16::try_from(number).ok().map(Value::Uint16),
-            Class::Uint32 => u32::try_from(number).ok().map(Value::Uint32),
-            Class::Uint64 => u64::try_from(number).ok().map(Value::Uint64),
-            _ => None,
+        macro_rules! value {
+            ($($integer:ident $type:ty),*) => {
+                match class {
+                    $(Class::$integer => <$type>::try_from(number).ok().map(Value::$integer),)*
+                    _ => None,
+                }
+            };
         }
+        with_integers!(value)
     }
 }

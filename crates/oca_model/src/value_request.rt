@@ -3,7 +3,7 @@ ghost use Rattle.std.specs.Prelude.{◌≡◌, ◌≤◌, length};
 ghost use Rattle.oca_model.specs.Values.{class_of_value, set_method, get_method, value_encoding};
 ghost use Rattle.oca_model.specs.ValueRequests.{CallsMethod, CallsMethodIfAny};
 
-use crate::value::Value;
+use crate::value::{Value, with_integers};
 use arrayvec::ArrayVec;
 use oca_types::{Class, Method, MethodId, Ono, method_id};
 
@@ -77,20 +77,18 @@ fn bytes(bytes: &[u8]) -> ArrayVec<u8, 8>
 fn encoding(value: Value) -> ArrayVec<u8, 8>
     ensures { result.items ≡ value_encoding value }
 {
-    match value {
-        Value::Mute(state) => bytes(&[state as u8]),
-        Value::Polarity(state) => bytes(&[state as u8]),
-        Value::Switch(position) => bytes(&position.to_be_bytes()),
-        Value::Boolean(truth) => bytes(&[u8::from(truth)]),
-        Value::Int8(setting) => bytes(&setting.to_be_bytes()),
-        Value::Int16(setting) => bytes(&setting.to_be_bytes()),
-        Value::Int32(setting) => bytes(&setting.to_be_bytes()),
-        Value::Int64(setting) => bytes(&setting.to_be_bytes()),
-        Value::Uint8(setting) => bytes(&setting.to_be_bytes()),
-        Value::Uint16(setting) => bytes(&setting.to_be_bytes()),
-        Value::Uint32(setting) => bytes(&setting.to_be_bytes()),
-        Value::Uint64(setting) => bytes(&setting.to_be_bytes()),
+    macro_rules! bytes_of {
+        ($($integer:ident $type:ty),*) => {
+            match value {
+                Value::Mute(state) => bytes(&[state as u8]),
+                Value::Polarity(state) => bytes(&[state as u8]),
+                Value::Switch(position) => bytes(&position.to_be_bytes()),
+                Value::Boolean(truth) => bytes(&[u8::from(truth)]),
+                $(Value::$integer(setting) => bytes(&setting.to_be_bytes()),)*
+            }
+        };
     }
+    with_integers!(bytes_of)
 }
 
 /// Returns the request that sets an object of the value's class to the value (AES70-2): SetState of a mute or a

@@ -3,7 +3,7 @@ ghost use Rattle.std.specs.Prelude.{◌≡◌, ◌≤◌, length};
 ghost use Rattle.std.specs.Fmt.{signed_decimal};
 ghost use Rattle.oca_model.specs.Words.{word_of, IsRead};
 
-use crate::value::{MuteState, PolarityState, Value};
+use crate::value::{MuteState, PolarityState, Value, with_integers};
 use itoa::Buffer;
 use oca_types::{Class, Text};
 
@@ -33,23 +33,21 @@ fn text_of(text: &str) -> Text
 pub fn word_of(value: Value) -> Text
     ensures { result ≡ word_of value }
 {
-    match value {
-        Value::Mute(MuteState::Muted) => text_of("muted"),
-        Value::Mute(MuteState::Unmuted) => text_of("unmuted"),
-        Value::Polarity(PolarityState::NonInverted) => text_of("non-inverted"),
-        Value::Polarity(PolarityState::Inverted) => text_of("inverted"),
-        Value::Boolean(true) => text_of("on"),
-        Value::Boolean(false) => text_of("off"),
-        Value::Switch(position) => number_word(i128::from(position)),
-        Value::Int8(setting) => number_word(i128::from(setting)),
-        Value::Int16(setting) => number_word(i128::from(setting)),
-        Value::Int32(setting) => number_word(i128::from(setting)),
-        Value::Int64(setting) => number_word(i128::from(setting)),
-        Value::Uint8(setting) => number_word(i128::from(setting)),
-        Value::Uint16(setting) => number_word(i128::from(setting)),
-        Value::Uint32(setting) => number_word(i128::from(setting)),
-        Value::Uint64(setting) => number_word(i128::from(setting)),
+    macro_rules! word {
+        ($($integer:ident $type:ty),*) => {
+            match value {
+                Value::Mute(MuteState::Muted) => text_of("muted"),
+                Value::Mute(MuteState::Unmuted) => text_of("unmuted"),
+                Value::Polarity(PolarityState::NonInverted) => text_of("non-inverted"),
+                Value::Polarity(PolarityState::Inverted) => text_of("inverted"),
+                Value::Boolean(true) => text_of("on"),
+                Value::Boolean(false) => text_of("off"),
+                Value::Switch(position) => number_word(i128::from(position)),
+                $(Value::$integer(setting) => number_word(i128::from(setting)),)*
+            }
+        };
     }
+    with_integers!(word)
 }
 
 /// Returns the value that a word names for an object of this class (*profile*). The word is one of the class's words
@@ -61,31 +59,29 @@ pub fn word_of(value: Value) -> Text
 pub fn value_from_word(class: Class, word: &str) -> Option<Value>
     ensures { IsRead class word.now result }
 {
-    match class {
-        Class::Block => None,
-        Class::Mute => match word {
-            "muted" => Some(Value::Mute(MuteState::Muted)),
-            "unmuted" => Some(Value::Mute(MuteState::Unmuted)),
-            _ => None,
-        },
-        Class::Polarity => match word {
-            "non-inverted" => Some(Value::Polarity(PolarityState::NonInverted)),
-            "inverted" => Some(Value::Polarity(PolarityState::Inverted)),
-            _ => None,
-        },
-        Class::Boolean => match word {
-            "on" => Some(Value::Boolean(true)),
-            "off" => Some(Value::Boolean(false)),
-            _ => None,
-        },
-        Class::Switch => Some(Value::Switch(word.parse::<u16>().ok()?)),
-        Class::Int8 => Some(Value::Int8(word.parse::<i8>().ok()?)),
-        Class::Int16 => Some(Value::Int16(word.parse::<i16>().ok()?)),
-        Class::Int32 => Some(Value::Int32(word.parse::<i32>().ok()?)),
-        Class::Int64 => Some(Value::Int64(word.parse::<i64>().ok()?)),
-        Class::Uint8 => Some(Value::Uint8(word.parse::<u8>().ok()?)),
-        Class::Uint16 => Some(Value::Uint16(word.parse::<u16>().ok()?)),
-        Class::Uint32 => Some(Value::Uint32(word.parse::<u32>().ok()?)),
-        Class::Uint64 => Some(Value::Uint64(word.parse::<u64>().ok()?)),
+    macro_rules! value {
+        ($($integer:ident $type:ty),*) => {
+            match class {
+                Class::Block => None,
+                Class::Mute => match word {
+                    "muted" => Some(Value::Mute(MuteState::Muted)),
+                    "unmuted" => Some(Value::Mute(MuteState::Unmuted)),
+                    _ => None,
+                },
+                Class::Polarity => match word {
+                    "non-inverted" => Some(Value::Polarity(PolarityState::NonInverted)),
+                    "inverted" => Some(Value::Polarity(PolarityState::Inverted)),
+                    _ => None,
+                },
+                Class::Boolean => match word {
+                    "on" => Some(Value::Boolean(true)),
+                    "off" => Some(Value::Boolean(false)),
+                    _ => None,
+                },
+                Class::Switch => Some(Value::Switch(word.parse::<u16>().ok()?)),
+                $(Class::$integer => Some(Value::$integer(word.parse::<$type>().ok()?)),)*
+            }
+        };
     }
+    with_integers!(value)
 }

@@ -26,7 +26,7 @@ use Rattle.oca_control.specs.Untaken.{Untaken, new_untaken, span_has_room, is_du
 use Rattle.oca_control.specs.declared.fault.ControlFault.{ControlFault}
 use Rattle.oca_control.specs.declared.fault.ControlFault.TheVariants as faults
 use Rattle.oca_control.specs.Links.{LinkState, Request, command_under, submission_under, submission, handle_after, after_submission, submitted, Decision, GivesCommand, GivesKeepAlive, GivesNothing, IsLost, decision_among, decision, after_due, gone_on, hears_content, received, taken, present_moment}
-use Rattle.oca_pair.specs.Networks.{SentDatagram, SubmittedCommand, TakenAnswer, device_address}
+use Rattle.oca_pair.specs.Networks.{SentDatagram, SubmittedCommand, TakenAnswer}
 use Rattle.oca_pair.specs.Steps.{sendings_in, submitted_by, given_by, content_read, taken_by}
 use Rattle.oca_pair.specs.Premises.{RequestFits}
 use Rattle.oca_pair.specs.Laws.{Execution, answer_of, handles_of, AreConsecutive}
@@ -467,10 +467,10 @@ fair_untaken p next us vs g out back handed more a new f = record {
   rising = f.rising;
 }
 
-pub fair_received : (p : Peer) (bytes : List ℕ) (now : ℕ) (l : LinkState) (g : Past) (out back : List SentDatagram) (handed : List TakenAnswer) → IsBack p g bytes →
+pub fair_received : (from p : Peer) (bytes : List ℕ) (now : ℕ) (l : LinkState) (g : Past) (out back : List SentDatagram) (handed : List TakenAnswer) → IsBack p g bytes →
     Fair p l.next l.untaken g out back handed →
-    Fair p l.next (received device_address (content_read bytes) now l).untaken g out back handed
-fair_received p bytes now l g out back handed b f = by_from (same_peer device_address l.device)
+    Fair p l.next (received from (content_read bytes) now l).untaken g out back handed
+fair_received from p bytes now l g out back handed b f = by_from (same_peer from l.device)
   where
     with_us : (us : List Untaken) → AllByRecursion (IsFair p g) us → Fair p l.next us g out back handed
     with_us us a = record { fits = f.fits; own = f.own; outgoing = f.outgoing; incoming = f.incoming; untaken = a; was_taken = f.was_taken; sendable = f.sendable; unique = f.unique; rising = f.rising }

@@ -15,7 +15,7 @@ use Rattle.oca_device.specs.LawByEvents.{Happening, Passes, clock, admitted, has
 use Rattle.oca_control.specs.Untaken.{Untaken}
 use Rattle.oca_control.specs.Links.{Request, command_under}
 use Rattle.oca_pair.specs.declared.start.Start.{Start}
-use Rattle.oca_pair.specs.Networks.{Network, PeerLink, SentDatagram, device_address, opening}
+use Rattle.oca_pair.specs.Networks.{Network, PeerLink, SentDatagram, Setup, device_address, run_setup, opening}
 use Rattle.oca_pair.specs.Steps.{Step, Submit, Due, ToDevice, Other, Take, after_steps}
 use Rattle.oca_pair.specs.Happenings.{sayings}
 use Rattle.oca_pair.specs.Premises.{RequestFits, Fit, KeepsItsSession}
@@ -46,8 +46,11 @@ the_steps =
 abbrev the_sizes : DeviceSizes
 the_sizes = record { window = 5; peers = 1 }
 
+abbrev the_setup : Setup
+the_setup = run_setup 3
+
 abbrev the_network : List Object → Network
-the_network tree = after_steps the_steps (opening the_sizes 3 tree the_starts)
+the_network tree = after_steps the_steps (opening the_sizes the_setup tree the_starts)
 
 abbrev third : CommandFields
 third = command_under 3 get_state
@@ -113,8 +116,8 @@ finds_room law =
 -- so the third command, delivered once more, is answered
 pub repeated_is_answered : WrittenIsReadBack → (tree : List Object) → IsAnswered 2 400 (the_network tree) sent_third third
 repeated_is_answered law tree =
-    never_old_law law the_sizes 3 tree the_starts the_steps (lit< tt) (lit≤ tt) refl meets 2 400 0 sent_third the_link third
-    refl refl carries_third (finds_room law) (keeps law)
+    never_old_law law the_sizes the_setup tree the_starts the_steps controller (lit< tt) (lit≤ tt) refl meets 2 400 0 sent_third the_link third
+    refl refl refl carries_third (finds_room law) (keeps law)
 
 -- Before the device's datagram, the fourth that it sent, comes to the link, the first command is sent again, the third is asked
 -- for in vain, and the second comes to the device at last.
@@ -123,8 +126,8 @@ between = Due 0 410 ∷ Take 0 3 ∷ ToDevice 1 420 ∷ []
 
 pub repeated_comes_back : WrittenIsReadBack → (tree : List Object) → ComesBack 2 400 between 500 0 third controller (the_network tree)
 repeated_comes_back law tree =
-    round_trip_law law the_sizes 3 tree the_starts the_steps (lit< tt) (lit≤ tt) refl meets 2 400 0 sent_third the_link third between 500
-    refl refl carries_third (finds_room law) (keeps law) (tt, (tt, (tt, tt)))
+    round_trip_law law the_sizes the_setup tree the_starts the_steps controller (lit< tt) (lit≤ tt) refl meets 2 400 0 sent_third the_link third between 500
+    refl refl refl carries_third (finds_room law) (keeps law) (tt, (tt, (tt, tt)))
 
 abbrev again : Untaken
 again = record { command = command_under 1 get_state; submitted = 0; times = 2; last = 410; answer = None }
@@ -162,7 +165,7 @@ KeepsInTheCrowd command beat =
     sayings controller command ++ Passes 200000 ∷ (sayings controller command ++ Passes 0 ∷ (sayings other beat ++ Passes 0 ∷ [])) in
     HasOneSession controller (admitted the_sizes H)
 
-pub crowded_keeps : WrittenIsReadBack → (tree : List Object) → KeepsItsSession controller (after_steps crowded (opening the_sizes 3 tree the_starts))
+pub crowded_keeps : WrittenIsReadBack → (tree : List Object) → KeepsItsSession controller (after_steps crowded (opening the_sizes the_setup tree the_starts))
 crowded_keeps law tree =
     subst (λ (r : Result (List Msg) PduFault). KeepsInTheCrowd r (read_datagram alive)) (sym (read_of law 1 (lit< tt)))
     (subst (λ (r : Result (List Msg) PduFault). KeepsInTheCrowd (command_read 1) r) (sym (read_keep_alive law)) refl)
@@ -194,9 +197,9 @@ room_in_the_crowd law =
     subst (λ (r : Result (List Msg) PduFault). RoomInTheCrowd r (read_datagram alive)) (sym (read_of law 1 (lit< tt)))
     (subst (λ (r : Result (List Msg) PduFault). RoomInTheCrowd (command_read 1) r) (sym (read_keep_alive law)) refl)
 
-pub crowded_is_answered : WrittenIsReadBack → (tree : List Object) → IsAnswered 0 200000 (after_steps before_room (opening the_sizes 3 tree the_starts)) sent_first first
+pub crowded_is_answered : WrittenIsReadBack → (tree : List Object) → IsAnswered 0 200000 (after_steps before_room (opening the_sizes the_setup tree the_starts)) sent_first first
 crowded_is_answered law tree =
-    never_old_law law the_sizes 3 tree the_starts before_room (lit< tt) (lit≤ tt) refl ((lit< tt, tt), (tt, (fits, (tt, (tt, tt)))))
-    0 200000 0 sent_first the_only_link first refl refl
+    never_old_law law the_sizes the_setup tree the_starts before_room controller (lit< tt) (lit≤ tt) refl ((lit< tt, tt), (tt, (fits, (tt, (tt, tt)))))
+    0 200000 0 sent_first the_only_link first refl refl refl
     (record { peer = refl; untaken = held 1; held = (0, lit< tt, refl); command = refl; bytes = refl })
     (room_in_the_crowd law) (crowded_keeps law tree)

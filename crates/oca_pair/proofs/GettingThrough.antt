@@ -26,7 +26,7 @@ use Rattle.oca_control.proofs.Histories.{IsMade, IsMadeBy, HoldsAfter, holds_aft
 use Rattle.oca_control.proofs.InTime.{clock_from, sent_from, in_time_made}
 use Rattle.oca_pair.specs.declared.outcome.Outcome.TheVariants as outcomes
 use Rattle.oca_pair.specs.declared.start.Start.{Start}
-use Rattle.oca_pair.specs.Networks.{Network, PeerLink, SentDatagram, SubmittedCommand, TakenAnswer, device_address, started, opening}
+use Rattle.oca_pair.specs.Networks.{Network, PeerLink, SentDatagram, SubmittedCommand, TakenAnswer, Setup, started, opening}
 use Rattle.oca_pair.specs.Steps.{Step, Submit, Due, ToDevice, ToLink, Other, Take, has_link, with_link, submitted_by, after_submit, submit_outcome, given_by, after_due_step, after_delivery, content_read, hears_datagram, after_reception, taken_by, after_take, after_step, after_steps, on_link, outcome_of_step}
 use Rattle.oca_pair.specs.Steps as steps
 use Rattle.oca_pair.specs.Premises.{are_apart, Fit}
@@ -50,13 +50,14 @@ IsSentBy p bytes out = let d : SentDatagram = record { peer = p; bytes = bytes }
 abbrev AreSentBy : Peer → List SentDatagram → List Sending → Type 0
 AreSentBy p out given = AllByRecursion (λ x. IsSentBy p x.bytes out) given
 
--- the link of this number is the peer's and was made by these calls, and what they gave out was sent to the device
-record Runs (first s i : ℕ) (p : Peer) (calls : List Call) (n : Network) : Type 0 where
+-- the link of this number is the peer's and was made at this moment and by these calls, and what they gave out was sent
+-- to the device
+record Runs (first born s i : ℕ) (p : Peer) (calls : List Call) (n : Network) : Type 0 where
   pub link : PeerLink
   pub there : slice_get n.links i ≡ Some link
   pub peer : link.peer ≡ p
-  pub made : IsMadeBy device_address first 0 s calls link.link
-  pub sent : (h : ℕ) → AreSentBy p n.to_device (sendings 0 h calls)
+  pub made : IsMadeBy n.address first born s calls link.link
+  pub sent : (h : ℕ) → AreSentBy p n.to_device (sendings born h calls)
 
 sent_more : (p : Peer) (out more : List SentDatagram) (given : List Sending) → AreSentBy p out given → AreSentBy p (out ++ more) given
 sent_more p out more given a = each_map (λ x q. in_more _ out more q) given a
@@ -78,16 +79,16 @@ put_elsewhere (x ∷ xs) (suc k) zero y e = refl
 put_elsewhere (x ∷ xs) (suc k) (suc i) y e = put_elsewhere xs k i y (one_less k i e)
 
 -- a call of the link of the number k
-runs_link : (first s i : ℕ) (p : Peer) (calls : List Call) (n m : Network) (k : ℕ) (l : PeerLink) (call : LinkState → Call) (state : LinkState → LinkState) (more : List SentDatagram) →
-    slice_get n.links k ≡ Some l → m.links ≡ with_link k l (state l.link) n.links → m.to_device ≡ n.to_device ++ more → IsMade l.link (call l.link) (state l.link) →
-    (l.peer ≡ p → (h : ℕ) → AreSentBy p (n.to_device ++ more) (sendings 0 h calls) → AreSentBy p (n.to_device ++ more) (sendings 0 h (call l.link ∷ calls))) →
-    Runs first s i p calls n → Runs first s i p (cond (nat_eq k i) (called call (slice_get n.links i)) [] ++ calls) m
-runs_link first s i p calls n m k l call state more e links out made sent g = by_test (nat_eq k i) refl
+runs_link : (first born s i : ℕ) (p : Peer) (calls : List Call) (n m : Network) (k : ℕ) (l : PeerLink) (call : LinkState → Call) (state : LinkState → LinkState) (more : List SentDatagram) →
+    slice_get n.links k ≡ Some l → m.address ≡ n.address → m.links ≡ with_link k l (state l.link) n.links → m.to_device ≡ n.to_device ++ more → IsMade l.link (call l.link) (state l.link) →
+    (l.peer ≡ p → (h : ℕ) → AreSentBy p (n.to_device ++ more) (sendings born h calls) → AreSentBy p (n.to_device ++ more) (sendings born h (call l.link ∷ calls))) →
+    Runs first born s i p calls n → Runs first born s i p (cond (nat_eq k i) (called call (slice_get n.links i)) [] ++ calls) m
+runs_link first born s i p calls n m k l call state more e address links out made sent g = by_test (nat_eq k i) refl
   where
     y : PeerLink
     y = record { peer = l.peer; link = state l.link }
 
-    mine : k ≡ i → Runs first s i p (call l.link ∷ calls) m
+    mine : k ≡ i → Runs first born s i p (call l.link ∷ calls) m
     mine q =
         let there : slice_get n.links i ≡ Some l = ap (λ (j : ℕ). slice_get n.links j) (sym q) ∙ e in
         let same : g.link ≡ l = same_Some g.link l (sym g.there ∙ there) in
@@ -96,52 +97,52 @@ runs_link first s i p calls n m k l call state more e links out made sent g = by
           link = y;
           there = ap (λ (xs : List PeerLink). slice_get xs i) links ∙ ap (λ (j : ℕ). slice_get (slice_set n.links j y) i) q ∙ put_here n.links i y l there;
           peer = peer;
-          made = (l.link, subst (λ (z : PeerLink). IsMadeBy device_address first 0 s calls z.link) same g.made, made);
-          sent = λ h. subst (λ (xs : List SentDatagram). AreSentBy p xs (sendings 0 h (call l.link ∷ calls))) (sym out)
-              (sent peer h (sent_more p n.to_device more (sendings 0 h calls) (g.sent h)));
+          made = (l.link, subst (λ (q : Peer). IsMadeBy q first born s calls l.link) (sym address) (subst (λ (z : PeerLink). IsMadeBy n.address first born s calls z.link) same g.made), made);
+          sent = λ h. subst (λ (xs : List SentDatagram). AreSentBy p xs (sendings born h (call l.link ∷ calls))) (sym out)
+              (sent peer h (sent_more p n.to_device more (sendings born h calls) (g.sent h)));
         }
 
-    by_test : (b : Bool) → nat_eq k i ≡ b → Runs first s i p (cond b (called call (slice_get n.links i)) [] ++ calls) m
+    by_test : (b : Bool) → nat_eq k i ≡ b → Runs first born s i p (cond b (called call (slice_get n.links i)) [] ++ calls) m
     by_test true q =
         let is : k ≡ i = equal_is k i q in
-        subst (λ (o : Option PeerLink). Runs first s i p (called call o ++ calls) m) (sym (ap (λ (j : ℕ). slice_get n.links j) (sym is) ∙ e)) (mine is)
+        subst (λ (o : Option PeerLink). Runs first born s i p (called call o ++ calls) m) (sym (ap (λ (j : ℕ). slice_get n.links j) (sym is) ∙ e)) (mine is)
     by_test false q = record {
       link = g.link;
       there = ap (λ (xs : List PeerLink). slice_get xs i) links ∙ put_elsewhere n.links k i y q ∙ g.there;
       peer = g.peer;
-      made = g.made;
-      sent = λ h. subst (λ (xs : List SentDatagram). AreSentBy p xs (sendings 0 h calls)) (sym out) (sent_more p n.to_device more (sendings 0 h calls) (g.sent h));
+      made = subst (λ (q : Peer). IsMadeBy q first born s calls g.link.link) (sym address) g.made;
+      sent = λ h. subst (λ (xs : List SentDatagram). AreSentBy p xs (sendings born h calls)) (sym out) (sent_more p n.to_device more (sendings born h calls) (g.sent h));
     }
 
 -- a link that is not there is not this one
-runs_none : (first s i : ℕ) (p : Peer) (calls : List Call) (n : Network) (k : ℕ) (call : LinkState → Call) → slice_get n.links k ≡ None → Runs first s i p calls n →
-    Runs first s i p (cond (nat_eq k i) (called call (slice_get n.links i)) [] ++ calls) n
-runs_none first s i p calls n k call e g = by_test (nat_eq k i) refl
+runs_none : (first born s i : ℕ) (p : Peer) (calls : List Call) (n : Network) (k : ℕ) (call : LinkState → Call) → slice_get n.links k ≡ None → Runs first born s i p calls n →
+    Runs first born s i p (cond (nat_eq k i) (called call (slice_get n.links i)) [] ++ calls) n
+runs_none first born s i p calls n k call e g = by_test (nat_eq k i) refl
   where
-    by_test : (b : Bool) → nat_eq k i ≡ b → Runs first s i p (cond b (called call (slice_get n.links i)) [] ++ calls) n
+    by_test : (b : Bool) → nat_eq k i ≡ b → Runs first born s i p (cond b (called call (slice_get n.links i)) [] ++ calls) n
     by_test true q =
-        subst (λ (o : Option PeerLink). Runs first s i p (called call o ++ calls) n) (sym (ap (λ (j : ℕ). slice_get n.links j) (sym (equal_is k i q)) ∙ e)) g
+        subst (λ (o : Option PeerLink). Runs first born s i p (called call o ++ calls) n) (sym (ap (λ (j : ℕ). slice_get n.links j) (sym (equal_is k i q)) ∙ e)) g
     by_test false q = g
 
-runs_step : (first s i : ℕ) (p : Peer) (calls : List Call) (step : Step) (n : Network) → Runs first s i p calls n → Runs first s i p (call_in i step n ++ calls) (after_step step n)
-runs_step first s i p calls step n g = one step
+runs_step : (first born s i : ℕ) (p : Peer) (calls : List Call) (step : Step) (n : Network) → Runs first born s i p calls n → Runs first born s i p (call_in i step n ++ calls) (after_step step n)
+runs_step first born s i p calls step n g = one step
   where
     none_more : n.to_device ≡ n.to_device ++ []
     none_more = sym (append-nil n.to_device)
 
     by_submit : (k : ℕ) (r : Request) (now : ℕ) (o : Option PeerLink) → slice_get n.links k ≡ o →
-        Runs first s i p (cond (nat_eq k i) (called (λ l. Submits r now (submission r l)) (slice_get n.links i)) [] ++ calls) (after_submit k r now o n)
-    by_submit k r now None e = runs_none first s i p calls n k (λ l. Submits r now (submission r l)) e g
+        Runs first born s i p (cond (nat_eq k i) (called (λ l. Submits r now (submission r l)) (slice_get n.links i)) [] ++ calls) (after_submit k r now o n)
+    by_submit k r now None e = runs_none first born s i p calls n k (λ l. Submits r now (submission r l)) e g
     by_submit k r now (Some l) e =
-        runs_link first s i p calls n (after_submit k r now (Some l) n) k l (λ l. Submits r now (submission r l)) (λ l. after_submission (submission r l) r now l) [] e refl none_more
+        runs_link first born s i p calls n (after_submit k r now (Some l) n) k l (λ l. Submits r now (submission r l)) (λ l. after_submission (submission r l) r now l) [] e refl refl none_more
         (refl, refl) (λ same h a. a) g
 
-    gives : (l : PeerLink) (now : ℕ) (d : Decision) → l.peer ≡ p → (h : ℕ) → AreSentBy p (n.to_device ++ steps.sendings_in l.peer (given_by d)) (sendings 0 h calls) →
-        AreSentBy p (n.to_device ++ steps.sendings_in l.peer (given_by d)) (sending_of h (due_answer d) (record { at = max (clock_of_calls 0 calls) now; bytes = due_bytes d }) (sendings 0 h calls))
+    gives : (l : PeerLink) (now : ℕ) (d : Decision) → l.peer ≡ p → (h : ℕ) → AreSentBy p (n.to_device ++ steps.sendings_in l.peer (given_by d)) (sendings born h calls) →
+        AreSentBy p (n.to_device ++ steps.sendings_in l.peer (given_by d)) (sending_of h (due_answer d) (record { at = max (clock_of_calls born calls) now; bytes = due_bytes d }) (sendings born h calls))
     gives l now (GivesCommand c) same h a = by_test (nat_eq h c.handle)
       where
         by_test : (b : Bool) → AreSentBy p (n.to_device ++ steps.sendings_in l.peer (given_by (GivesCommand c)))
-            (cond b ((let x : Sending = record { at = max (clock_of_calls 0 calls) now; bytes = due_bytes (GivesCommand c) } in x) ∷ sendings 0 h calls) (sendings 0 h calls))
+            (cond b ((let x : Sending = record { at = max (clock_of_calls born calls) now; bytes = due_bytes (GivesCommand c) } in x) ∷ sendings born h calls) (sendings born h calls))
         by_test true = (in_behind _ n.to_device (steps.sendings_in l.peer (given_by (GivesCommand c))) (inl (ap (λ (q : Peer). let d : SentDatagram = record { peer = q; bytes = due_bytes (GivesCommand c) } in d) same)), a)
         by_test false = a
     gives l now GivesKeepAlive same h a = a
@@ -149,55 +150,55 @@ runs_step first s i p calls step n g = one step
     gives l now LosesLink same h a = a
 
     by_due : (k now : ℕ) (o : Option PeerLink) → slice_get n.links k ≡ o →
-        Runs first s i p (cond (nat_eq k i) (called (λ l. SendsDue now (due_answer (decision now l)) (due_bytes (decision now l))) (slice_get n.links i)) [] ++ calls) (after_due_step k now o n)
-    by_due k now None e = runs_none first s i p calls n k (λ l. SendsDue now (due_answer (decision now l)) (due_bytes (decision now l))) e g
+        Runs first born s i p (cond (nat_eq k i) (called (λ l. SendsDue now (due_answer (decision now l)) (due_bytes (decision now l))) (slice_get n.links i)) [] ++ calls) (after_due_step k now o n)
+    by_due k now None e = runs_none first born s i p calls n k (λ l. SendsDue now (due_answer (decision now l)) (due_bytes (decision now l))) e g
     by_due k now (Some l) e =
-        runs_link first s i p calls n (after_due_step k now (Some l) n) k l (λ l. SendsDue now (due_answer (decision now l)) (due_bytes (decision now l))) (gone_on now)
-        (steps.sendings_in l.peer (given_by (decision now l.link))) e refl refl (refl, refl, refl) (gives l now (decision now l.link)) g
+        runs_link first born s i p calls n (after_due_step k now (Some l) n) k l (λ l. SendsDue now (due_answer (decision now l)) (due_bytes (decision now l))) (gone_on now)
+        (steps.sendings_in l.peer (given_by (decision now l.link))) e refl refl refl (refl, refl, refl) (gives l now (decision now l.link)) g
 
-    by_delivery : (now : ℕ) (o : Option SentDatagram) → Runs first s i p calls (after_delivery now o n)
+    by_delivery : (now : ℕ) (o : Option SentDatagram) → Runs first born s i p calls (after_delivery now o n)
     by_delivery now None = g
     by_delivery now (Some d) = record { link = g.link; there = g.there; peer = g.peer; made = g.made; sent = g.sent }
 
-    heard : (now : ℕ) (d : SentDatagram) → Runs first s i p (received_from now d g.link ++ calls) (after_reception now (Some d) n)
+    heard : (now : ℕ) (d : SentDatagram) → Runs first born s i p (received_from n.address now d g.link ++ calls) (after_reception now (Some d) n)
     heard now d = by_test (same_peer g.link.peer d.peer) refl
       where
-        there : slice_get (map (hears_datagram d now) n.links) i ≡ Some (hears_datagram d now g.link)
-        there = slice_get-map (hears_datagram d now) n.links i ∙ ap (λ (o : Option PeerLink). option_map (hears_datagram d now) o) g.there
+        there : slice_get (map (hears_datagram n.address d now) n.links) i ≡ Some (hears_datagram n.address d now g.link)
+        there = slice_get-map (hears_datagram n.address d now) n.links i ∙ ap (λ (o : Option PeerLink). option_map (hears_datagram n.address d now) o) g.there
 
         y : PeerLink
-        y = record { peer = g.link.peer; link = received device_address (content_read d.bytes) now g.link.link }
+        y = record { peer = g.link.peer; link = received n.address (content_read d.bytes) now g.link.link }
 
-        is : (b : Bool) → same_peer g.link.peer d.peer ≡ b → Some (hears_datagram d now g.link) ≡ Some (cond b y g.link)
+        is : (b : Bool) → same_peer g.link.peer d.peer ≡ b → Some (hears_datagram n.address d now g.link) ≡ Some (cond b y g.link)
         is b q = ap (λ (c : Bool). Some (cond c y g.link)) q
 
         by_test : (b : Bool) → same_peer g.link.peer d.peer ≡ b →
-            Runs first s i p (cond b (Receives device_address d.bytes (content_read d.bytes) now (reception device_address (content_read d.bytes) g.link.link) ∷ []) [] ++ calls) (after_reception now (Some d) n)
+            Runs first born s i p (cond b (Receives n.address d.bytes (content_read d.bytes) now (reception n.address (content_read d.bytes) g.link.link) ∷ []) [] ++ calls) (after_reception now (Some d) n)
         by_test true q = record { link = y; there = there ∙ is true q; peer = g.peer; made = (g.link.link, g.made, refl); sent = g.sent }
         by_test false q = record { link = g.link; there = there ∙ is false q; peer = g.peer; made = g.made; sent = g.sent }
 
-    by_reception : (now : ℕ) (o : Option SentDatagram) → Runs first s i p (receiving now o (slice_get n.links i) ++ calls) (after_reception now o n)
+    by_reception : (now : ℕ) (o : Option SentDatagram) → Runs first born s i p (receiving n.address now o (slice_get n.links i) ++ calls) (after_reception now o n)
     by_reception now None = g
-    by_reception now (Some d) = subst (λ (z : Option PeerLink). Runs first s i p (receiving now (Some d) z ++ calls) (after_reception now (Some d) n)) (sym g.there) (heard now d)
+    by_reception now (Some d) = subst (λ (z : Option PeerLink). Runs first born s i p (receiving n.address now (Some d) z ++ calls) (after_reception now (Some d) n)) (sym g.there) (heard now d)
 
-    by_other : (from : Peer) (bytes : List ℕ) (now : ℕ) (b : Bool) → (let m : Network = cond b n (record n { events = Datagram from bytes now ∷ n.events }) in Runs first s i p calls m)
+    by_other : (from : Peer) (bytes : List ℕ) (now : ℕ) (b : Bool) → (let m : Network = cond b n (record n { events = Datagram from bytes now ∷ n.events }) in Runs first born s i p calls m)
     by_other from bytes now true = g
     by_other from bytes now false = record { link = g.link; there = g.there; peer = g.peer; made = g.made; sent = g.sent }
 
     by_take : (k j : ℕ) (o : Option PeerLink) → slice_get n.links k ≡ o →
-        Runs first s i p (cond (nat_eq k i) (called (λ l. TakesAnswer j (answer_under j l.untaken)) (slice_get n.links i)) [] ++ calls) (after_take k j o n)
-    by_take k j None e = runs_none first s i p calls n k (λ l. TakesAnswer j (answer_under j l.untaken)) e g
+        Runs first born s i p (cond (nat_eq k i) (called (λ l. TakesAnswer j (answer_under j l.untaken)) (slice_get n.links i)) [] ++ calls) (after_take k j o n)
+    by_take k j None e = runs_none first born s i p calls n k (λ l. TakesAnswer j (answer_under j l.untaken)) e g
     by_take k j (Some l) e =
-        runs_link first s i p calls n (after_take k j (Some l) n) k l (λ l. TakesAnswer j (answer_under j l.untaken)) (taken j) [] e refl none_more (refl, refl)
+        runs_link first born s i p calls n (after_take k j (Some l) n) k l (λ l. TakesAnswer j (answer_under j l.untaken)) (taken j) [] e refl refl none_more (refl, refl)
         (taking l.link.untaken) g
       where
-        by_answer : (o : Option AnswerFields) → (h : ℕ) → AreSentBy p (n.to_device ++ []) (sendings 0 h calls) → AreSentBy p (n.to_device ++ []) (sendings 0 h (TakesAnswer j o ∷ calls))
+        by_answer : (o : Option AnswerFields) → (h : ℕ) → AreSentBy p (n.to_device ++ []) (sendings born h calls) → AreSentBy p (n.to_device ++ []) (sendings born h (TakesAnswer j o ∷ calls))
         by_answer o h a = a
 
-        taking : (us : List Untaken) → l.peer ≡ p → (h : ℕ) → AreSentBy p (n.to_device ++ []) (sendings 0 h calls) → AreSentBy p (n.to_device ++ []) (sendings 0 h (TakesAnswer j (answer_under j us) ∷ calls))
+        taking : (us : List Untaken) → l.peer ≡ p → (h : ℕ) → AreSentBy p (n.to_device ++ []) (sendings born h calls) → AreSentBy p (n.to_device ++ []) (sendings born h (TakesAnswer j (answer_under j us) ∷ calls))
         taking us same h a = by_answer (answer_under j us) h a
 
-    one : (step : Step) → Runs first s i p (call_in i step n ++ calls) (after_step step n)
+    one : (step : Step) → Runs first born s i p (call_in i step n ++ calls) (after_step step n)
     one (Submit k r now) = by_submit k r now (slice_get n.links k) refl
     one (Due k now) = by_due k now (slice_get n.links k) refl
     one (ToDevice k now) = by_delivery now (slice_get n.to_device k)
@@ -207,14 +208,14 @@ runs_step first s i p calls step n g = one step
     one (steps.Local ono change) = record { link = g.link; there = g.there; peer = g.peer; made = g.made; sent = g.sent }
     one (Take k j) = by_take k j (slice_get n.links k) refl
 
-runs_steps : (first s i : ℕ) (p : Peer) (calls : List Call) (es : List Step) (n : Network) → Runs first s i p calls n → Runs first s i p (calls_in i es n ++ calls) (after_steps es n)
-runs_steps first s i p calls [] n g = g
-runs_steps first s i p calls (e ∷ es) n g =
-    subst (λ (xs : List Call). Runs first s i p xs (after_steps es (after_step e n))) (sym (append_assoc (calls_in i es (after_step e n)) (call_in i e n) calls))
-    (runs_steps first s i p (call_in i e n ++ calls) es (after_step e n) (runs_step first s i p calls e n g))
+runs_steps : (first born s i : ℕ) (p : Peer) (calls : List Call) (es : List Step) (n : Network) → Runs first born s i p calls n → Runs first born s i p (calls_in i es n ++ calls) (after_steps es n)
+runs_steps first born s i p calls [] n g = g
+runs_steps first born s i p calls (e ∷ es) n g =
+    subst (λ (xs : List Call). Runs first born s i p xs (after_steps es (after_step e n))) (sym (append_assoc (calls_in i es (after_step e n)) (call_in i e n) calls))
+    (runs_steps first born s i p (call_in i e n ++ calls) es (after_step e n) (runs_step first born s i p calls e n g))
 
-runs_opening : (w : DeviceSizes) (s : ℕ) (tree : List Object) (starts : List Start) (i : ℕ) (x : Start) → slice_get starts i ≡ Some x →
-    Runs x.first_handle.0 s i x.peer [] (opening w s tree starts)
+runs_opening : (w : DeviceSizes) (s : Setup) (tree : List Object) (starts : List Start) (i : ℕ) (x : Start) → slice_get starts i ≡ Some x →
+    Runs x.first_handle.0 (s.made x.peer) (s.span x.peer) i x.peer [] (opening w s tree starts)
 runs_opening w s tree starts i x e = record {
   link = started s x;
   there = slice_get-map (started s) starts i ∙ ap (λ (o : Option Start). option_map (started s) o) e;
@@ -247,13 +248,13 @@ held_one h (u ∷ us) e = by_test (nat_eq u.command.handle h) refl e (held_one h
     by_test true q e rest = (u, inl refl, equal_is u.command.handle h q)
     by_test false q e rest = let t = rest e in (t.0, inr t.1, t.2)
 
-is_its : (s : ℕ) (n : Network) (l : PeerLink) (c : CommandFields) (a : AnswerFields) → LinkSound s n l → IsSubmitted l.peer c n.submitted → IsTrueAnswer l.peer c.handle a (past n) →
+is_its : (s : Peer → ℕ) (n : Network) (l : PeerLink) (c : CommandFields) (a : AnswerFields) → LinkSound s n l → IsSubmitted l.peer c n.submitted → IsTrueAnswer l.peer c.handle a (past n) →
     IsAnswerTo c l.peer a n
 is_its s n l c a of sub t =
     let its = true_answer l.peer c.handle a n of.kept t in
     record { of_its_command = its; command = of.fair.unique its.execution.command c (contains_in _ n.submitted its.submitted) sub its.handle }
 
-module _ (s first i : ℕ) (some : 0 < s) (p : Peer) (before : List Call) (r : Request) (now ms : ℕ) (h : Handle) (calls : List Call) (n : Network) where
+module _ (spans : Peer → ℕ) (s first born i : ℕ) (some : 0 < s) (p : Peer) (before : List Call) (r : Request) (now ms : ℕ) (h : Handle) (calls : List Call) (n : Network) where
   abbrev c : CommandFields
   c = command_under h.0 r
 
@@ -261,13 +262,13 @@ module _ (s first i : ℕ) (some : 0 < s) (p : Peer) (before : List Call) (r : R
   base = Submits r now (Ok h) ∷ before
 
   abbrev since : ℕ
-  since = max (clock_of_calls 0 before) now
+  since = max (clock_of_calls born before) now
 
   abbrev all : List Call
   all = calls ++ base
 
   -- the link holds the command's answer
-  has : (a : AnswerFields) → (g : Runs first s i p all n) → Sound s n → IsSubmitted p c n.submitted → answer_under h.0 g.link.link.untaken ≡ Some a → GotItsAnswer i c p n
+  has : (a : AnswerFields) → (g : Runs first born s i p all n) → Sound spans n → IsSubmitted p c n.submitted → answer_under h.0 g.link.link.untaken ≡ Some a → GotItsAnswer i c p n
   has a g sound sub held = record {
     link = g.link;
     there = g.there;
@@ -275,18 +276,18 @@ module _ (s first i : ℕ) (some : 0 < s) (p : Peer) (before : List Call) (r : R
     answer = a;
     got = inl held;
     is_its = subst (λ (q : Peer). IsAnswerTo c q a n) g.peer
-        (is_its s n g.link c a of (subst (λ (q : Peer). IsSubmitted q c n.submitted) (sym g.peer) sub) (rw held at (held_answer g.link.peer (past n) h.0 g.link.link.untaken of.fair.untaken)));
+        (is_its spans n g.link c a of (subst (λ (q : Peer). IsSubmitted q c n.submitted) (sym g.peer) sub) (rw held at (held_answer g.link.peer (past n) h.0 g.link.link.untaken of.fair.untaken)));
   }
     where
-      of : LinkSound s n g.link
-      of = each_at (LinkSound s n) n.links i g.link sound.each g.there
+      of : LinkSound spans n g.link
+      of = each_at (LinkSound spans n) n.links i g.link sound.each g.there
 
   -- it gave it
-  gave : (k : Stands i p h.0 n.links n.taken) → Sound s n → IsSubmitted p c n.submitted → holds h.0 k.link.link.untaken ≡ false → GotItsAnswer i c p n
+  gave : (k : Stands i p h.0 n.links n.taken) → Sound spans n → IsSubmitted p c n.submitted → holds h.0 k.link.link.untaken ≡ false → GotItsAnswer i c p n
   gave k sound sub none = by k.kept
     where
-      of : LinkSound s n k.link
-      of = each_at (LinkSound s n) n.links i k.link sound.each k.there
+      of : LinkSound spans n k.link
+      of = each_at (LinkSound spans n) n.links i k.link sound.each k.there
 
       never : true ≡ false → GotItsAnswer i c p n
       never e = cc
@@ -299,18 +300,18 @@ module _ (s first i : ℕ) (some : 0 < s) (p : Peer) (before : List Call) (r : R
         peer = k.peer;
         answer = a;
         got = inr (in_contains _ n.taken t);
-        is_its = subst (λ (q : Peer). IsAnswerTo c q a n) k.peer (is_its s n k.link c a of (subst (λ (q : Peer). IsSubmitted q c n.submitted) (sym k.peer) sub)
+        is_its = subst (λ (q : Peer). IsAnswerTo c q a n) k.peer (is_its spans n k.link c a of (subst (λ (q : Peer). IsSubmitted q c n.submitted) (sym k.peer) sub)
             (each_in (λ (y : TakenAnswer). y.peer ≡ k.link.peer → IsTrueAnswer k.link.peer y.handle y.answer (past n)) _ n.taken of.fair.was_taken t (sym k.peer)));
       }
 
   -- it waits
-  waits : (g : Runs first s i p all n) → Sound s n → IsSubmitted p c n.submitted → RoundTrips n → sendings 0 h.0 before ≡ [] → IsAskedEvery ms since calls → IsWaiting device_address h.0 all →
+  waits : (g : Runs first born s i p all n) → Sound spans n → IsSubmitted p c n.submitted → RoundTrips p n → sendings born h.0 before ≡ [] → IsAskedEvery ms since calls → IsWaiting n.address h.0 all →
       WaitsInTime ms since i c p calls n
   waits g sound sub trips none asked w = record {
-    in_time = rw (clock_is, sent_is) at (in_time_made device_address first 0 s some before r now ms h calls g.link.link g.made asked w);
+    in_time = rw (clock_is, sent_is) at (in_time_made n.address first born s some before r now ms h calls g.link.link g.made asked w);
     copies = rw sent_is at copies;
     enough = λ k moment between later there finds keeps fits. subst (λ (q : Peer). ComesBack k moment between later i c q n) g.peer
-        (trips k moment i (copy_of p c) g.link c between later there g.there (record {
+        (trips k moment i (copy_of p c) g.link c between later there g.there g.peer (record {
           peer = g.peer;
           untaken = u.0;
           held = in_contains u.0 g.link.link.untaken u.1;
@@ -319,17 +320,17 @@ module _ (s first i : ℕ) (some : 0 < s) (p : Peer) (before : List Call) (r : R
         }) finds keeps fits);
   }
     where
-      of : LinkSound s n g.link
-      of = each_at (LinkSound s n) n.links i g.link sound.each g.there
+      of : LinkSound spans n g.link
+      of = each_at (LinkSound spans n) n.links i g.link sound.each g.there
 
-      b : HoldsAfter device_address first 0 s all g.link.link
-      b = holds_after_calls device_address first 0 s all g.link.link some g.made
+      b : HoldsAfter n.address first born s all g.link.link
+      b = holds_after_calls n.address first born s all g.link.link some g.made
 
-      clock_is : clock_of_calls 0 all ≡ clock_of_calls since calls
-      clock_is = clock_from device_address first 0 s some before r now ms h calls
+      clock_is : clock_of_calls born all ≡ clock_of_calls since calls
+      clock_is = clock_from n.address first born s some before r now ms h calls
 
-      sent_is : sendings 0 h.0 all ≡ sendings since h.0 calls
-      sent_is = sent_from device_address first 0 s some before r now ms h calls none
+      sent_is : sendings born h.0 all ≡ sendings since h.0 calls
+      sent_is = sent_from n.address first born s some before r now ms h calls none
 
       u : (v : Untaken) × IsIn v g.link.link.untaken × (v.command.handle ≡ h.0)
       u = held_one h.0 g.link.link.untaken (b.now.held h.0 ∙ w.untaken)
@@ -341,7 +342,7 @@ module _ (s first i : ℕ) (some : 0 < s) (p : Peer) (before : List Call) (r : R
       accepted : command_accepted h.0 (commands all) ≡ Some c
       accepted = under u.0.command u.0.times u.0.last (each_in _ u.0 g.link.link.untaken b.now.are_sent u.1) command_is
         where
-          under : (d : CommandFields) (times last : ℕ) → IsSent s (first + length (commands all)) (commands all) (λ y. sendings 0 y all) d times last → d ≡ c → command_accepted h.0 (commands all) ≡ Some c
+          under : (d : CommandFields) (times last : ℕ) → IsSent s (first + length (commands all)) (commands all) (λ y. sendings born y all) d times last → d ≡ c → command_accepted h.0 (commands all) ≡ Some c
           under d times last q e = ap (λ (y : CommandFields). command_accepted y.handle (commands all)) (sym e) ∙ q.command ∙ ap Some e
 
       copy : (y : Sending) → IsSentBy p y.bytes n.to_device → IsCopy h.0 (commands all) y.bytes → WasSent p c y.bytes n
@@ -350,14 +351,14 @@ module _ (s first i : ℕ) (some : 0 < s) (p : Peer) (before : List Call) (r : R
           let bytes : y.bytes ≡ (copy_of p c).bytes = q.bytes_are ∙ ap (λ (d : CommandFields). pdu_encoding (Commands true (d ∷ []))) same in
           record { bytes_are = bytes; sent = in_contains (copy_of p c) n.to_device (subst (λ (xs : List ℕ). IsSentBy p xs n.to_device) bytes there) }
 
-      copies : AllByRecursion (λ (y : Sending). WasSent p c y.bytes n) (sendings 0 h.0 all)
-      copies = each_both copy (sendings 0 h.0 all) (g.sent h.0) (b.now.copies h.0)
+      copies : AllByRecursion (λ (y : Sending). WasSent p c y.bytes n) (sendings born h.0 all)
+      copies = each_both copy (sendings born h.0 all) (g.sent h.0) (b.now.copies h.0)
 
-pub gets_through : WrittenIsReadBack → (w : DeviceSizes) (s : ℕ) (tree : List Object) (starts : List Start) (before later : List Step) (i : ℕ) (x : Start) (r : Request) (now ms : ℕ) (h : Handle) →
-    0 < s → 2 * s ≤ w.window + 1 → are_apart starts ≡ true → Fit starts (before ++ Submit i r now ∷ later) → slice_get starts i ≡ Some x →
+pub gets_through : WrittenIsReadBack → (w : DeviceSizes) (s : Setup) (tree : List Object) (starts : List Start) (before later : List Step) (i : ℕ) (x : Start) (r : Request) (now ms : ℕ) (h : Handle) →
+    0 < s.span x.peer → 2 * s.span x.peer ≤ w.window + 1 → are_apart s.address starts ≡ true → Fit starts (before ++ Submit i r now ∷ later) → slice_get starts i ≡ Some x →
     outcome_of_step (Submit i r now) (after_steps before (opening w s tree starts)) ≡ outcomes.Submitted h ∷ [] →
-    IsAskedEvery ms (max (clock_of_calls 0 (calls_in i before (opening w s tree starts))) now) (calls_in i later (after_step (Submit i r now) (after_steps before (opening w s tree starts)))) →
-    GetsThrough ms (max (clock_of_calls 0 (calls_in i before (opening w s tree starts))) now) i (command_under h.0 r) x.peer
+    IsAskedEvery ms (max (clock_of_calls (s.made x.peer) (calls_in i before (opening w s tree starts))) now) (calls_in i later (after_step (Submit i r now) (after_steps before (opening w s tree starts)))) →
+    GetsThrough ms (max (clock_of_calls (s.made x.peer) (calls_in i before (opening w s tree starts))) now) i (command_under h.0 r) x.peer
     (calls_in i later (after_step (Submit i r now) (after_steps before (opening w s tree starts))))
     (after_steps later (after_step (Submit i r now) (after_steps before (opening w s tree starts))))
 gets_through law w s tree starts before later i x r now ms h some wide apart fit begins outcome asked = by_lost (is_lost all) refl
@@ -380,6 +381,9 @@ gets_through law w s tree starts before later i x r now ms h some wide apart fit
     f : ℕ
     f = x.first_handle.0
 
+    born : ℕ
+    born = s.made p
+
     c : CommandFields
     c = command_under h.0 r
 
@@ -392,8 +396,8 @@ gets_through law w s tree starts before later i x r now ms h some wide apart fit
     all : List Call
     all = calls ++ Submits r now (Ok h) ∷ earlier
 
-    runs_old : Runs f s i p earlier old
-    runs_old = subst (λ (xs : List Call). Runs f s i p xs old) (append-nil earlier) (runs_steps f s i p [] before start (runs_opening w s tree starts i x begins))
+    runs_old : Runs f born (s.span p) i p earlier old
+    runs_old = subst (λ (xs : List Call). Runs f born (s.span p) i p xs old) (append-nil earlier) (runs_steps f born (s.span p) i p [] before start (runs_opening w s tree starts i x begins))
 
     l : PeerLink
     l = runs_old.link
@@ -407,20 +411,20 @@ gets_through law w s tree starts before later i x r now ms h some wide apart fit
         ∙ ap (λ (o : Option PeerLink). called (λ y. Submits r now (submission r y)) o) runs_old.there
         ∙ ap (λ (a : Result Handle ControlFault). Submits r now a ∷ []) accepted
 
-    runs_new : Runs f s i p (Submits r now (Ok h) ∷ earlier) new
-    runs_new = subst (λ (xs : List Call). Runs f s i p (xs ++ earlier) new) call_is (runs_step f s i p earlier (Submit i r now) old runs_old)
+    runs_new : Runs f born (s.span p) i p (Submits r now (Ok h) ∷ earlier) new
+    runs_new = subst (λ (xs : List Call). Runs f born (s.span p) i p (xs ++ earlier) new) call_is (runs_step f born (s.span p) i p earlier (Submit i r now) old runs_old)
 
-    runs : Runs f s i p all n
-    runs = runs_steps f s i p (Submits r now (Ok h) ∷ earlier) later new runs_new
+    runs : Runs f born (s.span p) i p all n
+    runs = runs_steps f born (s.span p) i p (Submits r now (Ok h) ∷ earlier) later new runs_new
 
     run_is : after_steps (before ++ Submit i r now ∷ later) start ≡ n
     run_is = after_more before (Submit i r now ∷ later) start
 
-    sound : Sound s n
-    sound = subst (Sound s) run_is (sound_after law w s tree starts (before ++ Submit i r now ∷ later) apart fit)
+    sound : Sound s.span n
+    sound = subst (Sound s.span) run_is (sound_after law w s tree starts (before ++ Submit i r now ∷ later) apart fit)
 
-    trips : RoundTrips n
-    trips = subst RoundTrips run_is (round_trip_law law w s tree starts (before ++ Submit i r now ∷ later) some wide apart fit)
+    trips : RoundTrips p n
+    trips = subst (RoundTrips p) run_is (round_trip_law law w s tree starts (before ++ Submit i r now ∷ later) p some wide apart fit)
 
     submitted_is : new.submitted ≡ old.submitted ++ (let it : SubmittedCommand = record { peer = p; command = c } in it) ∷ []
     submitted_is =
@@ -433,14 +437,14 @@ gets_through law w s tree starts before later i x r now ms h some wide apart fit
         let grown = grown_steps later new in
         subst (IsSubmitted p c) (sym grown.submitted) (in_more _ new.submitted grown.more (subst (IsSubmitted p c) (sym submitted_is) (in_last _ old.submitted)))
 
-    at_submit : HoldsAfter device_address f 0 s (Submits r now (Ok h) ∷ earlier) runs_new.link.link
-    at_submit = holds_after_calls device_address f 0 s (Submits r now (Ok h) ∷ earlier) runs_new.link.link some runs_new.made
+    at_submit : HoldsAfter new.address f born (s.span p) (Submits r now (Ok h) ∷ earlier) runs_new.link.link
+    at_submit = holds_after_calls new.address f born (s.span p) (Submits r now (Ok h) ∷ earlier) runs_new.link.link some runs_new.made
 
-    at_end : HoldsAfter device_address f 0 s all runs.link.link
-    at_end = holds_after_calls device_address f 0 s all runs.link.link some runs.made
+    at_end : HoldsAfter n.address f born (s.span p) all runs.link.link
+    at_end = holds_after_calls n.address f born (s.span p) all runs.link.link some runs.made
 
-    none : sendings 0 h.0 earlier ≡ []
-    none = (holds_after_calls device_address f 0 s earlier l.link some runs_old.made).now.fresh h.0 (at_least (f + length (commands earlier)) h.0 at_submit.now.handles.0)
+    none : sendings born h.0 earlier ≡ []
+    none = (holds_after_calls old.address f born (s.span p) earlier l.link some runs_old.made).now.fresh h.0 (at_least (f + length (commands earlier)) h.0 at_submit.now.handles.0)
       where
         at_least : (a b : ℕ) → b ≡ a → a ≤ b
         at_least a b e = omega arith
@@ -460,18 +464,18 @@ gets_through law w s tree starts before later i x r now ms h some wide apart fit
     same_link : stands.link ≡ runs.link
     same_link = same_Some stands.link runs.link (sym stands.there ∙ runs.there)
 
-    by_answer : is_lost all ≡ false → is_untaken h.0 all ≡ true → (o : Option AnswerFields) → first_of (answers_to device_address h.0 all) ≡ o →
-        GotItsAnswer i c p n ⊎ (IsLost i n ⊎ WaitsInTime ms (max (clock_of_calls 0 earlier) now) i c p calls n)
-    by_answer kept untaken (Some a) e = inl (has s f i some p earlier r now ms h calls n a runs sound sub
-        (answer_is h.0 (λ y. answers_to device_address y all) runs.link.link.untaken at_end.now.are_answered
-        ∙ ap (λ (b : Bool). cond b (first_of (answers_to device_address h.0 all)) None) (at_end.now.held h.0 ∙ untaken) ∙ e))
-    by_answer kept untaken None e = inr (inr (waits s f i some p earlier r now ms h calls n runs sound sub trips none asked (record { untaken = untaken; unanswered = e; not_lost = kept })))
+    by_answer : is_lost all ≡ false → is_untaken h.0 all ≡ true → (o : Option AnswerFields) → first_of (answers_to n.address h.0 all) ≡ o →
+        GotItsAnswer i c p n ⊎ (IsLost i n ⊎ WaitsInTime ms (max (clock_of_calls born earlier) now) i c p calls n)
+    by_answer kept untaken (Some a) e = inl (has s.span (s.span p) f born i some p earlier r now ms h calls n a runs sound sub
+        (answer_is h.0 (λ y. answers_to n.address y all) runs.link.link.untaken at_end.now.are_answered
+        ∙ ap (λ (b : Bool). cond b (first_of (answers_to n.address h.0 all)) None) (at_end.now.held h.0 ∙ untaken) ∙ e))
+    by_answer kept untaken None e = inr (inr (waits s.span (s.span p) f born i some p earlier r now ms h calls n runs sound sub trips none asked (record { untaken = untaken; unanswered = e; not_lost = kept })))
 
-    by_untaken : is_lost all ≡ false → (b : Bool) → is_untaken h.0 all ≡ b → GotItsAnswer i c p n ⊎ (IsLost i n ⊎ WaitsInTime ms (max (clock_of_calls 0 earlier) now) i c p calls n)
-    by_untaken kept true e = by_answer kept e (first_of (answers_to device_address h.0 all)) refl
-    by_untaken kept false e = inl (gave s f i some p earlier r now ms h calls n stands sound sub
+    by_untaken : is_lost all ≡ false → (b : Bool) → is_untaken h.0 all ≡ b → GotItsAnswer i c p n ⊎ (IsLost i n ⊎ WaitsInTime ms (max (clock_of_calls born earlier) now) i c p calls n)
+    by_untaken kept true e = by_answer kept e (first_of (answers_to n.address h.0 all)) refl
+    by_untaken kept false e = inl (gave s.span (s.span p) f born i some p earlier r now ms h calls n stands sound sub
         (ap (λ (y : PeerLink). holds h.0 y.link.untaken) same_link ∙ at_end.now.held h.0 ∙ e))
 
-    by_lost : (b : Bool) → is_lost all ≡ b → GotItsAnswer i c p n ⊎ (IsLost i n ⊎ WaitsInTime ms (max (clock_of_calls 0 earlier) now) i c p calls n)
+    by_lost : (b : Bool) → is_lost all ≡ b → GotItsAnswer i c p n ⊎ (IsLost i n ⊎ WaitsInTime ms (max (clock_of_calls born earlier) now) i c p calls n)
     by_lost true e = inr (inl (record { link = runs.link; there = runs.there; lost = at_end.others_are.lost_is ∙ e }))
     by_lost false e = by_untaken e (is_untaken h.0 all) refl

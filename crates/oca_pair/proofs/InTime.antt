@@ -31,7 +31,7 @@ use Rattle.oca_control.specs.Limits.{longest_life}
 use Rattle.oca_control.specs.Untaken.{Untaken, new_untaken, is_due, is_late, first_due, marked_sent, answered, hears_all, answer_under, without_handle}
 use Rattle.oca_control.specs.Links.{LinkState, Request, command_under, submission, handle_after, after_submission, Decision, GivesCommand, GivesKeepAlive, GivesNothing, IsLost, decision_among, decision, after_due, gone_on, hears_content, received, taken, present_moment, late_at}
 use Rattle.oca_pair.specs.declared.start.Start.{Start}
-use Rattle.oca_pair.specs.Networks.{Network, PeerLink, SentDatagram, SubmittedCommand, TakenAnswer, device_address, started, opening}
+use Rattle.oca_pair.specs.Networks.{Network, PeerLink, SentDatagram, SubmittedCommand, TakenAnswer, Setup, started, opening}
 use Rattle.oca_pair.specs.Steps.{Step, Submit, Due, ToDevice, ToLink, Other, Take, has_link, sendings_in, after_submit, given_by, after_due_step, after_delivery, content_read, hears_datagram, after_reception, after_take, after_step, after_steps}
 use Rattle.oca_pair.specs.Steps as steps
 use Rattle.oca_pair.specs.Happenings.{happenings}
@@ -83,13 +83,22 @@ TimedNoted born end at (Heartbeat ms) = Unit {0}
 abbrev pub TimedNote : (ℕ → ℕ) → ℕ → Peer → Note → Type 0
 TimedNote born end p n = n.peer ≡ p → TimedNoted born end n.at n.what
 
+-- when the link's clock and the device's showed 0, by a common clock
+pub record Zeros : Type 0 where
+  pub link : ℕ
+  pub device : ℕ
+
+-- what the device's clock shows when the link's shows this
+abbrev pub by_device : Zeros → ℕ → ℕ
+by_device zs t = (zs.link + t) - zs.device
+
 -- of a link of this peer with this next handle, moment and untaken commands
-pub record Timed (p : Peer) (end m : ℕ) (us : List Untaken) (left : List Departure) (out : List SentDatagram) (ns : List Note) : Type 0 where
+pub record Timed (zs : Zeros) (p : Peer) (end m : ℕ) (us : List Untaken) (left : List Departure) (out : List SentDatagram) (ns : List Note) : Type 0 where
   pub born : ℕ → ℕ
   pub are : map (λ (x : Departure). x.datagram) left ≡ out
   pub untaken : AllByRecursion (TimedUntaken born end m) us
   pub departures : AllByRecursion (TimedDeparture born end p) left
-  pub executed : AllByRecursion (TimedNote born end p) ns
+  pub executed : AllByRecursion (TimedNote (λ h. by_device zs (born h)) end p) ns
   pub once : IsDistinct eqb (handles_for p ns)
 
 -- ---- untaken commands
@@ -125,9 +134,9 @@ untaken_without born end m h (u ∷ us) a = by_test (nat_eq u.command.handle h) 
 -- ---- the link's own steps
 
 -- the link changes, and submits nothing
-timed_link : (p : Peer) (end m m' : ℕ) (us vs : List Untaken) (left : List Departure) (out : List SentDatagram) (ns : List Note) → m ≤ m' →
-    ((born : ℕ → ℕ) → AllByRecursion (TimedUntaken born end m') us → AllByRecursion (TimedUntaken born end m') vs) → Timed p end m us left out ns → Timed p end m' vs left out ns
-timed_link p end m m' us vs left out ns later kept g = record {
+timed_link : (zs : Zeros) (p : Peer) (end m m' : ℕ) (us vs : List Untaken) (left : List Departure) (out : List SentDatagram) (ns : List Note) → m ≤ m' →
+    ((born : ℕ → ℕ) → AllByRecursion (TimedUntaken born end m') us → AllByRecursion (TimedUntaken born end m') vs) → Timed zs p end m us left out ns → Timed zs p end m' vs left out ns
+timed_link zs p end m m' us vs left out ns later kept g = record {
   born = g.born;
   are = g.are;
   untaken = kept g.born (untaken_later g.born end m m' us later g.untaken);
@@ -137,9 +146,9 @@ timed_link p end m m' us vs left out ns later kept g = record {
 }
 
 -- more leaves
-timed_more : (p : Peer) (end m : ℕ) (us : List Untaken) (left more : List Departure) (out more' : List SentDatagram) (ns : List Note) → map (λ (x : Departure). x.datagram) more ≡ more' →
-    (g : Timed p end m us left out ns) → AllByRecursion (TimedDeparture g.born end p) more → Timed p end m us (left ++ more) (out ++ more') ns
-timed_more p end m us left more out more' ns are g new = record {
+timed_more : (zs : Zeros) (p : Peer) (end m : ℕ) (us : List Untaken) (left more : List Departure) (out more' : List SentDatagram) (ns : List Note) → map (λ (x : Departure). x.datagram) more ≡ more' →
+    (g : Timed zs p end m us left out ns) → AllByRecursion (TimedDeparture g.born end p) more → Timed zs p end m us (left ++ more) (out ++ more') ns
+timed_more zs p end m us left more out more' ns are g new = record {
   born = g.born;
   are = mapped left ∙ ap (λ (xs : List SentDatagram). map (λ (x : Departure). x.datagram) left ++ xs) are ∙ ap (λ (xs : List SentDatagram). xs ++ more') g.are;
   untaken = g.untaken;
@@ -227,10 +236,10 @@ timed_leaving law p now l born end a sendable none = by_lost l.lost
     by_lost false = by_first (first_due t l.untaken) refl
 
 -- the link is asked what is due
-timed_due : WrittenIsReadBack → (p : Peer) (now : ℕ) (l : LinkState) (left : List Departure) (out : List SentDatagram) (ns : List Note) → AllByRecursion (λ (u : Untaken). IsSendable u.command) l.untaken →
-    late_at now l ≡ false → Timed p (end_of l.next) l.moment l.untaken left out ns →
-    Timed p (end_of (gone_on now l).next) (gone_on now l).moment (gone_on now l).untaken (left ++ of_decision p (present_moment now l) (decision now l)) (out ++ sendings_in p (given_by (decision now l))) ns
-timed_due law p now l left out ns sendable none g = by_decision (decision now l) (timed_leaving law p now l g.born (end_of l.next) g.untaken sendable none)
+timed_due : WrittenIsReadBack → (zs : Zeros) (p : Peer) (now : ℕ) (l : LinkState) (left : List Departure) (out : List SentDatagram) (ns : List Note) → AllByRecursion (λ (u : Untaken). IsSendable u.command) l.untaken →
+    late_at now l ≡ false → Timed zs p (end_of l.next) l.moment l.untaken left out ns →
+    Timed zs p (end_of (gone_on now l).next) (gone_on now l).moment (gone_on now l).untaken (left ++ of_decision p (present_moment now l) (decision now l)) (out ++ sendings_in p (given_by (decision now l))) ns
+timed_due law zs p now l left out ns sendable none g = by_decision (decision now l) (timed_leaving law p now l g.born (end_of l.next) g.untaken sendable none)
   where
     t : ℕ
     t = present_moment now l
@@ -239,40 +248,40 @@ timed_due law p now l left out ns sendable none g = by_decision (decision now l)
     later m now = omega arith
 
     by_decision : (d : Decision) → AllByRecursion (TimedDeparture g.born (end_of l.next) p) (of_decision p t d) →
-        Timed p (end_of (after_due d t l).next) (after_due d t l).moment (after_due d t l).untaken (left ++ of_decision p t d) (out ++ sendings_in p (given_by d)) ns
+        Timed zs p (end_of (after_due d t l).next) (after_due d t l).moment (after_due d t l).untaken (left ++ of_decision p t d) (out ++ sendings_in p (given_by d)) ns
     by_decision (GivesCommand c) new =
-        timed_link p (end_of l.next) l.moment t l.untaken (map (marked_sent t c.handle) l.untaken) (left ++ of_decision p t (GivesCommand c)) (out ++ sendings_in p (given_by (GivesCommand c))) ns (later l.moment now)
+        timed_link zs p (end_of l.next) l.moment t l.untaken (map (marked_sent t c.handle) l.untaken) (left ++ of_decision p t (GivesCommand c)) (out ++ sendings_in p (given_by (GivesCommand c))) ns (later l.moment now)
         (λ born a. untaken_marked_sent born (end_of l.next) t t c.handle l.untaken a)
-        (timed_more p (end_of l.next) l.moment l.untaken left (of_decision p t (GivesCommand c)) out (sendings_in p (given_by (GivesCommand c))) ns refl g new)
+        (timed_more zs p (end_of l.next) l.moment l.untaken left (of_decision p t (GivesCommand c)) out (sendings_in p (given_by (GivesCommand c))) ns refl g new)
     by_decision GivesKeepAlive new =
-        timed_link p (end_of l.next) l.moment t l.untaken l.untaken (left ++ of_decision p t GivesKeepAlive) (out ++ sendings_in p (given_by GivesKeepAlive)) ns (later l.moment now) (λ born a. a)
-        (timed_more p (end_of l.next) l.moment l.untaken left (of_decision p t GivesKeepAlive) out (sendings_in p (given_by GivesKeepAlive)) ns refl g new)
+        timed_link zs p (end_of l.next) l.moment t l.untaken l.untaken (left ++ of_decision p t GivesKeepAlive) (out ++ sendings_in p (given_by GivesKeepAlive)) ns (later l.moment now) (λ born a. a)
+        (timed_more zs p (end_of l.next) l.moment l.untaken left (of_decision p t GivesKeepAlive) out (sendings_in p (given_by GivesKeepAlive)) ns refl g new)
     by_decision GivesNothing new =
-        timed_link p (end_of l.next) l.moment t l.untaken l.untaken (left ++ []) (out ++ []) ns (later l.moment now) (λ born a. a)
-        (timed_more p (end_of l.next) l.moment l.untaken left [] out [] ns refl g new)
+        timed_link zs p (end_of l.next) l.moment t l.untaken l.untaken (left ++ []) (out ++ []) ns (later l.moment now) (λ born a. a)
+        (timed_more zs p (end_of l.next) l.moment l.untaken left [] out [] ns refl g new)
     by_decision IsLost new =
-        timed_link p (end_of l.next) l.moment t l.untaken l.untaken (left ++ []) (out ++ []) ns (later l.moment now) (λ born a. a)
-        (timed_more p (end_of l.next) l.moment l.untaken left [] out [] ns refl g new)
+        timed_link zs p (end_of l.next) l.moment t l.untaken l.untaken (left ++ []) (out ++ []) ns (later l.moment now) (λ born a. a)
+        (timed_more zs p (end_of l.next) l.moment l.untaken left [] out [] ns refl g new)
 
 -- another link is asked
-timed_due_other : (p q : Peer) (t end m : ℕ) (us : List Untaken) (d : Decision) (left : List Departure) (out : List SentDatagram) (ns : List Note) → q ≢ p → Timed p end m us left out ns →
-    Timed p end m us (left ++ of_decision q t d) (out ++ sendings_in q (given_by d)) ns
-timed_due_other p q t end m us d left out ns other g = timed_more p end m us left (of_decision q t d) out (sendings_in q (given_by d)) ns (of_decision_are q t d) g (none (given_by d))
+timed_due_other : (zs : Zeros) (p q : Peer) (t end m : ℕ) (us : List Untaken) (d : Decision) (left : List Departure) (out : List SentDatagram) (ns : List Note) → q ≢ p → Timed zs p end m us left out ns →
+    Timed zs p end m us (left ++ of_decision q t d) (out ++ sendings_in q (given_by d)) ns
+timed_due_other zs p q t end m us d left out ns other g = timed_more zs p end m us left (of_decision q t d) out (sendings_in q (given_by d)) ns (of_decision_are q t d) g (none (given_by d))
   where
     none : (packets : List (List ℕ)) → AllByRecursion (TimedDeparture g.born end p) (map (λ bytes. record { datagram = record { peer = q; bytes = bytes }; at = t }) packets)
     none [] = tt
     none (b ∷ bs) = ((λ same. absurd (other same)), none bs)
 
 -- the link takes a command: from now on its handle has a submit
-timed_submit : (p : Peer) (r : Request) (now : ℕ) (l : LinkState) (left : List Departure) (out : List SentDatagram) (ns : List Note) → Timed p (end_of l.next) l.moment l.untaken left out ns →
-    Timed p (end_of (after_submission (submission r l) r now l).next) (after_submission (submission r l) r now l).moment (after_submission (submission r l) r now l).untaken left out ns
-timed_submit p r now l left out ns g = by_answer (submission r l) refl
+timed_submit : (zs : Zeros) (p : Peer) (r : Request) (now : ℕ) (l : LinkState) (left : List Departure) (out : List SentDatagram) (ns : List Note) → Timed zs p (end_of l.next) l.moment l.untaken left out ns →
+    Timed zs p (end_of (after_submission (submission r l) r now l).next) (after_submission (submission r l) r now l).moment (after_submission (submission r l) r now l).untaken left out ns
+timed_submit zs p r now l left out ns g = by_answer (submission r l) refl
   where
     t : ℕ
     t = present_moment now l
 
     by_answer : (a : Result Handle ControlFault) → submission r l ≡ a →
-        Timed p (end_of (after_submission a r now l).next) (after_submission a r now l).moment (after_submission a r now l).untaken left out ns
+        Timed zs p (end_of (after_submission a r now l).next) (after_submission a r now l).moment (after_submission a r now l).untaken left out ns
     by_answer (Err fault) e = g
     by_answer (Ok h) e = record {
       born = born';
@@ -339,16 +348,16 @@ timed_submit p r now l left out ns g = by_answer (submission r l) refl
         )
         sent_before at bytes (inr k) = inr k
 
-        noted_before : (at : ℕ) (x : Noted) → TimedNoted g.born (end_of l.next) at x → TimedNoted born' (end_of (handle_after h.0)) at x
-        noted_before at (Executed objects c r) a = (moved (g.born c.handle) (born' c.handle) at (older c.handle a.1) a.0, more c.handle a.1)
+        noted_before : (at : ℕ) (x : Noted) → TimedNoted (λ y. by_device zs (g.born y)) (end_of l.next) at x → TimedNoted (λ y. by_device zs (born' y)) (end_of (handle_after h.0)) at x
+        noted_before at (Executed objects c r) a = (moved (by_device zs (g.born c.handle)) (by_device zs (born' c.handle)) at (ap (by_device zs) (older c.handle a.1)) a.0, more c.handle a.1)
         noted_before at (Admitted ms) a = tt
         noted_before at (Heartbeat ms) a = tt
 
-timed_received : (p : Peer) (content : Option (List Msg)) (now : ℕ) (l : LinkState) (left : List Departure) (out : List SentDatagram) (ns : List Note) → Timed p (end_of l.next) l.moment l.untaken left out ns →
-    Timed p (end_of (received device_address content now l).next) (received device_address content now l).moment (received device_address content now l).untaken left out ns
-timed_received p content now l left out ns g =
-    timed_link p (end_of l.next) l.moment (present_moment now l) l.untaken (received device_address content now l).untaken left out ns (later l.moment now)
-    (λ born a. by_from born (same_peer device_address l.device) content a) g
+timed_received : (from : Peer) (zs : Zeros) (p : Peer) (content : Option (List Msg)) (now : ℕ) (l : LinkState) (left : List Departure) (out : List SentDatagram) (ns : List Note) → Timed zs p (end_of l.next) l.moment l.untaken left out ns →
+    Timed zs p (end_of (received from content now l).next) (received from content now l).moment (received from content now l).untaken left out ns
+timed_received from zs p content now l left out ns g =
+    timed_link zs p (end_of l.next) l.moment (present_moment now l) l.untaken (received from content now l).untaken left out ns (later l.moment now)
+    (λ born a. by_from born (same_peer from l.device) content a) g
   where
     later : (m now : ℕ) → m ≤ max m now
     later m now = omega arith
@@ -359,10 +368,10 @@ timed_received p content now l left out ns g =
     by_from born true None a = a
     by_from born false content a = a
 
-timed_taken : (p : Peer) (h : ℕ) (l : LinkState) (left : List Departure) (out : List SentDatagram) (ns : List Note) → Timed p (end_of l.next) l.moment l.untaken left out ns →
-    Timed p (end_of (taken h l).next) (taken h l).moment (taken h l).untaken left out ns
-timed_taken p h l left out ns g =
-    timed_link p (end_of l.next) l.moment l.moment l.untaken (taken h l).untaken left out ns (same l.moment) (λ born a. by_answer born (answer_under h l.untaken) a) g
+timed_taken : (zs : Zeros) (p : Peer) (h : ℕ) (l : LinkState) (left : List Departure) (out : List SentDatagram) (ns : List Note) → Timed zs p (end_of l.next) l.moment l.untaken left out ns →
+    Timed zs p (end_of (taken h l).next) (taken h l).moment (taken h l).untaken left out ns
+timed_taken zs p h l left out ns g =
+    timed_link zs p (end_of l.next) l.moment l.moment l.untaken (taken h l).untaken left out ns (same l.moment) (λ born a. by_answer born (answer_under h l.untaken) a) g
   where
     same : (m : ℕ) → m ≤ m
     same m = omega arith
@@ -375,15 +384,15 @@ timed_taken p h l left out ns g =
 -- ---- a datagram comes to the device
 
 -- what is noted changes
-timed_noted : (p : Peer) (end m : ℕ) (us : List Untaken) (left : List Departure) (out : List SentDatagram) (ns ns' : List Note) → (g : Timed p end m us left out ns) →
-    AllByRecursion (TimedNote g.born end p) ns' → IsDistinct eqb (handles_for p ns') → Timed p end m us left out ns'
-timed_noted p end m us left out ns ns' g executed once =
+timed_noted : (zs : Zeros) (p : Peer) (end m : ℕ) (us : List Untaken) (left : List Departure) (out : List SentDatagram) (ns ns' : List Note) → (g : Timed zs p end m us left out ns) →
+    AllByRecursion (TimedNote (λ h. by_device zs (g.born h)) end p) ns' → IsDistinct eqb (handles_for p ns') → Timed zs p end m us left out ns'
+timed_noted zs p end m us left out ns ns' g executed once =
     record { born = g.born; are = g.are; untaken = g.untaken; departures = g.departures; executed = executed; once = once }
 
 -- of another peer
-timed_elsewhere : (p q : Peer) (end m : ℕ) (us : List Untaken) (left : List Departure) (out : List SentDatagram) (g : Past) (bytes : List ℕ) (now : ℕ) → same_peer q p ≡ false →
-    Timed p end m us left out (state_of g).notes → Timed p end m us left out (state_of (and_then (Datagram q bytes now) g)).notes
-timed_elsewhere p q end m us left out g bytes now other f =
+timed_elsewhere : (zs : Zeros) (p q : Peer) (end m : ℕ) (us : List Untaken) (left : List Departure) (out : List SentDatagram) (g : Past) (bytes : List ℕ) (now : ℕ) → same_peer q p ≡ false →
+    Timed zs p end m us left out (state_of g).notes → Timed zs p end m us left out (state_of (and_then (Datagram q bytes now) g)).notes
+timed_elsewhere zs p q end m us left out g bytes now other f =
     let grows : Grows q (looked_at now g).moment (state_of g).notes (state_of (and_then (Datagram q bytes now) g)).notes = grows_reading g.sizes q (read_datagram bytes) (looked_at now g) in
     grown (state_of (and_then (Datagram q bytes now) g)).notes grows.more grows.is grows.own
   where
@@ -392,11 +401,11 @@ timed_elsewhere p q end m us left out g bytes now other f =
     skipped (n ∷ more) own =
         ap (λ b. cond b (executed_in n.what) [] ++ executed_for p (more ++ (state_of g).notes)) (ap (λ x. same_peer x p) own.0.0 ∙ other) ∙ skipped more own.1
 
-    none : (more : List Note) → AllByRecursion (λ n. (n.peer ≡ q) × (n.at ≡ (looked_at now g).moment)) more → AllByRecursion (TimedNote f.born end p) more
+    none : (more : List Note) → AllByRecursion (λ n. (n.peer ≡ q) × (n.at ≡ (looked_at now g).moment)) more → AllByRecursion (TimedNote (λ h. by_device zs (f.born h)) end p) more
     none more own = each_map (λ n h same. absurd (other_of q p other (sym h.0 ∙ same))) more own
 
-    grown : (ns more : List Note) → ns ≡ more ++ (state_of g).notes → AllByRecursion (λ n. (n.peer ≡ q) × (n.at ≡ (looked_at now g).moment)) more → Timed p end m us left out ns
-    grown ns more is own = rw is (timed_noted p end m us left out (state_of g).notes (more ++ (state_of g).notes) f
+    grown : (ns more : List Note) → ns ≡ more ++ (state_of g).notes → AllByRecursion (λ n. (n.peer ≡ q) × (n.at ≡ (looked_at now g).moment)) more → Timed zs p end m us left out ns
+    grown ns more is own = rw is (timed_noted zs p end m us left out (state_of g).notes (more ++ (state_of g).notes) f
         (each_append _ more (state_of g).notes (none more own) f.executed)
         (subst (λ (xs : List Execution). IsDistinct eqb (map (λ (x : Execution). x.command.handle) xs)) (sym (skipped more own)) f.once))
 
@@ -422,29 +431,29 @@ were_noted born end p h (n ∷ ns) a e = by_test (same_peer n.peer p) refl e (we
     by_test false q e rest = rest e
 
 -- What was executed for the peer under the handle of a copy that is in time is accepted in the session that the peer has.
-pub accepted_then : (p : Peer) (end m : ℕ) (us : List Untaken) (left : List Departure) (out : List SentDatagram) (g : Past) (now at h : ℕ) (ms : List Msg) → (f : Timed p end m us left out (state_of g).notes) →
-    at ≤ f.born h + longest_life → (looked_at now g).moment ≤ at + longest_delay → list_any (λ y. eqb y h) (handles_for p (state_of g).notes) ≡ true →
+pub accepted_then : (zs : Zeros) (p : Peer) (end m : ℕ) (us : List Untaken) (left : List Departure) (out : List SentDatagram) (g : Past) (now at h : ℕ) (ms : List Msg) → (f : Timed zs p end m us left out (state_of g).notes) →
+    at ≤ f.born h + longest_life → zs.device + (looked_at now g).moment ≤ zs.link + at + longest_delay → list_any (λ y. eqb y h) (handles_for p (state_of g).notes) ≡ true →
     has h (accepted (run p (noted p (Admitted ms) (looked_at now g)).notes)) ≡ true
-accepted_then p end m us left out g now at h ms f in_time arrives was =
+accepted_then zs p end m us left out g now at h ms f in_time arrives was =
     let s1 : State = looked_at now g in
     let n : Note = record { peer = p; at = s1.moment; what = Admitted ms } in
-    let found = still_accepted h (f.born h) s1.moment (notes_of p (state_of g).notes)
+    let found = still_accepted h (by_device zs (f.born h)) s1.moment (notes_of p (state_of g).notes)
     (ordered_of p s1.moment (state_of g).notes (later (ordered_after g.sizes g.tree g.events)))
-    (near (f.born h) s1.moment in_time arrives) (were_noted f.born end p h (state_of g).notes f.executed was) in
+    (near (f.born h) s1.moment in_time arrives) (were_noted (λ y. by_device zs (f.born y)) end p h (state_of g).notes f.executed was) in
     ap (λ (xs : List Note). has h (accepted (unbroken xs))) (notes_noted p (Admitted ms) s1)
     ∙ ap (λ b. has h (accepted (n ∷ cond b (unbroken (notes_of p (state_of g).notes)) []))) found.0 ∙ found.1
   where
-    near : (b t : ℕ) → at ≤ b + longest_life → t ≤ at + longest_delay → t ≤ b + longest_silence
+    near : (b t : ℕ) → at ≤ b + longest_life → zs.device + t ≤ zs.link + at + longest_delay → t ≤ by_device zs b + longest_silence
     near b t p q = omega arith
 
     later : AreOrdered (state_of g).moment (state_of g).notes → AreOrdered (looked_at now g).moment (state_of g).notes
     later o = ordered_till (state_of g).moment (looked_at now g).moment (state_of g).notes (omega arith) o
 
 -- of the link itself
-timed_own : (p : Peer) (end m : ℕ) (us : List Untaken) (left : List Departure) (out : List SentDatagram) (g : Past) (bytes : List ℕ) (now at : ℕ) → (f : Timed p end m us left out (state_of g).notes) →
-    TimedBytes f.born end at bytes → ArrivesInTime at (looked_at now g).moment → Timed p end m us left out (state_of (and_then (Datagram p bytes now) g)).notes
+timed_own : (zs : Zeros) (p : Peer) (end m : ℕ) (us : List Untaken) (left : List Departure) (out : List SentDatagram) (g : Past) (bytes : List ℕ) (now at : ℕ) → (f : Timed zs p end m us left out (state_of g).notes) →
+    TimedBytes f.born end at bytes → ArrivesInTime (zs.link + at) (zs.device + (looked_at now g).moment) → Timed zs p end m us left out (state_of (and_then (Datagram p bytes now) g)).notes
 unfolding IsDistinct
-timed_own p end m us left out g bytes now at f kind arrives = elim kind [
+timed_own zs p end m us left out g bytes now at f kind arrives = elim kind [
   | inl (c, read, i) ↦ by_room (Command true c) read (admits g.sizes s1 p) refl (λ room. by_judgement c read i room (judged_in g.sizes (let_in p (Command true c) now g) p c) refl)
   | inr (form, read) ↦ by_room (KeepAlive form) read (admits g.sizes s1 p) refl
       (λ room. made (KeepAlive form) read room (noted p (Heartbeat (time_of form)) (let_in p (KeepAlive form) now g)) refl ((λ same. tt), executed2 (KeepAlive form)) (rw (executed_noted p (Heartbeat (time_of form)) (let_in p (KeepAlive form) now g)) (once2 (KeepAlive form))))
@@ -456,26 +465,26 @@ timed_own p end m us left out g bytes now at f kind arrives = elim kind [
     g' : Past
     g' = and_then (Datagram p bytes now) g
 
-    settled : (s : State) → state_of g' ≡ s → AllByRecursion (TimedNote f.born end p) s.notes → IsDistinct eqb (handles_for p s.notes) → Timed p end m us left out (state_of g').notes
-    settled s is executed once = rw is (timed_noted p end m us left out (state_of g).notes s.notes f executed once)
+    settled : (s : State) → state_of g' ≡ s → AllByRecursion (TimedNote (λ h. by_device zs (f.born h)) end p) s.notes → IsDistinct eqb (handles_for p s.notes) → Timed zs p end m us left out (state_of g').notes
+    settled s is executed once = rw is (timed_noted zs p end m us left out (state_of g).notes s.notes f executed once)
 
-    executed2 : (x : Msg) → AllByRecursion (TimedNote f.born end p) (let_in p x now g).notes
+    executed2 : (x : Msg) → AllByRecursion (TimedNote (λ h. by_device zs (f.born h)) end p) (let_in p x now g).notes
     executed2 x = ((λ same. tt), f.executed)
 
     once2 : (x : Msg) → IsDistinct eqb (handles_for p (let_in p x now g).notes)
     once2 x = subst (λ (xs : List Execution). IsDistinct eqb (map (λ (y : Execution). y.command.handle) xs)) (sym (executed_noted p (Admitted (x ∷ [])) s1)) f.once
 
     made : (x : Msg) → read_datagram bytes ≡ Ok (x ∷ []) → admits g.sizes s1 p ≡ true → (s : State) → after_message g.sizes p x (let_in p x now g) ≡ s →
-        AllByRecursion (TimedNote f.born end p) s.notes → IsDistinct eqb (handles_for p s.notes) → Timed p end m us left out (state_of g').notes
+        AllByRecursion (TimedNote (λ h. by_device zs (f.born h)) end p) s.notes → IsDistinct eqb (handles_for p s.notes) → Timed zs p end m us left out (state_of g').notes
     made x read room s is executed once = settled s (after_read g.sizes p x bytes now g true read room ∙ is) executed once
 
-    by_room : (x : Msg) → read_datagram bytes ≡ Ok (x ∷ []) → (b : Bool) → admits g.sizes s1 p ≡ b → (admits g.sizes s1 p ≡ true → Timed p end m us left out (state_of g').notes) →
-        Timed p end m us left out (state_of g').notes
+    by_room : (x : Msg) → read_datagram bytes ≡ Ok (x ∷ []) → (b : Bool) → admits g.sizes s1 p ≡ b → (admits g.sizes s1 p ≡ true → Timed zs p end m us left out (state_of g').notes) →
+        Timed zs p end m us left out (state_of g').notes
     by_room x read true room served = served room
     by_room x read false room served = settled s1 (after_read g.sizes p x bytes now g false read room) f.executed f.once
 
     by_judgement : (c : CommandFields) → read_datagram bytes ≡ Ok (Command true c ∷ []) → LeftInTime f.born end at c.handle → admits g.sizes s1 p ≡ true →
-        (j : Judgement) → judged_in g.sizes (let_in p (Command true c) now g) p c ≡ j → Timed p end m us left out (state_of g').notes
+        (j : Judgement) → judged_in g.sizes (let_in p (Command true c) now g) p c ≡ j → Timed zs p end m us left out (state_of g').notes
     by_judgement c read i room Fresh q =
         let s2 : State = let_in p (Command true c) now g in
         let r : Reply = reply_of s2.tree p c in
@@ -487,7 +496,7 @@ timed_own p end m us left out g bytes now at f kind arrives = elim kind [
         s2' : State
         s2' = record { tree = (let_in p (Command true c) now g).tree; moment = s1.moment; notes = (let_in p (Command true c) now g).notes }
 
-        since : (b : ℕ) → b ≤ at → at ≤ s1.moment → b ≤ s1.moment
+        since : (b : ℕ) → b ≤ at → zs.link + at ≤ zs.device + s1.moment → by_device zs b ≤ s1.moment
         since b p q = omega arith
 
         flipped : (a b : ℕ) → eqb a b ≡ false → eqb b a ≡ false
@@ -502,7 +511,7 @@ timed_own p end m us left out g bytes now at f kind arrives = elim kind [
           where
             by_before : (b : Bool) → list_any (λ y. eqb y c.handle) (handles_for p (state_of g).notes) ≡ b → b ≡ false
             by_before true e =
-                sym (accepted_then p end m us left out g now at c.handle (Command true c ∷ []) f i.not_late arrives.not_late e)
+                sym (accepted_then zs p end m us left out g now at c.handle (Command true c ∷ []) f i.not_late arrives.not_late e)
                 ∙ judged_fresh g.sizes.window (accepted (run p (let_in p (Command true c) now g).notes)) c q
             by_before false e = refl
     by_judgement c read i room (Duplicate r) q = made (Command true c) read room (let_in p (Command true c) now g) (ap (λ j. after_command j p c (let_in p (Command true c) now g)) q) (executed2 (Command true c)) (once2 (Command true c))
@@ -511,9 +520,13 @@ timed_own p end m us left out g bytes now at f kind arrives = elim kind [
 
 -- ---- the network
 
+-- the zeros of the clock of a peer's link and of the device's clock
+abbrev pub zeros : Setup → Peer → Zeros
+zeros s p = record { link = s.zero p; device = s.device_zero }
+
 -- the link of this number is so
-abbrev pub TimedAt : ℕ → List Departure → Network → Type 0
-TimedAt i left n = (l : PeerLink) → slice_get n.links i ≡ Some l → Timed l.peer (end_of l.link.next) l.link.moment l.link.untaken left n.to_device (state_of (past n)).notes
+abbrev pub TimedAt : Setup → ℕ → List Departure → Network → Type 0
+TimedAt s i left n = (l : PeerLink) → slice_get n.links i ≡ Some l → Timed (zeros s l.peer) l.peer (end_of l.link.next) l.link.moment l.link.untaken left n.to_device (state_of (past n)).notes
 
 pub same_some : {X : Type 0} (x y : X) → Some x ≡ Some y → x ≡ y
 same_some x y e = cc
@@ -533,10 +546,10 @@ apart_at (y ∷ ys) (suc k) (suc i) x z a e f other = apart_at ys k i x z a.1 e 
     fewer a b q = grind (arith, nat_tests)
 
 -- one link changes: what is so of it, and of the others
-timed_put : (i k : ℕ) (x y : PeerLink) (left : List Departure) (n m : Network) → slice_get n.links k ≡ Some x → m.links ≡ slice_set n.links k y →
-    (k ≡ i → slice_get n.links i ≡ Some x → Timed y.peer (end_of y.link.next) y.link.moment y.link.untaken left m.to_device (state_of (past m)).notes) →
-    ((l : PeerLink) → nat_eq k i ≡ false → slice_get n.links i ≡ Some l → Timed l.peer (end_of l.link.next) l.link.moment l.link.untaken left m.to_device (state_of (past m)).notes) → TimedAt i left m
-timed_put i k x y left n m e links mine others l own = by_test (nat_eq k i) refl
+timed_put : (s : Setup) (i k : ℕ) (x y : PeerLink) (left : List Departure) (n m : Network) → slice_get n.links k ≡ Some x → m.links ≡ slice_set n.links k y →
+    (k ≡ i → slice_get n.links i ≡ Some x → Timed (zeros s y.peer) y.peer (end_of y.link.next) y.link.moment y.link.untaken left m.to_device (state_of (past m)).notes) →
+    ((l : PeerLink) → nat_eq k i ≡ false → slice_get n.links i ≡ Some l → Timed (zeros s l.peer) l.peer (end_of l.link.next) l.link.moment l.link.untaken left m.to_device (state_of (past m)).notes) → TimedAt s i left m
+timed_put s i k x y left n m e links mine others l own = by_test (nat_eq k i) refl
   where
     own' : slice_get (slice_set n.links k y) i ≡ Some l
     own' = ap (λ (xs : List PeerLink). slice_get xs i) (sym links) ∙ own
@@ -544,39 +557,39 @@ timed_put i k x y left n m e links mine others l own = by_test (nat_eq k i) refl
     here : k ≡ i → slice_get n.links i ≡ Some x
     here q = ap (λ (j : ℕ). slice_get n.links j) (sym q) ∙ e
 
-    by_test : (b : Bool) → nat_eq k i ≡ b → Timed l.peer (end_of l.link.next) l.link.moment l.link.untaken left m.to_device (state_of (past m)).notes
+    by_test : (b : Bool) → nat_eq k i ≡ b → Timed (zeros s l.peer) l.peer (end_of l.link.next) l.link.moment l.link.untaken left m.to_device (state_of (past m)).notes
     by_test true q =
         let is : k ≡ i = equal_is k i q in
         let same : y ≡ l = same_some y l (sym (put_here n.links i y x (here is)) ∙ ap (λ (j : ℕ). slice_get (slice_set n.links j y) i) (sym is) ∙ own') in
-        subst (λ (z : PeerLink). Timed z.peer (end_of z.link.next) z.link.moment z.link.untaken left m.to_device (state_of (past m)).notes) same (mine is (here is))
+        subst (λ (z : PeerLink). Timed (zeros s z.peer) z.peer (end_of z.link.next) z.link.moment z.link.untaken left m.to_device (state_of (past m)).notes) same (mine is (here is))
     by_test false q = others l q (sym (put_elsewhere n.links k i y q) ∙ own')
 
 -- the commands of a link can be sent
-sendable_untaken : (s : ℕ) (n : Network) (l : PeerLink) → LinkSound s n l → AllByRecursion (λ (u : Untaken). IsSendable u.command) l.link.untaken
+sendable_untaken : (s : Peer → ℕ) (n : Network) (l : PeerLink) → LinkSound s n l → AllByRecursion (λ (u : Untaken). IsSendable u.command) l.link.untaken
 sendable_untaken s n l w = each_map (λ u h. (each_in _ _ n.submitted w.fair.sendable h.0 refl).0) l.link.untaken w.fair.untaken
 
-timed_step_submit : (i k : ℕ) (r : Request) (now : ℕ) (left : List Departure) (n : Network) → TimedAt i left n → (o : Option PeerLink) → slice_get n.links k ≡ o → TimedAt i left (after_submit k r now o n)
-timed_step_submit i k r now left n g None e = g
-timed_step_submit i k r now left n g (Some x) e =
-    timed_put i k x (record { peer = x.peer; link = after_submission (submission r x.link) r now x.link }) left n (after_submit k r now (Some x) n) e refl
-    (λ is own. timed_submit x.peer r now x.link left n.to_device (state_of (past n)).notes (g x own)) (λ l other own. g l own)
+timed_step_submit : (s : Setup) (i k : ℕ) (r : Request) (now : ℕ) (left : List Departure) (n : Network) → TimedAt s i left n → (o : Option PeerLink) → slice_get n.links k ≡ o → TimedAt s i left (after_submit k r now o n)
+timed_step_submit s i k r now left n g None e = g
+timed_step_submit s i k r now left n g (Some x) e =
+    timed_put s i k x (record { peer = x.peer; link = after_submission (submission r x.link) r now x.link }) left n (after_submit k r now (Some x) n) e refl
+    (λ is own. timed_submit (zeros s x.peer) x.peer r now x.link left n.to_device (state_of (past n)).notes (g x own)) (λ l other own. g l own)
 
-timed_step_take : (i k h : ℕ) (left : List Departure) (n : Network) → TimedAt i left n → (o : Option PeerLink) → slice_get n.links k ≡ o → TimedAt i left (after_take k h o n)
-timed_step_take i k h left n g None e = g
-timed_step_take i k h left n g (Some x) e =
-    timed_put i k x (record { peer = x.peer; link = taken h x.link }) left n (after_take k h (Some x) n) e refl
-    (λ is own. timed_taken x.peer h x.link left n.to_device (state_of (past n)).notes (g x own)) (λ l other own. g l own)
+timed_step_take : (s : Setup) (i k h : ℕ) (left : List Departure) (n : Network) → TimedAt s i left n → (o : Option PeerLink) → slice_get n.links k ≡ o → TimedAt s i left (after_take k h o n)
+timed_step_take s i k h left n g None e = g
+timed_step_take s i k h left n g (Some x) e =
+    timed_put s i k x (record { peer = x.peer; link = taken h x.link }) left n (after_take k h (Some x) n) e refl
+    (λ is own. timed_taken (zeros s x.peer) x.peer h x.link left n.to_device (state_of (past n)).notes (g x own)) (λ l other own. g l own)
 
-no_more : (p : Peer) (end m : ℕ) (us : List Untaken) (left : List Departure) (out : List SentDatagram) (ns : List Note) → Timed p end m us left out ns → Timed p end m us (left ++ []) out ns
-no_more p end m us left out ns g = rw append-nil g
+no_more : (zs : Zeros) (p : Peer) (end m : ℕ) (us : List Untaken) (left : List Departure) (out : List SentDatagram) (ns : List Note) → Timed zs p end m us left out ns → Timed zs p end m us (left ++ []) out ns
+no_more zs p end m us left out ns g = rw append-nil g
 
-timed_step_due : WrittenIsReadBack → (s i k now : ℕ) (left : List Departure) (n : Network) → Sound s n → StepIsInTime i left (Due k now) n → TimedAt i left n → (o : Option PeerLink) → slice_get n.links k ≡ o →
-    TimedAt i (left ++ leaving now o) (after_due_step k now o n)
-timed_step_due law s i k now left n sound in_time g None e = λ l own. no_more l.peer (end_of l.link.next) l.link.moment l.link.untaken left n.to_device (state_of (past n)).notes (g l own)
+timed_step_due : WrittenIsReadBack → (s : Setup) (i k now : ℕ) (left : List Departure) (n : Network) → Sound s.span n → StepIsInTime s i left (Due k now) n → TimedAt s i left n → (o : Option PeerLink) → slice_get n.links k ≡ o →
+    TimedAt s i (left ++ leaving now o) (after_due_step k now o n)
+timed_step_due law s i k now left n sound in_time g None e = λ l own. no_more (zeros s l.peer) l.peer (end_of l.link.next) l.link.moment l.link.untaken left n.to_device (state_of (past n)).notes (g l own)
 timed_step_due law s i k now left n sound in_time g (Some x) e =
-    timed_put i k x (record { peer = x.peer; link = gone_on now x.link }) (left ++ leaving now (Some x)) n (after_due_step k now (Some x) n) e refl
-    (λ is own. timed_due law x.peer now x.link left n.to_device (state_of (past n)).notes (sendable_untaken s n x (each_at (LinkSound s n) n.links i x sound.each own)) (in_time x is own) (g x own))
-    (λ l other own. timed_due_other l.peer x.peer (present_moment now x.link) (end_of l.link.next) l.link.moment l.link.untaken (decision now x.link) left n.to_device (state_of (past n)).notes
+    timed_put s i k x (record { peer = x.peer; link = gone_on now x.link }) (left ++ leaving now (Some x)) n (after_due_step k now (Some x) n) e refl
+    (λ is own. timed_due law (zeros s x.peer) x.peer now x.link left n.to_device (state_of (past n)).notes (sendable_untaken s.span n x (each_at (LinkSound s.span n) n.links i x sound.each own)) (in_time x is own) (g x own))
+    (λ l other own. timed_due_other (zeros s l.peer) l.peer x.peer (present_moment now x.link) (end_of l.link.next) l.link.moment l.link.untaken (decision now x.link) left n.to_device (state_of (past n)).notes
     (apart_at n.links k i x l sound.apart e own other) (g l own))
 
 -- what stands at a place of a list that a function was mapped over
@@ -585,100 +598,100 @@ mapped_at f [] i y e = cc
 mapped_at f (x ∷ xs) zero y e = (x, refl, same_some (f x) y e)
 mapped_at f (x ∷ xs) (suc i) y e = mapped_at f xs i y e
 
-timed_step_reception : (i now : ℕ) (left : List Departure) (n : Network) → TimedAt i left n → (o : Option SentDatagram) → TimedAt i left (after_reception now o n)
-timed_step_reception i now left n g None = g
-timed_step_reception i now left n g (Some d) = λ l own. let z = mapped_at (hears_datagram d now) n.links i l own in
-    subst (λ (y : PeerLink). Timed y.peer (end_of y.link.next) y.link.moment y.link.untaken left n.to_device (state_of (past n)).notes) z.2 (one z.0 (same_peer z.0.peer d.peer) (g z.0 z.1))
+timed_step_reception : (s : Setup) (i now : ℕ) (left : List Departure) (n : Network) → TimedAt s i left n → (o : Option SentDatagram) → TimedAt s i left (after_reception now o n)
+timed_step_reception s i now left n g None = g
+timed_step_reception s i now left n g (Some d) = λ l own. let z = mapped_at (hears_datagram n.address d now) n.links i l own in
+    subst (λ (y : PeerLink). Timed (zeros s y.peer) y.peer (end_of y.link.next) y.link.moment y.link.untaken left n.to_device (state_of (past n)).notes) z.2 (one z.0 (same_peer z.0.peer d.peer) (g z.0 z.1))
   where
-    one : (z : PeerLink) (b : Bool) → Timed z.peer (end_of z.link.next) z.link.moment z.link.untaken left n.to_device (state_of (past n)).notes →
-        let y : PeerLink = cond b (record { peer = z.peer; link = received device_address (content_read d.bytes) now z.link }) z in
-        Timed y.peer (end_of y.link.next) y.link.moment y.link.untaken left n.to_device (state_of (past n)).notes
-    one z true f = timed_received z.peer (content_read d.bytes) now z.link left n.to_device (state_of (past n)).notes f
+    one : (z : PeerLink) (b : Bool) → Timed (zeros s z.peer) z.peer (end_of z.link.next) z.link.moment z.link.untaken left n.to_device (state_of (past n)).notes →
+        let y : PeerLink = cond b (record { peer = z.peer; link = received n.address (content_read d.bytes) now z.link }) z in
+        Timed (zeros s y.peer) y.peer (end_of y.link.next) y.link.moment y.link.untaken left n.to_device (state_of (past n)).notes
+    one z true f = timed_received n.address (zeros s z.peer) z.peer (content_read d.bytes) now z.link left n.to_device (state_of (past n)).notes f
     one z false f = f
 
 -- the device's clock when a datagram comes
 pub clock_is : (now : ℕ) (n : Network) → (looked_at now (past n)).moment ≡ clock_at now n
 clock_is now n = let stands1 : Stands n.sizes n.tree (looked_at now (past n)) (Passes now ∷ happenings n.events) = passing n.sizes n.tree now (state_of (past n)) (happenings n.events) (stands_by n.sizes n.tree n.events) in stands1.clock_is
 
-timed_step_delivery : (i k now : ℕ) (left : List Departure) (n : Network) → StepIsInTime i left (ToDevice k now) n → TimedAt i left n → (o : Option SentDatagram) → slice_get n.to_device k ≡ o →
-    TimedAt i left (after_delivery now o n)
-timed_step_delivery i k now left n in_time g None e = g
-timed_step_delivery i k now left n in_time g (Some d) e = λ l own. by_test l own (same_peer d.peer l.peer) refl
+timed_step_delivery : (s : Setup) (i k now : ℕ) (left : List Departure) (n : Network) → StepIsInTime s i left (ToDevice k now) n → TimedAt s i left n → (o : Option SentDatagram) → slice_get n.to_device k ≡ o →
+    TimedAt s i left (after_delivery now o n)
+timed_step_delivery s i k now left n in_time g None e = g
+timed_step_delivery s i k now left n in_time g (Some d) e = λ l own. by_test l own (same_peer d.peer l.peer) refl
   where
     by_test : (l : PeerLink) → slice_get n.links i ≡ Some l → (b : Bool) → same_peer d.peer l.peer ≡ b →
-        Timed l.peer (end_of l.link.next) l.link.moment l.link.untaken left n.to_device (state_of (and_then (Datagram d.peer d.bytes now) (past n))).notes
+        Timed (zeros s l.peer) l.peer (end_of l.link.next) l.link.moment l.link.untaken left n.to_device (state_of (and_then (Datagram d.peer d.bytes now) (past n))).notes
     by_test l own true q =
-        let f : Timed l.peer (end_of l.link.next) l.link.moment l.link.untaken left n.to_device (state_of (past n)).notes = g l own in
+        let f : Timed (zeros s l.peer) l.peer (end_of l.link.next) l.link.moment l.link.untaken left n.to_device (state_of (past n)).notes = g l own in
         let same : d.peer ≡ l.peer = same_is d.peer l.peer q in
         let at = mapped_at (λ (x : Departure). x.datagram) left k d (ap (λ (xs : List SentDatagram). slice_get xs k) f.are ∙ e) in
         let its : at.0.datagram.peer ≡ l.peer = ap (λ (x : SentDatagram). x.peer) at.2 ∙ same in
         let timed : TimedBytes f.born (end_of l.link.next) at.0.at at.0.datagram.bytes = each_at (TimedDeparture f.born (end_of l.link.next) l.peer) left k at.0 f.departures at.1 its in
-        let came : ArrivesInTime at.0.at (clock_at now n) = in_time l at.0 own at.1 its in
-        subst (λ (p : Peer). Timed l.peer (end_of l.link.next) l.link.moment l.link.untaken left n.to_device (state_of (and_then (Datagram p d.bytes now) (past n))).notes) (sym same)
-        (timed_own l.peer (end_of l.link.next) l.link.moment l.link.untaken left n.to_device (past n) d.bytes now at.0.at f
+        let came : ArrivesInTime (s.zero l.peer + at.0.at) (s.device_zero + clock_at now n) = in_time l at.0 own at.1 its in
+        subst (λ (p : Peer). Timed (zeros s l.peer) l.peer (end_of l.link.next) l.link.moment l.link.untaken left n.to_device (state_of (and_then (Datagram p d.bytes now) (past n))).notes) (sym same)
+        (timed_own (zeros s l.peer) l.peer (end_of l.link.next) l.link.moment l.link.untaken left n.to_device (past n) d.bytes now at.0.at f
         (subst (λ (bytes : List ℕ). TimedBytes f.born (end_of l.link.next) at.0.at bytes) (ap (λ (x : SentDatagram). x.bytes) at.2) timed)
-        (subst (λ (t : ℕ). ArrivesInTime at.0.at t) (sym (clock_is now n)) came))
-    by_test l own false q = timed_elsewhere l.peer d.peer (end_of l.link.next) l.link.moment l.link.untaken left n.to_device (past n) d.bytes now q (g l own)
+        (subst (λ (t : ℕ). ArrivesInTime (s.zero l.peer + at.0.at) (s.device_zero + t)) (sym (clock_is now n)) came))
+    by_test l own false q = timed_elsewhere (zeros s l.peer) l.peer d.peer (end_of l.link.next) l.link.moment l.link.untaken left n.to_device (past n) d.bytes now q (g l own)
 
-timed_step_other : (i : ℕ) (from : Peer) (bytes : List ℕ) (now : ℕ) (left : List Departure) (n : Network) → TimedAt i left n → TimedAt i left (after_step (Other from bytes now) n)
-timed_step_other i from bytes now left n g = by_test (has_link from n.links) refl
+timed_step_other : (s : Setup) (i : ℕ) (from : Peer) (bytes : List ℕ) (now : ℕ) (left : List Departure) (n : Network) → TimedAt s i left n → TimedAt s i left (after_step (Other from bytes now) n)
+timed_step_other s i from bytes now left n g = by_test (has_link from n.links) refl
   where
-    by_test : (b : Bool) → has_link from n.links ≡ b → TimedAt i left (cond b n (record n { events = Datagram from bytes now ∷ n.events }))
+    by_test : (b : Bool) → has_link from n.links ≡ b → TimedAt s i left (cond b n (record n { events = Datagram from bytes now ∷ n.events }))
     by_test true q = g
-    by_test false q = λ l own. timed_elsewhere l.peer from (end_of l.link.next) l.link.moment l.link.untaken left n.to_device (past n) bytes now
+    by_test false q = λ l own. timed_elsewhere (zeros s l.peer) l.peer from (end_of l.link.next) l.link.moment l.link.untaken left n.to_device (past n) bytes now
         (same_turned from l.peer ∙ each_at (λ (z : PeerLink). same_peer z.peer from ≡ false) n.links i l (none_passes (λ (z : PeerLink). same_peer z.peer from) n.links q) own) (g l own)
 
-pub timed_step : WrittenIsReadBack → (s i : ℕ) (left : List Departure) (step : Step) (n : Network) → Sound s n → StepIsInTime i left step n → TimedAt i left n → TimedAt i (left ++ departures_in step n) (after_step step n)
+pub timed_step : WrittenIsReadBack → (s : Setup) (i : ℕ) (left : List Departure) (step : Step) (n : Network) → Sound s.span n → StepIsInTime s i left step n → TimedAt s i left n → TimedAt s i (left ++ departures_in step n) (after_step step n)
 timed_step law s i left step n sound in_time g = one step in_time
   where
-    none : (m : Network) → TimedAt i left m → TimedAt i (left ++ []) m
-    none m f l own = no_more l.peer (end_of l.link.next) l.link.moment l.link.untaken left m.to_device (state_of (past m)).notes (f l own)
+    none : (m : Network) → TimedAt s i left m → TimedAt s i (left ++ []) m
+    none m f l own = no_more (zeros s l.peer) l.peer (end_of l.link.next) l.link.moment l.link.untaken left m.to_device (state_of (past m)).notes (f l own)
 
-    one : (step : Step) → StepIsInTime i left step n → TimedAt i (left ++ departures_in step n) (after_step step n)
-    one (Submit k r now) t = none (after_step (Submit k r now) n) (timed_step_submit i k r now left n g (slice_get n.links k) refl)
+    one : (step : Step) → StepIsInTime s i left step n → TimedAt s i (left ++ departures_in step n) (after_step step n)
+    one (Submit k r now) t = none (after_step (Submit k r now) n) (timed_step_submit s i k r now left n g (slice_get n.links k) refl)
     one (Due k now) t = timed_step_due law s i k now left n sound t g (slice_get n.links k) refl
-    one (ToDevice k now) t = none (after_step (ToDevice k now) n) (timed_step_delivery i k now left n t g (slice_get n.to_device k) refl)
-    one (ToLink k now) t = none (after_step (ToLink k now) n) (timed_step_reception i now left n g (slice_get n.to_links k))
-    one (Other from bytes now) t = none (after_step (Other from bytes now) n) (timed_step_other i from bytes now left n g)
+    one (ToDevice k now) t = none (after_step (ToDevice k now) n) (timed_step_delivery s i k now left n t g (slice_get n.to_device k) refl)
+    one (ToLink k now) t = none (after_step (ToLink k now) n) (timed_step_reception s i now left n g (slice_get n.to_links k))
+    one (Other from bytes now) t = none (after_step (Other from bytes now) n) (timed_step_other s i from bytes now left n g)
     one (steps.Tick now) t = none (after_step (steps.Tick now) n) (λ l own. let f = g l own in f)
     one (steps.Local ono change) t = none (after_step (steps.Local ono change) n) (λ l own. let f = g l own in f)
-    one (Take k h) t = none (after_step (Take k h) n) (timed_step_take i k h left n g (slice_get n.links k) refl)
+    one (Take k h) t = none (after_step (Take k h) n) (timed_step_take s i k h left n g (slice_get n.links k) refl)
 
 -- what left with the steps
 abbrev pub departed : List Departure → List Step → Network → List Departure
 departed left [] n = left
 departed left (step ∷ es) n = departed (left ++ departures_in step n) es (after_step step n)
 
-pub timed_steps : (law : WrittenIsReadBack) (s i : ℕ) (left : List Departure) (es : List Step) (n : Network) → AllByRecursion StepFits es → Sound s n → AreInTime i left es n → TimedAt i left n →
-    TimedAt i (departed left es n) (after_steps es n)
+pub timed_steps : (law : WrittenIsReadBack) (s : Setup) (i : ℕ) (left : List Departure) (es : List Step) (n : Network) → AllByRecursion StepFits es → Sound s.span n → AreInTime s i left es n → TimedAt s i left n →
+    TimedAt s i (departed left es n) (after_steps es n)
 timed_steps law s i left [] n fits sound in_time g = g
 timed_steps law s i left (e ∷ es) n fits sound in_time g =
-    timed_steps law s i (left ++ departures_in e n) es (after_step e n) fits.1 (sound_step law s e n fits.0 sound) in_time.1 (timed_step law s i left e n sound in_time.0 g)
+    timed_steps law s i (left ++ departures_in e n) es (after_step e n) fits.1 (sound_step law s.span e n fits.0 sound) in_time.1 (timed_step law s i left e n sound in_time.0 g)
 
-timed_opening : (w : DeviceSizes) (s : ℕ) (tree : List Object) (starts : List Start) (i : ℕ) → TimedAt i [] (opening w s tree starts)
+timed_opening : (w : DeviceSizes) (s : Setup) (tree : List Object) (starts : List Start) (i : ℕ) → TimedAt s i [] (opening w s tree starts)
 unfolding IsDistinct
 timed_opening w s tree starts i l own =
     let z = mapped_at (started s) starts i l own in
-    subst (λ (y : PeerLink). Timed y.peer (end_of y.link.next) y.link.moment y.link.untaken [] [] []) z.2
+    subst (λ (y : PeerLink). Timed (zeros s y.peer) y.peer (end_of y.link.next) y.link.moment y.link.untaken [] [] []) z.2
     (record { born = λ x. 0; are = refl; untaken = tt; departures = tt; executed = tt; once = tt })
 
-pub timed_after : (law : WrittenIsReadBack) (w : DeviceSizes) (s : ℕ) (tree : List Object) (starts : List Start) (es : List Step) (i : ℕ) → are_apart starts ≡ true → Fit starts es →
-    AreInTime i [] es (opening w s tree starts) → TimedAt i (departed [] es (opening w s tree starts)) (after_steps es (opening w s tree starts))
+pub timed_after : (law : WrittenIsReadBack) (w : DeviceSizes) (s : Setup) (tree : List Object) (starts : List Start) (es : List Step) (i : ℕ) → are_apart s.address starts ≡ true → Fit starts es →
+    AreInTime s i [] es (opening w s tree starts) → TimedAt s i (departed [] es (opening w s tree starts)) (after_steps es (opening w s tree starts))
 timed_after law w s tree starts es i apart fit in_time =
     timed_steps law s i [] es (opening w s tree starts) fit.1 (sound_opening w s tree starts apart fit.0) in_time (timed_opening w s tree starts i)
 
 -- ---- the law
 
-pub once_in_time : WrittenIsReadBack → (w : DeviceSizes) (s : ℕ) (tree : List Object) (starts : List Start) (es : List Step) (i : ℕ) (l : PeerLink) → are_apart starts ≡ true → Fit starts es →
-    AreInTime i [] es (opening w s tree starts) → slice_get (after_steps es (opening w s tree starts)).links i ≡ Some l →
+pub once_in_time : WrittenIsReadBack → (w : DeviceSizes) (s : Setup) (tree : List Object) (starts : List Start) (es : List Step) (i : ℕ) (l : PeerLink) → are_apart s.address starts ≡ true → Fit starts es →
+    AreInTime s i [] es (opening w s tree starts) → slice_get (after_steps es (opening w s tree starts)).links i ≡ Some l →
     IsDistinct eqb (map (λ (x : Execution). x.command.handle) (executions_for l.peer (after_steps es (opening w s tree starts))))
 once_in_time law w s tree starts es i l apart fit in_time own =
     let n : Network = after_steps es (opening w s tree starts) in
     subst (λ (xs : List Execution). IsDistinct eqb (map (λ (x : Execution). x.command.handle) xs)) (sym (executions_are n.sizes l.peer n.tree n.events))
     (timed_after law w s tree starts es i apart fit in_time l own).once
 
-pub answers_in_time : WrittenIsReadBack → (w : DeviceSizes) (s : ℕ) (tree : List Object) (starts : List Start) (es : List Step) (i : ℕ) (l : PeerLink) (h : ℕ) (a : AnswerFields) → are_apart starts ≡ true → Fit starts es →
-    AreInTime i [] es (opening w s tree starts) → slice_get (after_steps es (opening w s tree starts)).links i ≡ Some l →
+pub answers_in_time : WrittenIsReadBack → (w : DeviceSizes) (s : Setup) (tree : List Object) (starts : List Start) (es : List Step) (i : ℕ) (l : PeerLink) (h : ℕ) (a : AnswerFields) → are_apart s.address starts ≡ true → Fit starts es →
+    AreInTime s i [] es (opening w s tree starts) → slice_get (after_steps es (opening w s tree starts)).links i ≡ Some l →
     (answer_under h l.link.untaken ≡ Some a) ⊎ WasTaken l.peer h a (after_steps es (opening w s tree starts)).taken → IsAnswerOfOneExecution l.peer h a (after_steps es (opening w s tree starts))
 answers_in_time law w s tree starts es i l h a apart fit in_time own which = elim which [
   | inl held ↦ of_one (rw held at (held_answer l.peer (past n) h l.link.untaken of.fair.untaken))
@@ -688,8 +701,8 @@ answers_in_time law w s tree starts es i l h a apart fit in_time own which = eli
     n : Network
     n = after_steps es (opening w s tree starts)
 
-    of : LinkSound s n l
-    of = each_at (LinkSound s n) n.links i l (sound_after law w s tree starts es apart fit).each own
+    of : LinkSound s.span n l
+    of = each_at (LinkSound s.span n) n.links i l (sound_after law w s tree starts es apart fit).each own
 
     of_one : IsTrueAnswer l.peer h a (past n) → IsAnswerOfOneExecution l.peer h a n
     of_one t = record {
@@ -701,16 +714,16 @@ answers_in_time law w s tree starts es i l h a apart fit in_time own which = eli
     }
 
 -- the last of the steps
-last_in_time : (i : ℕ) (left : List Departure) (es : List Step) (step : Step) (n : Network) → AreInTime i left (es ++ step ∷ []) n → AreInTime i left es n × StepIsInTime i (departed left es n) step (after_steps es n)
-last_in_time i left [] step n a = (tt, a.0)
-last_in_time i left (e ∷ es) step n a = let rest = last_in_time i (left ++ departures_in e n) es step (after_step e n) a.1 in ((a.0, rest.0), rest.1)
+last_in_time : (s : Setup) (i : ℕ) (left : List Departure) (es : List Step) (step : Step) (n : Network) → AreInTime s i left (es ++ step ∷ []) n → AreInTime s i left es n × StepIsInTime s i (departed left es n) step (after_steps es n)
+last_in_time s i left [] step n a = (tt, a.0)
+last_in_time s i left (e ∷ es) step n a = let rest = last_in_time s i (left ++ departures_in e n) es step (after_step e n) a.1 in ((a.0, rest.0), rest.1)
 
 any_mapped : {X Y : Type 0} (f : X → Y) (test : Y → Bool) (xs : List X) → list_any test (map f xs) ≡ list_any (λ x. test (f x)) xs
 any_mapped f test [] = refl
 any_mapped f test (x ∷ xs) = ap (λ b. test (f x) || b) (any_mapped f test xs)
 
-pub session_in_time : WrittenIsReadBack → (w : DeviceSizes) (s : ℕ) (tree : List Object) (starts : List Start) (es : List Step) (i k now : ℕ) (l : PeerLink) (c : CommandFields) → are_apart starts ≡ true → Fit starts es →
-    AreInTime i [] (es ++ ToDevice k now ∷ []) (opening w s tree starts) → slice_get (after_steps es (opening w s tree starts)).links i ≡ Some l →
+pub session_in_time : WrittenIsReadBack → (w : DeviceSizes) (s : Setup) (tree : List Object) (starts : List Start) (es : List Step) (i k now : ℕ) (l : PeerLink) (c : CommandFields) → are_apart s.address starts ≡ true → Fit starts es →
+    AreInTime s i [] (es ++ ToDevice k now ∷ []) (opening w s tree starts) → slice_get (after_steps es (opening w s tree starts)).links i ≡ Some l →
     WasSubmitted l.peer c (after_steps es (opening w s tree starts)).submitted → slice_get (after_steps es (opening w s tree starts)).to_device k ≡ Some (copy_of l.peer c) →
     list_any (λ (x : Execution). nat_eq x.command.handle c.handle) (executions_for l.peer (after_steps es (opening w s tree starts))) ≡ true →
     list_any (λ (x : CommandFields). nat_eq x.handle c.handle) (accepted_in_session l.peer now (after_steps es (opening w s tree starts))) ≡ true
@@ -722,13 +735,13 @@ session_in_time law w s tree starts es i k now l c apart fit in_time own submitt
     left : List Departure
     left = departed [] es (opening w s tree starts)
 
-    parts : AreInTime i [] es (opening w s tree starts) × StepIsInTime i left (ToDevice k now) n
-    parts = last_in_time i [] es (ToDevice k now) (opening w s tree starts) in_time
+    parts : AreInTime s i [] es (opening w s tree starts) × StepIsInTime s i left (ToDevice k now) n
+    parts = last_in_time s i [] es (ToDevice k now) (opening w s tree starts) in_time
 
-    of : LinkSound s n l
-    of = each_at (LinkSound s n) n.links i l (sound_after law w s tree starts es apart fit).each own
+    of : LinkSound s.span n l
+    of = each_at (LinkSound s.span n) n.links i l (sound_after law w s tree starts es apart fit).each own
 
-    f : Timed l.peer (end_of l.link.next) l.link.moment l.link.untaken left n.to_device (state_of (past n)).notes
+    f : Timed (zeros s l.peer) l.peer (end_of l.link.next) l.link.moment l.link.untaken left n.to_device (state_of (past n)).notes
     f = timed_after law w s tree starts es i apart fit parts.0 l own
 
     s1 : State
@@ -743,8 +756,8 @@ session_in_time law w s tree starts es i k now l c apart fit in_time own submitt
     timed : TimedBytes f.born (end_of l.link.next) x.0.at (copy_of l.peer c).bytes
     timed = subst (λ (d : SentDatagram). TimedBytes f.born (end_of l.link.next) x.0.at d.bytes) x.2 (each_at (TimedDeparture f.born (end_of l.link.next) l.peer) left k x.0 f.departures x.1 its)
 
-    came : ArrivesInTime x.0.at s1.moment
-    came = subst (λ (t : ℕ). ArrivesInTime x.0.at t) (sym (clock_is now n)) (parts.1 l x.0 own x.1 its)
+    came : ArrivesInTime (s.zero l.peer + x.0.at) (s.device_zero + s1.moment)
+    came = subst (λ (t : ℕ). ArrivesInTime (s.zero l.peer + x.0.at) (s.device_zero + t)) (sym (clock_is now n)) (parts.1 l x.0 own x.1 its)
 
     read : read_datagram (copy_of l.peer c).bytes ≡ Ok (Command true c ∷ [])
     read = read_command law c (each_in (λ (y : SubmittedCommand). y.peer ≡ l.peer → IsSendable y.command × (y.command.handle < end_of l.link.next)) _ n.submitted of.fair.sendable (contains_in _ n.submitted submitted) refl).0
@@ -773,5 +786,5 @@ session_in_time law w s tree starts es i k now l c apart fit in_time own submitt
         let late : x.0.at ≤ f.born c.handle + longest_life = subst (λ (y : CommandFields). x.0.at ≤ f.born y.handle + longest_life) same i.not_late in
         ap (λ (xs : List CommandFields). list_any (λ (x : CommandFields). nat_eq x.handle c.handle) xs) (sym accepted_are)
         ∙ any_mapped (λ (e : Entry). e.command) (λ (x : CommandFields). nat_eq x.handle c.handle) (accepted (run l.peer (noted l.peer (Admitted []) s1).notes))
-        ∙ accepted_then l.peer (end_of l.link.next) l.link.moment l.link.untaken left n.to_device (past n) now x.0.at c.handle [] f late came.not_late executed
+        ∙ accepted_then (zeros s l.peer) l.peer (end_of l.link.next) l.link.moment l.link.untaken left n.to_device (past n) now x.0.at c.handle [] f late came.not_late executed
     by_kind (inr (form, alive)) = not_both c form _ read alive

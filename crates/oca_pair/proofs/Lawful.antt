@@ -25,7 +25,7 @@ use Rattle.oca_control.specs.Answers.{AnswerFields}
 use Rattle.oca_control.specs.Untaken.{Untaken}
 use Rattle.oca_pair.specs.declared.outcome.Outcome.TheVariants as outcomes
 use Rattle.oca_pair.specs.declared.start.Start.{Start}
-use Rattle.oca_pair.specs.Networks.{Network, PeerLink, SentDatagram, SubmittedCommand, TakenAnswer, opening}
+use Rattle.oca_pair.specs.Networks.{Network, PeerLink, SentDatagram, SubmittedCommand, TakenAnswer, Setup, opening}
 use Rattle.oca_pair.specs.Steps.{Step, sendings_in, after_steps}
 use Rattle.oca_pair.specs.Happenings.{happenings}
 use Rattle.oca_pair.specs.Premises.{are_apart, Fit, KeepsItsSession, FindsRoom}
@@ -100,31 +100,31 @@ before_last [] h a = tt
 before_last (x ∷ []) h a = tt
 before_last (x ∷ y ∷ xs) h a = (a.0, before_last (y ∷ xs) h a.1)
 
-pub answers_law : WrittenIsReadBack → (w : DeviceSizes) (s : ℕ) (tree : List Object) (starts : List Start) (es : List Step) → are_apart starts ≡ true → Fit starts es →
+pub answers_law : WrittenIsReadBack → (w : DeviceSizes) (s : Setup) (tree : List Object) (starts : List Start) (es : List Step) → are_apart s.address starts ≡ true → Fit starts es →
     AnswersItsCommands (after_steps es (opening w s tree starts))
 answers_law law w s tree starts es apart fit =
     let n : Network = after_steps es (opening w s tree starts) in
-    let sound : Sound s n = sound_after law w s tree starts es apart fit in
+    let sound : Sound s.span n = sound_after law w s tree starts es apart fit in
     record {
       held = λ i l h a own held.
-          let of : LinkSound s n l = each_at (LinkSound s n) n.links i l sound.each own in
+          let of : LinkSound s.span n l = each_at (LinkSound s.span n) n.links i l sound.each own in
           true_answer l.peer h a n of.kept (rw held at (held_answer l.peer (past n) h l.link.untaken of.fair.untaken));
       was_taken = λ i l h a own was.
-          let of : LinkSound s n l = each_at (LinkSound s n) n.links i l sound.each own in
+          let of : LinkSound s.span n l = each_at (LinkSound s.span n) n.links i l sound.each own in
           true_answer l.peer h a n of.kept (each_in (λ (t : TakenAnswer). t.peer ≡ l.peer → IsTrueAnswer l.peer t.handle t.answer (past n)) _ n.taken of.fair.was_taken (contains_in _ n.taken was) refl);
       handles = λ i l own.
-          let of : LinkSound s n l = each_at (LinkSound s n) n.links i l sound.each own in
+          let of : LinkSound s.span n l = each_at (LinkSound s.span n) n.links i l sound.each own in
           before_last (handles_of l.peer n.submitted) (end_of l.link.next) of.fair.rising;
     }
 
 -- ---- each command is executed once
 
-pub once_law : WrittenIsReadBack → (w : DeviceSizes) (s : ℕ) (tree : List Object) (starts : List Start) (es : List Step) → are_apart starts ≡ true → Fit starts es →
+pub once_law : WrittenIsReadBack → (w : DeviceSizes) (s : Setup) (tree : List Object) (starts : List Start) (es : List Step) → are_apart s.address starts ≡ true → Fit starts es →
     ExecutesOnce (after_steps es (opening w s tree starts))
 once_law law w s tree starts es apart fit i l own keeps =
     let n : Network = after_steps es (opening w s tree starts) in
-    let sound : Sound s n = sound_after law w s tree starts es apart fit in
-    let of : LinkSound s n l = each_at (LinkSound s n) n.links i l sound.each own in
+    let sound : Sound s.span n = sound_after law w s tree starts es apart fit in
+    let of : LinkSound s.span n l = each_at (LinkSound s.span n) n.links i l sound.each own in
     subst (λ (xs : List Execution). IsDistinct eqb (map (λ (x : Execution). x.command.handle) xs)) (sym (executions_are n.sizes l.peer n.tree n.events)) (of.kept keeps).once
 
 -- ---- the law of commands in hand
@@ -241,7 +241,7 @@ answered_now law w s f n k now d next us u c wide there fair kept good held comm
     by_judgement Reused q t = absurd t
     by_judgement Old q t = absurd t
 
-delivered : WrittenIsReadBack → (w : DeviceSizes) (s : ℕ) (n : Network) (k now : ℕ) (d : SentDatagram) (l : PeerLink) (c : CommandFields) → 0 < s → 2 * s ≤ n.sizes.window + 1 →
+delivered : WrittenIsReadBack → (w : DeviceSizes) (s : Peer → ℕ) (n : Network) (k now : ℕ) (d : SentDatagram) (l : PeerLink) (c : CommandFields) → 0 < s l.peer → 2 * s l.peer ≤ n.sizes.window + 1 →
     slice_get n.to_device k ≡ Some d → LinkSound s n l → CarriesUntaken d l c →
     FindsRoom d.peer now n → Keeps d.peer (and_then (Datagram d.peer d.bytes now) (past n)) → IsAnswered k now n d c
 delivered law w s n k now d l c some wide there of of_untaken finds keeps =
@@ -250,15 +250,15 @@ delivered law w s n k now d l c some wide there of of_untaken finds keeps =
     let FairAs : Peer → Type 0 = λ x. Fair x l.link.next l.link.untaken (past n) n.to_device n.to_links n.taken in
     let KeptAs : Peer → Type 0 = λ x. Kept x (past n) in
     let good = of.good some before in
-    let GoodAs : Peer → Type 0 = λ x. Good s good.0 x l.link.next l.link.untaken n.submitted (accepted_by x (past n)) in
-    answered_now law w s good.0 n k now d l.link.next l.link.untaken of_untaken.untaken c wide there
+    let GoodAs : Peer → Type 0 = λ x. Good (s l.peer) good.0 x l.link.next l.link.untaken n.submitted (accepted_by x (past n)) in
+    answered_now law w (s l.peer) good.0 n k now d l.link.next l.link.untaken of_untaken.untaken c wide there
     (subst FairAs of_untaken.peer of.fair) (subst KeptAs of_untaken.peer (of.kept before)) (subst GoodAs of_untaken.peer good.1) (contains_in of_untaken.untaken l.link.untaken of_untaken.held) of_untaken.command of_untaken.bytes finds keeps
 
-pub never_old_law : WrittenIsReadBack → (w : DeviceSizes) (s : ℕ) (tree : List Object) (starts : List Start) (es : List Step) → 0 < s → 2 * s ≤ w.window + 1 → are_apart starts ≡ true → Fit starts es →
-    AnswersUntaken (after_steps es (opening w s tree starts))
-never_old_law law w s tree starts es some wide apart fit k now i d l c there own of_untaken finds keeps =
+pub never_old_law : WrittenIsReadBack → (w : DeviceSizes) (s : Setup) (tree : List Object) (starts : List Start) (es : List Step) (p : Peer) → 0 < s.span p → 2 * s.span p ≤ w.window + 1 → are_apart s.address starts ≡ true → Fit starts es →
+    AnswersUntaken p (after_steps es (opening w s tree starts))
+never_old_law law w s tree starts es p some wide apart fit k now i d l c there own his of_untaken finds keeps =
     let n : Network = after_steps es (opening w s tree starts) in
-    let sound : Sound s n = sound_after law w s tree starts es apart fit in
-    let of : LinkSound s n l = each_at (LinkSound s n) n.links i l sound.each own in
+    let sound : Sound s.span n = sound_after law w s tree starts es apart fit in
+    let of : LinkSound s.span n l = each_at (LinkSound s.span n) n.links i l sound.each own in
     let sizes : n.sizes ≡ w = sizes_kept es (opening w s tree starts) in
-    delivered law w s n k now d l c some (rw sizes wide) there of of_untaken finds (rw there at keeps)
+    delivered law w s.span n k now d l c (subst (λ (q : Peer). 0 < s.span q) (sym his) some) (subst (λ (q : Peer). 2 * s.span q ≤ n.sizes.window + 1) (sym his) (rw sizes wide)) there of of_untaken finds (rw there at keeps)

@@ -20,7 +20,7 @@ use Rattle.oca_control.specs.Answers.{AnswerFields, answer_of_response}
 use Rattle.oca_control.specs.Untaken.{Untaken, answer_under, without_handle}
 use Rattle.oca_control.specs.Links.{Request, submission, after_submission, Decision, GivesCommand, GivesKeepAlive, GivesNothing, IsLost, decision, after_due, gone_on, hears_content, received, taken, present_moment}
 use Rattle.oca_pair.specs.declared.start.Start.{Start}
-use Rattle.oca_pair.specs.Networks.{Network, PeerLink, SentDatagram, SubmittedCommand, TakenAnswer, device_address, started, opening}
+use Rattle.oca_pair.specs.Networks.{Network, PeerLink, SentDatagram, SubmittedCommand, TakenAnswer, Setup, started, opening}
 use Rattle.oca_pair.specs.Steps.{Step, Submit, Due, ToDevice, ToLink, Other, Take, has_link, sendings_in, submitted_by, after_submit, given_by, after_due_step, after_delivery, content_read, hears_datagram, after_reception, after_take, after_step, after_steps}
 use Rattle.oca_pair.specs.Steps as steps
 use Rattle.oca_pair.specs.Premises.{is_of_another_peer, are_apart, RequestFits, StepFits, StartFits, Fit}
@@ -59,29 +59,29 @@ apart_put (x ∷ xs) (suc k) l y e s a =
     let other : l.peer ≢ x.peer = each_at (λ z. z.peer ≢ x.peer) xs k l a.0 e in
     (each_set (λ z. z.peer ≢ x.peer) xs k y (λ h. other (sym s ∙ h)) a.0, apart_put xs k l y e s a.1)
 
-pub hears_peer : (d : SentDatagram) (now : ℕ) (z : PeerLink) → (hears_datagram d now z).peer ≡ z.peer
-hears_peer d now z = by_test (same_peer z.peer d.peer)
+pub hears_peer : (from : Peer) (d : SentDatagram) (now : ℕ) (z : PeerLink) → (hears_datagram from d now z).peer ≡ z.peer
+hears_peer from d now z = by_test (same_peer z.peer d.peer)
   where
-    by_test : (b : Bool) → (let y : PeerLink = cond b (record { peer = z.peer; link = received device_address (content_read d.bytes) now z.link }) z in y).peer ≡ z.peer
+    by_test : (b : Bool) → (let y : PeerLink = cond b (record { peer = z.peer; link = received from (content_read d.bytes) now z.link }) z in y).peer ≡ z.peer
     by_test true = refl
     by_test false = refl
 
-apart_hears : (d : SentDatagram) (now : ℕ) (xs : List PeerLink) → Apart xs → Apart (map (hears_datagram d now) xs)
-apart_hears d now [] a = tt
-apart_hears d now (x ∷ xs) a = (heads xs a.0, apart_hears d now xs a.1)
+apart_hears : (from : Peer) (d : SentDatagram) (now : ℕ) (xs : List PeerLink) → Apart xs → Apart (map (hears_datagram from d now) xs)
+apart_hears from d now [] a = tt
+apart_hears from d now (x ∷ xs) a = (heads xs a.0, apart_hears from d now xs a.1)
   where
-    heads : (ys : List PeerLink) → AllByRecursion (λ y. y.peer ≢ x.peer) ys → AllByRecursion (λ y. y.peer ≢ (hears_datagram d now x).peer) (map (hears_datagram d now) ys)
+    heads : (ys : List PeerLink) → AllByRecursion (λ y. y.peer ≢ x.peer) ys → AllByRecursion (λ y. y.peer ≢ (hears_datagram from d now x).peer) (map (hears_datagram from d now) ys)
     heads [] q = tt
-    heads (y ∷ ys) q = ((λ h. q.0 (sym (hears_peer d now y) ∙ h ∙ hears_peer d now x)), heads ys q.1)
+    heads (y ∷ ys) q = ((λ h. q.0 (sym (hears_peer from d now y) ∙ h ∙ hears_peer from d now x)), heads ys q.1)
 
 -- What holds of a link of a network.
-pub record LinkSound (s : ℕ) (n : Network) (l : PeerLink) : Type 0 where
-  pub span : l.link.span ≡ s
+pub record LinkSound (s : Peer → ℕ) (n : Network) (l : PeerLink) : Type 0 where
+  pub span : l.link.span ≡ s l.peer
   pub fair : Fair l.peer l.link.next l.link.untaken (past n) n.to_device n.to_links n.taken
   pub kept : Keeps l.peer (past n) → Kept l.peer (past n)
-  pub good : 0 < s → Keeps l.peer (past n) → (f : ℕ) × Good s f l.peer l.link.next l.link.untaken n.submitted (accepted_by l.peer (past n))
+  pub good : 0 < s l.peer → Keeps l.peer (past n) → (f : ℕ) × Good (s l.peer) f l.peer l.link.next l.link.untaken n.submitted (accepted_by l.peer (past n))
 
-pub record Sound (s : ℕ) (n : Network) : Type 0 where
+pub record Sound (s : Peer → ℕ) (n : Network) : Type 0 where
   pub apart : Apart n.links
   pub each : AllByRecursion (LinkSound s n) n.links
 
@@ -91,7 +91,7 @@ held_has p g h a t = executed_has h p (state_of g).notes t.execution t.executed 
 
 -- ---- submit
 
-sound_submit : (s i : ℕ) (r : Request) (now : ℕ) (n : Network) → RequestFits r → Sound s n → (o : Option PeerLink) → slice_get n.links i ≡ o → Sound s (after_submit i r now o n)
+sound_submit : (s : Peer → ℕ) (i : ℕ) (r : Request) (now : ℕ) (n : Network) → RequestFits r → Sound s n → (o : Option PeerLink) → slice_get n.links i ≡ o → Sound s (after_submit i r now o n)
 sound_submit s i r now n fits g None e = g
 sound_submit s i r now n fits g (Some l) e = record {
   apart = apart_put n.links i l y e refl g.apart;
@@ -118,7 +118,7 @@ sound_submit s i r now n fits g (Some l) e = record {
       kept = w.kept;
       good = λ some keeps. let q = w.good some keeps in (
         q.0,
-        good_submitted s q.0 z.peer z.link.next z.link.untaken n.submitted (submitted_by l.peer r (submission r l.link)) (accepted_by z.peer (past n))
+        good_submitted (s z.peer) q.0 z.peer z.link.next z.link.untaken n.submitted (submitted_by l.peer r (submission r l.link)) (accepted_by z.peer (past n))
             (not_his z.peer (submission r l.link) (λ same. other (sym same))) q.1,
       );
     }
@@ -127,12 +127,12 @@ sound_submit s i r now n fits g (Some l) e = record {
     span_kept (Ok h) = refl
     span_kept (Err fault) = refl
 
-    good_kept : (f : ℕ) (a : Result Handle ControlFault) → submission r l.link ≡ a → 0 < s → Good s f l.peer l.link.next l.link.untaken n.submitted (accepted_by l.peer (past n)) →
-        Good s f l.peer (after_submission a r now l.link).next (after_submission a r now l.link).untaken (n.submitted ++ submitted_by l.peer r a) (accepted_by l.peer (past n))
-    good_kept f (Err fault) q some w = good_submitted s f l.peer l.link.next l.link.untaken n.submitted [] (accepted_by l.peer (past n)) tt w
+    good_kept : (f : ℕ) (a : Result Handle ControlFault) → submission r l.link ≡ a → 0 < s l.peer → Good (s l.peer) f l.peer l.link.next l.link.untaken n.submitted (accepted_by l.peer (past n)) →
+        Good (s l.peer) f l.peer (after_submission a r now l.link).next (after_submission a r now l.link).untaken (n.submitted ++ submitted_by l.peer r a) (accepted_by l.peer (past n))
+    good_kept f (Err fault) q some w = good_submitted (s l.peer) f l.peer l.link.next l.link.untaken n.submitted [] (accepted_by l.peer (past n)) tt w
     good_kept f (Ok h) q some w =
         let t = granted r l.link h q in
-        good_submit s f l.peer l.link.next l.link.untaken n.submitted (accepted_by l.peer (past n)) h.0 (present_moment now l.link) r some t.0 (rw was.span at t.1) w
+        good_submit (s l.peer) f l.peer l.link.next l.link.untaken n.submitted (accepted_by l.peer (past n)) h.0 (present_moment now l.link) r some t.0 (rw was.span at t.1) w
 
     mine : LinkSound s n' y
     mine = record {
@@ -144,7 +144,7 @@ sound_submit s i r now n fits g (Some l) e = record {
 
 -- ---- due
 
-sound_due : (s i now : ℕ) (n : Network) → Sound s n → (o : Option PeerLink) → slice_get n.links i ≡ o → Sound s (after_due_step i now o n)
+sound_due : (s : Peer → ℕ) (i now : ℕ) (n : Network) → Sound s n → (o : Option PeerLink) → slice_get n.links i ≡ o → Sound s (after_due_step i now o n)
 sound_due s i now n g None e = g
 sound_due s i now n g (Some l) e = record {
   apart = apart_put n.links i l y e refl g.apart;
@@ -174,9 +174,9 @@ sound_due s i now n g (Some l) e = record {
     span_kept GivesNothing = refl
     span_kept IsLost = refl
 
-    good_kept : (f : ℕ) (d : Decision) → Good s f l.peer l.link.next l.link.untaken n.submitted (accepted_by l.peer (past n)) →
-        Good s f l.peer (after_due d (present_moment now l.link) l.link).next (after_due d (present_moment now l.link) l.link).untaken n.submitted (accepted_by l.peer (past n))
-    good_kept f (GivesCommand c) w = good_marked_sent s f l.peer l.link.next l.link.untaken n.submitted (accepted_by l.peer (past n)) (present_moment now l.link) c.handle w
+    good_kept : (f : ℕ) (d : Decision) → Good (s l.peer) f l.peer l.link.next l.link.untaken n.submitted (accepted_by l.peer (past n)) →
+        Good (s l.peer) f l.peer (after_due d (present_moment now l.link) l.link).next (after_due d (present_moment now l.link) l.link).untaken n.submitted (accepted_by l.peer (past n))
+    good_kept f (GivesCommand c) w = good_marked_sent (s l.peer) f l.peer l.link.next l.link.untaken n.submitted (accepted_by l.peer (past n)) (present_moment now l.link) c.handle w
     good_kept f GivesKeepAlive w = w
     good_kept f GivesNothing w = w
     good_kept f IsLost w = w
@@ -191,7 +191,7 @@ sound_due s i now n g (Some l) e = record {
 
 -- ---- take
 
-sound_take : (s i h : ℕ) (n : Network) → Sound s n → (o : Option PeerLink) → slice_get n.links i ≡ o → Sound s (after_take i h o n)
+sound_take : (s : Peer → ℕ) (i h : ℕ) (n : Network) → Sound s n → (o : Option PeerLink) → slice_get n.links i ≡ o → Sound s (after_take i h o n)
 sound_take s i h n g None e = g
 sound_take s i h n g (Some l) e = record {
   apart = apart_put n.links i l y e refl g.apart;
@@ -215,10 +215,10 @@ sound_take s i h n g (Some l) e = record {
       good = w.good;
     }
 
-    good_kept : (f : ℕ) (o : Option AnswerFields) → IsHeld l.peer (past n) h o → Good s f l.peer l.link.next l.link.untaken n.submitted (accepted_by l.peer (past n)) →
-        Good s f l.peer l.link.next (cond (is_some o) (without_handle h l.link.untaken) l.link.untaken) n.submitted (accepted_by l.peer (past n))
+    good_kept : (f : ℕ) (o : Option AnswerFields) → IsHeld l.peer (past n) h o → Good (s l.peer) f l.peer l.link.next l.link.untaken n.submitted (accepted_by l.peer (past n)) →
+        Good (s l.peer) f l.peer l.link.next (cond (is_some o) (without_handle h l.link.untaken) l.link.untaken) n.submitted (accepted_by l.peer (past n))
     good_kept f None held w = w
-    good_kept f (Some a) held w = good_without s f l.peer l.link.next l.link.untaken n.submitted (accepted_by l.peer (past n)) h (held_has l.peer (past n) h a held) w
+    good_kept f (Some a) held w = good_without (s l.peer) f l.peer l.link.next l.link.untaken n.submitted (accepted_by l.peer (past n)) h (held_has l.peer (past n) h a held) w
 
     mine : LinkSound s n' y
     mine = record {
@@ -231,34 +231,34 @@ sound_take s i h n g (Some l) e = record {
 
 -- ---- a datagram comes to a link
 
-sound_reception : (s now : ℕ) (n : Network) → Sound s n → (d : SentDatagram) (k : ℕ) → slice_get n.to_links k ≡ Some d → Sound s (after_reception now (Some d) n)
-sound_reception s now n g d k e = record { apart = apart_hears d now n.links g.apart; each = each n.links g.each }
+sound_reception : (s : Peer → ℕ) (now : ℕ) (n : Network) → Sound s n → (d : SentDatagram) (k : ℕ) → slice_get n.to_links k ≡ Some d → Sound s (after_reception now (Some d) n)
+sound_reception s now n g d k e = record { apart = apart_hears n.address d now n.links g.apart; each = each n.links g.each }
   where
     n' : Network
     n' = after_reception now (Some d) n
 
-    one : (z : PeerLink) → LinkSound s n z → LinkSound s n' (hears_datagram d now z)
+    one : (z : PeerLink) → LinkSound s n z → LinkSound s n' (hears_datagram n.address d now z)
     one z w = by_test (same_peer z.peer d.peer) refl
       where
         y : PeerLink
-        y = record { peer = z.peer; link = received device_address (content_read d.bytes) now z.link }
+        y = record { peer = z.peer; link = received n.address (content_read d.bytes) now z.link }
 
-        good_heard : (f : ℕ) → IsBack z.peer (past n) d.bytes → Good s f z.peer z.link.next z.link.untaken n.submitted (accepted_by z.peer (past n)) →
-            Good s f z.peer z.link.next (hears_content (content_read d.bytes) z.link.untaken) n.submitted (accepted_by z.peer (past n))
-        good_heard f (inl (r, t, read)) q = rw read (good_answered s f z.peer z.link.next z.link.untaken n.submitted (accepted_by z.peer (past n)) r.handle (answer_of_response r) q)
+        good_heard : (f : ℕ) → IsBack z.peer (past n) d.bytes → Good (s z.peer) f z.peer z.link.next z.link.untaken n.submitted (accepted_by z.peer (past n)) →
+            Good (s z.peer) f z.peer z.link.next (hears_content (content_read d.bytes) z.link.untaken) n.submitted (accepted_by z.peer (past n))
+        good_heard f (inl (r, t, read)) q = rw read (good_answered (s z.peer) f z.peer z.link.next z.link.untaken n.submitted (accepted_by z.peer (past n)) r.handle (answer_of_response r) q)
         good_heard f (inr read) q = rw read q
 
-        good_received : (f : ℕ) (b : Bool) → IsBack z.peer (past n) d.bytes → Good s f z.peer z.link.next z.link.untaken n.submitted (accepted_by z.peer (past n)) →
-            Good s f z.peer z.link.next (cond b (hears_content (content_read d.bytes) z.link.untaken) z.link.untaken) n.submitted (accepted_by z.peer (past n))
+        good_received : (f : ℕ) (b : Bool) → IsBack z.peer (past n) d.bytes → Good (s z.peer) f z.peer z.link.next z.link.untaken n.submitted (accepted_by z.peer (past n)) →
+            Good (s z.peer) f z.peer z.link.next (cond b (hears_content (content_read d.bytes) z.link.untaken) z.link.untaken) n.submitted (accepted_by z.peer (past n))
         good_received f true back q = good_heard f back q
         good_received f false back q = q
 
         heard : IsBack z.peer (past n) d.bytes → LinkSound s n' y
         heard back = record {
           span = w.span;
-          fair = fair_received z.peer d.bytes now z.link (past n) n.to_device n.to_links n.taken back w.fair;
+          fair = fair_received n.address z.peer d.bytes now z.link (past n) n.to_device n.to_links n.taken back w.fair;
           kept = w.kept;
-          good = λ some keeps. let q = w.good some keeps in (q.0, good_received q.0 (same_peer device_address z.link.device) back q.1);
+          good = λ some keeps. let q = w.good some keeps in (q.0, good_received q.0 (same_peer n.address z.link.device) back q.1);
         }
 
         unheard : LinkSound s n' z
@@ -268,18 +268,18 @@ sound_reception s now n g d k e = record { apart = apart_hears d now n.links g.a
         by_test true q = heard (each_at (λ (x : SentDatagram). x.peer ≡ z.peer → IsBack z.peer (past n) x.bytes) n.to_links k d w.fair.incoming e (sym (same_is z.peer d.peer q)))
         by_test false q = unheard
 
-    each : (zs : List PeerLink) → AllByRecursion (LinkSound s n) zs → AllByRecursion (LinkSound s n') (map (hears_datagram d now) zs)
+    each : (zs : List PeerLink) → AllByRecursion (LinkSound s n) zs → AllByRecursion (LinkSound s n') (map (hears_datagram n.address d now) zs)
     each [] a = tt
     each (z ∷ zs) a = (one z a.0, each zs a.1)
 
 -- ---- a datagram comes to the device
 
 -- of another peer
-sound_elsewhere : (s : ℕ) (n : Network) (q : Peer) (bytes : List ℕ) (now : ℕ) (packets : List (List ℕ)) (z : PeerLink) → same_peer q z.peer ≡ false → LinkSound s n z →
+sound_elsewhere : (s : Peer → ℕ) (n : Network) (q : Peer) (bytes : List ℕ) (now : ℕ) (packets : List (List ℕ)) (z : PeerLink) → same_peer q z.peer ≡ false → LinkSound s n z →
     Fair z.peer z.link.next z.link.untaken (and_then (Datagram q bytes now) (past n)) n.to_device (n.to_links ++ sendings_in q packets) n.taken
     × (Keeps z.peer (and_then (Datagram q bytes now) (past n)) → Kept z.peer (and_then (Datagram q bytes now) (past n)))
-    × (0 < s → Keeps z.peer (and_then (Datagram q bytes now) (past n)) →
-    (f : ℕ) × Good s f z.peer z.link.next z.link.untaken n.submitted (accepted_by z.peer (and_then (Datagram q bytes now) (past n))))
+    × (0 < s z.peer → Keeps z.peer (and_then (Datagram q bytes now) (past n)) →
+    (f : ℕ) × Good (s z.peer) f z.peer z.link.next z.link.untaken n.submitted (accepted_by z.peer (and_then (Datagram q bytes now) (past n))))
 sound_elsewhere s n q bytes now packets z other w = (
   fair_other z.peer q z.link.next z.link.untaken (past n) n.to_device n.to_links n.taken bytes now packets (other_of q z.peer other) w.fair,
   (λ keeps. kept_other z.peer q bytes now (past n) other (w.kept (keeps_before z.peer (Datagram q bytes now) (past n) keeps))),
@@ -287,8 +287,8 @@ sound_elsewhere s n q bytes now packets z other w = (
       (good.0, moved good.0 (accepted_by z.peer (and_then (Datagram q bytes now) (past n))) (accepted_other z.peer q bytes now (past n) other) good.1)),
 )
   where
-    moved : (f : ℕ) (B : List Entry) → B ≡ accepted_by z.peer (past n) → Good s f z.peer z.link.next z.link.untaken n.submitted (accepted_by z.peer (past n)) →
-        Good s f z.peer z.link.next z.link.untaken n.submitted B
+    moved : (f : ℕ) (B : List Entry) → B ≡ accepted_by z.peer (past n) → Good (s z.peer) f z.peer z.link.next z.link.untaken n.submitted (accepted_by z.peer (past n)) →
+        Good (s z.peer) f z.peer z.link.next z.link.untaken n.submitted B
     moved f B e g = rw e g
 
 -- of the link itself
@@ -328,30 +328,30 @@ own_kept law s f p next us g out back handed bytes now (inr is) fair keeps k =
     grown B (inl same) good = rw same good
     grown B (inr (x, r, m_is, new, grows)) good = cc
 
-sound_own : (law : WrittenIsReadBack) (s : ℕ) (n : Network) (bytes : List ℕ) (now : ℕ) (z : PeerLink) → IsOut z.peer n.submitted bytes → LinkSound s n z →
+sound_own : (law : WrittenIsReadBack) (s : Peer → ℕ) (n : Network) (bytes : List ℕ) (now : ℕ) (z : PeerLink) → IsOut z.peer n.submitted bytes → LinkSound s n z →
     Fair z.peer z.link.next z.link.untaken (and_then (Datagram z.peer bytes now) (past n)) n.to_device (n.to_links ++ sendings_in z.peer (packets n.sizes n.tree n.events (Datagram z.peer bytes now))) n.taken
     × (Keeps z.peer (and_then (Datagram z.peer bytes now) (past n)) → Kept z.peer (and_then (Datagram z.peer bytes now) (past n)))
-    × (0 < s → Keeps z.peer (and_then (Datagram z.peer bytes now) (past n)) →
-    (f : ℕ) × Good s f z.peer z.link.next z.link.untaken n.submitted (accepted_by z.peer (and_then (Datagram z.peer bytes now) (past n))))
+    × (0 < s z.peer → Keeps z.peer (and_then (Datagram z.peer bytes now) (past n)) →
+    (f : ℕ) × Good (s z.peer) f z.peer z.link.next z.link.untaken n.submitted (accepted_by z.peer (and_then (Datagram z.peer bytes now) (past n))))
 sound_own law s n bytes now z out w = (
   own_fair law z.peer z.link.next z.link.untaken (past n) n.to_device n.to_links n.taken bytes now out w.fair,
-  (λ keeps. (own_kept law s 0 z.peer z.link.next z.link.untaken (past n) n.to_device n.to_links n.taken bytes now out w.fair keeps (w.kept (before keeps))).0),
+  (λ keeps. (own_kept law (s z.peer) 0 z.peer z.link.next z.link.untaken (past n) n.to_device n.to_links n.taken bytes now out w.fair keeps (w.kept (before keeps))).0),
   (λ some keeps. let good = w.good some (before keeps) in
-      (good.0, (own_kept law s good.0 z.peer z.link.next z.link.untaken (past n) n.to_device n.to_links n.taken bytes now out w.fair keeps (w.kept (before keeps))).1 good.1)),
+      (good.0, (own_kept law (s z.peer) good.0 z.peer z.link.next z.link.untaken (past n) n.to_device n.to_links n.taken bytes now out w.fair keeps (w.kept (before keeps))).1 good.1)),
 )
   where
     before : Keeps z.peer (and_then (Datagram z.peer bytes now) (past n)) → Keeps z.peer (past n)
     before keeps = keeps_before z.peer (Datagram z.peer bytes now) (past n) keeps
 
 -- what is known of a link after a datagram of the peer q with these bytes came, and these packets were sent back
-abbrev AfterDatagram : ℕ → Network → PeerLink → Peer → List ℕ → ℕ → Type 0
+abbrev AfterDatagram : (Peer → ℕ) → Network → PeerLink → Peer → List ℕ → ℕ → Type 0
 AfterDatagram s n z q bytes now =
     Fair z.peer z.link.next z.link.untaken (and_then (Datagram q bytes now) (past n)) n.to_device (n.to_links ++ sendings_in q (packets n.sizes n.tree n.events (Datagram q bytes now))) n.taken
     × (Keeps z.peer (and_then (Datagram q bytes now) (past n)) → Kept z.peer (and_then (Datagram q bytes now) (past n)))
-    × (0 < s → Keeps z.peer (and_then (Datagram q bytes now) (past n)) →
-    (f : ℕ) × Good s f z.peer z.link.next z.link.untaken n.submitted (accepted_by z.peer (and_then (Datagram q bytes now) (past n))))
+    × (0 < s z.peer → Keeps z.peer (and_then (Datagram q bytes now) (past n)) →
+    (f : ℕ) × Good (s z.peer) f z.peer z.link.next z.link.untaken n.submitted (accepted_by z.peer (and_then (Datagram q bytes now) (past n))))
 
-sound_delivery : (law : WrittenIsReadBack) (s now : ℕ) (n : Network) → Sound s n → (d : SentDatagram) (k : ℕ) → slice_get n.to_device k ≡ Some d → Sound s (after_delivery now (Some d) n)
+sound_delivery : (law : WrittenIsReadBack) (s : Peer → ℕ) (now : ℕ) (n : Network) → Sound s n → (d : SentDatagram) (k : ℕ) → slice_get n.to_device k ≡ Some d → Sound s (after_delivery now (Some d) n)
 sound_delivery law s now n g d k e = record { apart = g.apart; each = each_map one n.links g.each }
   where
     n' : Network
@@ -371,7 +371,7 @@ sound_delivery law s now n g d k e = record { apart = g.apart; each = each_map o
     one z w = let a = by_test z (same_peer d.peer z.peer) refl w in record { span = w.span; fair = a.0; kept = a.1; good = a.2 }
 
 -- other bytes come to the device
-sound_other : (s : ℕ) (from : Peer) (bytes : List ℕ) (now : ℕ) (n : Network) → Sound s n → Sound s (after_step (Other from bytes now) n)
+sound_other : (s : Peer → ℕ) (from : Peer) (bytes : List ℕ) (now : ℕ) (n : Network) → Sound s n → Sound s (after_step (Other from bytes now) n)
 sound_other s from bytes now n g = by_test (has_link from n.links) refl
   where
     n' : Network
@@ -395,7 +395,7 @@ sound_other s from bytes now n g = by_test (has_link from n.links) refl
     by_test true q = g
     by_test false q = record { apart = g.apart; each = each n.links (none_passes (λ (l : PeerLink). same_peer l.peer from) n.links q) g.each }
 
-sound_tick : (s now : ℕ) (n : Network) → Sound s n → Sound s (after_step (steps.Tick now) n)
+sound_tick : (s : Peer → ℕ) (now : ℕ) (n : Network) → Sound s n → Sound s (after_step (steps.Tick now) n)
 sound_tick s now n g = record {
   apart = g.apart;
   each = each_map (λ z w. record {
@@ -406,7 +406,7 @@ sound_tick s now n g = record {
   }) n.links g.each;
 }
 
-sound_local : (s ono : ℕ) (change : LocalChange) (n : Network) → Sound s n → Sound s (after_step (steps.Local ono change) n)
+sound_local : (s : Peer → ℕ) (ono : ℕ) (change : LocalChange) (n : Network) → Sound s n → Sound s (after_step (steps.Local ono change) n)
 sound_local s ono change n g = record {
   apart = g.apart;
   each = each_map (λ z w. record {
@@ -419,7 +419,7 @@ sound_local s ono change n g = record {
 
 -- ---- a step, a schedule, and the network at first
 
-pub sound_step : (law : WrittenIsReadBack) (s : ℕ) (step : Step) (n : Network) → StepFits step → Sound s n → Sound s (after_step step n)
+pub sound_step : (law : WrittenIsReadBack) (s : Peer → ℕ) (step : Step) (n : Network) → StepFits step → Sound s n → Sound s (after_step step n)
 sound_step law s (Submit i r now) n fits g = sound_submit s i r now n fits g (slice_get n.links i) refl
 sound_step law s (Due i now) n fits g = sound_due s i now n g (slice_get n.links i) refl
 sound_step law s (ToDevice k now) n fits g = by_sent (slice_get n.to_device k) refl
@@ -437,11 +437,11 @@ sound_step law s (steps.Tick now) n fits g = sound_tick s now n g
 sound_step law s (steps.Local ono change) n fits g = sound_local s ono change n g
 sound_step law s (Take i h) n fits g = sound_take s i h n g (slice_get n.links i) refl
 
-pub sound_steps : (law : WrittenIsReadBack) (s : ℕ) (es : List Step) (n : Network) → AllByRecursion StepFits es → Sound s n → Sound s (after_steps es n)
+pub sound_steps : (law : WrittenIsReadBack) (s : Peer → ℕ) (es : List Step) (n : Network) → AllByRecursion StepFits es → Sound s n → Sound s (after_steps es n)
 sound_steps law s [] n fits g = g
 sound_steps law s (e ∷ es) n fits g = sound_steps law s es (after_step e n) fits.1 (sound_step law s e n fits.0 g)
 
-pub sound_opening : (w : DeviceSizes) (s : ℕ) (tree : List Object) (starts : List Start) → are_apart starts ≡ true → AllByRecursion StartFits starts → Sound s (opening w s tree starts)
+pub sound_opening : (w : DeviceSizes) (s : Setup) (tree : List Object) (starts : List Start) → are_apart s.address starts ≡ true → AllByRecursion StartFits starts → Sound s.span (opening w s tree starts)
 unfolding IsDistinct
 sound_opening w s tree starts a fits = record { apart = apart starts a; each = each starts fits }
   where
@@ -452,17 +452,17 @@ sound_opening w s tree starts a fits = record { apart = apart starts a; each = e
     heads p [] q = tt
     heads p (x ∷ xs) q = let t = both_true (is_of_another_peer p x) (list_all (is_of_another_peer p) xs) q in (other p x t.0, heads p xs t.1)
 
-    apart : (xs : List Start) → are_apart xs ≡ true → Apart (map (started s) xs)
+    apart : (xs : List Start) → are_apart s.address xs ≡ true → Apart (map (started s) xs)
     apart [] q = tt
     apart (x ∷ xs) q =
-        let t = both_true (is_of_another_peer device_address x && list_all (is_of_another_peer x.peer) xs) (are_apart xs) q in
-        let u = both_true (is_of_another_peer device_address x) (list_all (is_of_another_peer x.peer) xs) t.0 in
+        let t = both_true (is_of_another_peer s.address x && list_all (is_of_another_peer x.peer) xs) (are_apart s.address xs) q in
+        let u = both_true (is_of_another_peer s.address x) (list_all (is_of_another_peer x.peer) xs) t.0 in
         (heads x.peer xs u.1, apart xs t.1)
 
     nothing : (f x : ℕ) → f ≤ x → x < f → false ≡ true
     nothing f x p q = absurd (omega arith)
 
-    each : (xs : List Start) → AllByRecursion StartFits xs → AllByRecursion (LinkSound s (opening w s tree starts)) (map (started s) xs)
+    each : (xs : List Start) → AllByRecursion StartFits xs → AllByRecursion (LinkSound s.span (opening w s tree starts)) (map (started s) xs)
     each [] f = tt
     each (x ∷ xs) f = (
       record {
@@ -475,6 +475,6 @@ sound_opening w s tree starts a fits = record { apart = apart starts a; each = e
     )
 
 -- THE NETWORK AFTER ANY SCHEDULE.
-pub sound_after : (law : WrittenIsReadBack) (w : DeviceSizes) (s : ℕ) (tree : List Object) (starts : List Start) (es : List Step) → are_apart starts ≡ true → Fit starts es →
-    Sound s (after_steps es (opening w s tree starts))
-sound_after law w s tree starts es a fit = sound_steps law s es (opening w s tree starts) fit.1 (sound_opening w s tree starts a fit.0)
+pub sound_after : (law : WrittenIsReadBack) (w : DeviceSizes) (s : Setup) (tree : List Object) (starts : List Start) (es : List Step) → are_apart s.address starts ≡ true → Fit starts es →
+    Sound s.span (after_steps es (opening w s tree starts))
+sound_after law w s tree starts es a fit = sound_steps law s.span es (opening w s tree starts) fit.1 (sound_opening w s tree starts a fit.0)

@@ -23,7 +23,7 @@ use Rattle.oca_control.specs.Answers.{AnswerFields, answer_of_response}
 use Rattle.oca_control.specs.Untaken.{Untaken, new_untaken, answered, hears_all, answer_under, without_handle, holds}
 use Rattle.oca_control.specs.Links.{LinkState, Request, command_under, submission, after_submission, Decision, GivesCommand, GivesKeepAlive, GivesNothing, IsLost, decision, after_due, gone_on, hears_content, received, taken, present_moment}
 use Rattle.oca_pair.specs.declared.start.Start.{Start}
-use Rattle.oca_pair.specs.Networks.{Network, PeerLink, SentDatagram, SubmittedCommand, TakenAnswer, device_address, started, opening}
+use Rattle.oca_pair.specs.Networks.{Network, PeerLink, SentDatagram, SubmittedCommand, TakenAnswer, Setup, started, opening}
 use Rattle.oca_pair.specs.Steps.{Step, Submit, Due, ToDevice, ToLink, Other, Take, has_link, sendings_in, with_link, submitted_by, after_submit, after_due_step, after_delivery, messages_read, content_read, hears_datagram, after_reception, taken_by, after_take, after_step, after_steps}
 use Rattle.oca_pair.specs.Steps as steps
 use Rattle.oca_pair.specs.Premises.{are_apart, StepFits, Fit}
@@ -116,10 +116,13 @@ stays_at {X = X} xs x more ys zs e f = rw (f, e) (at xs)
 
 -- ---- each link is one to the device
 
-abbrev pub AreToDevice : List PeerLink → Type 0
-AreToDevice links = AllByRecursion (λ l. l.link.device ≡ device_address) links
+abbrev pub AreTo : Peer → List PeerLink → Type 0
+AreTo device links = AllByRecursion (λ l. l.link.device ≡ device) links
 
-to_device_step : (step : Step) (n : Network) → AreToDevice n.links → AreToDevice (after_step step n).links
+abbrev pub AreToDevice : Network → Type 0
+AreToDevice n = AreTo n.address n.links
+
+pub to_device_step : (step : Step) (n : Network) → AreToDevice n → AreToDevice (after_step step n)
 to_device_step step n a = one step
   where
     by_answer : (l : LinkState) (r : Request) (now : ℕ) (x : Result Handle ControlFault) → (after_submission x r now l).device ≡ l.device
@@ -132,46 +135,46 @@ to_device_step step n a = one step
     by_decision l now GivesNothing = refl
     by_decision l now IsLost = refl
 
-    put : (i : ℕ) (l : PeerLink) (state : LinkState) → slice_get n.links i ≡ Some l → state.device ≡ l.link.device → AreToDevice (with_link i l state n.links)
-    put i l state e same = each_set (λ (x : PeerLink). x.link.device ≡ device_address) n.links i (record { peer = l.peer; link = state })
-        (same ∙ each_at (λ (x : PeerLink). x.link.device ≡ device_address) n.links i l a e) a
+    put : (i : ℕ) (l : PeerLink) (state : LinkState) → slice_get n.links i ≡ Some l → state.device ≡ l.link.device → AreTo n.address (with_link i l state n.links)
+    put i l state e same = each_set (λ (x : PeerLink). x.link.device ≡ n.address) n.links i (record { peer = l.peer; link = state })
+        (same ∙ each_at (λ (x : PeerLink). x.link.device ≡ n.address) n.links i l a e) a
 
-    by_submit : (i : ℕ) (r : Request) (now : ℕ) (o : Option PeerLink) → slice_get n.links i ≡ o → AreToDevice (after_submit i r now o n).links
+    by_submit : (i : ℕ) (r : Request) (now : ℕ) (o : Option PeerLink) → slice_get n.links i ≡ o → AreToDevice (after_submit i r now o n)
     by_submit i r now None e = a
     by_submit i r now (Some l) e = put i l (after_submission (submission r l.link) r now l.link) e (by_answer l.link r now (submission r l.link))
 
-    by_due : (i now : ℕ) (o : Option PeerLink) → slice_get n.links i ≡ o → AreToDevice (after_due_step i now o n).links
+    by_due : (i now : ℕ) (o : Option PeerLink) → slice_get n.links i ≡ o → AreToDevice (after_due_step i now o n)
     by_due i now None e = a
     by_due i now (Some l) e = put i l (gone_on now l.link) e (by_decision l.link (present_moment now l.link) (decision now l.link))
 
-    by_delivery : (now : ℕ) (o : Option SentDatagram) → AreToDevice (after_delivery now o n).links
+    by_delivery : (now : ℕ) (o : Option SentDatagram) → AreToDevice (after_delivery now o n)
     by_delivery now None = a
     by_delivery now (Some d) = a
 
-    hearing : (d : SentDatagram) (now : ℕ) (l : PeerLink) → l.link.device ≡ device_address → (hears_datagram d now l).link.device ≡ device_address
+    hearing : (d : SentDatagram) (now : ℕ) (l : PeerLink) → l.link.device ≡ n.address → (hears_datagram n.address d now l).link.device ≡ n.address
     hearing d now l q = by_test (same_peer l.peer d.peer)
       where
-        by_test : (b : Bool) → (let y : PeerLink = cond b (record { peer = l.peer; link = received device_address (content_read d.bytes) now l.link }) l in y).link.device ≡ device_address
+        by_test : (b : Bool) → (let y : PeerLink = cond b (record { peer = l.peer; link = received n.address (content_read d.bytes) now l.link }) l in y).link.device ≡ n.address
         by_test true = q
         by_test false = q
 
-    hear : (d : SentDatagram) (now : ℕ) (ls : List PeerLink) → AreToDevice ls → AreToDevice (map (hears_datagram d now) ls)
+    hear : (d : SentDatagram) (now : ℕ) (ls : List PeerLink) → AreTo n.address ls → AreTo n.address (map (hears_datagram n.address d now) ls)
     hear d now [] q = tt
     hear d now (l ∷ ls) q = (hearing d now l q.0, hear d now ls q.1)
 
-    by_reception : (now : ℕ) (o : Option SentDatagram) → AreToDevice (after_reception now o n).links
+    by_reception : (now : ℕ) (o : Option SentDatagram) → AreToDevice (after_reception now o n)
     by_reception now None = a
     by_reception now (Some d) = hear d now n.links a
 
-    by_other : (from : Peer) (bytes : List ℕ) (now : ℕ) (b : Bool) → AreToDevice (let m : Network = cond b n (record n { events = Datagram from bytes now ∷ n.events }) in m).links
+    by_other : (from : Peer) (bytes : List ℕ) (now : ℕ) (b : Bool) → AreToDevice (let m : Network = cond b n (record n { events = Datagram from bytes now ∷ n.events }) in m)
     by_other from bytes now true = a
     by_other from bytes now false = a
 
-    by_take : (i h : ℕ) (o : Option PeerLink) → slice_get n.links i ≡ o → AreToDevice (after_take i h o n).links
+    by_take : (i h : ℕ) (o : Option PeerLink) → slice_get n.links i ≡ o → AreToDevice (after_take i h o n)
     by_take i h None e = a
     by_take i h (Some l) e = put i l (taken h l.link) e refl
 
-    one : (step : Step) → AreToDevice (after_step step n).links
+    one : (step : Step) → AreToDevice (after_step step n)
     one (Submit i r now) = by_submit i r now (slice_get n.links i) refl
     one (Due i now) = by_due i now (slice_get n.links i) refl
     one (ToDevice k now) = by_delivery now (slice_get n.to_device k)
@@ -181,14 +184,14 @@ to_device_step step n a = one step
     one (steps.Local ono change) = a
     one (Take i h) = by_take i h (slice_get n.links i) refl
 
-to_device_steps : (es : List Step) (n : Network) → AreToDevice n.links → AreToDevice (after_steps es n).links
+pub to_device_steps : (es : List Step) (n : Network) → AreToDevice n → AreToDevice (after_steps es n)
 to_device_steps [] n a = a
 to_device_steps (e ∷ es) n a = to_device_steps es (after_step e n) (to_device_step e n a)
 
-to_device_opening : (w : DeviceSizes) (s : ℕ) (tree : List Object) (starts : List Start) → AreToDevice (opening w s tree starts).links
+pub to_device_opening : (w : DeviceSizes) (s : Setup) (tree : List Object) (starts : List Start) → AreToDevice (opening w s tree starts)
 to_device_opening w s tree starts = each starts
   where
-    each : (xs : List Start) → AreToDevice (map (started s) xs)
+    each : (xs : List Start) → AreTo s.address (map (started s) xs)
     each [] = tt
     each (x ∷ xs) = (refl, each xs)
 
@@ -283,23 +286,23 @@ stands_step i h p step n g = one step
     by_delivery now None = g
     by_delivery now (Some d) = record { link = g.link; there = g.there; peer = g.peer; kept = g.kept }
 
-    hearing : (d : SentDatagram) (now : ℕ) (l : PeerLink) → holds h (hears_datagram d now l).link.untaken ≡ holds h l.link.untaken
+    hearing : (d : SentDatagram) (now : ℕ) (l : PeerLink) → holds h (hears_datagram n.address d now l).link.untaken ≡ holds h l.link.untaken
     hearing d now l = by_test (same_peer l.peer d.peer)
       where
-        by_test : (b : Bool) → (let y : PeerLink = cond b (record { peer = l.peer; link = received device_address (content_read d.bytes) now l.link }) l in holds h y.link.untaken) ≡ holds h l.link.untaken
-        by_test true = holds_received (same_peer device_address l.link.device) (content_read d.bytes) h l.link.untaken
+        by_test : (b : Bool) → (let y : PeerLink = cond b (record { peer = l.peer; link = received n.address (content_read d.bytes) now l.link }) l in holds h y.link.untaken) ≡ holds h l.link.untaken
+        by_test true = holds_received (same_peer n.address l.link.device) (content_read d.bytes) h l.link.untaken
         by_test false = refl
 
-    heard : (d : SentDatagram) (now : ℕ) → IsKept p h g.link.link.untaken n.taken → IsKept p h (hears_datagram d now g.link).link.untaken n.taken
+    heard : (d : SentDatagram) (now : ℕ) → IsKept p h g.link.link.untaken n.taken → IsKept p h (hears_datagram n.address d now g.link).link.untaken n.taken
     heard d now (inl held) = inl (hearing d now g.link ∙ held)
     heard d now (inr t) = inr t
 
     by_reception : (now : ℕ) (o : Option SentDatagram) → Stands i p h (after_reception now o n).links (after_reception now o n).taken
     by_reception now None = g
     by_reception now (Some d) = record {
-      link = hears_datagram d now g.link;
-      there = slice_get-map (hears_datagram d now) n.links i ∙ ap (λ o. option_map (hears_datagram d now) o) g.there;
-      peer = hears_peer d now g.link ∙ g.peer;
+      link = hears_datagram n.address d now g.link;
+      there = slice_get-map (hears_datagram n.address d now) n.links i ∙ ap (λ o. option_map (hears_datagram n.address d now) o) g.there;
+      peer = hears_peer n.address d now g.link ∙ g.peer;
       kept = heard d now g.kept;
     }
 
@@ -397,8 +400,8 @@ pub record Arrives (i : ℕ) (c : CommandFields) (l : PeerLink) (m m' : Network)
   pub held : holds c.handle l.link.untaken ≡ true → HoldsItsAnswer i c l.peer m'
   pub got : IsKept l.peer c.handle l.link.untaken m.taken → GotItsAnswer i c l.peer m'
 
-arrives : (s i later : ℕ) (m : Network) (x : SentDatagram) (r : ResponseFields) (l : PeerLink) (c : CommandFields) → Sound s (arrived later x m) →
-    slice_get m.links i ≡ Some l → l.link.device ≡ device_address → l.peer ≡ x.peer → content_read x.bytes ≡ Some (Response r ∷ []) → r.handle ≡ c.handle →
+arrives : (s : Peer → ℕ) (i later : ℕ) (m : Network) (x : SentDatagram) (r : ResponseFields) (l : PeerLink) (c : CommandFields) → Sound s (arrived later x m) →
+    slice_get m.links i ≡ Some l → l.link.device ≡ m.address → l.peer ≡ x.peer → content_read x.bytes ≡ Some (Response r ∷ []) → r.handle ≡ c.handle →
     IsSubmitted l.peer c m.submitted → Arrives i c l m (arrived later x m)
 arrives s i later m x r l c sound there device peer content handle sub = record { held = holding; got = got }
   where
@@ -406,11 +409,11 @@ arrives s i later m x r l c sound there device peer content handle sub = record 
     m' = arrived later x m
 
     l' : PeerLink
-    l' = record { peer = l.peer; link = received device_address (content_read x.bytes) later l.link }
+    l' = record { peer = l.peer; link = received m.address (content_read x.bytes) later l.link }
 
     there' : slice_get m'.links i ≡ Some l'
     there' =
-        slice_get-map (hears_datagram x later) m.links i ∙ ap (λ o. option_map (hears_datagram x later) o) there
+        slice_get-map (hears_datagram m.address x later) m.links i ∙ ap (λ o. option_map (hears_datagram m.address x later) o) there
         ∙ ap (λ b. let y : PeerLink = cond b l' l in Some y) (same_of l.peer x.peer peer)
 
     of : LinkSound s m' l'
@@ -418,7 +421,7 @@ arrives s i later m x r l c sound there device peer content handle sub = record 
 
     untaken_is : l'.link.untaken ≡ map (answered c.handle (answer_of_response r)) l.link.untaken
     untaken_is =
-        ap (λ b. cond b (hears_content (content_read x.bytes) l.link.untaken) l.link.untaken) (same_of device_address l.link.device (sym device))
+        ap (λ b. cond b (hears_content (content_read x.bytes) l.link.untaken) l.link.untaken) (same_of m.address l.link.device (sym device))
         ∙ ap (λ o. hears_content o l.link.untaken) content ∙ ap (λ h. map (answered h (answer_of_response r)) l.link.untaken) handle
 
     is_its : (a : AnswerFields) → IsTrueAnswer l.peer c.handle a (past m') → IsAnswerTo c l.peer a m'
@@ -520,7 +523,7 @@ is_only h x y xs i e only = alone (subst (λ (zs : List Execution). IsIn x zs) o
 
 -- ---- there and back
 
-comes_back : WrittenIsReadBack → (s : ℕ) (n : Network) (k now i later : ℕ) (d : SentDatagram) (l : PeerLink) (c : CommandFields) (between : List Step) → Sound s n → AreToDevice n.links →
+comes_back : WrittenIsReadBack → (s : Peer → ℕ) (n : Network) (k now i later : ℕ) (d : SentDatagram) (l : PeerLink) (c : CommandFields) (between : List Step) → Sound s n → AreToDevice n →
     slice_get n.to_device k ≡ Some d → slice_get n.links i ≡ Some l → CarriesUntaken d l c → AllByRecursion StepFits between → IsAnswered k now n d c →
     ComesBack k now between later i c l.peer n
 comes_back law s n k now i later d l c between sound devices sent_to own carries fits is_answered = record {
@@ -598,7 +601,7 @@ comes_back law s n k now i later d l c between sound devices sent_to own carries
     stands = stands_steps i c.handle p between n1
         (record { link = l; there = own1; peer = refl; kept = inl (holds_in c.handle carries.untaken l.link.untaken held (ap (λ (y : CommandFields). y.handle) carries.command)) })
 
-    to_device : AreToDevice n2.links
+    to_device : AreToDevice n2
     to_device = to_device_steps between n1 (to_device_step (ToDevice k now) n devices)
 
     sub2 : IsSubmitted p c n2.submitted
@@ -609,7 +612,7 @@ comes_back law s n k now i later d l c between sound devices sent_to own carries
 
     then : Arrives i c l2 n2 (arrived later back n2)
     then = arrives s i later n2 back (response_to c.handle x.reply) l2 c (rw delivered at sound3) stands.there
-        (each_at (λ (y : PeerLink). y.link.device ≡ device_address) n2.links i l2 to_device stands.there)
+        (each_at (λ (y : PeerLink). y.link.device ≡ n2.address) n2.links i l2 to_device stands.there)
         (stands.peer ∙ carries.peer) (read_sent law p c.handle x (past n1) sendable.fits.handle honest) refl (rw stands.peer sub2)
 
     kept_own : IsKept l2.peer c.handle l2.link.untaken n2.taken
@@ -621,9 +624,9 @@ comes_back law s n k now i later d l c between sound devices sent_to own carries
         ap (λ (y : PeerLink). holds c.handle y.link.untaken) (sym same)
         ∙ holds_in c.handle h.untaken h.link.link.untaken (contains_in h.untaken h.link.link.untaken h.held) (ap (λ (y : CommandFields). y.handle) h.command)
 
-pub round_trip_law : WrittenIsReadBack → (w : DeviceSizes) (s : ℕ) (tree : List Object) (starts : List Start) (es : List Step) → 0 < s → 2 * s ≤ w.window + 1 → are_apart starts ≡ true → Fit starts es →
-    RoundTrips (after_steps es (opening w s tree starts))
-round_trip_law law w s tree starts es some wide apart fit k now i d l c between later sent_to own carries finds keeps fits =
-    comes_back law s (after_steps es (opening w s tree starts)) k now i later d l c between (sound_after law w s tree starts es apart fit)
+pub round_trip_law : WrittenIsReadBack → (w : DeviceSizes) (s : Setup) (tree : List Object) (starts : List Start) (es : List Step) (p : Peer) → 0 < s.span p → 2 * s.span p ≤ w.window + 1 → are_apart s.address starts ≡ true → Fit starts es →
+    RoundTrips p (after_steps es (opening w s tree starts))
+round_trip_law law w s tree starts es p some wide apart fit k now i d l c between later sent_to own his carries finds keeps fits =
+    comes_back law s.span (after_steps es (opening w s tree starts)) k now i later d l c between (sound_after law w s tree starts es apart fit)
     (to_device_steps es (opening w s tree starts) (to_device_opening w s tree starts)) sent_to own carries fits
-    (never_old_law law w s tree starts es some wide apart fit k now i d l c sent_to own carries finds keeps)
+    (never_old_law law w s tree starts es p some wide apart fit k now i d l c sent_to own his carries finds keeps)

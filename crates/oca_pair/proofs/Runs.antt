@@ -102,11 +102,11 @@ pub heard_all : (d : SentDatagram) (old : List PeerLink) (i : ℕ) (a : Option R
 heard_all d old i a h before = sym (or_none a) ∙ ap (λ (xs : List PeerLink). option_or a (first_heard d xs)) (sym (drop_all i old h)) ∙ before
 
 -- where one of the links is of the peer, the first of them answers
-pub one_answers : (d : SentDatagram) (links : List PeerLink) (r : Reception) → first_heard d links ≡ Some r → reception_outcomes d links ≡ outcomes.Link r ∷ []
+pub one_answers : (d : SentDatagram) (links : List PeerLink) (r : Reception) → first_heard d links ≡ Some r → reception_outcomes device_address d links ≡ outcomes.Link r ∷ []
 one_answers d [] r e = cc
 one_answers d (l ∷ links) r e = by_test (one_answers d links r) (same_peer l.peer d.peer) e
   where
-    by_test : (first_heard d links ≡ Some r → reception_outcomes d links ≡ outcomes.Link r ∷ []) → (b : Bool) → option_or (if b then Some (reception device_address (content_read d.bytes) l.link) else None) (first_heard d links) ≡ Some r → (if b then outcomes.Link (reception device_address (content_read d.bytes) l.link) ∷ [] else reception_outcomes d links) ≡ outcomes.Link r ∷ []
+    by_test : (first_heard d links ≡ Some r → reception_outcomes device_address d links ≡ outcomes.Link r ∷ []) → (b : Bool) → option_or (if b then Some (reception device_address (content_read d.bytes) l.link) else None) (first_heard d links) ≡ Some r → (if b then outcomes.Link (reception device_address (content_read d.bytes) l.link) ∷ [] else reception_outcomes device_address d links) ≡ outcomes.Link r ∷ []
     by_test later true e = let same : reception device_address (content_read d.bytes) l.link ≡ r = cc in ap (λ (x : Reception). outcomes.Link x ∷ []) same
     by_test later false e = later e
 
@@ -126,11 +126,11 @@ same_links i l state [] p e = refl
 same_links zero l state (x ∷ xs) p e = let same : x ≡ l = cc in ap (λ (y : PeerLink). same_peer y.peer p || has_link p xs) (sym same)
 same_links (suc i) l state (x ∷ xs) p e = ap (λ (b : Bool). same_peer x.peer p || b) (same_links i l state xs p e)
 
-pub hearing_links : (d : SentDatagram) (now : ℕ) (links : List PeerLink) (p : Peer) → has_link p (map (hears_datagram d now) links) ≡ has_link p links
-hearing_links d now [] p = refl
-hearing_links d now (l ∷ links) p = ap (λ (b : Bool). b || has_link p (map (hears_datagram d now) links)) (by_test (same_peer l.peer d.peer)) ∙ ap (λ (b : Bool). same_peer l.peer p || b) (hearing_links d now links p)
+pub hearing_links : (from : Peer) (d : SentDatagram) (now : ℕ) (links : List PeerLink) (p : Peer) → has_link p (map (hears_datagram from d now) links) ≡ has_link p links
+hearing_links from d now [] p = refl
+hearing_links from d now (l ∷ links) p = ap (λ (b : Bool). b || has_link p (map (hears_datagram from d now) links)) (by_test (same_peer l.peer d.peer)) ∙ ap (λ (b : Bool). same_peer l.peer p || b) (hearing_links from d now links p)
   where
-    by_test : (b : Bool) → (let x : PeerLink = if b then record { peer = l.peer; link = received device_address (content_read d.bytes) now l.link } else l in same_peer x.peer p) ≡ same_peer l.peer p
+    by_test : (b : Bool) → (let x : PeerLink = if b then record { peer = l.peer; link = received from (content_read d.bytes) now l.link } else l in same_peer x.peer p) ≡ same_peer l.peer p
     by_test true = refl
     by_test false = refl
 
@@ -168,6 +168,7 @@ pub record Relinked (old new : Running) : Type 0 where
 pub relinked : (old new : Running) (n : Network) (links : List PeerLink) → Shows old n → Relinked old new → new.links.items ≡ links → ((p : Peer) → has_link p links ≡ has_link p n.links) →
     Shows new (record n { links = links })
 relinked old new n links h r is same = record {
+  address = h.address;
   device = subst (λ d. Represents n.sizes d n.tree n.events) (sym r.device) h.device;
   links = is;
   to_device = r.to_device ∙ h.to_device;
@@ -192,7 +193,7 @@ took_submit old new n i r now l o h at same is set =
       ap (λ (x : Option PeerLink). is_some x) at',
       ap (λ (x : Option PeerLink). on_link (λ y. submit_outcome (submission r y.link)) x) at' ∙ ap (λ (x : Outcome). x ∷ []) (sym is),
       subst (λ (x : Option PeerLink). Shows new (after_submit i r now x n)) (sym at')
-          (record { device = s.device; links = s.links; to_device = s.to_device; to_links = s.to_links; sent = s.sent; answered = s.answered }),
+          (record { address = s.address; device = s.device; links = s.links; to_device = s.to_device; to_links = s.to_links; sent = s.sent; answered = s.answered }),
     )
 
 pub took_take : (old new : Running) (n : Network) (i k : ℕ) (l : PeerLink) (o : Outcome) → Shows old n → slice_get old.links.items i ≡ Some l → Relinked old new →
@@ -203,7 +204,7 @@ took_take old new n i k l o h at same is set =
       ap (λ (x : Option PeerLink). is_some x) at',
       ap (λ (x : Option PeerLink). on_link (λ y. take_outcome (answer_under k y.link.untaken)) x) at' ∙ ap (λ (x : Outcome). x ∷ []) (sym is),
       subst (λ (x : Option PeerLink). Shows new (after_take i k x n)) (sym at')
-          (record { device = s.device; links = s.links; to_device = s.to_device; to_links = s.to_links; sent = s.sent; answered = s.answered }),
+          (record { address = s.address; device = s.device; links = s.links; to_device = s.to_device; to_links = s.to_links; sent = s.sent; answered = s.answered }),
     )
 
 -- the outcome of what a link gave out
@@ -236,6 +237,7 @@ took_due old new n i now l o h at is device to_links to_device set =
       ap (λ (x : Option PeerLink). on_link (λ y. due_outcome (length n.to_device) (decision now y.link)) x) at'
           ∙ ap (λ (xs : List SentDatagram). due_outcome (length xs) (decision now l.link) ∷ []) (sym h.to_device) ∙ ap (λ (x : Outcome). x ∷ []) is,
       subst (λ (x : Option PeerLink). Shows new (after_due_step i now x n)) (sym at') (record {
+        address = h.address;
         device = subst (λ d. Represents n.sizes d n.tree n.events) (sym device) h.device;
         links = set ∙ ap (λ (xs : List PeerLink). with_link i l (gone_on now l.link) xs) h.links;
         to_device = to_device ∙ ap (λ (xs : List SentDatagram). xs ++ sendings_in l.peer given) h.to_device;
@@ -285,6 +287,7 @@ took_to_device old new n k now d p bytes v answers h at owner content represents
       ap (λ (o : Option SentDatagram). is_some o) at',
       ap (λ (o : Option SentDatagram). delivery_outcome now o n) at' ∙ ap (λ (o : Verdict). outcomes.Device o ∷ []) (sym (told n.sizes n.tree n.events h.device)),
       subst (λ (o : Option SentDatagram). Shows new (after_delivery now o n)) (sym at') (record {
+        address = h.address;
         device = represents n.sizes n.tree n.events h.device;
         links = links ∙ h.links;
         to_device = to_device ∙ h.to_device;
@@ -295,16 +298,18 @@ took_to_device old new n k now d p bytes v answers h at owner content represents
     )
 
 pub took_to_link : (old new : Running) (n : Network) (k now : ℕ) (d : SentDatagram) (p : Peer) (bytes : List ℕ) (r : Reception) → Shows old n → slice_get old.to_links.items k ≡ Some d →
-    p ≡ d.peer → bytes ≡ d.bytes → (let x : SentDatagram = record { peer = p; bytes = bytes } in (Some r ≡ first_heard x old.links.items) × (new.links.items ≡ map (hears_datagram x now) old.links.items)) →
+    p ≡ d.peer → bytes ≡ d.bytes → (let x : SentDatagram = record { peer = p; bytes = bytes } in (Some r ≡ first_heard x old.links.items) × (new.links.items ≡ map (hears_datagram device_address x now) old.links.items)) →
     Relinked old new → Took (Ok (outcomes.Link r)) (ToLink k now) n new
 took_to_link old new n k now d p bytes r h at owner content hearing same =
     let x : SentDatagram = record { peer = p; bytes = bytes } in
     let at' : slice_get n.to_links k ≡ Some x =
     ap (λ (xs : List SentDatagram). slice_get xs k) (sym h.to_links) ∙ at ∙ ap (λ (y : SentDatagram). Some y) (datagram_is d p bytes owner content) in (
       ap (λ (o : Option SentDatagram). is_some o) at',
-      ap (λ (o : Option SentDatagram). reception_outcome o n) at' ∙ one_answers x n.links r (sym (hearing.0 ∙ ap (λ (xs : List PeerLink). first_heard x xs) h.links)),
+      ap (λ (o : Option SentDatagram). reception_outcome o n) at' ∙ ap (λ (q : Peer). reception_outcomes q x n.links) h.address ∙ one_answers x n.links r (sym (hearing.0 ∙ ap (λ (xs : List PeerLink). first_heard x xs) h.links)),
       subst (λ (o : Option SentDatagram). Shows new (after_reception now o n)) (sym at')
-          (relinked old new n (map (hears_datagram x now) n.links) h same (hearing.1 ∙ ap (λ (xs : List PeerLink). map (hears_datagram x now) xs) h.links) (λ q. hearing_links x now n.links q)),
+          (relinked old new n (map (hears_datagram n.address x now) n.links) h same
+          (hearing.1 ∙ ap (λ (xs : List PeerLink). map (hears_datagram device_address x now) xs) h.links ∙ ap (λ (q : Peer). map (hears_datagram q x now) n.links) (sym h.address))
+          (λ p. hearing_links n.address x now n.links p)),
     )
 
 -- a datagram on its way to a link has one that hears it
@@ -352,10 +357,10 @@ apart_is p later b device is =
     ap not is ∙ none_of_peer p later ∙ ap (λ (a : Bool). not a && list_all (is_of_another_peer p) later) (sym device)
 
 pub apart_so_far : (starts : List Start) (i : ℕ) (x : Start) (b : Bool) → i < length starts → x ≡ get_or starts i x →
-    b ≡ (not (same_peer x.peer device_address) && list_all (is_of_another_peer x.peer) (drop (i + 1) starts)) → are_apart (drop i starts) ≡ (b && are_apart (drop (i + 1) starts))
+    b ≡ (not (same_peer x.peer device_address) && list_all (is_of_another_peer x.peer) (drop (i + 1) starts)) → are_apart device_address (drop i starts) ≡ (b && are_apart device_address (drop (i + 1) starts))
 apart_so_far starts i x b h at is =
-    ap are_apart (drop_more starts i x h) ∙ ap (λ (y : Start). are_apart (y ∷ drop (i + 1) starts)) (sym at)
-    ∙ ap (λ (c : Bool). c && are_apart (drop (i + 1) starts)) (sym is)
+    ap (are_apart device_address) (drop_more starts i x h) ∙ ap (λ (y : Start). are_apart device_address (y ∷ drop (i + 1) starts)) (sym at)
+    ∙ ap (λ (c : Bool). c && are_apart device_address (drop (i + 1) starts)) (sym is)
 
 -- ---- schedules
 

@@ -29,7 +29,7 @@ use Rattle.oca_control.specs.Untaken.{Untaken, answer_under}
 use Rattle.oca_control.specs.Links.{Request, command_under, submission}
 use Rattle.oca_pair.specs.declared.outcome.Outcome.TheVariants as outcomes
 use Rattle.oca_pair.specs.declared.start.Start.{Start}
-use Rattle.oca_pair.specs.Networks.{Network, PeerLink, SentDatagram, SubmittedCommand, opening}
+use Rattle.oca_pair.specs.Networks.{Network, PeerLink, SentDatagram, SubmittedCommand, Setup, opening}
 use Rattle.oca_pair.specs.Steps.{Step, Submit, Due, ToDevice, ToLink, Other, Take, has_link, submitted_by, submit_outcome, after_submit, after_due_step, after_delivery, hears_datagram, after_reception, after_take, after_step, after_steps, on_link, delivery_outcome, outcome_of_step}
 use Rattle.oca_pair.specs.Steps as steps
 use Rattle.oca_pair.specs.Happenings.{happenings}
@@ -67,10 +67,10 @@ peers_put [] k l y e s = refl
 peers_put (x ∷ xs) zero l y e s = let same : x ≡ l = same_some x l e in ap (λ (p : Peer). p ∷ peers_of xs) (s ∙ ap (λ (z : PeerLink). z.peer) (sym same))
 peers_put (x ∷ xs) (suc k) l y e s = ap (λ (ps : List Peer). x.peer ∷ ps) (peers_put xs k l y e s)
 
-peers_hear : (d : SentDatagram) (now : ℕ) (xs : List PeerLink) → peers_of (map (hears_datagram d now) xs) ≡ peers_of xs
-peers_hear d now [] = refl
-peers_hear d now (x ∷ xs) =
-    ap (λ (p : Peer). p ∷ peers_of (map (hears_datagram d now) xs)) (hears_peer d now x) ∙ ap (λ (ps : List Peer). x.peer ∷ ps) (peers_hear d now xs)
+peers_hear : (from : Peer) (d : SentDatagram) (now : ℕ) (xs : List PeerLink) → peers_of (map (hears_datagram from d now) xs) ≡ peers_of xs
+peers_hear from d now [] = refl
+peers_hear from d now (x ∷ xs) =
+    ap (λ (p : Peer). p ∷ peers_of (map (hears_datagram from d now) xs)) (hears_peer from d now x) ∙ ap (λ (ps : List Peer). x.peer ∷ ps) (peers_hear from d now xs)
 
 peers_step : (step : Step) (n : Network) → peers_of (after_step step n).links ≡ peers_of n.links
 peers_step step n = one step
@@ -89,7 +89,7 @@ peers_step step n = one step
 
     by_reception : (now : ℕ) (o : Option SentDatagram) → peers_of (after_reception now o n).links ≡ peers_of n.links
     by_reception now None = refl
-    by_reception now (Some d) = peers_hear d now n.links
+    by_reception now (Some d) = peers_hear n.address d now n.links
 
     by_other : (from : Peer) (bytes : List ℕ) (now : ℕ) (b : Bool) → peers_of (let m : Network = cond b n (record n { events = Datagram from bytes now ∷ n.events }) in m).links ≡ peers_of n.links
     by_other from bytes now true = refl
@@ -230,7 +230,7 @@ record Happens (p : Peer) (step : Step) (n : Network) : Type 0 where
 abbrev Does : Peer → Step → Network → Network → Type 0
 Does p step n m = (executions_for p m ≡ executions_for p n) ⊎ Happens p step n
 
-does_step : WrittenIsReadBack → (s i : ℕ) (l : PeerLink) (step : Step) (n : Network) → Sound s n → slice_get n.links i ≡ Some l → Does l.peer step n (after_step step n)
+does_step : WrittenIsReadBack → (s : Peer → ℕ) (i : ℕ) (l : PeerLink) (step : Step) (n : Network) → Sound s n → slice_get n.links i ≡ Some l → Does l.peer step n (after_step step n)
 does_step law s i l step n sound own = one step
   where
     p : Peer
@@ -288,7 +288,7 @@ does_step law s i l step n sound own = one step
     one (Take k h) = by_take k h (slice_get n.links k)
 
 -- what is among the executions after steps was before them, or happens in one of them
-executed_in_steps : WrittenIsReadBack → (s i : ℕ) (p : Peer) (es : List Step) (n : Network) → AllByRecursion StepFits es → Sound s n →
+executed_in_steps : WrittenIsReadBack → (s : Peer → ℕ) (i : ℕ) (p : Peer) (es : List Step) (n : Network) → AllByRecursion StepFits es → Sound s n →
     slice_get (peers_of n.links) i ≡ Some p → (x : Execution) → IsIn x (executions_for p (after_steps es n)) → IsIn x (executions_for p n) ⊎ HappensIn p x es n
 executed_in_steps law s i p [] n fits sound own x is = inl is
 executed_in_steps law s i p (e ∷ es) n fits sound own x is =
@@ -362,7 +362,7 @@ each_parts P [] ys a = (tt, a)
 each_parts P (x ∷ xs) ys a = let rest = each_parts P xs ys a.1 in ((a.0, rest.0), rest.1)
 
 -- what was executed before a submit has another handle
-older : (s : ℕ) (n : Network) (z : PeerLink) (h : ℕ) (x : Execution) → LinkSound s n z → z.link.next ≡ Some h → IsIn x (executions_for z.peer n) → x.command.handle ≢ h
+older : (s : Peer → ℕ) (n : Network) (z : PeerLink) (h : ℕ) (x : Execution) → LinkSound s n z → z.link.next ≡ Some h → IsIn x (executions_for z.peer n) → x.command.handle ≢ h
 older s n z h x of next i e =
     let its = honest_of z.peer (past n) x (state_of (past n)).notes of.fair.own (subst (λ (xs : List Execution). IsIn x xs) (executions_are n.sizes z.peer n.tree n.events) i) in
     let sendable = each_in (λ (y : SubmittedCommand). y.peer ≡ z.peer → IsSendable y.command × (y.command.handle < end_of z.link.next)) _ n.submitted of.fair.sendable its.submitted refl in
@@ -386,7 +386,7 @@ took_by i r now h n e = by (slice_get n.links i) refl e
     by None there q = cc
     by (Some l) there q = record { link = l; there = there; answer = took r h l.link q }
 
-module _ (law : WrittenIsReadBack) (w : DeviceSizes) (s : ℕ) (tree : List Object) (starts : List Start) (before later : List Step) (i : ℕ)
+module _ (law : WrittenIsReadBack) (w : DeviceSizes) (s : Setup) (tree : List Object) (starts : List Start) (before later : List Step) (i : ℕ)
     (l : PeerLink) (request : Request) (now : ℕ) (h : Handle) (answer : AnswerFields) where
   abbrev start : Network
   start = opening w s tree starts
@@ -406,7 +406,7 @@ module _ (law : WrittenIsReadBack) (w : DeviceSizes) (s : ℕ) (tree : List Obje
   abbrev c : CommandFields
   c = command_under h.0 request
 
-  module _ (apart : are_apart starts ≡ true) (fit : Fit starts (before ++ call ∷ later)) (in_time : AreInTime i [] (before ++ call ∷ later) start)
+  module _ (apart : are_apart s.address starts ≡ true) (fit : Fit starts (before ++ call ∷ later)) (in_time : AreInTime s i [] (before ++ call ∷ later) start)
       (accepted : outcome_of_step call old ≡ outcomes.Submitted h ∷ []) (own : slice_get end.links i ≡ Some l)
       (which : (answer_under h.0 l.link.untaken ≡ Some answer) ⊎ WasTaken l.peer h.0 answer end.taken) where
     whole : after_steps (before ++ call ∷ later) start ≡ end
@@ -421,14 +421,14 @@ module _ (law : WrittenIsReadBack) (w : DeviceSizes) (s : ℕ) (tree : List Obje
     fits : AllByRecursion StepFits before × AllByRecursion StepFits (call ∷ later)
     fits = each_parts StepFits before (call ∷ later) fit.1
 
-    sound_old : Sound s old
-    sound_old = sound_steps law s before start fits.0 (sound_opening w s tree starts apart fit.0)
+    sound_old : Sound s.span old
+    sound_old = sound_steps law s.span before start fits.0 (sound_opening w s tree starts apart fit.0)
 
-    sound_called : Sound s called
-    sound_called = sound_step law s call old fits.1.0 sound_old
+    sound_called : Sound s.span called
+    sound_called = sound_step law s.span call old fits.1.0 sound_old
 
-    sound_end : Sound s end
-    sound_end = sound_steps law s later called fits.1.1 sound_called
+    sound_end : Sound s.span end
+    sound_end = sound_steps law s.span later called fits.1.1 sound_called
 
     its : Took i request h old
     its = took_by i request now h old accepted
@@ -448,7 +448,7 @@ module _ (law : WrittenIsReadBack) (w : DeviceSizes) (s : ℕ) (tree : List Obje
 
     new_handle : (x : Execution) → IsIn x (executions_for l.peer called) → x.command.handle ≢ h.0
     new_handle x i' =
-        older s old its.link h.0 x (each_at (LinkSound s old) old.links i its.link sound_old.each its.there) (granted request its.link.link h its.answer).0
+        older s.span old its.link h.0 x (each_at (LinkSound s.span old) old.links i its.link sound_old.each its.there) (granted request its.link.link h its.answer).0
         (subst (λ (q : Peer). IsIn x (executions_for q old)) (sym its_peer) (subst (λ (xs : List Execution). IsIn x xs) quiet i'))
 
     found : IsIn one.execution (executions_for l.peer end) × (one.execution.command.handle ≡ h.0)
@@ -456,7 +456,7 @@ module _ (law : WrittenIsReadBack) (w : DeviceSizes) (s : ℕ) (tree : List Obje
 
     happens : HappensIn l.peer one.execution later called
     happens =
-        elim (executed_in_steps law s i l.peer later called fits.1.1 sound_called
+        elim (executed_in_steps law s.span i l.peer later called fits.1.1 sound_called
         (ap (λ (ps : List Peer). slice_get ps i) (sym (peers_steps later called)) ∙ slice_get-map (λ (z : PeerLink). z.peer) end.links i ∙ ap (λ (o : Option PeerLink). option_map (λ (z : PeerLink). z.peer) o) own)
         one.execution found.0) [
           | inl early ↦ absurd (new_handle one.execution early found.1)
@@ -477,7 +477,7 @@ module _ (law : WrittenIsReadBack) (w : DeviceSizes) (s : ℕ) (tree : List Obje
 
     command_is : one.execution.command ≡ c
     command_is =
-        (each_at (LinkSound s end) end.links i l sound_end.each own).fair.unique one.execution.command c (contains_in _ end.submitted one.submitted) submitted_then found.1
+        (each_at (LinkSound s.span end) end.links i l sound_end.each own).fair.unique one.execution.command c (contains_in _ end.submitted one.submitted) submitted_then found.1
 
     pub said_so : IsOfOneExecutionSince l.peer c answer later called
     said_so = record {

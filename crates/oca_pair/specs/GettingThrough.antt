@@ -18,7 +18,7 @@ use Rattle.oca_control.specs.Histories.{Call, Submits, SendsDue, Receives, Takes
 use Rattle.oca_control.specs.Answering.{IsAskedEvery, IsSentInTime}
 use Rattle.oca_pair.specs.declared.outcome.Outcome.TheVariants as outcomes
 use Rattle.oca_pair.specs.declared.start.Start.{Start}
-use Rattle.oca_pair.specs.Networks.{Network, PeerLink, SentDatagram, device_address, opening}
+use Rattle.oca_pair.specs.Networks.{Network, PeerLink, SentDatagram, Setup, opening}
 use Rattle.oca_pair.specs.Steps.{Step, Submit, Due, ToDevice, ToLink, Other, Tick, Local, Take, content_read}
 use Rattle.oca_pair.specs.Steps.{after_step}
 use Rattle.oca_pair.specs.Steps.{after_steps, outcome_of_step}
@@ -34,17 +34,17 @@ called call (Some l) = call l.link ∷ []
 called call None = []
 
 -- the link receives a datagram that is for its peer
-abbrev pub received_from : ℕ → SentDatagram → PeerLink → List Call
-received_from now d l =
+abbrev pub received_from : Peer → ℕ → SentDatagram → PeerLink → List Call
+received_from address now d l =
     let content : Option (List Msg) = content_read d.bytes in
     if same_peer l.peer d.peer
-    then Receives device_address d.bytes content now (reception device_address content l.link) ∷ []
+    then Receives address d.bytes content now (reception address content l.link) ∷ []
     else []
 
-abbrev pub receiving : ℕ → Option SentDatagram → Option PeerLink → List Call
-receiving now (Some d) (Some l) = received_from now d l
-receiving now (Some d) None = []
-receiving now None l = []
+abbrev pub receiving : Peer → ℕ → Option SentDatagram → Option PeerLink → List Call
+receiving address now (Some d) (Some l) = received_from address now d l
+receiving address now (Some d) None = []
+receiving address now None l = []
 
 -- the call that a step makes of it, or none
 abbrev pub call_in : ℕ → Step → Network → List Call
@@ -54,7 +54,7 @@ call_in i (Due link now) n =
     if link == i
     then called (λ l. SendsDue now (due_answer (decision now l)) (due_bytes (decision now l))) (slice_get n.links i)
     else []
-call_in i (ToLink k now) n = receiving now (slice_get n.to_links k) (slice_get n.links i)
+call_in i (ToLink k now) n = receiving n.address now (slice_get n.to_links k) (slice_get n.links i)
 call_in i (Take link handle) n =
     if link == i then called (λ l. TakesAnswer handle (answer_under handle l.untaken)) (slice_get n.links i) else []
 call_in i (ToDevice k now) n = []
@@ -98,17 +98,19 @@ pub record WaitsInTime (ms since i : ℕ) (c : CommandFields) (p : Peer) (calls 
 abbrev pub GetsThrough : ℕ → ℕ → ℕ → CommandFields → Peer → List Call → Network → Type 0
 GetsThrough ms since i c p calls n = GotItsAnswer i c p n ⊎ (IsLost i n ⊎ WaitsInTime ms since i c p calls n)
 
--- Over every schedule, for all sizes where the window is at least twice the span less one: so it is of each command
--- that the link of a start submitted in a step, where from this step on the link is asked every so many ms.
+-- Over every schedule, for all sizes and each link where the window is at least twice the link's span less one: so it
+-- is of each command that the link of a start submitted in a step, where from this step on the link is asked every so
+-- many ms.
 abbrev pub EveryCommandGetsThrough : Type 0
 EveryCommandGetsThrough =
-    (w : DeviceSizes) (s : ℕ) (tree : List Object) (starts : List Start) (before later : List Step) (i : ℕ) (x : Start)
-    (request : Request) (now ms : ℕ) (h : Handle) →
+    (w : DeviceSizes) (s : Setup) (tree : List Object) (starts : List Start) (before later : List Step) (i : ℕ)
+    (x : Start) (request : Request) (now ms : ℕ) (h : Handle) →
     let start : Network = opening w s tree starts in
     let old : Network = after_steps before start in
     let new : Network = after_step (Submit i request now) old in
-    let since : ℕ = max (clock_of_calls 0 (calls_in i before start)) now in
-    0 < s → 2 * s ≤ w.window + 1 → are_apart starts ≡ true → Fit starts (before ++ Submit i request now ∷ later) →
-    slice_get starts i ≡ Some x → outcome_of_step (Submit i request now) old ≡ outcomes.Submitted h ∷ [] →
+    let since : ℕ = max (clock_of_calls (s.made x.peer) (calls_in i before start)) now in
+    0 < s.span x.peer → 2 * s.span x.peer ≤ w.window + 1 → are_apart s.address starts ≡ true →
+    Fit starts (before ++ Submit i request now ∷ later) → slice_get starts i ≡ Some x →
+    outcome_of_step (Submit i request now) old ≡ outcomes.Submitted h ∷ [] →
     IsAskedEvery ms since (calls_in i later new) →
     GetsThrough ms since i (command_under h.0 request) x.peer (calls_in i later new) (after_steps later new)

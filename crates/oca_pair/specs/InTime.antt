@@ -12,7 +12,7 @@ use Rattle.oca_control.specs.Answers.{AnswerFields}
 use Rattle.oca_control.specs.Untaken.{answer_under}
 use Rattle.oca_control.specs.Links.{present_moment, late_at, decision}
 use Rattle.oca_pair.specs.declared.start.Start.{Start}
-use Rattle.oca_pair.specs.Networks.{Network, PeerLink, SentDatagram, opening}
+use Rattle.oca_pair.specs.Networks.{Network, PeerLink, SentDatagram, Setup, opening}
 use Rattle.oca_pair.specs.Steps.{Step, Submit, Due, ToDevice, ToLink, Other, Tick, Local, Take, given_by, after_step}
 use Rattle.oca_pair.specs.Steps.{after_steps}
 use Rattle.oca_pair.specs.Happenings.{happenings}
@@ -54,7 +54,7 @@ clock_at now n = clock (Passes now ∷ happenings n.events)
 abbrev pub longest_delay : ℕ
 longest_delay = 100000
 
--- By clocks that run alike it arrives no earlier than it left, and at most 100,000 ms later.
+-- By one clock it arrives no earlier than it left, and at most 100,000 ms later.
 pub record ArrivesInTime (left came : ℕ) : Type 0 where
   pub not_before : left ≤ came
   pub not_late : came ≤ left + longest_delay
@@ -62,31 +62,32 @@ pub record ArrivesInTime (left came : ℕ) : Type 0 where
 -- ---- the premises, of the link of this number
 
 -- The link is not asked what is due while it is late, and each delivery of a datagram of its peer to the device is in
--- time. These datagrams left before.
-abbrev pub StepIsInTime : ℕ → List Departure → Step → Network → Type 0
-StepIsInTime i left (Due link now) n =
+-- time, by the common clock. These datagrams left before.
+abbrev pub StepIsInTime : Setup → ℕ → List Departure → Step → Network → Type 0
+StepIsInTime s i left (Due link now) n =
     (l : PeerLink) → link ≡ i → slice_get n.links i ≡ Some l → late_at now l.link ≡ false
-StepIsInTime i left (ToDevice k now) n =
+StepIsInTime s i left (ToDevice k now) n =
     (l : PeerLink) (x : Departure) → slice_get n.links i ≡ Some l → slice_get left k ≡ Some x →
     x.datagram.peer ≡ l.peer →
-    ArrivesInTime x.at (clock_at now n)
-StepIsInTime i left _ n = Unit {0}
+    ArrivesInTime (s.zero l.peer + x.at) (s.device_zero + clock_at now n)
+StepIsInTime s i left _ n = Unit {0}
 
 -- all steps from a network on
-abbrev pub AreInTime : ℕ → List Departure → List Step → Network → Type 0
-AreInTime i left [] n = Unit {0}
-AreInTime i left (step ∷ steps) n =
-    StepIsInTime i left step n × AreInTime i (left ++ departures_in step n) steps (after_step step n)
+abbrev pub AreInTime : Setup → ℕ → List Departure → List Step → Network → Type 0
+AreInTime s i left [] n = Unit {0}
+AreInTime s i left (step ∷ steps) n =
+    StepIsInTime s i left step n × AreInTime s i (left ++ departures_in step n) steps (after_step step n)
 
 -- ---- the law
 
 -- Over every schedule, for all sizes: no two executions for the link's peer are of one handle.
 abbrev pub EveryCommandInTimeIsExecutedOnce : Type 0
 EveryCommandInTimeIsExecutedOnce =
-    (w : DeviceSizes) (s : ℕ) (tree : List Object) (starts : List Start) (steps : List Step) (i : ℕ) (l : PeerLink) →
+    (w : DeviceSizes) (s : Setup) (tree : List Object) (starts : List Start) (steps : List Step) (i : ℕ)
+    (l : PeerLink) →
     let start : Network = opening w s tree starts in
     let n : Network = after_steps steps start in
-    are_apart starts ≡ true → Fit starts steps → AreInTime i [] steps start → slice_get n.links i ≡ Some l →
+    are_apart s.address starts ≡ true → Fit starts steps → AreInTime s i [] steps start → slice_get n.links i ≡ Some l →
     IsDistinct (λ (x y : ℕ). x == y) (map (λ x. x.command.handle) (executions_for l.peer n))
 
 -- ---- of answers
@@ -102,11 +103,11 @@ pub record IsAnswerOfOneExecution (p : Peer) (h : ℕ) (answer : AnswerFields) (
 -- Over every schedule, for all sizes: so is each answer that the link holds, and each that was taken from it.
 abbrev pub EveryAnswerInTimeIsOfOneExecution : Type 0
 EveryAnswerInTimeIsOfOneExecution =
-    (w : DeviceSizes) (s : ℕ) (tree : List Object) (starts : List Start) (steps : List Step) (i : ℕ) (l : PeerLink)
+    (w : DeviceSizes) (s : Setup) (tree : List Object) (starts : List Start) (steps : List Step) (i : ℕ) (l : PeerLink)
     (h : ℕ) (answer : AnswerFields) →
     let start : Network = opening w s tree starts in
     let n : Network = after_steps steps start in
-    are_apart starts ≡ true → Fit starts steps → AreInTime i [] steps start → slice_get n.links i ≡ Some l →
+    are_apart s.address starts ≡ true → Fit starts steps → AreInTime s i [] steps start → slice_get n.links i ≡ Some l →
     (answer_under h l.link.untaken ≡ Some answer) ⊎ WasTaken l.peer h answer n.taken →
     IsAnswerOfOneExecution l.peer h answer n
 
@@ -120,11 +121,11 @@ accepted_in_session p now n = accepted_by n.sizes (clock_at now n) p (admitted n
 -- session in which it was is still that of the peer: what is accepted in it has the command's handle.
 abbrev pub NoCopyInTimeFindsItsSessionForgotten : Type 0
 NoCopyInTimeFindsItsSessionForgotten =
-    (w : DeviceSizes) (s : ℕ) (tree : List Object) (starts : List Start) (steps : List Step) (i k now : ℕ)
+    (w : DeviceSizes) (s : Setup) (tree : List Object) (starts : List Start) (steps : List Step) (i k now : ℕ)
     (l : PeerLink) (c : CommandFields) →
     let start : Network = opening w s tree starts in
     let n : Network = after_steps steps start in
-    are_apart starts ≡ true → Fit starts steps → AreInTime i [] (steps ++ ToDevice k now ∷ []) start →
+    are_apart s.address starts ≡ true → Fit starts steps → AreInTime s i [] (steps ++ ToDevice k now ∷ []) start →
     slice_get n.links i ≡ Some l → WasSubmitted l.peer c n.submitted → slice_get n.to_device k ≡ Some (copy_of l.peer c) →
     list_any (λ x. x.command.handle == c.handle) (executions_for l.peer n) ≡ true →
     list_any (λ x. x.handle == c.handle) (accepted_in_session l.peer now n) ≡ true

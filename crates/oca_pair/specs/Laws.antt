@@ -24,7 +24,7 @@ use Rattle.oca_control.specs.Answers.{AnswerFields}
 use Rattle.oca_control.specs.Untaken.{Untaken, answer_under}
 use Rattle.oca_pair.specs.declared.outcome.Outcome.TheVariants as outcomes
 use Rattle.oca_pair.specs.declared.start.Start.{Start}
-use Rattle.oca_pair.specs.Networks.{Network, PeerLink, SentDatagram, SubmittedCommand, TakenAnswer, opening}
+use Rattle.oca_pair.specs.Networks.{Network, PeerLink, SentDatagram, SubmittedCommand, TakenAnswer, Setup, opening}
 use Rattle.oca_pair.specs.Steps.{Step, ToDevice, after_step, after_steps, outcome_of_step}
 use Rattle.oca_pair.specs.Happenings.{happenings}
 use Rattle.oca_pair.specs.Premises.{are_apart, Fit, KeepsItsSession, FindsRoom}
@@ -117,8 +117,8 @@ pub record AnswersItsCommands (n : Network) : Type 0 where
 -- Over every schedule, for all sizes:
 abbrev pub EveryScheduleAnswersItsCommands : Type 0
 EveryScheduleAnswersItsCommands =
-    (w : DeviceSizes) (s : ℕ) (tree : List Object) (starts : List Start) (steps : List Step) → are_apart starts ≡ true →
-    Fit starts steps →
+    (w : DeviceSizes) (s : Setup) (tree : List Object) (starts : List Start) (steps : List Step) →
+    are_apart s.address starts ≡ true → Fit starts steps →
     AnswersItsCommands (after_steps steps (opening w s tree starts))
 
 -- ---- THE LAW OF UNTAKEN COMMANDS
@@ -154,19 +154,19 @@ pub record IsAnswered (k now : ℕ) (n : Network) (d : SentDatagram) (c : Comman
   pub sent : (after_step (ToDevice k now) n).to_links
       ≡ n.to_links ++ (record { peer = d.peer; bytes = pdu_encoding (pdu_of (response c.handle execution.reply)) }) ∷ []
 
--- A delivery of a datagram that carries an untaken command is answered, where it finds room, and the link's peer kept
--- its session, this datagram counted.
-abbrev pub AnswersUntaken : Network → Type 0
-AnswersUntaken n = (k now i : ℕ) (d : SentDatagram) (l : PeerLink) (c : CommandFields) →
-    slice_get n.to_device k ≡ Some d → slice_get n.links i ≡ Some l → CarriesUntaken d l c →
+-- A delivery of a datagram that carries an untaken command of the link of this peer is answered, where it finds room,
+-- and the peer kept its session, this datagram counted.
+abbrev pub AnswersUntaken : Peer → Network → Type 0
+AnswersUntaken p n = (k now i : ℕ) (d : SentDatagram) (l : PeerLink) (c : CommandFields) →
+    slice_get n.to_device k ≡ Some d → slice_get n.links i ≡ Some l → l.peer ≡ p → CarriesUntaken d l c →
     FindsRoom d.peer now n → KeepsItsSession d.peer (after_step (ToDevice k now) n) → IsAnswered k now n d c
 
--- Over every schedule, for all sizes where the window is at least twice the span less one:
+-- Over every schedule, for all sizes and each link where the window is at least twice the link's span less one:
 abbrev pub NoUntakenCommandIsTooOld : Type 0
 NoUntakenCommandIsTooOld =
-    (w : DeviceSizes) (s : ℕ) (tree : List Object) (starts : List Start) (steps : List Step) → 0 < s →
-    2 * s ≤ w.window + 1 → are_apart starts ≡ true → Fit starts steps →
-    AnswersUntaken (after_steps steps (opening w s tree starts))
+    (w : DeviceSizes) (s : Setup) (tree : List Object) (starts : List Start) (steps : List Step) (p : Peer) →
+    0 < s.span p → 2 * s.span p ≤ w.window + 1 → are_apart s.address starts ≡ true → Fit starts steps →
+    AnswersUntaken p (after_steps steps (opening w s tree starts))
 
 -- No command of a link is executed twice, where its peer kept its session.
 abbrev pub ExecutesOnce : Network → Type 0
@@ -176,6 +176,6 @@ ExecutesOnce n = (i : ℕ) (l : PeerLink) → slice_get n.links i ≡ Some l →
 -- Over every schedule, for all sizes:
 abbrev pub EveryCommandIsExecutedOnce : Type 0
 EveryCommandIsExecutedOnce =
-    (w : DeviceSizes) (s : ℕ) (tree : List Object) (starts : List Start) (steps : List Step) → are_apart starts ≡ true →
-    Fit starts steps →
+    (w : DeviceSizes) (s : Setup) (tree : List Object) (starts : List Start) (steps : List Step) →
+    are_apart s.address starts ≡ true → Fit starts steps →
     ExecutesOnce (after_steps steps (opening w s tree starts))

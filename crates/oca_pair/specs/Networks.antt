@@ -12,9 +12,15 @@ use Rattle.oca_control.specs.Answers.{AnswerFields}
 use Rattle.oca_control.specs.Links.{LinkState, new_link}
 use Rattle.oca_pair.specs.declared.start.Start.{Start}
 
--- the device's address: 127.0.0.1:65000
-abbrev pub device_address : Peer
-device_address = record { ip = 0x7F000001; port = 65000 }
+-- HOW A NETWORK IS SET UP: the device's address; and for the link of each peer its span, and the moment at which it was
+-- made, in ms by the link's clock. The clocks of the device and of each link run alike: `device_zero` and `zero` are the
+-- moments of one common clock at which they showed 0.
+pub record Setup : Type 0 where
+  pub address : Peer
+  pub span : Peer → ℕ
+  pub made : Peer → ℕ
+  pub device_zero : ℕ
+  pub zero : Peer → ℕ
 
 -- a link, and the peer whose it is
 pub record PeerLink : Type 0 where
@@ -37,9 +43,10 @@ pub record TakenAnswer : Type 0 where
   pub handle : ℕ
   pub answer : AnswerFields
 
--- The sizes of the device, its objects at first and what happened to it; the links; the datagrams that were sent to
--- the device and to links; and what was submitted and taken.
+-- The device's address, its sizes, its objects at first and what happened to it; the links; the datagrams that were
+-- sent to the device and to links; and what was submitted and taken.
 pub record Network : Type 0 where
+  pub address : Peer
   pub sizes : DeviceSizes
   pub tree : List Object
   pub events : List Event
@@ -49,20 +56,30 @@ pub record Network : Type 0 where
   pub submitted : List SubmittedCommand
   pub taken : List TakenAnswer
 
--- a new link of a span, made at moment 0
-abbrev pub started : ℕ → Start → PeerLink
-started span x = record { peer = x.peer; link = new_link device_address x.first_handle.0 0 span }
+-- a new link to the device, with the span and the moment of its peer
+abbrev pub started : Setup → Start → PeerLink
+started s x = record { peer = x.peer; link = new_link s.address x.first_handle.0 (s.made x.peer) (s.span x.peer) }
 
 -- THE NETWORK AT FIRST: a device to which nothing happened, and a new link for each start.
-abbrev pub opening : DeviceSizes → ℕ → List Object → List Start → Network
-opening sizes span tree starts =
+abbrev pub opening : DeviceSizes → Setup → List Object → List Start → Network
+opening sizes s tree starts =
     record {
+      address = s.address;
       sizes = sizes;
       tree = tree;
       events = [];
-      links = map (started span) starts;
+      links = map (started s) starts;
       to_device = [];
       to_links = [];
       submitted = [];
       taken = [];
     }
+
+-- ---- the setup of `run_pair`: its device is at 127.0.0.1:65000, each link has this span and is made at moment 0, and
+-- all clocks show one time
+abbrev pub device_address : Peer
+device_address = record { ip = 0x7F000001; port = 65000 }
+
+abbrev pub run_setup : ℕ → Setup
+run_setup span =
+    record { address = device_address; span = λ p. span; made = λ p. 0; device_zero = 0; zero = λ p. 0 }

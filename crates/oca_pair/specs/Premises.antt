@@ -9,18 +9,18 @@ use Rattle.oca_device.specs.LawByEvents.{Happening, Passes, Says, Sets, Arrival,
 use Rattle.oca_device.specs.LawByEvents.{session, last_moment, has_room}
 use Rattle.oca_control.specs.Links.{Request}
 use Rattle.oca_pair.specs.declared.start.Start.{Start}
-use Rattle.oca_pair.specs.Networks.{Network, device_address}
+use Rattle.oca_pair.specs.Networks.{Network}
 use Rattle.oca_pair.specs.Steps.{Step, Submit}
 use Rattle.oca_pair.specs.Happenings.{happenings}
 
--- ---- of starts: no two have one peer, and none has the device's
+-- ---- of starts: no two have one peer, and none has the device's address
 abbrev pub is_of_another_peer : Peer → Start → Bool
 is_of_another_peer p x = not (same_peer x.peer p)
 
-abbrev pub are_apart : List Start → Bool
-are_apart [] = true
-are_apart (x ∷ starts) =
-    is_of_another_peer device_address x && list_all (is_of_another_peer x.peer) starts && are_apart starts
+abbrev pub are_apart : Peer → List Start → Bool
+are_apart address [] = true
+are_apart address (x ∷ starts) =
+    is_of_another_peer address x && list_all (is_of_another_peer x.peer) starts && are_apart address starts
 
 -- ---- of numbers: each fits its width (AES70-3), as every number of a program does
 pub record RequestFits (r : Request) : Type 0 where

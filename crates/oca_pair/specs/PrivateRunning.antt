@@ -21,8 +21,10 @@ use Rattle.oca_pair.specs.Steps.{Step, has_link, is_there, after_step, outcome_o
 abbrev pub AreOfLinks : List PeerLink → List SentDatagram → Type 0
 AreOfLinks links sent = AllByRecursion (λ d. has_link d.peer links ≡ true) sent
 
--- it represents the device of the network, and has its links and datagrams, each of the peer of a link
+-- it represents the device of the network, which is where `run_pair` has it, and has its links and datagrams, each of
+-- the peer of a link
 pub record Shows (r : Running) (n : Network) : Type 0 where
+  pub address : n.address ≡ device_address
   pub device : Represents n.sizes r.device n.tree n.events
   pub links : r.links.items ≡ n.links
   pub to_device : r.to_device.items ≡ n.to_device

@@ -13,7 +13,7 @@ use Rattle.oca_device.specs.Answers.{response}
 use Rattle.oca_control.specs.Answers.{AnswerFields}
 use Rattle.oca_control.specs.Untaken.{Untaken, answer_under}
 use Rattle.oca_pair.specs.declared.start.Start.{Start}
-use Rattle.oca_pair.specs.Networks.{Network, PeerLink, SentDatagram, opening}
+use Rattle.oca_pair.specs.Networks.{Network, PeerLink, SentDatagram, Setup, opening}
 use Rattle.oca_pair.specs.Steps.{Step, ToDevice, ToLink, after_step, after_steps}
 use Rattle.oca_pair.specs.Premises.{are_apart, StepFits, Fit, KeepsItsSession, FindsRoom}
 use Rattle.oca_pair.specs.Laws.{answer_of, IsAnswerOfItsCommand, WasTaken, CarriesUntaken}
@@ -83,17 +83,17 @@ pub record ComesBack (k now : ℕ) (between : List Step) (later i : ℕ) (c : Co
       IsAnswerTo c p answer (come_back k now between later n) →
       answer ≡ answer_of sent_back.reply
 
--- Each delivery of a datagram that carries an untaken command comes back, under the premises of `AnswersUntaken`. Of
--- what happens after that delivery nothing is asked.
-abbrev pub RoundTrips : Network → Type 0
-RoundTrips n = (k now i : ℕ) (d : SentDatagram) (l : PeerLink) (c : CommandFields) (between : List Step) (later : ℕ) →
-    slice_get n.to_device k ≡ Some d → slice_get n.links i ≡ Some l → CarriesUntaken d l c →
+-- Each delivery of a datagram that carries an untaken command of the link of this peer comes back, under the premises
+-- of `AnswersUntaken`. Of what happens after that delivery nothing is asked.
+abbrev pub RoundTrips : Peer → Network → Type 0
+RoundTrips p n = (k now i : ℕ) (d : SentDatagram) (l : PeerLink) (c : CommandFields) (between : List Step) (later : ℕ) →
+    slice_get n.to_device k ≡ Some d → slice_get n.links i ≡ Some l → l.peer ≡ p → CarriesUntaken d l c →
     FindsRoom d.peer now n → KeepsItsSession d.peer (asked k now n) → AllByRecursion StepFits between →
     ComesBack k now between later i c l.peer n
 
--- Over every schedule, for all sizes where the window is at least twice the span less one:
+-- Over every schedule, for all sizes and each link where the window is at least twice the link's span less one:
 abbrev pub EveryRoundTripBringsTheAnswer : Type 0
 EveryRoundTripBringsTheAnswer =
-    (w : DeviceSizes) (s : ℕ) (tree : List Object) (starts : List Start) (steps : List Step) → 0 < s →
-    2 * s ≤ w.window + 1 → are_apart starts ≡ true → Fit starts steps →
-    RoundTrips (after_steps steps (opening w s tree starts))
+    (w : DeviceSizes) (s : Setup) (tree : List Object) (starts : List Start) (steps : List Step) (p : Peer) →
+    0 < s.span p → 2 * s.span p ≤ w.window + 1 → are_apart s.address starts ≡ true → Fit starts steps →
+    RoundTrips p (after_steps steps (opening w s tree starts))

@@ -35,7 +35,7 @@ use Rattle.oca_control.specs.Untaken.{answer_under}
 use Rattle.oca_control.specs.Links.{Request, command_under}
 use Rattle.oca_pair.specs.declared.outcome.Outcome.TheVariants as outcomes
 use Rattle.oca_pair.specs.declared.start.Start.{Start}
-use Rattle.oca_pair.specs.Networks.{Network, PeerLink, opening}
+use Rattle.oca_pair.specs.Networks.{Network, PeerLink, Setup, opening}
 use Rattle.oca_pair.specs.Steps.{Step, Submit, ToDevice, Tick, after_step, after_steps, outcome_of_step}
 use Rattle.oca_pair.specs.Happenings.{happenings}
 use Rattle.oca_pair.specs.Premises.{are_apart, Fit}
@@ -199,14 +199,14 @@ ClassesMetAreThoseAtFirst p c answer later called =
 -- that it submitted in a step before.
 abbrev pub OfEachAnswer : (Peer → CommandFields → AnswerFields → List Step → Network → Type 0) → Type 0
 OfEachAnswer Holds =
-    (w : DeviceSizes) (s : ℕ) (tree : List Object) (starts : List Start) (before later : List Step) (i : ℕ)
+    (w : DeviceSizes) (s : Setup) (tree : List Object) (starts : List Start) (before later : List Step) (i : ℕ)
     (l : PeerLink) (request : Request) (now : ℕ) (h : Handle) (answer : AnswerFields) →
     let start : Network = opening w s tree starts in
     let old : Network = after_steps before start in
     let called : Network = after_step (Submit i request now) old in
     let end : Network = after_steps later called in
-    are_apart starts ≡ true → Fit starts (before ++ Submit i request now ∷ later) →
-    AreInTime i [] (before ++ Submit i request now ∷ later) start →
+    are_apart s.address starts ≡ true → Fit starts (before ++ Submit i request now ∷ later) →
+    AreInTime s i [] (before ++ Submit i request now ∷ later) start →
     outcome_of_step (Submit i request now) old ≡ outcomes.Submitted h ∷ [] → slice_get end.links i ≡ Some l →
     (answer_under h.0 l.link.untaken ≡ Some answer) ⊎ WasTaken l.peer h.0 answer end.taken →
     Holds l.peer (command_under h.0 request) answer later called
@@ -215,5 +215,5 @@ OfEachAnswer Holds =
 -- numbers.
 abbrev pub ClassesStay : Type 0
 ClassesStay =
-    (w : DeviceSizes) (s : ℕ) (tree : List Object) (starts : List Start) (steps : List Step) (number : ℕ) →
+    (w : DeviceSizes) (s : Setup) (tree : List Object) (starts : List Start) (steps : List Step) (number : ℕ) →
     class_of_ono (objects_held (after_steps steps (opening w s tree starts))) number ≡ class_of_ono tree number

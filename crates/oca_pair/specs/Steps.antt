@@ -26,7 +26,7 @@ use Rattle.oca_control.specs.Links.{GivesCommand, GivesKeepAlive, GivesNothing, 
 use Rattle.oca_control.specs.Links.{reception, received, taken}
 use Rattle.oca_pair.specs.declared.outcome.Outcome.{Outcome}
 use Rattle.oca_pair.specs.declared.outcome.Outcome.TheVariants as outcomes
-use Rattle.oca_pair.specs.Networks.{Network, PeerLink, SentDatagram, SubmittedCommand, TakenAnswer, device_address}
+use Rattle.oca_pair.specs.Networks.{Network, PeerLink, SentDatagram, SubmittedCommand, TakenAnswer}
 
 -- Links and datagrams are named by their number in their list, from 0. Moments are in milliseconds.
 pub data Step : Type 0 where
@@ -123,22 +123,22 @@ messages_read (Err fault) = None
 abbrev pub content_read : List ℕ → Option (List Msg)
 content_read bytes = messages_read (read_datagram bytes)
 
-abbrev pub hears_datagram : SentDatagram → ℕ → PeerLink → PeerLink
-hears_datagram d now l =
+abbrev pub hears_datagram : Peer → SentDatagram → ℕ → PeerLink → PeerLink
+hears_datagram address d now l =
     if same_peer l.peer d.peer then record {
       peer = l.peer;
-      link = received device_address (content_read d.bytes) now l.link;
+      link = received address (content_read d.bytes) now l.link;
     } else l
 
 abbrev pub after_reception : ℕ → Option SentDatagram → Network → Network
 after_reception now None n = n
-after_reception now (Some d) n = record n { links = map (hears_datagram d now) n.links }
+after_reception now (Some d) n = record n { links = map (hears_datagram n.address d now) n.links }
 
-abbrev pub reception_outcomes : SentDatagram → List PeerLink → List Outcome
-reception_outcomes d [] = []
-reception_outcomes d (l ∷ links) =
-    if same_peer l.peer d.peer then outcomes.Link (reception device_address (content_read d.bytes) l.link) ∷ []
-    else reception_outcomes d links
+abbrev pub reception_outcomes : Peer → SentDatagram → List PeerLink → List Outcome
+reception_outcomes address d [] = []
+reception_outcomes address d (l ∷ links) =
+    if same_peer l.peer d.peer then outcomes.Link (reception address (content_read d.bytes) l.link) ∷ []
+    else reception_outcomes address d links
 
 -- ---- TAKE: the answer is taken from the link, where it has one
 abbrev pub taken_by : Peer → ℕ → Option AnswerFields → List TakenAnswer
@@ -203,7 +203,7 @@ delivery_outcome now (Some d) n = outcomes.Device (verdict n.sizes n.tree n.even
 delivery_outcome now None n = []
 
 abbrev pub reception_outcome : Option SentDatagram → Network → List Outcome
-reception_outcome (Some d) n = reception_outcomes d n.links
+reception_outcome (Some d) n = reception_outcomes n.address d n.links
 reception_outcome None n = []
 
 abbrev pub outcome_of_step : Step → Network → List Outcome

@@ -10,7 +10,7 @@ use Rattle.oca_pair.specs.declared.pair.Transcript.{Transcript}
 use Rattle.oca_pair.specs.declared.start.Start.{Start}
 use Rattle.oca_pair.specs.declared.step.Step as declared
 use Rattle.oca_pair.specs.declared.step.Step.TheVariants as given
-use Rattle.oca_pair.specs.Networks.{Network, opening}
+use Rattle.oca_pair.specs.Networks.{Network, run_setup, opening}
 use Rattle.oca_pair.specs.Steps.{Step, Submit, Due, ToDevice, ToLink, Other, Tick, Local, Take, after_steps}
 use Rattle.oca_pair.specs.Steps.{outcomes_of, first_missing}
 use Rattle.oca_pair.specs.Premises.{are_apart}
@@ -48,15 +48,16 @@ pub record IsTranscript (t : Transcript) (steps : List Step) (n : Network) : Typ
 -- SamePeer comes exactly where starts are not apart, and BadStep is exactly the first step that names what is not
 -- there.
 abbrev pub IsRunOf : Result Transcript PairFault → List Start → List Step → Network → Type 0
-IsRunOf (Ok t) starts steps n = (are_apart starts ≡ true) × (first_missing steps n ≡ None) × IsTranscript t steps n
-IsRunOf (Err faults.NoMemory) starts steps n = are_apart starts ≡ true
-IsRunOf (Err (faults.BadStep k)) starts steps n = (are_apart starts ≡ true) × (first_missing steps n ≡ Some k)
-IsRunOf (Err faults.SamePeer) starts steps n = are_apart starts ≡ false
+IsRunOf (Ok t) starts steps n =
+    (are_apart n.address starts ≡ true) × (first_missing steps n ≡ None) × IsTranscript t steps n
+IsRunOf (Err faults.NoMemory) starts steps n = are_apart n.address starts ≡ true
+IsRunOf (Err (faults.BadStep k)) starts steps n = (are_apart n.address starts ≡ true) × (first_missing steps n ≡ Some k)
+IsRunOf (Err faults.SamePeer) starts steps n = are_apart n.address starts ≡ false
 
 abbrev pub RunsSchedule : Result Transcript PairFault → DeviceSizes → ℕ → List Object → List Start →
     List declared.Step → Type 0
 RunsSchedule result sizes span tree starts steps =
-    IsRunOf result starts (map step_of steps) (opening sizes span tree starts)
+    IsRunOf result starts (map step_of steps) (opening sizes (run_setup span) tree starts)
 
 -- the number of a fault
 abbrev pub pair_fault_number : PairFault → ℕ

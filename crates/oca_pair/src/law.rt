@@ -22,7 +22,7 @@ use oca_tree::law_of_typed_requests;
 /// ([`Sizes`](oca_types::Sizes)) and all spans of links ([`Span`](oca_types::Span)). The function does nothing at run
 /// time. The words:
 /// - A *schedule* is a list of steps of one device and some links ([`Step`](crate::Step)). No two links have the same
-///   address and port, and no link has the device's.
+///   address and port, and no link has the device's. The device has any address, and each link was made at any moment.
 /// - The *peer* of a link is its address and port.
 /// - The device *executes* a command if it carries the command out on its objects, which gives the reply.
 ///   [`law_by_events`](oca_device::law_by_events) says which commands a device executes.
@@ -55,7 +55,7 @@ pub fn law_answers()
 /// - A peer *keeps its session* if each of its admitted datagrams came at most 120,000 ms after the one before it.
 ///
 /// The first law has these premises:
-/// - The span `s` ([`Span`](oca_types::Span)) is at least 1. The reply window has `w` commands
+/// - The link's span `s` ([`Span`](oca_types::Span)) is at least 1. The reply window has `w` commands
 ///   ([`Window`](oca_types::Window)), with `2 * s <= w + 1`.
 /// - A datagram with a command that is still in flight at its link is delivered to the device.
 /// - The datagram finds room, and the link's peer kept its session, this datagram counted.
@@ -85,7 +85,7 @@ pub fn law_never_old()
 ///   words too.
 ///
 /// The premises:
-/// - The span `s` ([`Span`](oca_types::Span)) is at least 1. The reply window has `w` commands
+/// - The link's span `s` ([`Span`](oca_types::Span)) is at least 1. The reply window has `w` commands
 ///   ([`Window`](oca_types::Window)), with `2 * s <= w + 1`.
 /// - A datagram with a command that is still in flight at its link is delivered to the device.
 /// - The datagram finds room, and the link's peer kept its session, this datagram counted.
@@ -110,7 +110,7 @@ pub fn law_round_trip()
 /// - A link is *lost* once a command got no answer to 20 transmissions.
 ///
 /// The premises:
-/// - The span `s` ([`Span`](oca_types::Span)) is at least 1. The reply window has `w` commands
+/// - The link's span `s` ([`Span`](oca_types::Span)) is at least 1. The reply window has `w` commands
 ///   ([`Window`](oca_types::Window)), with `2 * s <= w + 1`.
 /// - The link is asked at least every `ms` milliseconds from the submit of the command on, each time until `due`
 ///   returns no command.
@@ -140,8 +140,8 @@ pub fn law_getting_through()
 ///   called. It is *late* while a command that was submitted more than 15,000 ms ago has no answer.
 /// - Each of the link's datagrams that comes to the device comes no earlier than it left, and at most 100,000 ms later.
 ///   The moment of leaving is by the link's clock, and that of coming is by the device's clock. The premise says that
-///   these clocks run alike, and that the network holds nothing longer than 100,000 ms. A datagram that never comes
-///   does not matter.
+///   these clocks run alike, and that the network holds nothing longer than 100,000 ms. The clocks may have counted
+///   from different moments. A datagram that never comes does not matter.
 ///
 /// The conclusions:
 /// - No two executions for the link's peer, which is its address and port, are of one handle.

@@ -135,7 +135,7 @@ fn add(log: &mut Vec<Outcome>, outcome: Outcome) -> Result<(), NoMemory>
 
 /// Whether no two starts have one peer, and none has the device's.
 fn are_apart(starts: &[Start]) -> bool
-    ensures { result ≡ Rattle.oca_pair.specs.Premises.are_apart starts.now }
+    ensures { result ≡ Rattle.oca_pair.specs.Premises.are_apart device_address starts.now }
 {
     for i in 0..starts.len() {
         if !is_apart(starts[i].peer, &starts[i + 1..]) {

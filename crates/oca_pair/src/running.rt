@@ -6,7 +6,7 @@ ghost use Rattle.oca_tree.specs.LocalChanges.{ToValue, ToLabel, ToEnabled, ToUnl
 ghost use Rattle.oca_control.specs.Links.{Request, submitted, submission, decision, gone_on, received, reception};
 ghost use Rattle.oca_control.specs.Links.{taken};
 ghost use Rattle.oca_control.specs.Untaken.{answer_under};
-ghost use Rattle.oca_pair.specs.Networks.{Network, SentDatagram, started, opening, device_address};
+ghost use Rattle.oca_pair.specs.Networks.{Network, SentDatagram, started, opening, device_address, run_setup};
 ghost use Rattle.oca_pair.specs.Steps.{Submit, Due as DueStep, ToDevice, ToLink, Other, Tick as TickStep, Local, Take};
 ghost use Rattle.oca_pair.specs.Steps.{sendings_in, hears_datagram, submit_outcome, content_read, take_outcome};
 ghost use Rattle.oca_pair.specs.Steps.{front_outcome};
@@ -121,7 +121,7 @@ impl PeerLink {
     /// Takes a datagram of the device in where it is for this peer.
     fn hear(&mut self, peer: Peer, bytes: &[u8], now: u64) -> Option<Reception>
         ensures answer { result ≡ heard (record { peer = peer; bytes = bytes.now }) self.old }
-        ensures link { self.new ≡ hears_datagram (record { peer = peer; bytes = bytes.now }) now self.old }
+        ensures link { self.new ≡ hears_datagram device_address (record { peer = peer; bytes = bytes.now }) now self.old }
     {
         if self.peer() == peer {
             return Some(self.datagram(bytes, now));
@@ -170,7 +170,7 @@ impl Running {
         span: Span,
         starts: &[Start],
     ) -> Result<Running, NoMemory>
-        ensures { IfOk result (λ r. Shows r (opening (sizes_of sizes) (span_size span) tree starts.now)) }
+        ensures { IfOk result (λ r. Shows r (opening (sizes_of sizes) (run_setup (span_size span)) tree starts.now)) }
     {
         let device = Device::with_sizes(alloc, tree, sizes)?;
         let outbox = Outbox::new(alloc)?;
@@ -382,7 +382,7 @@ fn told(answer: Result<(), FrontFault>) -> Outcome
 
 /// A new link for each start.
 fn links_of(alloc: Global, span: Span, starts: &[Start]) -> Result<Vec<PeerLink>, NoMemory>
-    ensures { IfOk result (λ v. v.items ≡ map (started (span_size span)) starts.now) }
+    ensures { IfOk result (λ v. v.items ≡ map (started (run_setup (span_size span))) starts.now) }
 {
     let mut links = Vec::new(alloc);
     for start in starts {
@@ -425,7 +425,7 @@ fn add(list: &mut Vec<Sent>, sent: Sent) -> Result<(), NoMemory>
 /// Each link of the peer hears the datagram, and the first one's answer is noted.
 fn hear(links: &mut Vec<PeerLink>, peer: Peer, bytes: &[u8], now: u64) -> Option<Reception>
     ensures links { let d : SentDatagram = record { peer = peer; bytes = bytes.now } in
-        links.new.items ≡ map (hears_datagram d now) links.old.items }
+        links.new.items ≡ map (hears_datagram device_address d now) links.old.items }
     ensures answer { let d : SentDatagram = record { peer = peer; bytes = bytes.now } in
         result ≡ first_heard d links.old.items }
 {

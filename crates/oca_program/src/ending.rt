@@ -76,6 +76,7 @@ pub fn replayed(done: Result<(), ReplayFault>) -> Result<u8, Failure>
 }
 
 /// Prints a text, and flushes it, where only a write fails.
+#[tactic(auto, using(oca_script::proofs::PrintLemmas::writing))]
 fn print_all<W: Sink>(text: &[u8], printer: &mut Printer<W>) -> Result<(), WriteFailed>
     ensures { WritesOut result printer.old printer.new text.now }
 {

@@ -5,11 +5,12 @@ ghost use Rattle.oca_script.specs.declared.fault.WriteFailed.{WriteFailed as Fai
 ghost use Rattle.oca_script.specs.Printing.{WritesOut};
 ghost use Rattle.oca_program.specs.Faults.{fault_status, fault_text, line_text, failure_text};
 ghost use Rattle.oca_program.specs.Faults.{first_line as first_line_of, note_text};
+ghost use Rattle.oca_program.specs.Notes.{PrintsANote};
 
 use oca_net::BindFault;
 use oca_script::field::split_at_byte;
 use oca_script::{LineFault, ObjectFault, Printer, ReplayFault, Sink, WriteFailed};
-use std::alloc::Global;
+use std::alloc::{AllocError, Global};
 use thiserror::Error;
 
 /// Why a run of a program fails (*profile*). It is printed as one line, and gives the exit status.
@@ -86,7 +87,15 @@ impl Failure {
     pub fn told(alloc: Global, fault: RunFault, note: &str) -> Failure
         ensures { result.fault ≡ fault }
     {
-        match String::from_str(alloc, note) {
+        Failure::noted_if(fault, String::from_str(alloc, note))
+    }
+
+    /// Returns a failure with this fault, and with this note if there was memory to make it (*profile*). The call
+    /// itself takes no memory, refuses nothing and prints nothing.
+    pub fn noted_if(fault: RunFault, note: Result<String, AllocError>) -> Failure
+        ensures { result.fault ≡ fault }
+    {
+        match note {
             Ok(note) => Failure::noted(fault, note),
             Err(_) => Failure::from(fault),
         }
@@ -114,7 +123,18 @@ pub fn print_note<F: Sink>(note: &str, faults: &mut Printer<F>)
     let _ = write_note(note, faults);
 }
 
+/// Prints to `faults` the line of this note, as [`print_note`] does, if there was memory to make the note (*profile*).
+/// If there was none, nothing is printed. A failed write is ignored. The call takes no memory.
+pub fn print_made_note<F: Sink>(note: Result<String, AllocError>, faults: &mut Printer<F>)
+    ensures { PrintsANote faults.old faults.new }
+{
+    if let Ok(note) = note {
+        print_note(note.as_str(), faults);
+    }
+}
+
 /// Writes the line of a note.
+#[tactic(auto, using(oca_script::proofs::PrintLemmas::writing))]
 fn write_note<F: Sink>(note: &str, faults: &mut Printer<F>) -> Result<(), WriteFailed>
     ensures { WritesOut result faults.old faults.new (note_text note.now) }
 {
@@ -124,6 +144,7 @@ fn write_note<F: Sink>(note: &str, faults: &mut Printer<F>) -> Result<(), WriteF
 }
 
 /// Writes the lines of a failure.
+#[tactic(auto, using(oca_script::proofs::PrintLemmas::writing))]
 fn write_failure<F: Sink>(failure: &Failure, faults: &mut Printer<F>) -> Result<(), WriteFailed>
     ensures { WritesOut result faults.old faults.new (failure_text failure.now) }
 {

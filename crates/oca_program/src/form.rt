@@ -36,6 +36,27 @@ pub enum Form {
     Text,
 }
 
+/// A number of 8 bits (*profile*).
+pub const NUMBER_8: Form = Form::Number {
+    digits: 3,
+    least: 0,
+    largest: 255,
+};
+
+/// A number of 16 bits (*profile*).
+pub const NUMBER_16: Form = Form::Number {
+    digits: 5,
+    least: 0,
+    largest: 65_535,
+};
+
+/// A number of 32 bits (*profile*).
+pub const NUMBER_32: Form = Form::Number {
+    digits: 10,
+    least: 0,
+    largest: 4_294_967_295,
+};
+
 impl Form {
     /// Returns whether a text has this form (*profile*). Any text has the form `Text`. The call prints nothing and
     /// takes no memory.
@@ -164,10 +185,8 @@ pub fn check(alloc: Global, words: &ArgMatches<'_>, rows: &[OptionRow]) -> Resul
 fn bad_value(alloc: Global, words: &ArgMatches<'_>, row: &OptionRow) -> Failure
     ensures { result.fault ≡ BadWords }
 {
-    match note_of(alloc, row, text_of(words, row.name).unwrap_or("")) {
-        Ok(note) => Failure::noted(RunFault::BadWords, note),
-        Err(_) => Failure::from(RunFault::BadWords),
-    }
+    let value = text_of(words, row.name).unwrap_or("");
+    Failure::noted_if(RunFault::BadWords, note_of(alloc, row, value))
 }
 
 /// The most bytes of a value that a note repeats.

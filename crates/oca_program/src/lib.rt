@@ -17,7 +17,7 @@ pub mod table;
 mod version;
 
 pub use ending::{helped, replayed, status_of, written};
-pub use fault::{Failure, RunFault, print_note, report};
+pub use fault::{Failure, RunFault, print_made_note, print_note, report};
 pub use form::Form;
 pub use other_port::note_other_port;
 pub use start::words_of;

@@ -163,10 +163,7 @@ pub fn help_or_failure(alloc: Global, error: &Error) -> Result<String, Failure>
             .to_string(alloc)
             .map_err(|_| Failure::from(RunFault::NoMemory)),
         ErrorKind::OutOfMemory => Err(Failure::from(RunFault::NoMemory)),
-        _ => Err(match first_paragraph(alloc, error) {
-            Ok(note) => Failure::noted(RunFault::BadWords, note),
-            Err(_) => Failure::from(RunFault::BadWords),
-        }),
+        _ => Err(Failure::noted_if(RunFault::BadWords, first_paragraph(alloc, error))),
     }
 }
 

@@ -1,7 +1,7 @@
 //! What is printed where a device answers no command from a port, so that another one is taken.
 ghost use Rattle.oca_program.specs.Notes.{PrintsANote};
 
-use super::fault::print_note;
+use super::fault::print_made_note;
 use oca_script::{Printer, Sink};
 use oca_types::Peer;
 use std::alloc::Global;
@@ -21,8 +21,5 @@ pub fn note_other_port<F: Sink>(
     let note = format!(in alloc;
         "{device} answers no command from port {port}: port {other} is used instead"
     );
-    match note {
-        Ok(note) => print_note(note.as_str(), faults),
-        Err(_) => {}
-    }
+    print_made_note(note, faults);
 }

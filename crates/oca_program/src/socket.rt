@@ -4,7 +4,7 @@ ghost use Rattle.oca_net.specs.Sockets.{IsBoundAt, IsBoundFrom, new_socket};
 ghost use Rattle.oca_program.specs.Sockets.{bind_refusal, kind_fault};
 ghost use Rattle.oca_program.specs.declared.fault.RunFault.TheVariants.{Socket, NoMemory};
 
-use super::fault::{Failure, RunFault, print_note};
+use super::fault::{Failure, RunFault, print_made_note};
 use oca_net::{BindError, UdpEnd};
 use oca_script::{Printer, Sink};
 use oca_types::Peer;
@@ -69,11 +69,7 @@ fn refused(alloc: Global, error: &BindError) -> Failure
     match error {
         BindError::NoMemory => Failure::from(RunFault::NoMemory),
         BindError::Io(reason) => {
-            let fault = fault_for(reason.kind());
-            match format!(in alloc; "{reason}") {
-                Ok(note) => Failure::noted(fault, note),
-                Err(_) => Failure::from(fault),
-            }
+            Failure::noted_if(fault_for(reason.kind()), format!(in alloc; "{reason}"))
         }
     }
 }
@@ -100,7 +96,8 @@ pub fn note_failed_sends<F: Sink>(
     let Some(reason) = last else {
         return;
     };
-    if let Ok(note) = format!(in alloc; "failed sends: {failed}, the last: {reason}") {
-        print_note(note.as_str(), faults);
-    }
+    print_made_note(
+        format!(in alloc; "failed sends: {failed}, the last: {reason}"),
+        faults,
+    );
 }

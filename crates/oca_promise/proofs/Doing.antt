@@ -24,14 +24,13 @@ use Rattle.oca_control.specs.declared.report.DriveReport.{DriveReport}
 use Rattle.oca_control.specs.Answers.{AnswerFields, answer_fields}
 use Rattle.oca_control.specs.Contents.{IsContent}
 use Rattle.oca_control.specs.Untaken.{answer_under}
-use Rattle.oca_control.specs.Links.{LinkState, Decision, GivesCommand, IsLost, after_due, present_moment, decision, gone_on, late_at, received, submission, submitted, taken}
+use Rattle.oca_control.specs.Links.{LinkState, Decision, GivesCommand, IsLost, after_due, after_submission, present_moment, decision, gone_on, late_at, received, submission, submitted, taken}
 use Rattle.oca_control.specs.Driving.{HearsDelivery, HearsDatagram, all_given_to, decisions_from, given_to, goes_on, link_from}
 use Rattle.oca_control.specs.Turning.{Turns, GivesAfter, decisions_in_time, link_in_time}
 use Rattle.oca_control.specs.Asking.{Begins, TakesTurns, Waits, beginning}
 use Rattle.oca_control.specs.Asking as asking
 use Rattle.oca_control.specs.Waiting.{TakesTurnsBefore, WaitsUntil}
 use Rattle.oca_control.specs.Waiting as waiting
-use Rattle.oca_pair.specs.Networks.{device_address}
 use Rattle.oca_pair.specs.Steps.{content_read, messages_read}
 use Rattle.oca_panel.specs.Panels.{PanelState, AsksIn, BeginsIn, EndsIn, FinishesIn, SettlesIn}
 use Rattle.oca_promise.specs.Doings.{Doing, Submits, Sends, Hears, Takes, done, all_done, hearing_of, is_hearing, hearings, IsOfDevice, AreOfDevice, WasDone, sent_by, is_begun_or_taken, is_taking, AreSentInTime}
@@ -51,20 +50,47 @@ all_after (x ∷ xs) ys l = all_after xs ys (done x l)
 hearings_both : (xs ys : List Doing) → hearings (xs ++ ys) ≡ hearings xs ++ hearings ys
 hearings_both xs ys = filter-append is_hearing xs ys
 
-first_of_both : (ds es : List Delivery) → AreOfDevice (ds ++ es) → AreOfDevice ds
-first_of_both [] es a = tt
-first_of_both (d ∷ ds) es a = (a.0, first_of_both ds es a.1)
+first_of_both : (device : Peer) (ds es : List Delivery) → AreOfDevice device (ds ++ es) → AreOfDevice device ds
+first_of_both device [] es a = tt
+first_of_both device (d ∷ ds) es a = (a.0, first_of_both device ds es a.1)
 
-last_of_both : (ds es : List Delivery) → AreOfDevice (ds ++ es) → AreOfDevice es
-last_of_both [] es a = a
-last_of_both (d ∷ ds) es a = last_of_both ds es a.1
+last_of_both : (device : Peer) (ds es : List Delivery) → AreOfDevice device (ds ++ es) → AreOfDevice device es
+last_of_both device [] es a = a
+last_of_both device (d ∷ ds) es a = last_of_both device ds es a.1
+
+-- what is done with a link leaves its device's address
+after_due_device : (d : Decision) (now : ℕ) (l : LinkState) → (after_due d now l).device ≡ l.device
+after_due_device (GivesCommand c) now l = refl
+after_due_device _ now l = refl
+
+done_device : (x : Doing) (l : LinkState) → (done x l).device ≡ l.device
+done_device (Submits request now) l = by (submission request l)
+  where
+    by : (o : Result Handle ControlFault) → (after_submission o request now l).device ≡ l.device
+    by (Ok h) = refl
+    by (Err fault) = refl
+done_device (Sends now) l = after_due_device (decision now l) (present_moment now l) l
+done_device (Hears bytes now) l = refl
+done_device (Takes h) l = refl
+
+all_done_device : (xs : List Doing) (l : LinkState) → (all_done xs l).device ≡ l.device
+unfolding all_done
+all_done_device [] l = refl
+all_done_device (x ∷ xs) l = all_done_device xs (done x l) ∙ done_device x l
+
+-- the deliveries of the second of two, where the link became another by the first
+then_of_device : {xs : List Doing} {a b : LinkState} {e f : EndState} (x : WasDone xs a b e f) (es : List Delivery) → AreOfDevice a.device (x.deliveries ++ es) → AreOfDevice b.device es
+then_of_device {xs} {a} {b} x es are =
+    subst (λ (p : Peer). AreOfDevice p es)
+    (sym (ap (λ (l : LinkState). l.device) (x.link (first_of_both a.device x.deliveries es are)) ∙ all_done_device xs a))
+    (last_of_both a.device x.deliveries es are)
 
 sent_both : (xs ys : List Doing) (l : LinkState) → sent_by (xs ++ ys) l ≡ sent_by xs l ++ sent_by ys (all_done xs l)
 unfolding sent_by all_done
 sent_both [] ys l = refl
 sent_both (Sends now ∷ xs) ys l = ap (λ zs. given_to l.device (decision now l) ++ zs) (sent_both xs ys (gone_on now l)) ∙ sym (append_assoc (given_to l.device (decision now l)) (sent_by xs (gone_on now l)) (sent_by ys (all_done xs (gone_on now l))))
 sent_both (Submits request now ∷ xs) ys l = sent_both xs ys (submitted request now l)
-sent_both (Hears bytes now ∷ xs) ys l = sent_both xs ys (received device_address (content_read bytes) now l)
+sent_both (Hears bytes now ∷ xs) ys l = sent_both xs ys (received l.device (content_read bytes) now l)
 sent_both (Takes h ∷ xs) ys l = sent_both xs ys (taken h l)
 
 -- what is begun and taken, in time
@@ -79,7 +105,7 @@ unfolding all_done AreSentInTime
 in_time_both [] ys l a b = b
 in_time_both (Sends now ∷ xs) ys l a b = (a.0, in_time_both xs ys (gone_on now l) a.1 b)
 in_time_both (Submits request now ∷ xs) ys l a b = in_time_both xs ys (submitted request now l) a b
-in_time_both (Hears bytes now ∷ xs) ys l a b = in_time_both xs ys (received device_address (content_read bytes) now l) a b
+in_time_both (Hears bytes now ∷ xs) ys l a b = in_time_both xs ys (received l.device (content_read bytes) now l) a b
 in_time_both (Takes h ∷ xs) ys l a b = in_time_both xs ys (taken h l) a b
 
 none_in_time_sent : (l : LinkState) → AreSentInTime [] l
@@ -132,17 +158,17 @@ both {xs} {ys} {a} {b} {c} {d} {e} {f} x y = record {
   telling = y.telling ∙ x.telling;
   delivered = λ tells. y.delivered (subst IsTrue (sym x.telling) tells) ∙ ap (λ zs. zs ++ y.deliveries) (x.delivered tells) ∙ append_assoc d.delivered x.deliveries y.deliveries;
   heard = hearings_both xs ys ∙ ap (λ zs. zs ++ hearings ys) x.heard ∙ ap (λ zs. flat_map hearing_of x.deliveries ++ zs) y.heard ∙ sym (flat_map-append hearing_of x.deliveries y.deliveries);
-  link = λ of_device. y.link (last_of_both x.deliveries y.deliveries of_device) ∙ ap (all_done ys) (x.link (first_of_both x.deliveries y.deliveries of_device)) ∙ sym (all_after xs ys a);
+  link = λ of_device. y.link (then_of_device x y.deliveries of_device) ∙ ap (all_done ys) (x.link (first_of_both a.device x.deliveries y.deliveries of_device)) ∙ sym (all_after xs ys a);
   failed = x.failed + y.failed;
   failures = λ below. fail_both d.failures e.failures f.failures x.failed y.failed last_u64 x.failures y.failures below;
   sent = λ of_device tells.
-      let before = first_of_both x.deliveries y.deliveries of_device in
+      let before = first_of_both a.device x.deliveries y.deliveries of_device in
       subst (λ (zs : List Sent). TakesAllBut (x.failed + y.failed) d.taken f.taken zs)
       (ap (λ (l : LinkState). sent_by xs a ++ sent_by ys l) (x.link before) ∙ sym (sent_both xs ys a))
-      (takes_more (x.sent before tells) (y.sent (last_of_both x.deliveries y.deliveries of_device) (subst IsTrue (sym x.telling) tells)));
+      (takes_more (x.sent before tells) (y.sent (then_of_device x y.deliveries of_device) (subst IsTrue (sym x.telling) tells)));
   sends = λ of_device below.
-      let before = first_of_both x.deliveries y.deliveries of_device in
-      counts_more (sent_by xs a) (sent_by ys b) d.sends e.sends f.sends (x.sends before) (y.sends (last_of_both x.deliveries y.deliveries of_device)) below
+      let before = first_of_both a.device x.deliveries y.deliveries of_device in
+      counts_more (sent_by xs a) (sent_by ys b) d.sends e.sends f.sends (x.sends before) (y.sends (then_of_device x y.deliveries of_device)) below
       ∙ ap (λ (zs : List Sent). d.sends + length zs) (ap (λ (l : LinkState). sent_by xs a ++ sent_by ys l) (x.link before) ∙ sym (sent_both xs ys a));
 }
 
@@ -169,15 +195,11 @@ none_heard now (suc n) l = by_test (goes_on (decision now l)) (none_heard now n 
     by_test true e = e
     by_test false e = refl
 
-same_device : (d : Decision) (now : ℕ) (l : LinkState) → (after_due d now l).device ≡ l.device
-same_device (GivesCommand c) now l = refl
-same_device _ now l = refl
-
 -- what is sent is what was decided
 all_given : (now n : ℕ) (l : LinkState) → sent_by (sends now n l) l ≡ all_given_to l.device (decisions_from now n l)
 unfolding sent_by decisions_from
 all_given now zero l = refl
-all_given now (suc n) l = ap (λ zs. given_to l.device (decision now l) ++ zs) (by_test (goes_on (decision now l)) (all_given now n (gone_on now l) ∙ ap (λ (p : Peer). all_given_to p (decisions_from now n (gone_on now l))) (same_device (decision now l) (present_moment now l) l)))
+all_given now (suc n) l = ap (λ zs. given_to l.device (decision now l) ++ zs) (by_test (goes_on (decision now l)) (all_given now n (gone_on now l) ∙ ap (λ (p : Peer). all_given_to p (decisions_from now n (gone_on now l))) (after_due_device (decision now l) (present_moment now l) l)))
   where
     by_test : (b : Bool) → sent_by (sends now n (gone_on now l)) (gone_on now l) ≡ all_given_to l.device (decisions_from now n (gone_on now l)) →
         sent_by (if b then sends now n (gone_on now l) else []) (gone_on now l) ≡ all_given_to l.device (if b then decisions_from now n (gone_on now l) else [])
@@ -286,14 +308,14 @@ read_is law bytes None are c = by (read_datagram bytes) refl
     by (Err f) e = refl
 
 -- the test of a length decides
-hears_by_length : ReadingIsExact → (b : Bool) (from : Peer) (bytes : List ℕ) (now : ℕ) (old new : LinkState) (answered : ℕ) → nat_le (length bytes) 1472 ≡ b → HearsDatagram from bytes now old new answered → IsOfDevice (Datagram from bytes now) → new ≡ all_done (if b then Hears bytes now ∷ [] else []) old
+hears_by_length : ReadingIsExact → (b : Bool) (from : Peer) (bytes : List ℕ) (now : ℕ) (old new : LinkState) (answered : ℕ) → nat_le (length bytes) 1472 ≡ b → HearsDatagram from bytes now old new answered → IsOfDevice old.device (Datagram from bytes now) → new ≡ all_done (if b then Hears bytes now ∷ [] else []) old
 unfolding all_done
 hears_by_length law true from bytes now old new answered fits h is =
     let x = h.short (grind (arith)) in
     x.1.link_is ∙ ap (λ (c : Option (List Msg)). received from c now old) (read_is law bytes x.1.content is.1 x.1.holds) ∙ ap (λ (q : Peer). received q (content_read bytes) now old) is.0
 hears_by_length law false from bytes now old new answered long h is = (h.long (grind (arith))).0
 
-hears : ReadingIsExact → (d : Delivery) (old new : LinkState) (answered : ℕ) → HearsDelivery d old new answered → IsOfDevice d → new ≡ all_done (hearing_of d) old
+hears : ReadingIsExact → (d : Delivery) (old new : LinkState) (answered : ℕ) → HearsDelivery d old new answered → IsOfDevice old.device d → new ≡ all_done (hearing_of d) old
 unfolding all_done
 hears law (Datagram from bytes now) old new answered h is = hears_by_length law (nat_le (length bytes) 1472) from bytes now old new answered refl h is
 hears law (Quiet now) old new answered h is = h.0
@@ -313,11 +335,11 @@ all_heard Failed = refl
 abbrev turn_doings : Delivery → LinkState → LinkState → List Doing
 turn_doings d old between = hearing_of d ++ sends_after d between
 
-one_delivery : (d : Delivery) (old between new : LinkState) (decisions : List Decision) (answered : ℕ) → ReadingIsExact → HearsDelivery d old between answered → GivesAfter d between new decisions → AreOfDevice (d ∷ []) → new ≡ all_done (turn_doings d old between) old
+one_delivery : (d : Delivery) (old between new : LinkState) (decisions : List Decision) (answered : ℕ) → ReadingIsExact → HearsDelivery d old between answered → GivesAfter d between new decisions → AreOfDevice old.device (d ∷ []) → new ≡ all_done (turn_doings d old between) old
 one_delivery d old between new decisions answered law heard gives are =
     sent_after d between new decisions gives ∙ ap (all_done (sends_after d between)) (hears law d old between answered heard are.0) ∙ sym (all_after (hearing_of d) (sends_after d between) old)
 
--- hearing sends nothing, and leaves the device's address
+-- hearing sends nothing
 none_sent : (d : Delivery) (l : LinkState) → sent_by (hearing_of d) l ≡ []
 unfolding sent_by
 none_sent (Datagram from bytes now) l = by_test (nat_le (length bytes) 1472)
@@ -328,20 +350,10 @@ none_sent (Datagram from bytes now) l = by_test (nat_le (length bytes) 1472)
 none_sent (Quiet now) l = refl
 none_sent Failed l = refl
 
-device_stays : (d : Delivery) (l : LinkState) → (all_done (hearing_of d) l).device ≡ l.device
-unfolding all_done
-device_stays (Datagram from bytes now) l = by_test (nat_le (length bytes) 1472)
-  where
-    by_test : (b : Bool) → (all_done (if b then Hears bytes now ∷ [] else []) l).device ≡ l.device
-    by_test true = refl
-    by_test false = refl
-device_stays (Quiet now) l = refl
-device_stays Failed l = refl
-
-sent_in_turn : (d : Delivery) (old between new : LinkState) (decisions : List Decision) (answered : ℕ) → ReadingIsExact → HearsDelivery d old between answered → GivesAfter d between new decisions → AreOfDevice (d ∷ []) → all_given_to old.device decisions ≡ sent_by (turn_doings d old between) old
+sent_in_turn : (d : Delivery) (old between new : LinkState) (decisions : List Decision) (answered : ℕ) → ReadingIsExact → HearsDelivery d old between answered → GivesAfter d between new decisions → AreOfDevice old.device (d ∷ []) → all_given_to old.device decisions ≡ sent_by (turn_doings d old between) old
 sent_in_turn d old between new decisions answered law heard gives are =
     let between_is : between ≡ all_done (hearing_of d) old = hears law d old between answered heard are.0 in
-    let same : between.device ≡ old.device = ap (λ (l : LinkState). l.device) between_is ∙ device_stays d old in
+    let same : between.device ≡ old.device = ap (λ (l : LinkState). l.device) between_is ∙ all_done_device (hearing_of d) old in
     ap (λ (p : Peer). all_given_to p decisions) (sym same)
     ∙ sym (given_after d between new decisions gives)
     ∙ ap (λ (l : LinkState). sent_by (sends_after d between) l) between_is
@@ -371,7 +383,7 @@ calm_hearing (Datagram from bytes now) l = by_test (nat_le (length bytes) 1472)
 calm_hearing (Quiet now) l = tt
 calm_hearing Failed l = tt
 
-turn_in_time : ReadingIsExact → (d : Delivery) (old between : LinkState) (answered : ℕ) → HearsDelivery d old between answered → AreOfDevice (d ∷ []) → AreSentInTime (turn_doings d old between) old
+turn_in_time : ReadingIsExact → (d : Delivery) (old between : LinkState) (answered : ℕ) → HearsDelivery d old between answered → AreOfDevice old.device (d ∷ []) → AreSentInTime (turn_doings d old between) old
 turn_in_time law d old between answered heard are =
     in_time_both (hearing_of d) (sends_after d between) old (calm_hearing d old)
     (subst (λ (l : LinkState). AreSentInTime (sends_after d between) l) (hears law d old between answered heard are.0) (calm_after_delivery d between))
@@ -381,7 +393,7 @@ turn_in_time law d old between answered heard are =
 abbrev Does : List Doing → LinkState → LinkState → EndState → EndState → Type 0
 Does asked old new before after =
     (doings : List Doing) × (done : WasDone doings old new before after) × (asked_in doings ≡ asked)
-    × (AreOfDevice done.deliveries → AreSentInTime doings old) × (AreOfDevice done.deliveries → AreHeld doings old)
+    × (AreOfDevice old.device done.deliveries → AreSentInTime doings old) × (AreOfDevice old.device done.deliveries → AreHeld doings old)
 
 sent_none : (l : LinkState) → [] ≡ sent_by [] l
 unfolding sent_by
@@ -442,13 +454,13 @@ does_both {us} {vs} {a} {b} {c} {d} {e} {f} x y = (
   both x.1 y.1,
   asked_both x.0 y.0 us vs x.2 y.2,
   λ are.
-      let before = first_of_both x.1.deliveries y.1.deliveries are in
+      let before = first_of_both a.device x.1.deliveries y.1.deliveries are in
       in_time_both x.0 y.0 a (x.3 before)
-      (subst (λ (l : LinkState). AreSentInTime y.0 l) (x.1.link before) (y.3 (last_of_both x.1.deliveries y.1.deliveries are))),
+      (subst (λ (l : LinkState). AreSentInTime y.0 l) (x.1.link before) (y.3 (then_of_device x.1 y.1.deliveries are))),
   λ are.
-      let before = first_of_both x.1.deliveries y.1.deliveries are in
+      let before = first_of_both a.device x.1.deliveries y.1.deliveries are in
       held_both x.0 y.0 a (x.4 before)
-      (subst (λ (l : LinkState). AreHeld y.0 l) (x.1.link before) (y.4 (last_of_both x.1.deliveries y.1.deliveries are))),
+      (subst (λ (l : LinkState). AreHeld y.0 l) (x.1.link before) (y.4 (then_of_device x.1 y.1.deliveries are))),
 )
 
 turns_do : ReadingIsExact → {h until n : ℕ} {lost closed : Bool} {old new : LinkState} {e f : EndState} → TakesTurnsBefore h until n lost closed old new e f → Does [] old new e f
@@ -621,13 +633,13 @@ flight_does law request handle others old new a f =
             (none_took handle (answer_fields a) xs called (above_own request b.now handle old.link (submission_of request b.now old.link h b.answer))
             (held_both (begin_doings request b.now old.link) meanwhile.0 called
             (held_of_none (begin_doings request b.now old.link) called (only_sends b.now (called.span + 1) called))
-            (subst (λ (l : LinkState). AreHeld meanwhile.0 l) (begun.link (first_of_both begun.deliveries meanwhile.1.deliveries are)) (meanwhile.4 (last_of_both begun.deliveries meanwhile.1.deliveries are))))
+            (subst (λ (l : LinkState). AreHeld meanwhile.0 l) (begun.link (first_of_both old.link.device begun.deliveries meanwhile.1.deliveries are)) (meanwhile.4 (then_of_device begun meanwhile.1.deliveries are))))
             (ap (λ (l : LinkState). answer_under handle l.untaken) (sym (before.link are)) ∙ t.held));
         in_time = λ are.
             in_time_both xs (Takes handle ∷ []) called
             (in_time_both (begin_doings request b.now old.link) meanwhile.0 called
-            (began.3 (first_of_both begun.deliveries meanwhile.1.deliveries are))
-            (subst (λ (l : LinkState). AreSentInTime meanwhile.0 l) (begun.link (first_of_both begun.deliveries meanwhile.1.deliveries are)) (meanwhile.3 (last_of_both begun.deliveries meanwhile.1.deliveries are))))
+            (began.3 (first_of_both old.link.device begun.deliveries meanwhile.1.deliveries are))
+            (subst (λ (l : LinkState). AreSentInTime meanwhile.0 l) (begun.link (first_of_both old.link.device begun.deliveries meanwhile.1.deliveries are)) (meanwhile.3 (then_of_device begun meanwhile.1.deliveries are))))
             (taken_in_time handle (all_done xs called));
       },
     )

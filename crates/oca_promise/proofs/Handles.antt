@@ -12,7 +12,6 @@ use Rattle.oca_control.specs.Untaken.{Untaken, new_untaken, marked_sent, answere
 use Rattle.oca_control.specs.Links.{LinkState, Decision, GivesCommand, GivesKeepAlive, GivesNothing, IsLost, after_due, after_submission, command_under, decision, gone_on, handle_after, hears_content, present_moment, received, submission, submitted, taken}
 use Rattle.oca_control.proofs.Calls.{is_accepted, each_without}
 use Rattle.oca_control.proofs.Following.{each_append, equal_is}
-use Rattle.oca_pair.specs.Networks.{device_address}
 use Rattle.oca_pair.specs.Steps.{content_read}
 use Rattle.oca_promise.specs.Doings.{Doing, Submits, Sends, Hears, Takes, done, all_done, is_begun_or_taken, is_taking}
 
@@ -23,7 +22,7 @@ AreHeld [] l = Unit {0}
 AreHeld (Takes h ∷ xs) l = (is_some (answer_under h l.untaken) ≡ true) × AreHeld xs (taken h l)
 AreHeld (Submits request now ∷ xs) l = AreHeld xs (submitted request now l)
 AreHeld (Sends now ∷ xs) l = AreHeld xs (gone_on now l)
-AreHeld (Hears bytes now ∷ xs) l = AreHeld xs (received device_address (content_read bytes) now l)
+AreHeld (Hears bytes now ∷ xs) l = AreHeld xs (received l.device (content_read bytes) now l)
 
 pub held_both : (xs ys : List Doing) (l : LinkState) → AreHeld xs l → AreHeld ys (all_done xs l) → AreHeld (xs ++ ys) l
 unfolding all_done AreHeld
@@ -31,7 +30,7 @@ held_both [] ys l a b = b
 held_both (Takes h ∷ xs) ys l a b = (a.0, held_both xs ys (taken h l) a.1 b)
 held_both (Submits request now ∷ xs) ys l a b = held_both xs ys (submitted request now l) a b
 held_both (Sends now ∷ xs) ys l a b = held_both xs ys (gone_on now l) a b
-held_both (Hears bytes now ∷ xs) ys l a b = held_both xs ys (received device_address (content_read bytes) now l) a b
+held_both (Hears bytes now ∷ xs) ys l a b = held_both xs ys (received l.device (content_read bytes) now l) a b
 
 -- where nothing is taken
 pub held_of_none : (xs : List Doing) (l : LinkState) → filter is_begun_or_taken xs ≡ [] → AreHeld xs l
@@ -40,7 +39,7 @@ held_of_none [] l e = tt
 held_of_none (Takes h ∷ xs) l e = cc
 held_of_none (Submits request now ∷ xs) l e = cc
 held_of_none (Sends now ∷ xs) l e = held_of_none xs (gone_on now l) e
-held_of_none (Hears bytes now ∷ xs) l e = held_of_none xs (received device_address (content_read bytes) now l) e
+held_of_none (Hears bytes now ∷ xs) l e = held_of_none xs (received l.device (content_read bytes) now l) e
 
 pub held_behind_submit : (request : RequestFields) (now : ℕ) (xs : List Doing) (l : LinkState) → filter is_begun_or_taken xs ≡ [] → AreHeld (Submits request now ∷ xs) l
 unfolding AreHeld
@@ -128,7 +127,7 @@ none_done h (Submits r now) l a none = by (submission r l) refl
         each_append (λ (u : Untaken). eqb u.command.handle h ≡ false) l.untaken (new_untaken (present_moment now l) (command_under k.0 r) ∷ []) none
         (unlike h k.0 (next_above h r k l a e), tt)
 none_done h (Sends now) l a none = none_due (decision now l) (present_moment now l) h l none
-none_done h (Hears bytes now) l a none = none_received (same_peer device_address l.device) (content_read bytes) h l.untaken none
+none_done h (Hears bytes now) l a none = none_received (same_peer l.device l.device) (content_read bytes) h l.untaken none
 none_done h (Takes k) l a none = by (answer_under k l.untaken)
   where
     by : (o : Option AnswerFields) → NoneHeld h (cond (is_some o) (without_handle k l.untaken) l.untaken)
@@ -171,7 +170,7 @@ unfolding all_done AreHeld
 none_took h a [] l above held e = refl
 none_took h a (Submits request now ∷ xs) l above held e = none_took h a xs (submitted request now l) (above_done h (Submits request now) l above) held e
 none_took h a (Sends now ∷ xs) l above held e = none_took h a xs (gone_on now l) (above_done h (Sends now) l above) held e
-none_took h a (Hears bytes now ∷ xs) l above held e = none_took h a xs (received device_address (content_read bytes) now l) (above_done h (Hears bytes now) l above) held e
+none_took h a (Hears bytes now ∷ xs) l above held e = none_took h a xs (received l.device (content_read bytes) now l) (above_done h (Hears bytes now) l above) held e
 none_took h a (Takes k ∷ xs) l above held e = by (eqb k h) refl (none_took h a xs (taken k l) (above_done h (Takes k) l above) held.1 e)
   where
     gone : eqb k h ≡ true → None ≡ Some a

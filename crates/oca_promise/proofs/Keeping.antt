@@ -12,6 +12,7 @@ use Rattle.oca_pair.specs.Premises.{Fit}
 use Rattle.oca_pair.specs.InTime.{AreInTime}
 use Rattle.oca_pair.specs.Saying.{OfEachAnswer}
 use Rattle.oca_pair.proofs.Lists.{in_contains}
+use Rattle.oca_pair.proofs.RoundTrip.{AreToDevice, to_device_step, to_device_steps, to_device_opening}
 use Rattle.oca_panel.specs.Panels.{PanelState}
 use Rattle.oca_promise.specs.Doings.{Doing, Takes, all_done, AreOfDevice, Plays}
 use Rattle.oca_promise.specs.Calls.{OfAnAnswer, IsDoneByCall, HoldsInEachNetwork, EveryAnsweredCallKeeps}
@@ -23,7 +24,7 @@ parts : (before first : List Step) (step : Step) (later steps : List Step) → s
 parts before first step later steps e = ap (λ zs. before ++ zs) e ∙ sym (append_assoc before first (step ∷ later))
 
 in_each_network : (Holds : OfAnAnswer) → OfEachAnswer Holds → (request : RequestFields) (h : ℕ) (a : AnswerFields) (doings : List Doing) (old new : PanelState) (d : IsDoneByCall request h a doings old new) →
-    AreOfDevice d.done.deliveries → HoldsInEachNetwork Holds request h a doings old
+    AreOfDevice old.link.device d.done.deliveries → HoldsInEachNetwork Holds request h a doings old
 unfolding all_done
 in_each_network Holds of_each request h a doings old new d are w s tree starts before steps i p apart fit in_time is plays =
     let start : Network = opening w s tree starts in
@@ -35,11 +36,13 @@ in_each_network Holds of_each request h a doings old new d are w s tree starts b
     let at : Network = after_steps x.first n in
     let all : before ++ steps ≡ (before ++ x.first) ++ step ∷ x.later = parts before x.first step x.later steps x.steps_are in
     let same : after_steps (before ++ x.first) start ≡ at = after_both before x.first start in
+    let to : AreToDevice at = to_device_steps x.first n (to_device_steps before start (to_device_opening w s tree starts)) in
+    let called : AreToDevice (after_step step at) = to_device_step step at to in
     let there = submit_there i p old.link request d.now at x.link in
     let last : LinkState = all_done rest (submitted request d.now old.link) in
     let l : PeerLink = record { peer = p; link = last } in
-    let at_end = played_link i p x.later (submitted request d.now old.link) (after_step step at) rest there x.plays in
-    let got = played_take i p h a x.later d.between (submitted request d.now old.link) (after_step step at) rest refl there (d.held are) x.plays in
+    let at_end = played_link i p x.later (submitted request d.now old.link) (after_step step at) rest called there x.plays in
+    let got = played_take i p h a x.later d.between (submitted request d.now old.link) (after_step step at) rest refl called there (d.held are) x.plays in
     record {
       first = x.first;
       now = d.now;
@@ -49,7 +52,7 @@ in_each_network Holds of_each request h a doings old new d are w s tree starts b
       holds = subst (λ (z : Network). Holds p (command_under h request) a x.later (after_step step z)) same
           (of_each w s tree starts (before ++ x.first) x.later i l request d.now handle a apart
           (subst (λ (zs : List Step). Fit starts zs) all fit)
-          (subst (λ (zs : List Step). AreInTime i [] zs start) all in_time)
+          (subst (λ (zs : List Step). AreInTime s i [] zs start) all in_time)
           (submit_outcome_is i p old.link request d.now handle (after_steps (before ++ x.first) start) (ap (λ (z : Network). slice_get z.links i) same ∙ x.link) d.accepted)
           (ap (λ (z : Network). slice_get (after_steps x.later (after_step step z)).links i) same ∙ at_end)
           (inr (in_contains _ _ (subst (λ (z : Network). HasTaken p h a (after_steps x.later (after_step step z))) (sym same) got))));

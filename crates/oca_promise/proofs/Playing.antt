@@ -9,11 +9,12 @@ use Rattle.oca_control.specs.declared.fault.ControlFault.{ControlFault}
 use Rattle.oca_control.specs.Answers.{AnswerFields}
 use Rattle.oca_control.specs.Untaken.{answer_under}
 use Rattle.oca_control.specs.Links.{LinkState, Request, submission, submitted, gone_on, received, taken}
-use Rattle.oca_pair.specs.Networks.{Network, PeerLink, SentDatagram, TakenAnswer, device_address}
+use Rattle.oca_pair.specs.Networks.{Network, PeerLink, SentDatagram, TakenAnswer}
 use Rattle.oca_pair.specs.declared.outcome.Outcome.TheVariants as outcomes
 use Rattle.oca_pair.specs.Steps.{Step, Submit, Due, ToDevice, ToLink, Other, Take, has_link, content_read, hears_datagram, after_submit, after_due_step, after_delivery, after_reception, taken_by, after_take, after_step, after_steps, on_link, submit_outcome, outcome_of_step}
 use Rattle.oca_pair.specs.Steps as steps
-use Rattle.oca_pair.proofs.Lists.{same_self, IsIn, in_more, in_last}
+use Rattle.oca_pair.proofs.Lists.{same_self, IsIn, in_more, in_last, each_at}
+use Rattle.oca_pair.proofs.RoundTrip.{AreToDevice, to_device_step}
 use Rattle.oca_device.specs.Events.{Datagram}
 use Rattle.oca_promise.specs.Doings.{Doing, Submits, Sends, Hears, Takes, done, all_done, IsStepFor, GoesOnWith, Plays}
 
@@ -49,44 +50,46 @@ take_there i p l h n e =
     let x : PeerLink = record { peer = p; link = l } in
     ap (λ (o : Option PeerLink). slice_get (after_take i h o n).links i) e ∙ set_there n.links i x (record { peer = p; link = taken h l }) e
 
-heard_there : (p : Peer) (bytes : List ℕ) (now : ℕ) (l : LinkState) → hears_datagram (record { peer = p; bytes = bytes }) now (record { peer = p; link = l }) ≡ record { peer = p; link = received device_address (content_read bytes) now l }
-heard_there p bytes now l = by_test (same_peer p p) (same_self p)
+heard_there : (from p : Peer) (bytes : List ℕ) (now : ℕ) (l : LinkState) → hears_datagram from (record { peer = p; bytes = bytes }) now (record { peer = p; link = l }) ≡ record { peer = p; link = received from (content_read bytes) now l }
+heard_there from p bytes now l = by_test (same_peer p p) (same_self p)
   where
     by_test : (b : Bool) → b ≡ true →
-        (let y : PeerLink = if b then record { peer = p; link = received device_address (content_read bytes) now l } else record { peer = p; link = l } in y) ≡ record { peer = p; link = received device_address (content_read bytes) now l }
+        (let y : PeerLink = if b then record { peer = p; link = received from (content_read bytes) now l } else record { peer = p; link = l } in y) ≡ record { peer = p; link = received from (content_read bytes) now l }
     by_test true e = refl
     by_test false e = cc
 
-hear_there : (i k : ℕ) (p : Peer) (l : LinkState) (bytes : List ℕ) (now : ℕ) (n : Network) → slice_get n.to_links k ≡ Some (record { peer = p; bytes = bytes }) → IsLinkOf i p l n →
-    IsLinkOf i p (received device_address (content_read bytes) now l) (after_step (ToLink k now) n)
-hear_there i k p l bytes now n sent e =
+hear_there : (i k : ℕ) (p : Peer) (l : LinkState) (bytes : List ℕ) (now : ℕ) (n : Network) → AreToDevice n → slice_get n.to_links k ≡ Some (record { peer = p; bytes = bytes }) → IsLinkOf i p l n →
+    IsLinkOf i p (received l.device (content_read bytes) now l) (after_step (ToLink k now) n)
+hear_there i k p l bytes now n to sent e =
     let d : SentDatagram = record { peer = p; bytes = bytes } in
     let x : PeerLink = record { peer = p; link = l } in
     ap (λ (o : Option SentDatagram). slice_get (after_reception now o n).links i) sent
-    ∙ map_there (hears_datagram d now) n.links i x e
-    ∙ ap (λ (y : PeerLink). Some y) (heard_there p bytes now l)
+    ∙ map_there (hears_datagram n.address d now) n.links i x e
+    ∙ ap (λ (y : PeerLink). Some y) (heard_there n.address p bytes now l)
+    ∙ ap (λ (q : Peer). let y : PeerLink = record { peer = p; link = received q (content_read bytes) now l } in Some y)
+    (sym (each_at (λ (y : PeerLink). y.link.device ≡ n.address) n.links i x to e))
 
 -- ---- the link after a schedule
 
-step_there : (i : ℕ) (p : Peer) (l : LinkState) (n : Network) (x : Doing) (step : Step) → IsLinkOf i p l n → IsStepFor i p n x step → IsLinkOf i p (done x l) (after_step step n)
-step_there i p l n (Submits request now) step is e = rw e (submit_there i p l request now n is)
-step_there i p l n (Sends now) step is e = rw e (send_there i p l now n is)
-step_there i p l n (Hears bytes now) step is (k, e, sent) = rw e (hear_there i k p l bytes now n sent is)
-step_there i p l n (Takes h) step is e = rw e (take_there i p l h n is)
+step_there : (i : ℕ) (p : Peer) (l : LinkState) (n : Network) (x : Doing) (step : Step) → AreToDevice n → IsLinkOf i p l n → IsStepFor i p n x step → IsLinkOf i p (done x l) (after_step step n)
+step_there i p l n (Submits request now) step to is e = rw e (submit_there i p l request now n is)
+step_there i p l n (Sends now) step to is e = rw e (send_there i p l now n is)
+step_there i p l n (Hears bytes now) step to is (k, e, sent) = rw e (hear_there i k p l bytes now n to sent is)
+step_there i p l n (Takes h) step to is e = rw e (take_there i p l h n is)
 
 -- the link after a step that goes on, and what is still to be done
-went_on : (i : ℕ) (p : Peer) (l : LinkState) (n : Network) (step : Step) (doings rest : List Doing) → IsLinkOf i p l n → GoesOnWith i p n step doings rest →
+went_on : (i : ℕ) (p : Peer) (l : LinkState) (n : Network) (step : Step) (doings rest : List Doing) → AreToDevice n → IsLinkOf i p l n → GoesOnWith i p n step doings rest →
     (m : LinkState) × IsLinkOf i p m (after_step step n) × (all_done doings l ≡ all_done rest m)
 unfolding all_done
-went_on i p l n step doings rest is (inl (e, same)) = (l, same ∙ is, ap (λ (zs : List Doing). all_done zs l) (sym e))
-went_on i p l n step doings rest is (inr (x, e, by_step)) = (done x l, step_there i p l n x step is by_step, ap (λ (zs : List Doing). all_done zs l) e)
+went_on i p l n step doings rest to is (inl (e, same)) = (l, same ∙ is, ap (λ (zs : List Doing). all_done zs l) (sym e))
+went_on i p l n step doings rest to is (inr (x, e, by_step)) = (done x l, step_there i p l n x step to is by_step, ap (λ (zs : List Doing). all_done zs l) e)
 
-pub played_link : (i : ℕ) (p : Peer) (steps : List Step) (l : LinkState) (n : Network) (doings : List Doing) → IsLinkOf i p l n → Plays i p n doings steps → IsLinkOf i p (all_done doings l) (after_steps steps n)
+pub played_link : (i : ℕ) (p : Peer) (steps : List Step) (l : LinkState) (n : Network) (doings : List Doing) → AreToDevice n → IsLinkOf i p l n → Plays i p n doings steps → IsLinkOf i p (all_done doings l) (after_steps steps n)
 unfolding all_done Plays
-played_link i p [] l n doings is plays = is ∙ ap (λ (zs : List Doing). let y : PeerLink = record { peer = p; link = all_done zs l } in Some y) (sym plays)
-played_link i p (step ∷ steps) l n doings is (rest, goes, plays) =
-    let x = went_on i p l n step doings rest is goes in
-    played_link i p steps x.0 (after_step step n) rest x.1 plays ∙ ap (λ (z : LinkState). let y : PeerLink = record { peer = p; link = z } in Some y) (sym x.2)
+played_link i p [] l n doings to is plays = is ∙ ap (λ (zs : List Doing). let y : PeerLink = record { peer = p; link = all_done zs l } in Some y) (sym plays)
+played_link i p (step ∷ steps) l n doings to is (rest, goes, plays) =
+    let x = went_on i p l n step doings rest to is goes in
+    played_link i p steps x.0 (after_step step n) rest (to_device_step step n to) x.1 plays ∙ ap (λ (z : LinkState). let y : PeerLink = record { peer = p; link = z } in Some y) (sym x.2)
 
 -- ---- a command is submitted in a schedule
 
@@ -171,19 +174,20 @@ taken_now i p l h a n is held =
     let with_it : (after_step (Take i h) n).taken ≡ n.taken ++ it ∷ [] = ap (λ (o : Option PeerLink). (after_take i h o n).taken) is ∙ ap (λ (o : Option AnswerFields). n.taken ++ taken_by p h o) held in
     subst (λ (zs : List TakenAnswer). IsIn it zs) (sym with_it) (in_last it n.taken)
 
-pub played_take : (i : ℕ) (p : Peer) (h : ℕ) (a : AnswerFields) (steps : List Step) (xs : List Doing) (l : LinkState) (n : Network) (doings : List Doing) → doings ≡ xs ++ Takes h ∷ [] → IsLinkOf i p l n →
+pub played_take : (i : ℕ) (p : Peer) (h : ℕ) (a : AnswerFields) (steps : List Step) (xs : List Doing) (l : LinkState) (n : Network) (doings : List Doing) → doings ≡ xs ++ Takes h ∷ [] → AreToDevice n → IsLinkOf i p l n →
     answer_under h (all_done xs l).untaken ≡ Some a → Plays i p n doings steps → HasTaken p h a (after_steps steps n)
 unfolding Plays all_done
-played_take i p h a [] [] l n doings e is held plays = cc
-played_take i p h a [] (x ∷ xs) l n doings e is held plays = cc
-played_take i p h a (step ∷ steps) xs l n doings e is held (rest, inl (same, kept), plays) = played_take i p h a steps xs l (after_step step n) rest (same ∙ e) (kept ∙ is) held plays
-played_take i p h a (step ∷ steps) [] l n doings e is held (rest, inr (x, first, by_step), plays) =
+played_take i p h a [] [] l n doings e to is held plays = cc
+played_take i p h a [] (x ∷ xs) l n doings e to is held plays = cc
+played_take i p h a (step ∷ steps) xs l n doings e to is held (rest, inl (same, kept), plays) =
+    played_take i p h a steps xs l (after_step step n) rest (same ∙ e) (to_device_step step n to) (kept ∙ is) held plays
+played_take i p h a (step ∷ steps) [] l n doings e to is held (rest, inr (x, first, by_step), plays) =
     let same = first_is x (Takes h) rest [] (sym first ∙ e) in
     let step_is : step ≡ Take i h = subst (λ (z : Doing). IsStepFor i p n z step) same.0 by_step in
     taken_stays_on p h a steps (after_step step n) (subst (λ (z : Step). HasTaken p h a (after_step z n)) (sym step_is) (taken_now i p l h a n is held))
-played_take i p h a (step ∷ steps) (y ∷ ys) l n doings e is held (rest, inr (x, first, by_step), plays) =
+played_take i p h a (step ∷ steps) (y ∷ ys) l n doings e to is held (rest, inr (x, first, by_step), plays) =
     let same = first_is x y rest (ys ++ Takes h ∷ []) (sym first ∙ e) in
-    played_take i p h a steps ys (done y l) (after_step step n) rest same.1 (step_there i p l n y step is (subst (λ (z : Doing). IsStepFor i p n z step) same.0 by_step)) held plays
+    played_take i p h a steps ys (done y l) (after_step step n) rest same.1 (to_device_step step n to) (step_there i p l n y step to is (subst (λ (z : Doing). IsStepFor i p n z step) same.0 by_step)) held plays
 
 -- ---- the whole
 

@@ -37,12 +37,13 @@ use Rattle.oca_control.specs.declared.outcome.Outcome.TheVariants as outcomes
 use Rattle.oca_control.specs.Answers.{AnswerFields, answer_fields}
 use Rattle.oca_control.specs.Links.{LinkState, command_under}
 use Rattle.oca_pair.specs.declared.start.Start.{Start}
-use Rattle.oca_pair.specs.Networks.{Network, PeerLink, opening}
+use Rattle.oca_pair.specs.Networks.{Network, PeerLink, Setup, opening}
 use Rattle.oca_pair.specs.Steps.{Step, Submit, ToDevice, after_step, after_steps}
 use Rattle.oca_pair.specs.Premises.{StepFits, Fit}
 use Rattle.oca_pair.specs.InTime.{Departure, departures_in, AreInTime}
 use Rattle.oca_pair.specs.Saying.{OfEachAnswer, is_of_every_class, IsOfOneExecutionSince, RefusalsChangeNothing, OksSayWhatIsHeld, ReadingsWereHeld, SettingsWereMade, ClassesMetAreThoseAtFirst, CommandAsks, SetsObject, ReadSo, objects_left, objects_met}
 use Rattle.oca_pair.proofs.Fixed.{tree_kept}
+use Rattle.oca_pair.proofs.RoundTrip.{to_device_opening, to_device_steps}
 use Rattle.oca_panel.specs.declared.trouble.Trouble.{Trouble}
 use Rattle.oca_panel.specs.declared.trouble.Trouble.TheVariants as trouble
 use Rattle.oca_panel.specs.Panels.{PanelState, AsksIn}
@@ -373,9 +374,9 @@ fit_first starts xs ys fit = (fit.0, each xs fit.1)
     each [] a = tt
     each (z ∷ zs) a = (a.0, each zs a.1)
 
-in_time_first : (i : ℕ) (left : List Departure) (xs ys : List Step) (n : Network) → AreInTime i left (xs ++ ys) n → AreInTime i left xs n
-in_time_first i left [] ys n time = tt
-in_time_first i left (x ∷ xs) ys n time = (time.0, in_time_first i (left ++ departures_in x n) xs ys (after_step x n) time.1)
+in_time_first : (s : Setup) (i : ℕ) (left : List Departure) (xs ys : List Step) (n : Network) → AreInTime s i left (xs ++ ys) n → AreInTime s i left xs n
+in_time_first s i left [] ys n time = tt
+in_time_first s i left (x ∷ xs) ys n time = (time.0, in_time_first s i (left ++ departures_in x n) xs ys (after_step x n) time.1)
 
 -- what was read in the steps behind a submit was read in all of the steps
 read_in_all : (target : ℕ) (reading : Reading) (i now : ℕ) (request : RequestFields) (first later steps : List Step) (n : Network) → steps ≡ first ++ Submit i request now ∷ later →
@@ -408,14 +409,14 @@ get_keeps between oks reads met law target value of reading old mid new value_is
       read = λ xs ys class_done value_done are_one are_two w s tree starts before steps_one steps_two i p apart fit time right is plays_one plays_two.
           let start : Network = opening w s tree starts in
           let n : Network = after_steps before start in
-          let class_there = one.keeps.holds xs class_done are_one w s tree starts before steps_one i p apart (fit_first starts (before ++ steps_one) steps_two fit) (in_time_first i [] (before ++ steps_one) steps_two start time) is plays_one in
+          let class_there = one.keeps.holds xs class_done are_one w s tree starts before steps_one i p apart (fit_first starts (before ++ steps_one) steps_two fit) (in_time_first s i [] (before ++ steps_one) steps_two start time) is plays_one in
           let at_one : Network = after_steps class_there.first n in
           let called_one : Network = after_step (Submit i one.request class_there.now) at_one in
           let tree_one : called_one.tree ≡ tree = tree_kept (Submit i one.request class_there.now ∷ []) at_one ∙ tree_kept class_there.first n ∙ tree_kept before start in
           let class_is : class_of_ono tree target ≡ Some of = ap (λ (t : List Object). class_of_ono t target) (sym tree_one) ∙ class_there.holds (subst IsRightAtFirst (sym tree_one) right) in
           let same : after_steps (before ++ steps_one) start ≡ after_steps steps_one n = after_both before steps_one start in
           let link_mid : slice_get (after_steps steps_one n).links i ≡ Some (record { peer = p; link = mid.link }) =
-          played_link i p steps_one old.link n xs is plays_one
+          played_link i p steps_one old.link n xs (to_device_steps before start (to_device_opening w s tree starts)) is plays_one
           ∙ ap (λ (z : LinkState). let y : PeerLink = record { peer = p; link = z } in Some y) (sym (class_done.done.link are_one)) in
           let value_there = two.keeps.holds ys value_done are_two w s tree starts (before ++ steps_one) steps_two i p apart fit time
           (ap (λ (z : Network). slice_get z.links i) same ∙ link_mid) (subst (λ (z : Network). Plays i p z ys steps_two) (sym same) plays_two) in

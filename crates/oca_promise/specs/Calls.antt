@@ -15,7 +15,7 @@ use Rattle.oca_control.specs.Links.{submission, command_under}
 use Rattle.oca_control.specs.Untaken.{answer_under}
 use Rattle.oca_pair.specs.declared.outcome.Outcome.TheVariants as step_outcomes
 use Rattle.oca_pair.specs.declared.start.Start.{Start}
-use Rattle.oca_pair.specs.Networks.{Network, opening}
+use Rattle.oca_pair.specs.Networks.{Network, Setup, opening}
 use Rattle.oca_pair.specs.Steps.{Step, Submit, after_step, after_steps, outcome_of_step}
 use Rattle.oca_pair.specs.Premises.{are_apart, Fit}
 use Rattle.oca_pair.specs.InTime.{AreInTime}
@@ -32,7 +32,7 @@ pub record IsDoneByCall (request : RequestFields) (handle : ℕ) (answer : Answe
   pub doings_are : doings ≡ Submits request now ∷ between ++ Takes handle ∷ []
   pub accepted : submission request old.link ≡ Ok (record { 0 = handle })
   pub done : WasDone doings old.link new.link old.end_state new.end_state
-  pub held : AreOfDevice done.deliveries →
+  pub held : AreOfDevice old.link.device done.deliveries →
       answer_under handle (all_done (Submits request now ∷ between) old.link).untaken ≡ Some answer
 
 -- The call did that alone: the command was submitted at a present moment of the end, and then it was sent and heard until
@@ -43,8 +43,8 @@ pub record IsAll (others : List Doing) {request : RequestFields} {handle : ℕ} 
   where
     pub present : IsPresent by_call.now old.end_state
     pub only : filter is_begun_or_taken by_call.between ≡ others
-    pub kept : AreOfDevice by_call.done.deliveries → list_any (is_taking handle) others ≡ false
-    pub in_time : AreOfDevice by_call.done.deliveries → AreSentInTime doings old.link
+    pub kept : AreOfDevice old.link.device by_call.done.deliveries → list_any (is_taking handle) others ≡ false
+    pub in_time : AreOfDevice old.link.device by_call.done.deliveries → AreSentInTime doings old.link
 
 -- What holds of a command of a peer and its answer, by the network just after the command was submitted and the steps
 -- from there on.
@@ -68,10 +68,11 @@ pub record HoldsFromSubmit (Holds : OfAnAnswer) (i : ℕ) (p : Peer) (request : 
 -- and the steps play what was done, and are in time.
 abbrev pub HoldsInEachNetwork : OfAnAnswer → RequestFields → ℕ → AnswerFields → List Doing → PanelState → Type 0
 HoldsInEachNetwork Holds request handle answer doings old =
-    (w : DeviceSizes) (s : ℕ) (tree : List Object) (starts : List Start) (before steps : List Step) (i : ℕ) (p : Peer) →
+    (w : DeviceSizes) (s : Setup) (tree : List Object) (starts : List Start) (before steps : List Step) (i : ℕ)
+    (p : Peer) →
     let start : Network = opening w s tree starts in
     let n : Network = after_steps before start in
-    are_apart starts ≡ true → Fit starts (before ++ steps) → AreInTime i [] (before ++ steps) start →
+    are_apart s.address starts ≡ true → Fit starts (before ++ steps) → AreInTime s i [] (before ++ steps) start →
     slice_get n.links i ≡ Some (record { peer = p; link = old.link }) → Plays i p n doings steps →
     HoldsFromSubmit Holds i p request handle answer steps n
 
@@ -83,13 +84,13 @@ pub record KeepsInNetworks (Holds : OfAnAnswer) (request : RequestFields) (handl
   pub by_call : IsDoneByCall request handle answer doings old new
   pub all : IsAll others by_call
   pub holds : (xs : List Doing) (done : IsDoneByCall request handle answer xs old new) →
-      AreOfDevice done.done.deliveries → HoldsInEachNetwork Holds request handle answer xs old
+      AreOfDevice old.link.device done.done.deliveries → HoldsInEachNetwork Holds request handle answer xs old
 
 -- Something was done between two states of a panel, and nothing was sent while its link was late.
 abbrev pub NothingIsSentLate : PanelState → PanelState → Type 0
 NothingIsSentLate old new =
     (doings : List Doing) × (done : WasDone doings old.link new.link old.end_state new.end_state)
-    × (AreOfDevice done.deliveries → AreSentInTime doings old.link)
+    × (AreOfDevice old.link.device done.deliveries → AreSentInTime doings old.link)
 
 -- EVERY CALL IS IN TIME, however it came out.
 abbrev pub EveryCallIsInTime : Type 0

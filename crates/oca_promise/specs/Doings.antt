@@ -9,7 +9,7 @@ use Rattle.oca_net.specs.EndStates.{EndState}
 use Rattle.oca_pdu.specs.Laws.{AreBytes}
 use Rattle.oca_control.specs.Driving.{given_to}
 use Rattle.oca_control.specs.Links.{LinkState, Request, submitted, decision, gone_on, late_at, received, taken}
-use Rattle.oca_pair.specs.Networks.{Network, device_address}
+use Rattle.oca_pair.specs.Networks.{Network}
 use Rattle.oca_pair.specs.Steps.{Step, Submit, Due, ToLink, Take, content_read, after_step}
 
 -- ---- what is done
@@ -19,7 +19,7 @@ pub data Doing : Type 0 where
   Submits : (request : Request) (now : ℕ) → Doing
   -- the link is asked what is due, and that is sent
   Sends : (now : ℕ) → Doing
-  -- a datagram of the device comes to the link
+  -- a datagram of its device comes to the link
   Hears : (bytes : List ℕ) (now : ℕ) → Doing
   -- the answer under a handle is taken from the link
   Takes : (handle : ℕ) → Doing
@@ -28,7 +28,7 @@ pub data Doing : Type 0 where
 abbrev pub done : Doing → LinkState → LinkState
 done (Submits request now) l = submitted request now l
 done (Sends now) l = gone_on now l
-done (Hears bytes now) l = received device_address (content_read bytes) now l
+done (Hears bytes now) l = received l.device (content_read bytes) now l
 done (Takes h) l = taken h l
 
 unfoldable pub all_done : List Doing → LinkState → LinkState
@@ -54,7 +54,7 @@ unfoldable pub AreSentInTime : List Doing → LinkState → Type 0
 AreSentInTime [] l = Unit {0}
 AreSentInTime (Sends now ∷ xs) l = (late_at now l ≡ false) × AreSentInTime xs (gone_on now l)
 AreSentInTime (Submits request now ∷ xs) l = AreSentInTime xs (submitted request now l)
-AreSentInTime (Hears bytes now ∷ xs) l = AreSentInTime xs (received device_address (content_read bytes) now l)
+AreSentInTime (Hears bytes now ∷ xs) l = AreSentInTime xs (received l.device (content_read bytes) now l)
 AreSentInTime (Takes h ∷ xs) l = AreSentInTime xs (taken h l)
 
 -- ---- over an end
@@ -80,33 +80,34 @@ unfoldable pub sent_by : List Doing → LinkState → List Sent
 sent_by [] l = []
 sent_by (Sends now ∷ xs) l = given_to l.device (decision now l) ++ sent_by xs (gone_on now l)
 sent_by (Submits request now ∷ xs) l = sent_by xs (submitted request now l)
-sent_by (Hears bytes now ∷ xs) l = sent_by xs (received device_address (content_read bytes) now l)
+sent_by (Hears bytes now ∷ xs) l = sent_by xs (received l.device (content_read bytes) now l)
 sent_by (Takes h ∷ xs) l = sent_by xs (taken h l)
 
--- a datagram that was delivered is the device's
-abbrev pub IsOfDevice : Delivery → Type 0
-IsOfDevice (Datagram from bytes now) = (from ≡ device_address) × AreBytes bytes
-IsOfDevice (Quiet now) = Unit {0}
-IsOfDevice Failed = Unit {0}
+-- a datagram that was delivered came from the device's address
+abbrev pub IsOfDevice : Peer → Delivery → Type 0
+IsOfDevice device (Datagram from bytes now) = (from ≡ device) × AreBytes bytes
+IsOfDevice device (Quiet now) = Unit {0}
+IsOfDevice device Failed = Unit {0}
 
--- so is each
-abbrev pub AreOfDevice : List Delivery → Type 0
-AreOfDevice deliveries = AllByRecursion IsOfDevice deliveries
+-- so did each
+abbrev pub AreOfDevice : Peer → List Delivery → Type 0
+AreOfDevice device deliveries = AllByRecursion (IsOfDevice device) deliveries
 
 -- THIS WAS DONE with a link over an end, which became another by it. Where the end tells, what was heard is what it
--- delivered; and where each of these datagrams is the device's, the link is what is said, the end was given just as many
--- datagrams as are sent, and where it tells it took these but for so many sends that failed, no more than it counted.
+-- delivered; and where each of these datagrams came from the link's device, the link is what is said, the end was given
+-- just as many datagrams as are sent, and where it tells it took these but for so many sends that failed, no more than
+-- it counted.
 pub record WasDone (doings : List Doing) (old new : LinkState) (before after : EndState) : Type 0 where
   pub deliveries : List Delivery
   pub telling : after.tells ≡ before.tells
   pub delivered : IsTrue before.tells → after.delivered ≡ before.delivered ++ deliveries
   pub heard : hearings doings ≡ flat_map hearing_of deliveries
-  pub link : AreOfDevice deliveries → new ≡ all_done doings old
+  pub link : AreOfDevice old.device deliveries → new ≡ all_done doings old
   pub failed : ℕ
   pub failures : after.failures < last_u64 → before.failures + failed ≤ after.failures
-  pub sent : AreOfDevice deliveries → IsTrue before.tells →
+  pub sent : AreOfDevice old.device deliveries → IsTrue before.tells →
       TakesAllBut failed before.taken after.taken (sent_by doings old)
-  pub sends : AreOfDevice deliveries → after.sends < last_u64 →
+  pub sends : AreOfDevice old.device deliveries → after.sends < last_u64 →
       after.sends ≡ before.sends + length (sent_by doings old)
 
 -- ---- in a network

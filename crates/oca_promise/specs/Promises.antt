@@ -25,7 +25,7 @@ use Rattle.oca_control.specs.declared.answer.Answer.{Answer}
 use Rattle.oca_control.specs.declared.outcome.Outcome.TheVariants as outcomes
 use Rattle.oca_control.specs.Answers.{answer_fields}
 use Rattle.oca_pair.specs.declared.start.Start.{Start}
-use Rattle.oca_pair.specs.Networks.{Network, opening}
+use Rattle.oca_pair.specs.Networks.{Network, Setup, opening}
 use Rattle.oca_pair.specs.Steps.{Step, after_steps}
 use Rattle.oca_pair.specs.Premises.{are_apart, Fit}
 use Rattle.oca_pair.specs.InTime.{AreInTime}
@@ -139,12 +139,14 @@ pub record GetKeeps (target : ℕ) (value : Value) (old new : PanelState) : Type
   pub read : (xs ys : List Doing)
       (class_done : IsDoneByCall class_call.request class_call.handle (answer_fields class_call.answer) xs old between)
       (value_done : IsDoneByCall value_call.request value_call.handle (answer_fields value_call.answer) ys between new) →
-      AreOfDevice class_done.done.deliveries → AreOfDevice value_done.done.deliveries →
-      (w : DeviceSizes) (s : ℕ) (tree : List Object) (starts : List Start) (before one two : List Step) (i : ℕ)
+      AreOfDevice old.link.device class_done.done.deliveries →
+      AreOfDevice between.link.device value_done.done.deliveries →
+      (w : DeviceSizes) (s : Setup) (tree : List Object) (starts : List Start) (before one two : List Step) (i : ℕ)
       (p : Peer) →
       let start : Network = opening w s tree starts in
       let n : Network = after_steps before start in
-      are_apart starts ≡ true → Fit starts ((before ++ one) ++ two) → AreInTime i [] ((before ++ one) ++ two) start →
+      are_apart s.address starts ≡ true → Fit starts ((before ++ one) ++ two) →
+      AreInTime s i [] ((before ++ one) ++ two) start →
       IsRightAtFirst tree → slice_get n.links i ≡ Some (record { peer = p; link = old.link }) →
       Plays i p n xs one → Plays i p (after_steps one n) ys two →
       ReadSo target reading two (after_steps one n)

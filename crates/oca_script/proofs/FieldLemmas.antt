@@ -113,3 +113,23 @@ number-too_large most largest v i ds some few within low high over so =
     rw one (sym (so ∙ ap (λ (r : List ℕ). at_most largest (value_after v r)) (drop-cons ds i 0 within)
     ∙ ap (at_most largest) (value_after-digit v (get_or ds i 0) (drop (suc i) ds) low high)
     ∙ at_most-over largest (v * 10 + (get_or ds i 0 - 48)) (drop (suc i) ds) over))
+
+-- ---- how many fields there are
+
+-- there is at least one field
+pub record AtLeastOne (fs : List (List ℕ)) : Type 0 where
+  pub first : List ℕ
+  pub others : List (List ℕ)
+  pub are : fs ≡ first ∷ others
+
+onto_first-some : (b : ℕ) (fs : List (List ℕ)) → AtLeastOne (onto_first b fs)
+onto_first-some b [] = record { first = b ∷ []; others = []; are = refl }
+onto_first-some b (f ∷ fs) = record { first = b ∷ f; others = fs; are = refl }
+
+pub fields-some : (s : List ℕ) → AtLeastOne (fields s)
+fields-some [] = record { first = []; others = []; are = refl }
+fields-some (b ∷ bs) =
+    elim (b == 32) as (λ v. AtLeastOne (cond v ([] ∷ fields bs) (onto_first b (fields bs)))) [
+      | true ↦ record { first = []; others = fields bs; are = refl }
+      | false ↦ onto_first-some b (fields bs)
+    ]

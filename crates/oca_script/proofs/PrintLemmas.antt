@@ -1,13 +1,15 @@
 -- Facts on what is written.
-use Rattle.std.proofs.Common.{◌≡◌, ℕ, zero, suc, Bool, true, zero-add, ◌-◌, subst, length-drop, ◌+◌, List, [], ◌∷◌, ◌++◌, length, take, drop, Option, Some, None, Result, Ok, Err, refl, sym, ap, ◌∙◌, arith, append_assoc, append-nil}
-use Rattle.std.proofs.lemmas.List.{take-append-drop}
+use Rattle.std.proofs.Common.{◌≡◌, ℕ, zero, suc, Bool, true, zero-add, ◌-◌, ◌<◌, subst, length-drop, get_or, ◌+◌, List, [], ◌∷◌, ◌++◌, length, take, drop, Option, Some, None, Result, Ok, Err, refl, sym, ap, ◌∙◌, arith, append_assoc, append-nil}
+use Rattle.std.proofs.lemmas.List.{take-append-drop, take_more}
+use Rattle.std.proofs.lemmas.Grind.{flat_map-append}
+use Rattle.std.specs.List.{flat_map}
 use Rattle.std.proofs.Math.Seq.{take-length, take-nil, drop-nil}
 use Rattle.std.specs.Io.KnownBytes.{Appends, Keeps}
 use Rattle.std.proofs.KnownBytes.{Appends-nil, Appends-trans}
 use Rattle.oca_script.specs.declared.fault.WriteFailed.{WriteFailed}
 use Rattle.oca_script.specs.Ends.{Output, output}
 use Rattle.oca_script.specs.Printing.{AppendsFront, Emits, Prints, PrintsAll, PrintsPart, WritesBytes, WritesWhole, WritesFront, WritesOut}
-use Rattle.std.specs.Prelude.{OnOk}
+use Rattle.std.specs.Prelude.{IsErr, OnOk}
 
 pub front-of : (a b : Option (List ℕ)) (n : ℕ) (x : List ℕ) → Appends a b (take n x) → AppendsFront a b x
 front-of a b n x h = record { front = take n x; rest = drop n x; whole = sym (take-append-drop n x); appends = h }
@@ -206,12 +208,92 @@ pub written-out : (r : Result Unit WriteFailed) (a b c : Output) (text : List �
 written-out (Ok u) a b c text h k none = written a b c text h k none
 written-out (Err e) a b c text h k none = front a c text (then-flushed (Err e) a b c text h k)
 
--- it was printed in part
+-- what was sent of the first text and of what was held, and then the second behind what is held
+sent-both : (held x sent mid y : List ℕ) → held ++ x ≡ sent ++ mid → held ++ (x ++ y) ≡ sent ++ (mid ++ y)
+sent-both held x sent mid y e = sym (append_assoc held x y) ∙ ap (λ (l : List ℕ). l ++ y) e ∙ append_assoc sent mid y
+
+pub written-then : (r : Result Unit WriteFailed) (a b c : Output) (x y : List ℕ) → PrintsAll a b x → WritesOut r b c y → WritesOut r a c (x ++ y)
+written-then (Ok u) a b c x y h k = record {
+  appends = subst (Appends a.contents c.contents) (sym (sent-both a.held x h.emits.sent b.held y h.emits.whole))
+      (Appends-trans a.contents b.contents c.contents h.emits.sent (b.held ++ y) h.emits.appends k.appends);
+  none_held = k.none_held;
+  failed = k.failed ∙ h.failed;
+}
+written-then (Err e) a b c x y h k = record {
+  front = record {
+    front = h.emits.sent ++ k.front.front;
+    rest = k.front.rest;
+    whole = sent-both a.held x h.emits.sent b.held y h.emits.whole ∙ ap (λ (l : List ℕ). h.emits.sent ++ l) k.front.whole
+        ∙ sym (append_assoc h.emits.sent k.front.front k.front.rest);
+    appends = Appends-trans a.contents b.contents c.contents h.emits.sent k.front.front h.emits.appends k.front.appends;
+  };
+  failed = k.failed;
+}
+
+-- ---- where a call failed, and its `?` hands that up
+
+-- of the text a part was printed, or nothing behind what was held
+pub failed-print : (r : Result Unit WriteFailed) (a b : Output) (text : List ℕ) → IsErr r → PrintsPart a b text → Prints r a b text
+failed-print (Ok u) a b text is h = absurd (cc is)
+failed-print (Err e) a b text is h = h
+
+pub failed-room : (r : Result Unit WriteFailed) (a b : Output) (text : List ℕ) → IsErr r → PrintsPart a b [] → Prints r a b text
+failed-room r a b text is h = failed-print r a b text is (prints-lost a b b.held text h)
+
+-- of the first of two texts a part was printed
+pub failed-first : (r : Result Unit WriteFailed) (a b : Output) (x y : List ℕ) → IsErr r → PrintsPart a b x → Prints r a b (x ++ y)
+failed-first r a b x y is h = failed-print r a b (x ++ y) is (part-less a b x y h)
+
+-- the same where all was to be written
+pub failed-write : (r : Result Unit WriteFailed) (a b : Output) (text : List ℕ) → IsErr r → PrintsPart a b text → WritesOut r a b text
+failed-write (Ok u) a b text is h = absurd (cc is)
+failed-write (Err e) a b text is h = front a b text h
+
+pub failed-write-room : (r : Result Unit WriteFailed) (a b : Output) (text : List ℕ) → IsErr r → PrintsPart a b [] → WritesOut r a b text
+failed-write-room r a b text is h = failed-write r a b text is (prints-lost a b b.held text h)
+
+pub failed-write-first : (r : Result Unit WriteFailed) (a b : Output) (x y : List ℕ) → IsErr r → PrintsPart a b x → WritesOut r a b (x ++ y)
+failed-write-first r a b x y is h = failed-write r a b (x ++ y) is (part-less a b x y h)
+
+-- room was made, then a text is held, and all that is held was handed on
+pub held-written : (r : Result Unit WriteFailed) (a b c d : Output) (text : List ℕ) → PrintsAll a b [] → c ≡ output b.contents (b.held ++ text) b.failed → Prints r c d [] → OnOk r (d.held ≡ [])
+    → WritesOut r a d text
+held-written r a b c d text h e k none = written-out r a c d text (printed-held a b c text e h) k none
+
+-- ---- the texts of items, one after another
+
+module _ {X : Type 0} (f : X → List ℕ) where
+  -- those of the first items, and that of the next one
+  first-texts : (xs : List X) (i : ℕ) (d : X) → i < length xs → flat_map f (take (i + 1) xs) ≡ flat_map f (take i xs) ++ f (get_or xs i d)
+  first-texts xs i d h =
+      ap (flat_map f) (take_more xs i d h) ∙ flat_map-append f (take i xs) (get_or xs i d ∷ [])
+      ∙ ap (λ (l : List ℕ). flat_map f (take i xs) ++ l) (append-nil (f (get_or xs i d)))
+
+  pub items-more : (xs : List X) (i : ℕ) (d : X) (a b c : Output) → i < length xs → PrintsAll a b (flat_map f (take i xs)) → PrintsAll b c (f (get_or xs i d))
+      → PrintsAll a c (flat_map f (take (i + 1) xs))
+  items-more xs i d a b c h k l = rw (first-texts xs i d h) (PrintsAll-then a b c (flat_map f (take i xs)) (f (get_or xs i d)) k l)
+
+  -- a part of the next one
+  pub items-less : (r : Result Unit WriteFailed) (xs : List X) (i : ℕ) (d : X) (a b c : Output) → i < length xs → IsErr r → PrintsAll a b (flat_map f (take i xs)) → PrintsPart b c (f (get_or xs i d))
+      → Prints r a c (flat_map f xs)
+  items-less r xs i d a b c h is k l =
+      let all : flat_map f xs ≡ (flat_map f (take i xs) ++ f (get_or xs i d)) ++ flat_map f (drop (i + 1) xs) =
+      ap (flat_map f) (sym (take-append-drop (i + 1) xs)) ∙ flat_map-append f (take (i + 1) xs) (drop (i + 1) xs)
+      ∙ ap (λ (m : List ℕ). m ++ flat_map f (drop (i + 1) xs)) (first-texts xs i d h) in
+      rw all (failed-first r a c (flat_map f (take i xs) ++ f (get_or xs i d)) (flat_map f (drop (i + 1) xs)) is
+      (PrintsPart-then a b c (flat_map f (take i xs)) (f (get_or xs i d)) k l))
+
+-- where that failed the text was printed in part
 pub not-written : (r : Result Unit WriteFailed) (e f : WriteFailed) (a b : Output) (text : List ℕ) → r ≡ Err e → Prints (Err f) a b text → WritesOut r a b text
 not-written r e f a b text is h = subst (λ (z : Result Unit WriteFailed). WritesOut z a b text) (sym is) (front a b text h)
 
--- there was no room for it
+-- or there was no room for it
 pub not-written-room : (r : Result Unit WriteFailed) (e : WriteFailed) (a b : Output) (text : List ℕ) → r ≡ Err e → PrintsPart a b [] → WritesOut r a b text
 not-written-room r e a b text is h = subst (λ (z : Result Unit WriteFailed). WritesOut z a b text) (sym is) (front a b text (prints-lost a b b.held text h))
 
-pub ruleset print_rules = (prints-held, prints-flushed)
+-- a text that was printed, and what was printed behind it
+pub ruleset print_rules = (prints-held, prints-flushed, failed-room)
+
+pub ruleset printing = (failed-print, failed-room, failed-first, prints-then, printed-held, then-flushed)
+
+pub ruleset writing = (failed-write, failed-write-room, failed-write-first, written-out, held-written, written-then)

@@ -364,10 +364,9 @@ impl<const COMMAND: usize, const ANSWER: usize> SessionsOf<COMMAND, ANSWER> {
         self.keep_parts(peer, command, reply.parts());
     }
 
-    /// Stores a fresh command of a known peer, as [`keep`](SessionsOf::keep) does, with a reply whose
-    /// parameters lie elsewhere (*profile*).
-    /// Beside the premises of `keep`, the reply must have at most `ANSWER` bytes of parameters (a premise, which the
-    /// caller must prove). The call refuses nothing and takes no memory.
+    /// Stores a fresh command of a known peer, as [`keep`](SessionsOf::keep) does, with a reply whose parameters lie
+    /// elsewhere (*profile*). Beside the premises of `keep`, the reply must have at most `ANSWER` bytes of parameters
+    /// (a premise, which the caller must prove). The call refuses nothing and takes no memory.
     pub fn keep_parts(&mut self, peer: Peer, command: &Command<'_>, reply: ReplyParts<'_>)
         requires known { IsSome (session_of peer self.old.sessions) }
         requires fresh { IfSome (session_of peer self.old.sessions)

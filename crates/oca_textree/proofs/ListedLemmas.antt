@@ -1,6 +1,6 @@
 -- What a text lists: each object has a role, texts in UTF-8 of at most 64 bytes and numbers of 32 bits, and no lock.
 use Rattle.std.proofs.Common.{◌≡◌, ℕ, zero, suc, ◌+◌, ◌<◌, ◌≤◌, ◌^◌, ◌==◌, Bool, true, false, cond, ◌||◌, not, ◌⊎◌, inl, inr, List, [], ◌∷◌, ◌++◌, length, Option, Some, None, Ok, Err, refl, sym, ap, ◌∙◌, subst, arith, IsUtf8}
-use Rattle.std.specs.Prelude.{codes, Result, nat_lt, nat_le, ℤ, nat_abs, is_some}
+use Rattle.std.specs.Prelude.{codes, Result, nat_lt, nat_le, is_some}
 use Rattle.std.specs.List.{list_any, All}
 use Rattle.std.specs.Option.{option_map, option_or}
 use Rattle.std.specs.Str.{is_utf8, bytes_eq}
@@ -19,13 +19,11 @@ use Rattle.oca_tree.specs.declared.builder.AddFault.TheVariants as adds
 use Rattle.oca_tree.specs.Objects.{object_of}
 use Rattle.oca_tree.specs.Places.{places, is_block, depth}
 use Rattle.oca_tree.specs.declared.object.Lock.{Lock}
-use Rattle.oca_model.specs.declared.reading.Ranged.{Ranged}
-use Rattle.oca_model.specs.declared.reading.Reading.{Reading}
 use Rattle.oca_model.specs.declared.reading.Reading.TheVariants as readings
 use Rattle.oca_tree.specs.declared.object.Object.{Object}
 use Rattle.oca_tree.specs.declared.object.Value.{Value}
 use Rattle.oca_tree.specs.declared.object.Value.TheVariants as values
-use Rattle.oca_tree.specs.Building.{root, number, is_long, is_bad_value, first_fault, new_object, switch}
+use Rattle.oca_tree.specs.Building.{root, is_long, is_bad_value, first_fault, new_object, switch}
 use Rattle.oca_tree.specs.Copies.{names_in, unlocked, all_unlocked}
 use Rattle.oca_tree.specs.Starts.{with_flags}
 use Rattle.oca_script.specs.declared.object_fault.ObjectFault.{ObjectFault}
@@ -33,7 +31,7 @@ use Rattle.oca_script.specs.declared.object_fault.ObjectFault.TheVariants as fau
 use Rattle.oca_textree.specs.declared.fault.TreeFault.{TreeFault}
 use Rattle.oca_textree.specs.Faults.{object_fault_of}
 use Rattle.oca_textree.specs.Texts.{after_lines, go_on, line_before, lines_behind, rooted_by, from_root, objects_of_text}
-use Rattle.oca_textree.specs.Lines.{then_by, some_or_fault, field_at, ono_of, class_of_word, one_of, Valued, valued, by_word, limits_of, by_limits, names_after, position_named, positions_of, by_positions, value_at, is_text, refusal, added_unless, ended, checked, last_of, added_with, added_by, is_skipped_line, has_control}
+use Rattle.oca_textree.specs.Lines.{then_by, some_or_fault, field_at, ono_of, class_of_word, one_of, Valued, Limited, valued, by_word, names_after, position_named, positions_of, by_positions, value_at, is_text, refusal, added_unless, ended, checked, last_of, added_with, added_by, is_skipped_line, has_control}
 use Rattle.oca_textree.specs.Stored.{after_line, after_word, by_kind, short, short_utf8, field_text, is_quoted, text_in_field, flags_after, named_after, names_in_field, Positions, switch_at, Flagged, switch_flagged, flagged_at, start_at, Ending, ending_at, stored_object, start_refusal, kept_unless, stored_with, stored_by, rooted}
 use Rattle.oca_textree.specs.Written.{IsShortText, IsNamed, IsRoot}
 use lib.Utf8.{scalar, scalars, encode, encodes, scalar_cases}
@@ -249,12 +247,10 @@ one-of-two a x b y h k word z e = by (bytes_eq word a) (bytes_eq word b) e
     by false true t = let same : y ≡ z = cc in subst (λ (v : Value). names_in v ≡ []) same k
     by false false t = absurd (cc)
 
-by-limits : {X : Type 0} (of : Ranged X → Reading) (typed : ℤ → X) (low high : ℤ) (rest : Option (List ℕ)) (v : Valued) → by_limits of typed low high rest ≡ Ok v → AreTexts v
-unfolding names_in
-by-limits of typed low high rest v e =
-    let l = then-ok (limits_of low high rest) _ v e in
-    texts-of (valued (number of (typed l.0.setting) (typed l.0.least) (typed l.0.greatest)) l.0.rest) v (ok-same _ _ l.2)
-    (nameless (number of (typed l.0.setting) (typed l.0.least) (typed l.0.greatest)) l.0.rest refl)
+by-limits : (read : Result Limited ObjectFault) (made : Limited → Value) (v : Valued) → then_by read (λ l. Ok (valued (made l) l.rest)) ≡ Ok v → ((l : Limited) → names_in (made l) ≡ []) → AreTexts v
+by-limits read made v e none =
+    let l = then-ok read _ v e in
+    texts-of (valued (made l.0) l.0.rest) v (ok-same _ _ l.2) (nameless (made l.0) l.0.rest (none l.0))
 
 -- the names of a switch are those that it was made with
 pub switch-names : (names : List (List ℕ)) (position : ℕ) → names_in (switch names position) ≡ names
@@ -298,14 +294,7 @@ value-texts class.Boolean rest v e =
     by-word (one_of (codes "on") (values.Reads (readings.Boolean true)) (codes "off") (values.Reads (readings.Boolean false)))
     (one-of-two (codes "on") (values.Reads (readings.Boolean true)) (codes "off") (values.Reads (readings.Boolean false)) refl refl) rest v e
 value-texts class.Switch rest v e = by-positions rest v e
-value-texts class.Int8 rest v e = by-limits readings.Int8 (λ z. z) _ _ rest v e
-value-texts class.Int16 rest v e = by-limits readings.Int16 (λ z. z) _ _ rest v e
-value-texts class.Int32 rest v e = by-limits readings.Int32 (λ z. z) _ _ rest v e
-value-texts class.Int64 rest v e = by-limits readings.Int64 (λ z. z) _ _ rest v e
-value-texts class.Uint8 rest v e = by-limits readings.Uint8 nat_abs _ _ rest v e
-value-texts class.Uint16 rest v e = by-limits readings.Uint16 nat_abs _ _ rest v e
-value-texts class.Uint32 rest v e = by-limits readings.Uint32 nat_abs _ _ rest v e
-value-texts class.Uint64 rest v e = by-limits readings.Uint64 nat_abs _ _ rest v e
+value-texts _ rest v e = by-limits _ _ v e (λ l. refl)
 
 -- ---- what the tree does not refuse
 

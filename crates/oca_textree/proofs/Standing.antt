@@ -1,7 +1,6 @@
 -- What a tree answers of its objects: of each its own, and that it fits a line.
 use Rattle.std.proofs.Common.{◌≡◌, ℕ, zero, suc, ◌<◌, ◌≤◌, true, List, [], ◌∷◌, ◌++◌, length, get_or, take, refl, sym, ap, ◌∙◌, subst, arith, inl, inr, length-append, eq-eqb}
-use Rattle.std.specs.Prelude.{Option, Some, None, ◌==◌, ◌⊎◌, ℤ, pos, slice_get, ◌^◌, FitsSigned}
-use Rattle.std.specs.Int.{w8, w16, w32, w64, byte_len}
+use Rattle.std.specs.Prelude.{Option, Some, None, ◌==◌, ◌⊎◌, slice_get}
 use Rattle.std.specs.Option.{option_map}
 use Rattle.std.specs.List.{All, position_or_len}
 use Rattle.std.proofs.lemmas.Int.{ints}
@@ -11,10 +10,9 @@ use Rattle.std.proofs.Math.ListN.{get_or-append}
 use Rattle.std.proofs.Math.Seq.{take-append_seam, get_or-append_seam}
 use Rattle.std.proofs.lemmas.List.Folds.{find-append, find_at}
 use Rattle.std.proofs.lemmas.Option.{slice_get_within, get_or_from_slice_get}
-use Rattle.oca_model.specs.declared.reading.Ranged.{Ranged}
 use Rattle.oca_model.specs.declared.reading.Reading.{Reading}
 use Rattle.oca_model.specs.declared.reading.Reading.TheVariants as readings
-use Rattle.oca_model.specs.Readings.{All3, IsReading}
+use Rattle.oca_model.specs.Readings.{IsReading}
 use Rattle.oca_tree.specs.declared.object.Object.{Object}
 use Rattle.oca_tree.specs.declared.object.Value.{Value}
 use Rattle.oca_tree.specs.declared.object.Value.TheVariants as values
@@ -22,10 +20,10 @@ use Rattle.oca_tree.specs.Objects.{has_number, object_of}
 use Rattle.oca_tree.specs.Places.{Place, place_of, places, place_at}
 use Rattle.oca_tree.specs.Trees.{IsBuilt, IsFree, IsTree, IsSound, IsSoundValue}
 use Rattle.oca_tree.specs.Trees as trees
-use Rattle.oca_tree.specs.Readers.{number_setting, reading_setting, value_setting}
+use Rattle.oca_tree.specs.Readers.{reading_setting, value_setting}
 use Rattle.oca_tree.specs.Copies.{names_in, flags_in}
 use Rattle.oca_tree.proofs.Chains.{place_at_places}
-use Rattle.oca_textree.specs.PrivateWritten.{IsInteger, IsWritten, few_flags, Fits}
+use Rattle.oca_textree.specs.PrivateWritten.{IsWritten, few_flags, Fits}
 
 -- ---- each was free when it was added
 
@@ -95,21 +93,18 @@ sound-found tree n o h found =
     let is : slice_get tree at ≡ Some o = sym (find_at (has_number n) tree) ∙ found in
     subst IsSound (get_or_from_slice_get tree at o o is) (h at o (slice_get_within tree at o is))
 
--- an integer of a type fits a line
-written : {X : Type 0} (number : X → ℤ) (Fits : X → Type 0) → ((x : X) → Fits x → IsInteger (number x)) → (r : Ranged X) → All3 Fits r → IsWritten (Some (number_setting number r))
-written number Fits fits r h = (fits r.setting h.setting, fits r.least h.least, fits r.greatest h.greatest)
-
+-- the integers of a type fit a line
 pub written-reading : (r : Reading) → IsReading r → IsWritten (reading_setting r)
 unfolding reading_setting
-written-reading (readings.Int8 r) h = written (λ z. z) (FitsSigned w8) (λ z f. record { above = omega (arith, ints, f); below = omega (arith, ints, f) }) r h
-written-reading (readings.Int16 r) h = written (λ z. z) (FitsSigned w16) (λ z f. record { above = omega (arith, ints, f); below = omega (arith, ints, f) }) r h
-written-reading (readings.Int32 r) h = written (λ z. z) (FitsSigned w32) (λ z f. record { above = omega (arith, ints, f); below = omega (arith, ints, f) }) r h
-written-reading (readings.Int64 r) h = written (λ z. z) (FitsSigned w64) (λ z f. record { above = omega (arith, ints, f); below = omega (arith, ints, f) }) r h
-written-reading (readings.Uint8 r) h = written pos (λ n. n < 256 ^ byte_len w8) (λ n f. record { above = omega (arith, ints, f); below = omega (arith, ints, f) }) r h
-written-reading (readings.Uint16 r) h = written pos (λ n. n < 256 ^ byte_len w16) (λ n f. record { above = omega (arith, ints, f); below = omega (arith, ints, f) }) r h
-written-reading (readings.Uint32 r) h = written pos (λ n. n < 256 ^ byte_len w32) (λ n f. record { above = omega (arith, ints, f); below = omega (arith, ints, f) }) r h
-written-reading (readings.Uint64 r) h = written pos (λ n. n < 256 ^ byte_len w64) (λ n f. record { above = omega (arith, ints, f); below = omega (arith, ints, f) }) r h
-written-reading _ h = tt
+written-reading (readings.Mute state) h = tt
+written-reading (readings.Polarity state) h = tt
+written-reading (readings.Switch r) h = tt
+written-reading (readings.Boolean truth) h = tt
+written-reading _ h = (
+  record { above = omega (arith, ints, h.setting); below = omega (arith, ints, h.setting) },
+  record { above = omega (arith, ints, h.least); below = omega (arith, ints, h.least) },
+  record { above = omega (arith, ints, h.greatest); below = omega (arith, ints, h.greatest) },
+)
 
 written-value : (v : Value) → IsSoundValue v → IsWritten (value_setting v)
 unfolding value_setting IsSoundValue

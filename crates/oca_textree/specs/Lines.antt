@@ -73,16 +73,20 @@ abbrev pub class_named : List (List ℕ × Class) → List ℕ → Option Class
 class_named [] word = None
 class_named (row ∷ rows) word = if bytes_eq word row.0 then Some row.1 else class_named rows word
 
--- a class by its word
-unfoldable pub class_of_word : List ℕ → Option Class
-class_of_word word = class_named (
+-- the word of each class
+abbrev pub class_words : List (List ℕ × Class)
+class_words =
     (codes "block", class.Block) ∷ (codes "mute", class.Mute) ∷ (codes "polarity", class.Polarity)
     ∷ (codes "switch", class.Switch)
     ∷ (codes "boolean", class.Boolean) ∷ (codes "int8", class.Int8) ∷ (codes "int16", class.Int16)
     ∷ (codes "int32", class.Int32)
     ∷ (codes "int64", class.Int64) ∷ (codes "uint8", class.Uint8) ∷ (codes "uint16", class.Uint16)
     ∷ (codes "uint32", class.Uint32)
-    ∷ (codes "uint64", class.Uint64) ∷ []) word
+    ∷ (codes "uint64", class.Uint64) ∷ []
+
+-- a class by its word
+unfoldable pub class_of_word : List ℕ → Option Class
+class_of_word word = class_named class_words word
 
 -- one of two words
 unfoldable pub one_of : {A : Type 0} → List ℕ → A → List ℕ → A → List ℕ → Option A

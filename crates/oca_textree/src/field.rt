@@ -3,10 +3,11 @@ ghost use Rattle.std.specs.Prelude.{◌≡◌, true, false, MatchOption};
 ghost use Rattle.std.specs.Option.{option_copied};
 ghost use Rattle.oca_script.specs.Fields.{split_at};
 ghost use Rattle.oca_textree.specs.Lines.{field_at, plain as plain_field, quoted as quoted_field, ono_of};
-ghost use Rattle.oca_textree.specs.Lines.{class_of_word, has_control as has_control_byte, is_text};
-ghost use Rattle.oca_textree.specs.PrivateLines.{field_view, integer_class_of, unsigned_class_of, ono_at, ono_view};
+ghost use Rattle.oca_textree.specs.Lines.{has_control as has_control_byte, is_text};
+ghost use Rattle.oca_textree.specs.PrivateLines.{field_view, ono_at, ono_view};
 ghost use Rattle.oca_textree.specs.PrivateLines.{placed_at, placed_view};
 
+use super::class_word::class;
 use oca_script::ObjectFault;
 use oca_script::escape::has_hidden;
 use oca_script::field::{number, split_at_byte};
@@ -121,42 +122,6 @@ pub fn placed(rest: Option<&[u8]>) -> Result<(u32, u32, Class, Option<&[u8]>), O
         Some(class) => Ok((ono, container, class, rest)),
         None => Err(ObjectFault::Class),
     }
-}
-
-/// Returns the class where the word is that of one of these.
-macro_rules! named {
-    ($word:expr, $($name:literal => $class:ident),*) => {
-        $(if $word == $name.as_slice() {
-            return Some(Class::$class);
-        })*
-    };
-}
-
-/// A class by its word.
-#[tactic(auto, unfolding(crate::specs::Lines::class_of_word, crate::specs::PrivateLines::integer_class_of))]
-fn class(word: &[u8]) -> Option<Class>
-    ensures { result ≡ class_of_word word.now }
-{
-    named!(word, b"block" => Block, b"mute" => Mute, b"polarity" => Polarity, b"switch" => Switch, b"boolean" => Boolean);
-    integer_class(word)
-}
-
-/// The class of an integer by its word.
-#[tactic(auto, unfolding(crate::specs::PrivateLines::integer_class_of, crate::specs::PrivateLines::unsigned_class_of))]
-fn integer_class(word: &[u8]) -> Option<Class>
-    ensures { result ≡ integer_class_of word.now }
-{
-    named!(word, b"int8" => Int8, b"int16" => Int16, b"int32" => Int32, b"int64" => Int64);
-    unsigned_class(word)
-}
-
-/// The class of an integer without a sign by its word.
-#[tactic(auto, unfolding(crate::specs::PrivateLines::unsigned_class_of))]
-fn unsigned_class(word: &[u8]) -> Option<Class>
-    ensures { result ≡ unsigned_class_of word.now }
-{
-    named!(word, b"uint8" => Uint8, b"uint16" => Uint16, b"uint32" => Uint32, b"uint64" => Uint64);
-    None
 }
 
 /// Returns whether the line has a control character: a byte below 32 (*profile*). `false` for an empty line.

@@ -13,6 +13,7 @@
 //! `LOCKABLE` is `lockable` or `no-lock`. Empty lines and lines that begin with `#` are skipped.
 #![tactic(auto)]
 
+mod class_word;
 mod fault;
 mod field;
 mod laws;

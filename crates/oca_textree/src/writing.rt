@@ -10,11 +10,12 @@ ghost use Rattle.oca_textree.specs.Written.{is_plain as is_plain_text, is_plain_
 ghost use Rattle.oca_textree.specs.Written.{name_part, joined_names, names_field, flag_digit, flags_field, state_word};
 ghost use Rattle.oca_textree.specs.Written.{truth_word, truth_field, limit_field, range_fields, number_fields};
 ghost use Rattle.oca_textree.specs.Written.{holds_mark, holds_comma, position_field, switch_fields, set_fields};
-ghost use Rattle.oca_textree.specs.Written.{class_before, value_fields, start_fields, place_fields, lock_word};
+ghost use Rattle.oca_textree.specs.Written.{value_fields, start_fields, place_fields, lock_word};
 ghost use Rattle.oca_textree.specs.Written.{end_fields, text_of};
 ghost use Rattle.oca_textree.specs.PrivateWritten.{IsInteger, IsWritten, few_flags, Fits, stored_flags, end_text};
 ghost use Rattle.oca_textree.specs.PrivateWritten.{root_text, object_text, tree_line_text};
 
+use super::class_word::class_word;
 use oca_script::escape::has_hidden;
 use oca_script::{Printer, Sink, WriteFailed};
 use oca_tree::{ObjectInfo, Setting, Start, Tree};
@@ -286,29 +287,6 @@ fn put_position<W: Sink>(setting: Option<Setting>, printer: &mut Printer<W>)
 {
     if let Some(Setting::Position(position)) = setting {
         printer.put_number(u64::from(position));
-    }
-}
-
-/// The word of a class, and a space where something stands behind it.
-#[tactic(auto, unfolding(crate::specs::Written::class_before))]
-fn class_word(class: Class) -> &'static [u8]
-    ensures value { result.now ≡ class_before class }
-    ensures short { length result.now ≤ 9 }
-{
-    match class {
-        Class::Block => b"block",
-        Class::Mute => b"mute ",
-        Class::Polarity => b"polarity ",
-        Class::Switch => b"switch ",
-        Class::Boolean => b"boolean ",
-        Class::Int8 => b"int8 ",
-        Class::Int16 => b"int16 ",
-        Class::Int32 => b"int32 ",
-        Class::Int64 => b"int64 ",
-        Class::Uint8 => b"uint8 ",
-        Class::Uint16 => b"uint16 ",
-        Class::Uint32 => b"uint32 ",
-        Class::Uint64 => b"uint64 ",
     }
 }
 

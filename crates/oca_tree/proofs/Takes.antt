@@ -1,48 +1,36 @@
 -- What a command can set an object to is a value of the object's class.
 use Rattle.std.proofs.Common.{◌≡◌, ℕ, Bool, true, false, cond, List, length, refl, sym, ap, ◌∙◌}
 use Rattle.std.specs.Prelude.{Some, Result, Ok, Err, ◌==◌, ◌&&◌}
-use Rattle.std.specs.Int.{w8, w16, w32, w64}
+use Rattle.std.specs.Int.{w16}
 use Rattle.oca_types.specs.declared.class.Class.{Class}
 use Rattle.oca_types.specs.declared.class.Class.TheVariants as class
 use Rattle.oca_types.specs.declared.class.Method.{Method}
 use Rattle.oca_types.specs.declared.class.Method.TheVariants as methods
 use Rattle.oca_types.specs.declared.class.MethodKind.{MethodKind}
 use Rattle.oca_types.specs.declared.class.MethodKind.TheVariants.{Known, LeftOut, Unknown}
-use Rattle.oca_types.specs.Reading.{unsigned_at, signed_at, bool_at, text_at}
+use Rattle.oca_types.specs.Reading.{unsigned_at, bool_at, text_at}
 use Rattle.oca_model.specs.declared.request.Request.{Request}
 use Rattle.oca_model.specs.declared.request.Request.TheVariants as asked
 use Rattle.oca_model.specs.declared.value.Value.{Value}
-use Rattle.oca_model.specs.declared.value.Value.TheVariants as set
 use Rattle.oca_model.specs.declared.value.ValueFault.{ValueFault}
-use Rattle.oca_model.specs.declared.value.ValueFault.TheVariants.{Malformed, Unlisted}
+use Rattle.oca_model.specs.declared.value.ValueFault.TheVariants.{Malformed}
 use Rattle.oca_model.specs.Lists.{list_of_most}
 use Rattle.oca_model.specs.Parameters.{pair_at}
 use Rattle.oca_model.specs.Requests.{bare, counted, as_request, request_in}
-use Rattle.oca_model.specs.Values.{class_of_value, value_in, as_value, all, then_find, or_fault, mute_of, polarity_of}
+use Rattle.oca_model.specs.Values.{class_of_value, value_in, as_value, all}
 use Rattle.oca_tree.specs.Objects.{class_of}
 use Rattle.oca_tree.specs.Execution.{kind_at, asked_at}
 use Rattle.oca_tree.specs.Settings.{EachSettingIsAValue}
 
 -- a value that was read is of the class
-made_of : {X : Type 0} (of : Class) (make : X → Value) → ((x : X) → class_of_value (make x) ≡ of) → (read : Result X ValueFault) (v : Value) → as_value make read ≡ Ok v → of ≡ class_of_value v
-made_of of make is (Ok x) v e = let same : make x ≡ v = cc in sym (is x) ∙ ap class_of_value same
-made_of of make is (Err fault) v e = let no : ⊥ = cc in absurd no
+made_of : {X : Type 0} (of : Class) (make : X → Value) (read : Result X ValueFault) (v : Value) → as_value make read ≡ Ok v → ((x : X) → class_of_value (make x) ≡ of) → of ≡ class_of_value v
+made_of of make (Ok x) v e is = let same : make x ≡ v = cc in sym (is x) ∙ ap class_of_value same
+made_of of make (Err fault) v e is = let no : ⊥ = cc in absurd no
 
 read_of : (of : Class) (bytes : List ℕ) (v : Value) → value_in of bytes ≡ Ok v → of ≡ class_of_value v
 unfolding value_in
 read_of class.Block bytes v e = let no : ⊥ = cc in absurd no
-read_of class.Mute bytes v e = made_of class.Mute set.Mute (λ x. refl) (then_find (λ n. or_fault Unlisted (mute_of n)) (all (unsigned_at w8) bytes)) v e
-read_of class.Polarity bytes v e = made_of class.Polarity set.Polarity (λ x. refl) (then_find (λ n. or_fault Unlisted (polarity_of n)) (all (unsigned_at w8) bytes)) v e
-read_of class.Switch bytes v e = made_of class.Switch set.Switch (λ x. refl) (all (unsigned_at w16) bytes) v e
-read_of class.Boolean bytes v e = made_of class.Boolean set.Boolean (λ x. refl) (all bool_at bytes) v e
-read_of class.Int8 bytes v e = made_of class.Int8 set.Int8 (λ x. refl) (all (signed_at w8) bytes) v e
-read_of class.Int16 bytes v e = made_of class.Int16 set.Int16 (λ x. refl) (all (signed_at w16) bytes) v e
-read_of class.Int32 bytes v e = made_of class.Int32 set.Int32 (λ x. refl) (all (signed_at w32) bytes) v e
-read_of class.Int64 bytes v e = made_of class.Int64 set.Int64 (λ x. refl) (all (signed_at w64) bytes) v e
-read_of class.Uint8 bytes v e = made_of class.Uint8 set.Uint8 (λ x. refl) (all (unsigned_at w8) bytes) v e
-read_of class.Uint16 bytes v e = made_of class.Uint16 set.Uint16 (λ x. refl) (all (unsigned_at w16) bytes) v e
-read_of class.Uint32 bytes v e = made_of class.Uint32 set.Uint32 (λ x. refl) (all (unsigned_at w32) bytes) v e
-read_of class.Uint64 bytes v e = made_of class.Uint64 set.Uint64 (λ x. refl) (all (unsigned_at w64) bytes) v e
+read_of of bytes v e = made_of of _ _ v e (λ x. refl)
 
 -- no other request sets a value
 module _ (v : Value) where

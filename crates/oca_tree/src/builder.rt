@@ -278,16 +278,14 @@ fn ranged<N: Copy>(setting: N, least: N, greatest: N) -> Ranged<N>
     }
 }
 
-/// An integer of this class, with its setting and its limits.
-macro_rules! integer {
-    ($class:ident, $setting:ident, $least:ident, $greatest:ident) => {
-        Kind::$class {
-            setting: $setting,
-            least: $least,
-            greatest: $greatest,
-        }
+/// Calls the macro `$each` with the names of the integers: `Kind` and `Reading` have variants of these names.
+macro_rules! with_integers {
+    ($each:ident) => {
+        $each!(Int8, Int16, Int32, Int64, Uint8, Uint16, Uint32, Uint64)
     };
 }
+
+pub(crate) use with_integers;
 
 /// What an object of a kind reads as that is no block and no switch.
 #[tactic(auto, unfolding(crate::specs::Building::value_of))]
@@ -295,20 +293,20 @@ fn reading_of(kind: &Kind<'_>) -> Reading
     requires { holds_reading kind.now ≡ true }
     ensures { HoldsReading kind.now result }
 {
-    match kind {
-        Kind::Mute(state) => Reading::Mute(*state),
-        Kind::Polarity(state) => Reading::Polarity(*state),
-        Kind::Boolean(truth) => Reading::Boolean(*truth),
-        integer!(Int8, s, l, g) => Reading::Int8(ranged(*s, *l, *g)),
-        integer!(Int16, s, l, g) => Reading::Int16(ranged(*s, *l, *g)),
-        integer!(Int32, s, l, g) => Reading::Int32(ranged(*s, *l, *g)),
-        integer!(Int64, s, l, g) => Reading::Int64(ranged(*s, *l, *g)),
-        integer!(Uint8, s, l, g) => Reading::Uint8(ranged(*s, *l, *g)),
-        integer!(Uint16, s, l, g) => Reading::Uint16(ranged(*s, *l, *g)),
-        integer!(Uint32, s, l, g) => Reading::Uint32(ranged(*s, *l, *g)),
-        integer!(Uint64, s, l, g) => Reading::Uint64(ranged(*s, *l, *g)),
-        _ => unreachable!(),
+    macro_rules! reading {
+        ($($integer:ident),*) => {
+            match kind {
+                Kind::Mute(state) => Reading::Mute(*state),
+                Kind::Polarity(state) => Reading::Polarity(*state),
+                Kind::Boolean(truth) => Reading::Boolean(*truth),
+                $(Kind::$integer { setting, least, greatest } => {
+                    Reading::$integer(ranged(*setting, *least, *greatest))
+                })*
+                _ => unreachable!(),
+            }
+        };
     }
+    with_integers!(reading)
 }
 
 /// What reads so, where it is within its limits.

@@ -2,6 +2,7 @@
 ghost use Rattle.std.specs.Prelude.{◌≡◌, IsTrue};
 ghost use Rattle.oca_tree.specs.Copies.{unlocked, all_unlocked};
 
+use crate::builder::with_integers;
 use crate::object::{Object, Switch, Value};
 use arrayvec::ArrayVec;
 use oca_model::Reading;
@@ -91,21 +92,19 @@ fn same_switch(a: &Switch, b: &Switch) -> bool
 fn same_reading(a: Reading, b: Reading) -> bool
     ensures { IsTrue result → a ≡ b }
 {
-    match (a, b) {
-        (Reading::Mute(state), Reading::Mute(other)) => state == other,
-        (Reading::Polarity(state), Reading::Polarity(other)) => state == other,
-        (Reading::Switch(ranged), Reading::Switch(other)) => ranged == other,
-        (Reading::Boolean(truth), Reading::Boolean(other)) => truth == other,
-        (Reading::Int8(ranged), Reading::Int8(other)) => ranged == other,
-        (Reading::Int16(ranged), Reading::Int16(other)) => ranged == other,
-        (Reading::Int32(ranged), Reading::Int32(other)) => ranged == other,
-        (Reading::Int64(ranged), Reading::Int64(other)) => ranged == other,
-        (Reading::Uint8(ranged), Reading::Uint8(other)) => ranged == other,
-        (Reading::Uint16(ranged), Reading::Uint16(other)) => ranged == other,
-        (Reading::Uint32(ranged), Reading::Uint32(other)) => ranged == other,
-        (Reading::Uint64(ranged), Reading::Uint64(other)) => ranged == other,
-        _ => false,
+    macro_rules! same {
+        ($($integer:ident),*) => {
+            match (a, b) {
+                (Reading::Mute(state), Reading::Mute(other)) => state == other,
+                (Reading::Polarity(state), Reading::Polarity(other)) => state == other,
+                (Reading::Switch(ranged), Reading::Switch(other)) => ranged == other,
+                (Reading::Boolean(truth), Reading::Boolean(other)) => truth == other,
+                $((Reading::$integer(ranged), Reading::$integer(other)) => ranged == other,)*
+                _ => false,
+            }
+        };
     }
+    with_integers!(same)
 }
 
 /// Whether two values are the same.

@@ -17,6 +17,7 @@ ghost use Rattle.oca_tree.specs.Readers.{reading_setting, value_setting, setting
 ghost use Rattle.oca_tree.specs.declared.tree.Setting.TheVariants.{Number};
 ghost use Rattle.oca_tree.specs.Copies.{stored_in, stored_at, names_of_ono, lockable_at, all_unlocked};
 
+use crate::builder::with_integers;
 use crate::description::{class_in, failing_in, lockable_in, position_names_in, start_in};
 use crate::execute::carry_out;
 use crate::front::{FrontFault, set_enabled, set_failing, set_label, unlock};
@@ -427,20 +428,18 @@ fn number(setting: i128, least: i128, greatest: i128) -> Option<Setting>
 fn reading_setting(reading: Reading) -> Option<Setting>
     ensures { result ≡ reading_setting reading }
 {
-    match reading {
-        Reading::Mute(state) => Some(Setting::State(state as u8)),
-        Reading::Polarity(state) => Some(Setting::State(state as u8)),
-        Reading::Switch(_) => None,
-        Reading::Boolean(truth) => Some(Setting::Truth(truth)),
-        Reading::Int8(r) => number(r.setting.into(), r.least.into(), r.greatest.into()),
-        Reading::Int16(r) => number(r.setting.into(), r.least.into(), r.greatest.into()),
-        Reading::Int32(r) => number(r.setting.into(), r.least.into(), r.greatest.into()),
-        Reading::Int64(r) => number(r.setting.into(), r.least.into(), r.greatest.into()),
-        Reading::Uint8(r) => number(r.setting.into(), r.least.into(), r.greatest.into()),
-        Reading::Uint16(r) => number(r.setting.into(), r.least.into(), r.greatest.into()),
-        Reading::Uint32(r) => number(r.setting.into(), r.least.into(), r.greatest.into()),
-        Reading::Uint64(r) => number(r.setting.into(), r.least.into(), r.greatest.into()),
+    macro_rules! setting {
+        ($($integer:ident),*) => {
+            match reading {
+                Reading::Mute(state) => Some(Setting::State(state as u8)),
+                Reading::Polarity(state) => Some(Setting::State(state as u8)),
+                Reading::Switch(_) => None,
+                Reading::Boolean(truth) => Some(Setting::Truth(truth)),
+                $(Reading::$integer(r) => number(r.setting.into(), r.least.into(), r.greatest.into()),)*
+            }
+        };
     }
+    with_integers!(setting)
 }
 
 /// How a value is set.

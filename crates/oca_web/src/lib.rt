@@ -20,6 +20,7 @@ mod order;
 mod orders;
 mod page;
 mod poll;
+mod shown;
 mod site;
 mod turns;
 mod units;

@@ -5,6 +5,7 @@ ghost use Rattle.ocactl_cli.specs.CommandLine.{hold_row, objects_rows, own_app, 
 ghost use Rattle.ocactl_cli.specs.CommandLine.{send_rows, set_rows, words_row};
 
 use clap::Command;
+use oca_program::form::{NUMBER_8, NUMBER_16, NUMBER_32};
 use oca_program::table::program_with_commands;
 use oca_program::{CommandRow, Form, Kind, OptionRow};
 use std::alloc::{AllocError, Global};
@@ -43,23 +44,13 @@ const FIRST_HANDLE: OptionRow = OptionRow {
         local port since the last pause of more than two minutes in which nothing was sent from there [default: from \
         the clock; it rises by 100000 a second, and starts again from 0 when it reaches 2147483648]",
     kind: Kind::Optional,
-    form: Form::Number {
-        digits: 10,
-        least: 0,
-        largest: 4_294_967_295,
-    },
+    form: NUMBER_32,
 };
 
 const OWN_FIRST_HANDLE: OptionRow = OptionRow {
-    name: "first-handle",
-    value: "H",
     help: "The handle of the first command, 0 to 4294967295",
     kind: Kind::Required,
-    form: Form::Number {
-        digits: 10,
-        least: 0,
-        largest: 4_294_967_295,
-    },
+    ..FIRST_HANDLE
 };
 
 const IP: OptionRow = OptionRow {
@@ -76,12 +67,7 @@ const AHEAD: OptionRow = OptionRow {
     value: "N",
     help: "How many commands may wait for their answers at once, 1 to the span; commands in flight together may be \
         executed in any order [default: 1]",
-    kind: Kind::Optional,
-    form: Form::Number {
-        digits: 3,
-        least: 1,
-        largest: 32,
-    },
+    ..SPAN
 };
 
 const TARGET: OptionRow = OptionRow {
@@ -89,11 +75,7 @@ const TARGET: OptionRow = OptionRow {
     value: "ONO",
     help: "The target's object number",
     kind: Kind::Required,
-    form: Form::Number {
-        digits: 10,
-        least: 0,
-        largest: 4_294_967_295,
-    },
+    form: NUMBER_32,
 };
 
 const LEVEL: OptionRow = OptionRow {
@@ -101,11 +83,7 @@ const LEVEL: OptionRow = OptionRow {
     value: "L",
     help: "The method's DefLevel",
     kind: Kind::Required,
-    form: Form::Number {
-        digits: 5,
-        least: 0,
-        largest: 65_535,
-    },
+    form: NUMBER_16,
 };
 
 const INDEX: OptionRow = OptionRow {
@@ -113,11 +91,7 @@ const INDEX: OptionRow = OptionRow {
     value: "I",
     help: "The method's MethodIndex",
     kind: Kind::Required,
-    form: Form::Number {
-        digits: 5,
-        least: 0,
-        largest: 65_535,
-    },
+    form: NUMBER_16,
 };
 
 const COUNT: OptionRow = OptionRow {
@@ -125,11 +99,7 @@ const COUNT: OptionRow = OptionRow {
     value: "C",
     help: "ParamCount: how many parameters there are",
     kind: Kind::Required,
-    form: Form::Number {
-        digits: 3,
-        least: 0,
-        largest: 255,
-    },
+    form: NUMBER_8,
 };
 
 const PARAMS: OptionRow = OptionRow {
@@ -141,42 +111,21 @@ const PARAMS: OptionRow = OptionRow {
 };
 
 const SEND_TURNS: OptionRow = OptionRow {
-    name: "turns",
-    value: "T",
     help: "Gives up after T waits of up to 50 ms each; at 0 the command is sent once, and no answer is waited for \
         [default: 200]",
-    kind: Kind::Optional,
-    form: Form::Number {
-        digits: 10,
-        least: 0,
-        largest: 4_294_967_295,
-    },
+    ..TURNS
 };
 
 const SEND_PORT: OptionRow = OptionRow {
-    name: "port",
-    value: "PORT",
     help: "The local port [default: the system chooses one]. Without this option each call takes a new session at the \
         device, which has 16 unless its maker chose otherwise: so give a port if you make many calls in a row",
-    kind: Kind::Optional,
-    form: Form::Number {
-        digits: 5,
-        least: 0,
-        largest: 65_535,
-    },
+    ..PORT
 };
 
 const RUN_PORT: OptionRow = OptionRow {
-    name: "port",
-    value: "PORT",
     help: "The local port [default: 65001 or 65002, which alternate every six hours; if that port is in use, the \
         system chooses one]",
-    kind: Kind::Optional,
-    form: Form::Number {
-        digits: 5,
-        least: 0,
-        largest: 65_535,
-    },
+    ..PORT
 };
 
 const TURNS: OptionRow = OptionRow {
@@ -184,11 +133,7 @@ const TURNS: OptionRow = OptionRow {
     value: "T",
     help: "Gives up on a command after T times 50 ms [default: 200]",
     kind: Kind::Optional,
-    form: Form::Number {
-        digits: 10,
-        least: 0,
-        largest: 4_294_967_295,
-    },
+    form: NUMBER_32,
 };
 
 const PORT: OptionRow = OptionRow {
@@ -197,11 +142,7 @@ const PORT: OptionRow = OptionRow {
     help: "The local port [default: 65001 or 65002, which alternate every six hours; lock and unlock fail if either of \
         the two is in use; for other commands the system chooses a port if theirs is in use]",
     kind: Kind::Optional,
-    form: Form::Number {
-        digits: 5,
-        least: 0,
-        largest: 65_535,
-    },
+    form: NUMBER_16,
 };
 
 /// The flag by which locks are kept until the input ends.
@@ -225,11 +166,9 @@ const OBJECTS: OptionRow = OptionRow {
 
 /// The objects and the words for their values.
 const VALUES: OptionRow = OptionRow {
-    name: "ONO",
     value: "ONO VALUE",
     help: "The number (ONo) of each object, followed by its value",
-    kind: Kind::Words,
-    form: Form::Text,
+    ..OBJECTS
 };
 
 const TREE_EXAMPLE: &str =

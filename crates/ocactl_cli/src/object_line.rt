@@ -50,6 +50,7 @@ pub fn report_object<W: Sink>(
 }
 
 /// Prints the line of an object, and flushes it.
+#[tactic(auto, using(oca_script::proofs::PrintLemmas::writing))]
 fn write_object<W: Sink>(
     ono: Ono,
     line: &ObjectLine,

@@ -8,7 +8,7 @@ use super::probe::is_there_where;
 use super::words::Reach;
 use oca_net::{is_gone, is_refused};
 use oca_panel::{Panel, Watched};
-use oca_program::print_note;
+use oca_program::print_made_note;
 use oca_script::{Printer, Sink};
 use oca_types::Peer;
 use std::alloc::{AllocError, Global};
@@ -101,7 +101,7 @@ fn note_silence<N: Net, E: BoundEnd, F: Sink>(
     let is_refused = asks && !is_there && is_refused(system, own.ip, device);
     let now = panel.end().end().now();
     let reason = why(is_gone, now, heard, is_there, is_refused);
-    print_reason(alloc, device, own, reason, faults);
+    print_made_note(reason_text(alloc, device, own, reason), faults);
 }
 
 /// If a command got no answer over an end without a panel (`silent`), prints to `faults` what is known of the reason,
@@ -121,29 +121,13 @@ pub fn note_unanswered<N: Net, E: BoundEnd, F: Sink>(
     note_failed_send(alloc, end.end().last_failed_send(), faults);
     let is_gone = is_gone(system, own.ip);
     let reason = why(is_gone, end.end().now(), end.heard(), false, false);
-    print_reason(alloc, device, own, reason, faults);
+    print_made_note(reason_text(alloc, device, own, reason), faults);
 }
 
 /// Prints why a send failed, where one has and there is memory for the line.
 fn note_failed_send<F: Sink>(alloc: Global, reason: Option<io::Error>, faults: &mut Printer<F>) {
-    let Some(reason) = reason else {
-        return;
-    };
-    if let Ok(note) = format!(in alloc; "a send failed: {reason}") {
-        print_note(note.as_str(), faults);
-    }
-}
-
-/// Prints a reason, where there is memory for the line.
-fn print_reason<F: Sink>(
-    alloc: Global,
-    device: Peer,
-    own: Peer,
-    reason: Reason,
-    faults: &mut Printer<F>,
-) {
-    if let Ok(text) = reason_text(alloc, device, own, reason) {
-        print_note(text.as_str(), faults);
+    if let Some(reason) = reason {
+        print_made_note(format!(in alloc; "a send failed: {reason}"), faults);
     }
 }
 

@@ -1,27 +1,10 @@
 -- Facts on how many fields a text has.
-use Rattle.std.proofs.Common.{◌≡◌, ℕ, List, [], ◌∷◌, Option, Some, None, refl, sym, ap, ◌∙◌, ◌==◌, true, false, cond}
-use Rattle.oca_script.specs.Fields.{fields, fields_after, onto_first}
+use Rattle.std.proofs.Common.{◌≡◌, ℕ, List, ◌∷◌, Option, Some, None, sym, ap, ◌∙◌}
+use Rattle.oca_script.specs.Fields.{fields, fields_after}
+use Rattle.oca_script.proofs.FieldLemmas.{AtLeastOne, fields-some}
 use Rattle.std.specs.Prelude.{Err}
 use Rattle.oca_script.specs.declared.fault.LineFault.TheVariants as fault
 use Rattle.ocactl_replay.specs.Requests.{one_text, two_texts, command_texts, due_of}
-
--- there is at least one field
-pub record AtLeastOne (fs : List (List ℕ)) : Type 0 where
-  pub first : List ℕ
-  pub others : List (List ℕ)
-  pub are : fs ≡ first ∷ others
-
-onto_first-some : (b : ℕ) (fs : List (List ℕ)) → AtLeastOne (onto_first b fs)
-onto_first-some b [] = record { first = b ∷ []; others = []; are = refl }
-onto_first-some b (f ∷ fs) = record { first = b ∷ f; others = fs; are = refl }
-
-fields-some : (s : List ℕ) → AtLeastOne (fields s)
-fields-some [] = record { first = []; others = []; are = refl }
-fields-some (b ∷ bs) =
-    elim (b == 32) as (λ v. AtLeastOne (cond v ([] ∷ fields bs) (onto_first b (fields bs)))) [
-      | true ↦ record { first = []; others = fields bs; are = refl }
-      | false ↦ onto_first-some b (fields bs)
-    ]
 
 -- the fields of a rest, the first of them split off
 pub after-is : (o p : Option (List ℕ)) (r a : List ℕ) → o ≡ Some r → fields r ≡ a ∷ fields_after p → fields_after o ≡ a ∷ fields_after p

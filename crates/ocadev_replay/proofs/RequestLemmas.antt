@@ -1,32 +1,14 @@
 -- Facts on the fields of a line.
-use Rattle.std.proofs.Common.{◌≡◌, arith, ℕ, List, [], ◌∷◌, Option, Some, None, Err, refl, sym, ap, ◌∙◌, ◌==◌, Bool, true, false, cond}
+use Rattle.std.proofs.Common.{◌≡◌, arith, ℕ, List, [], ◌∷◌, Option, Some, None, Err, refl, sym, ap, ◌∙◌, Bool, true, false}
 use Rattle.std.specs.Prelude.{codes}
 use Rattle.std.proofs.lemmas.Slice.Eq.{bytes_eq-Decides}
 use Rattle.oca_types.specs.declared.words.Peer.{Peer}
-use Rattle.oca_script.specs.Fields.{fields, fields_after, onto_first, split_at, hex_of, moment_of, peer_of, read_before}
-use Rattle.oca_script.proofs.FieldLemmas.{fields-one, fields-more}
+use Rattle.oca_script.specs.Fields.{fields, fields_after, split_at, hex_of, moment_of, peer_of, read_before}
+use Rattle.oca_script.proofs.FieldLemmas.{fields-one, fields-more, fields-some}
 use Rattle.oca_script.proofs.PartLemmas.{before-value}
 use Rattle.oca_script.specs.declared.fault.LineFault.TheVariants.{Form, Hex}
 use Rattle.ocadev_replay.specs.Requests.{asked_event, is_quiet, datagram_of}
 use Rattle.ocadev_replay.specs.PrivateRequests.{datagram_after}
-
--- there is at least one field
-pub record AtLeastOne (fs : List (List ℕ)) : Type 0 where
-  pub first : List ℕ
-  pub others : List (List ℕ)
-  pub are : fs ≡ first ∷ others
-
-onto_first-some : (b : ℕ) (fs : List (List ℕ)) → AtLeastOne (onto_first b fs)
-onto_first-some b [] = record { first = b ∷ []; others = []; are = refl }
-onto_first-some b (f ∷ fs) = record { first = b ∷ f; others = fs; are = refl }
-
-fields-some : (s : List ℕ) → AtLeastOne (fields s)
-fields-some [] = record { first = []; others = []; are = refl }
-fields-some (b ∷ bs) =
-    elim (b == 32) as (λ v. AtLeastOne (cond v ([] ∷ fields bs) (onto_first b (fields bs)))) [
-      | true ↦ record { first = []; others = fields bs; are = refl }
-      | false ↦ onto_first-some b (fields bs)
-    ]
 
 four : (fs : List (List ℕ)) (a b c rest : List ℕ) → fs ≡ a ∷ b ∷ c ∷ fields rest → asked_event fs ≡ Err Form
 four fs a b c rest e =

@@ -18,6 +18,7 @@ const PACKET_ROOM: usize = 2960;
 /// Prints a line that says what a device did with a datagram, as PROTOCOL.md lists it (*profile*). The line can wait in
 /// the printer. The only refusal is `WriteFailed`, if a write failed; then perhaps only the beginning of the text was
 /// written. The call takes no memory.
+#[tactic(auto, using(oca_script::proofs::PrintLemmas::printing))]
 pub fn print_verdict<W: Sink>(verdict: Verdict, printer: &mut Printer<W>) -> Result<(), WriteFailed>
     ensures { Prints result printer.old printer.new (verdict_text verdict) }
 {
@@ -42,6 +43,7 @@ pub fn print_packets<W: Sink>(outbox: &Outbox, printer: &mut Printer<W>) -> Resu
 }
 
 /// Prints a packet.
+#[tactic(auto, using(oca_script::proofs::PrintLemmas::printing))]
 fn print_packet<W: Sink>(packet: &[u8], printer: &mut Printer<W>) -> Result<(), WriteFailed>
     requires { length packet.now ≤ largest_datagram }
     ensures { Prints result printer.old printer.new (line_text packet.now) }

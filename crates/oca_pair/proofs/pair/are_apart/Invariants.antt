@@ -1,6 +1,7 @@
 use Rattle.std.proofs.Common.{◌≡◌, drop}
+use Rattle.oca_pair.specs.Networks.{device_address}
 use Rattle.oca_pair.specs.Premises.{are_apart}
 use Rattle.oca_pair.proofs.pair.are_apart.Given as goal
 
 abbrev pub invariant-loop-i : goal.invariant-loop-i
-invariant-loop-i l = are_apart (drop l.i l.starts) ≡ are_apart l.starts
+invariant-loop-i l = are_apart device_address (drop l.i l.starts) ≡ are_apart device_address l.starts

@@ -1,7 +1,7 @@
 use Rattle.std.proofs.Common.{◌<◌, ◌≤◌, length, refl, sym, ◌∙◌, arith}
 use Rattle.std.specs.Prelude.{map}
 use Rattle.oca_types.specs.Sizes.{sizes_of, span_size}
-use Rattle.oca_pair.specs.Networks.{Network, opening}
+use Rattle.oca_pair.specs.Networks.{Network, run_setup, opening}
 use Rattle.oca_pair.specs.Transcripts.{step_of}
 use Rattle.oca_pair.proofs.Runs.{begun_at, goes_on_at, stops_at, ended_at, all_there, all_done}
 use Rattle.oca_pair.proofs.pair.run_pair_with_sizes.Goals as goal
@@ -26,7 +26,7 @@ loop-number-preserved c =
 pub returns : goal.returns
 returns c =
     let past : length c.args.steps.now ≤ c.loop-number.number = omega arith in
-    let from : Network = opening (sizes_of c.args.sizes) (span_size c.args.span) c.args.tree c.args.starts.now in
+    let from : Network = opening (sizes_of c.args.sizes) (run_setup (span_size c.args.span)) c.args.tree c.args.starts.now in
     let h = ended_at step_of c.args.steps.now c.loop-number.number c.loop-number.running c.loop-number.log.items from past c.loop-number.invariant in (
       sym c.are_apart.ensures ∙ c.if-not-are_apart.false,
       all_there c.loop-number.running c.loop-number.log.items c.loop-number.number (map step_of c.args.steps.now) from h,

@@ -1,7 +1,7 @@
 use Rattle.std.proofs.Common.{◌≡◌, ◌++◌, take, drop}
 use Rattle.std.specs.Prelude.{map}
 use Rattle.std.specs.Option.{option_or}
-use Rattle.oca_pair.specs.Networks.{SentDatagram}
+use Rattle.oca_pair.specs.Networks.{SentDatagram, device_address}
 use Rattle.oca_pair.specs.Steps.{hears_datagram}
 use Rattle.oca_pair.specs.PrivateRunning.{first_heard}
 use Rattle.oca_pair.proofs.running.hear.Given as goal
@@ -12,6 +12,6 @@ invariant-loop-i l =
     let old = l.fn.links.items in
     record {
       long : l.links.len ≡ l.fn.links.len;
-      links : l.links.items ≡ map (hears_datagram d l.now) (take l.i old) ++ drop l.i old;
+      links : l.links.items ≡ map (hears_datagram device_address d l.now) (take l.i old) ++ drop l.i old;
       answer : option_or l.answer (first_heard d (drop l.i old)) ≡ first_heard d old;
     }

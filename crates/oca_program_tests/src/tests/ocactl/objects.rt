@@ -7,6 +7,7 @@ use crate::tests::fakes::ShortWriter;
 use oca_control::Link;
 use oca_net::MemoryEnd;
 use oca_panel::Panel;
+use oca_program::RunFault;
 use oca_script::Printer;
 use oca_types::{Handle, Ono, Span, Text};
 use ocactl_cli::objects::{Pair, set_all};
@@ -67,14 +68,27 @@ const DONE_LAST_2: &[u8] =
     b"\x3b\x00\x01\x00\x00\x00\x13\x03\x00\x01\x00\x00\x00\x0a\xff\xff\xff\xfe\x00\x00";
 
 /// Three mutes are set, so many at once: the first handle; the answers to the commands that ask what they are, and then
-/// to those that set them, in the order in which they come; the exit status, and what is printed.
+/// to those that set them, in the order in which they come; for how many bytes of output there is room; the exit status,
+/// or why the setting is given up; what is printed; and how many commands are sent, each once.
 pub struct Setting {
     first: u32,
     coming: &'static [Coming],
     ahead: u8,
-    status: u8,
+    room: usize,
+    ended: Result<u8, RunFault>,
     output: &'static [u8],
+    sent: usize,
 }
+
+/// The answers to all commands, in their order.
+const IN_ORDER: &[Coming] = &[
+    Datagram(DEVICE, CLASS_1, 10),
+    Datagram(DEVICE, CLASS_2, 10),
+    Datagram(DEVICE, CLASS_3, 10),
+    Datagram(DEVICE, DONE_4, 10),
+    Datagram(DEVICE, DONE_5, 10),
+    Datagram(DEVICE, DONE_6, 10),
+];
 
 pub const SETTINGS: &[Setting] = &[
     // answers that come in another order are printed in the order of the words
@@ -89,8 +103,10 @@ pub const SETTINGS: &[Setting] = &[
             Datagram(DEVICE, DONE_4, 10),
         ],
         ahead: 3,
-        status: 0,
+        room: NO_LIMIT,
+        ended: Ok(0),
         output: b"4097 muted\n4098 unmuted\n4099 muted\n",
+        sent: 6,
     },
     Setting {
         first: 1,
@@ -103,8 +119,10 @@ pub const SETTINGS: &[Setting] = &[
             Datagram(DEVICE, DONE_4, 10),
         ],
         ahead: 32,
-        status: 0,
+        room: NO_LIMIT,
+        ended: Ok(0),
         output: b"4097 muted\n4098 unmuted\n4099 muted\n",
+        sent: 6,
     },
     // what the device refuses has its line in its place
     Setting {
@@ -118,8 +136,10 @@ pub const SETTINGS: &[Setting] = &[
             Datagram(DEVICE, DONE_4, 10),
         ],
         ahead: 3,
-        status: 4,
+        room: NO_LIMIT,
+        ended: Ok(4),
         output: b"4097 muted\n4098 Locked\n4099 muted\n",
+        sent: 6,
     },
     // no handle is left for the last object: what the link refuses is printed behind those that are in flight
     Setting {
@@ -132,8 +152,49 @@ pub const SETTINGS: &[Setting] = &[
             Datagram(DEVICE, DONE_LAST_2, 10),
         ],
         ahead: 3,
-        status: 3,
+        room: NO_LIMIT,
+        ended: Ok(3),
         output: b"4097 muted\n4098 Locked\n4099 refused 2 handles-spent\n",
+        sent: 5,
+    },
+    // behind a line that can't be written nothing more is submitted
+    Setting {
+        first: 1,
+        coming: IN_ORDER,
+        ahead: 1,
+        room: 10,
+        ended: Err(RunFault::Write),
+        output: b"4097 muted",
+        sent: 4,
+    },
+    Setting {
+        first: 1,
+        coming: IN_ORDER,
+        ahead: 1,
+        room: 11,
+        ended: Err(RunFault::Write),
+        output: b"4097 muted\n",
+        sent: 5,
+    },
+    // two are in flight as the first line can't be written
+    Setting {
+        first: 1,
+        coming: IN_ORDER,
+        ahead: 2,
+        room: 0,
+        ended: Err(RunFault::Write),
+        output: b"",
+        sent: 5,
+    },
+    // all are submitted by then
+    Setting {
+        first: 1,
+        coming: IN_ORDER,
+        ahead: 1,
+        room: 24,
+        ended: Err(RunFault::Write),
+        output: b"4097 muted\n4098 unmuted\n",
+        sent: 6,
     },
 ];
 
@@ -162,7 +223,7 @@ fn pairs() -> Option<[Pair; 3]> {
     ])
 }
 
-/// Whether the setting ends so over a panel, asks each command once, and prints just that.
+/// Whether the setting ends so over a panel, sends just so many commands, and prints just that.
 fn sets_over(
     alloc: Global,
     panel: &mut Panel<MemoryEnd>,
@@ -172,13 +233,14 @@ fn sets_over(
     let Some(ahead) = Span::new(setting.ahead) else {
         return false;
     };
-    let mut to = Printer::new(ShortWriter::new(5000, NO_LIMIT));
-    let Ok(status) = set_all(alloc, panel, pairs, ahead, &mut to) else {
-        return false;
+    let mut to = Printer::new(ShortWriter::new(5000, setting.room));
+    let ended = match set_all(alloc, panel, pairs, ahead, &mut to) {
+        Ok(status) => Ok(status),
+        Err(failure) => Err(failure.fault),
     };
-    status == setting.status
+    ended == setting.ended
         && to.sink().taken.as_slice() == setting.output
-        && panel.end().taken().len() == setting.coming.len()
+        && panel.end().taken().len() == setting.sent
 }
 
 impl Row for Setting {

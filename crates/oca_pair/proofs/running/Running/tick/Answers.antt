@@ -5,5 +5,5 @@ pub returns : goal.returns
 returns c = λ n h. (
   refl,
   refl,
-  record { device = c.tick.ensures n.sizes n.tree n.events h.device; links = h.links; to_device = h.to_device; to_links = h.to_links; sent = h.sent; answered = h.answered },
+  record { address = h.address; device = c.tick.ensures n.sizes n.tree n.events h.device; links = h.links; to_device = h.to_device; to_links = h.to_links; sent = h.sent; answered = h.answered },
 )

@@ -1,0 +1,200 @@
+//! Setting the objects of the device behind a handle at its local front panel.
+ghost use Rattle.std.specs.Prelude.{◌≡◌, ◌∷◌, List, Option, None, IsSome, IsUtf8};
+ghost use Rattle.oca_types.specs.Sizes.{DeviceSizes};
+ghost use Rattle.oca_tree.specs.declared.object.Object.{Object};
+ghost use Rattle.oca_tree.specs.Settings.{set_fault};
+ghost use Rattle.oca_tree.specs.LocalChanges.{ToValue, ToLabel, ToEnabled, ToUnlocked, ToFailing};
+ghost use Rattle.oca_device.specs.States.{state_after};
+ghost use Rattle.oca_device.specs.Events.{Event, Local};
+ghost use Rattle.oca_calls.specs.declared.answer.Answer.TheVariants.{NotStarted, BadText};
+ghost use Rattle.oca_calls.specs.Calls.{RunsBehind, set_answers};
+ghost use Rattle.oca_model.specs.declared.value.Value.{Value as ValueItself};
+ghost use Rattle.oca_model.specs.declared.request.Request.TheVariants as asked;
+ghost use Rattle.oca_calls.specs.CValues.{AreWordsOf};
+ghost use Rattle.oca_calls.specs.FrontCalls.{ChangesFront, SetsEntry, SetsFrontFound, SetsWords, State, Integer};
+ghost use Rattle.oca_calls.specs.LinkRooms.{Rooms};
+
+use super::DeviceBehind;
+use crate::answer::Answer;
+use crate::front_values::{integer_at, state_at};
+use crate::value_words::ValueWords;
+use oca_tree::{SetFault, Value};
+use oca_types::Ono;
+use std::str;
+
+impl DeviceBehind {
+    /// Sets an object to a value at the local front panel. A lock does not refuse it. Returns `Done`. Otherwise the
+    /// first of these that applies, and then nothing is changed. `NotStarted` before the start. `NoObject` if no object
+    /// has the number `ono`. `NoSetting` if the object is a block. `OtherKind` if the value is of another class.
+    /// `OutOfRange` if a switch has no such position or the position is disabled, or a number is outside the object's
+    /// limits. In all cases the packets, and whether answers wait, stay as they are.
+    pub fn set(&mut self, ono: u32, value: Value) -> Answer
+        ensures sets { (r : Rooms) (w : DeviceSizes) (T : List Object) (E : List Event) → RunsBehind r w self.old T E →
+            RunsBehind r w self.new T (Local ono (ToValue value) ∷ E)
+            × (result ≡ set_answers (set_fault (state_after w T E).tree ono value)) }
+        ensures packets { self.new.outbox ≡ self.old.outbox }
+        ensures unstored { self.new.unstored ≡ self.old.unstored }
+        ensures building { self.old.device ≡ None → (result ≡ NotStarted) × (self.new ≡ self.old) }
+    {
+        let Some(device) = &mut self.device else {
+            return Answer::NotStarted;
+        };
+        match device.set(Ono(ono), value) {
+            Ok(()) => Answer::Done,
+            Err(fault) => Answer::of_set(fault),
+        }
+    }
+
+    /// Sets an object at the local front panel to the value that `words` hold. A lock does not refuse it. Returns
+    /// `Done`. Otherwise the first of these that applies, and then nothing is changed. `NotStarted` before the start.
+    /// `NoValue` if `words` hold no value. Then the answers of [`set`](DeviceBehind::set).
+    pub fn set_words(&mut self, ono: u32, words: ValueWords) -> Answer
+        ensures sets { (r : Rooms) (w : DeviceSizes) (T : List Object) (E : List Event) → RunsBehind r w self.old T E →
+            (value : Option ValueItself) × AreWordsOf words value × SetsWords r w result self.new T E ono value }
+        ensures packets { self.new.outbox ≡ self.old.outbox }
+        ensures unstored { self.new.unstored ≡ self.old.unstored }
+        ensures building { self.old.device ≡ None → (result ≡ NotStarted) × (self.new ≡ self.old) }
+    {
+        if self.device.is_none() {
+            return Answer::NotStarted;
+        }
+        match words.value() {
+            Some(value) => self.set(ono, value),
+            None => Answer::NoValue,
+        }
+    }
+
+    /// Sets a mute (1 Muted, 2 Unmuted) or a polarity (1 NonInverted, 2 Inverted) at the local front panel. A lock does
+    /// not refuse it. Returns `Done`. Otherwise the first of these that applies, and then nothing is changed.
+    /// `NotStarted` before the start. `NoObject` if no object has the number `ono`. `NoSetting` if the object is a
+    /// block. `OtherKind` if it is of another class. `OutOfRange` if `state` is neither 1 nor 2.
+    pub fn set_state(&mut self, ono: u32, state: u8) -> Answer
+        ensures sets { (r : Rooms) (w : DeviceSizes) (T : List Object) (E : List Event) → RunsBehind r w self.old T E →
+            SetsEntry r w result self.new T E ono (State state) }
+        ensures packets { self.new.outbox ≡ self.old.outbox }
+        ensures unstored { self.new.unstored ≡ self.old.unstored }
+        ensures building { self.old.device ≡ None → (result ≡ NotStarted) × (self.new ≡ self.old) }
+    {
+        let Some(device) = &self.device else {
+            return Answer::NotStarted;
+        };
+        let found = state_at(device.tree().class_of(Ono(ono)), state);
+        self.set_found(ono, found)
+    }
+
+    /// Sets an actuator of integers, of any type, to `number` at the local front panel. A lock does not refuse it.
+    /// Returns `Done`. Otherwise the first of these that applies, and then nothing is changed. `NotStarted` before the
+    /// start. `NoObject` if no object has the number `ono`. `NoSetting` if the object is a block. `OtherKind` if its
+    /// class is not one of integers. `OutOfRange` if `number` is outside the object's limits.
+    pub fn set_integer(&mut self, ono: u32, number: i128) -> Answer
+        ensures sets { (r : Rooms) (w : DeviceSizes) (T : List Object) (E : List Event) → RunsBehind r w self.old T E →
+            SetsEntry r w result self.new T E ono (Integer number) }
+        ensures packets { self.new.outbox ≡ self.old.outbox }
+        ensures unstored { self.new.unstored ≡ self.old.unstored }
+        ensures building { self.old.device ≡ None → (result ≡ NotStarted) × (self.new ≡ self.old) }
+    {
+        let Some(device) = &self.device else {
+            return Answer::NotStarted;
+        };
+        let found = integer_at(device.tree().class_of(Ono(ono)), number);
+        self.set_found(ono, found)
+    }
+
+    /// Sets an object to the value that was found for it, where one was.
+    fn set_found(&mut self, ono: u32, found: Result<Value, SetFault>) -> Answer
+        ensures sets { (r : Rooms) (w : DeviceSizes) (T : List Object) (E : List Event) → RunsBehind r w self.old T E →
+            SetsFrontFound r w result self.new T E ono found }
+        ensures packets { self.new.outbox ≡ self.old.outbox }
+        ensures unstored { self.new.unstored ≡ self.old.unstored }
+    {
+        match found {
+            Ok(value) => self.set(ono, value),
+            Err(fault) => Answer::of_set(fault),
+        }
+    }
+
+    /// Gives an object a label of 0 to 64 bytes of UTF-8 at the local front panel. A lock does not refuse it. Returns
+    /// `Done`. Otherwise the first of these that applies, and then nothing is changed. `NotStarted` before the start.
+    /// `BadText` if the bytes are not UTF-8. `NoObject` if no object has the number `ono`. `BadText` if the label has
+    /// more than 64 bytes.
+    pub fn set_label(&mut self, ono: u32, label: &[u8]) -> Answer
+        ensures labels { IsUtf8 label.now → (r : Rooms) (w : DeviceSizes) (T : List Object) (E : List Event) →
+            RunsBehind r w self.old T E →
+            ChangesFront r w result self.new T E ono (ToLabel label.now) (asked.SetLabel label.now) }
+        ensures other { (IsUtf8 label.now → ⊥) → IsSome self.old.device →
+            (result ≡ BadText) × (self.new ≡ self.old) }
+        ensures packets { self.new.outbox ≡ self.old.outbox }
+        ensures unstored { self.new.unstored ≡ self.old.unstored }
+        ensures building { self.old.device ≡ None → (result ≡ NotStarted) × (self.new ≡ self.old) }
+    {
+        let Some(device) = &mut self.device else {
+            return Answer::NotStarted;
+        };
+        let Ok(label) = str::from_utf8(label) else {
+            return Answer::BadText;
+        };
+        match device.set_label(Ono(ono), label) {
+            Ok(()) => Answer::Done,
+            Err(fault) => Answer::of_front(fault),
+        }
+    }
+
+    /// Enables or disables an object at the local front panel. A lock does not refuse it. Returns `Done`. `NotStarted`
+    /// before the start, or `NoObject` if no object has the number `ono`: then nothing is changed.
+    pub fn set_enabled(&mut self, ono: u32, enabled: bool) -> Answer
+        ensures sets { (r : Rooms) (w : DeviceSizes) (T : List Object) (E : List Event) → RunsBehind r w self.old T E →
+            ChangesFront r w result self.new T E ono (ToEnabled enabled) (asked.SetEnabled enabled) }
+        ensures packets { self.new.outbox ≡ self.old.outbox }
+        ensures unstored { self.new.unstored ≡ self.old.unstored }
+        ensures building { self.old.device ≡ None → (result ≡ NotStarted) × (self.new ≡ self.old) }
+    {
+        let Some(device) = &mut self.device else {
+            return Answer::NotStarted;
+        };
+        match device.set_enabled(Ono(ono), enabled) {
+            Ok(()) => Answer::Done,
+            Err(fault) => Answer::of_front(fault),
+        }
+    }
+
+    /// Releases the lock of an object at the local front panel, whichever peer has it. The peer gets no message.
+    /// Returns `Done`. Otherwise the first of these that applies, and then nothing is changed. `NotStarted` before the
+    /// start. `NoObject` if no object has the number `ono`. `Nothing` if the object is not locked.
+    pub fn unlock(&mut self, ono: u32) -> Answer
+        ensures unlocks { (r : Rooms) (w : DeviceSizes) (T : List Object) (E : List Event) →
+            RunsBehind r w self.old T E →
+            ChangesFront r w result self.new T E ono ToUnlocked asked.Unlock }
+        ensures packets { self.new.outbox ≡ self.old.outbox }
+        ensures unstored { self.new.unstored ≡ self.old.unstored }
+        ensures building { self.old.device ≡ None → (result ≡ NotStarted) × (self.new ≡ self.old) }
+    {
+        let Some(device) = &mut self.device else {
+            return Answer::NotStarted;
+        };
+        match device.unlock(Ono(ono)) {
+            Ok(()) => Answer::Done,
+            Err(fault) => Answer::of_front(fault),
+        }
+    }
+
+    /// Sets, at the local front panel, whether the hardware of an object refuses changes (`failing`). While it does, a
+    /// command that writes to the object changes nothing and is answered ProcessingFailed (AES70-2, OcaStatus), or with
+    /// the status of another fault that the command has ([`Device::set_failing`](oca_device::Device::set_failing)).
+    /// Returns `Done`. `NotStarted` before the start, or `NoObject` if no object has the number `ono`: then nothing is
+    /// changed.
+    pub fn set_failing(&mut self, ono: u32, failing: bool) -> Answer
+        ensures tells { (r : Rooms) (w : DeviceSizes) (T : List Object) (E : List Event) → RunsBehind r w self.old T E →
+            ChangesFront r w result self.new T E ono (ToFailing failing) (asked.SetEnabled failing) }
+        ensures packets { self.new.outbox ≡ self.old.outbox }
+        ensures unstored { self.new.unstored ≡ self.old.unstored }
+        ensures building { self.old.device ≡ None → (result ≡ NotStarted) × (self.new ≡ self.old) }
+    {
+        let Some(device) = &mut self.device else {
+            return Answer::NotStarted;
+        };
+        match device.set_failing(Ono(ono), failing) {
+            Ok(()) => Answer::Done,
+            Err(fault) => Answer::of_front(fault),
+        }
+    }
+}
