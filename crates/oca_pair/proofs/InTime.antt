@@ -32,7 +32,7 @@ use Rattle.oca_control.specs.Untaken.{Untaken, new_untaken, is_due, is_late, fir
 use Rattle.oca_control.specs.Links.{LinkState, Request, command_under, submission, handle_after, after_submission, Decision, GivesCommand, GivesKeepAlive, GivesNothing, IsLost, decision_among, decision, after_due, gone_on, hears_content, received, taken, present_moment, late_at}
 use Rattle.oca_pair.specs.declared.start.Start.{Start}
 use Rattle.oca_pair.specs.Networks.{Network, PeerLink, SentDatagram, SubmittedCommand, TakenAnswer, Setup, started, opening}
-use Rattle.oca_pair.specs.Steps.{Step, Submit, Due, ToDevice, ToLink, Other, Take, has_link, sendings_in, after_submit, given_by, after_due_step, after_delivery, content_read, hears_datagram, after_reception, after_take, after_step, after_steps}
+use Rattle.oca_pair.specs.Steps.{Step, Submit, Due, ToDevice, ToLink, Other, Take, has_link, sendings_in, after_submit, given_by, after_due_step, after_delivery, content_read, hears_datagram, after_reception, after_take, after_step, after_steps, Renew, with_link, is_above, renewed_link, after_renewal}
 use Rattle.oca_pair.specs.Steps as steps
 use Rattle.oca_pair.specs.Happenings.{happenings}
 use Rattle.oca_pair.specs.Premises.{are_apart, StepFits, Fit}
@@ -49,6 +49,7 @@ use Rattle.oca_pair.proofs.Truths.{Past, past, and_then, state_of, IsTrueAnswer}
 use Rattle.oca_pair.proofs.Ordered.{AreOrdered, ordered_till, ordered_after, ordered_of, WasNoted, WereNoted, still_accepted}
 use Rattle.oca_pair.proofs.Arrivals.{looked_at}
 use Rattle.oca_pair.proofs.Fair.{end_of, judged_fresh}
+use Rattle.oca_pair.proofs.Renewing.{above_next}
 use Rattle.oca_pair.proofs.Delivering.{let_in, after_read, granted, end_after, held_answer}
 use Rattle.oca_pair.proofs.Keeping.{handles_for, notes_noted, executed_noted}
 use Rattle.oca_pair.proofs.Networks.{LinkSound, Sound, Apart, sound_step, sound_opening, sound_after}
@@ -381,6 +382,30 @@ timed_taken zs p h l left out ns g =
     by_answer born (Some x) a = untaken_without born (end_of l.next) l.moment h l.untaken a
     by_answer born None a = a
 
+-- the link is renewed: its handles go on above
+timed_renewed : (zs : Zeros) (p : Peer) (end first m now : ℕ) (us : List Untaken) (left : List Departure) (out : List SentDatagram) (ns : List Note) → end ≤ first → Timed zs p end m us left out ns →
+    Timed zs p first now [] left out ns
+timed_renewed zs p end first m now us left out ns above g = record {
+  born = g.born;
+  are = g.are;
+  untaken = tt;
+  departures = each_map (λ x a same. sent x.at x.datagram.bytes (a same)) left g.departures;
+  executed = each_map (λ n a same. was_noted n.at n.what (a same)) ns g.executed;
+  once = g.once;
+}
+  where
+    more : (x : ℕ) → x < end → x < first
+    more x q = omega arith
+
+    sent : (at : ℕ) (bytes : List ℕ) → TimedBytes g.born end at bytes → TimedBytes g.born first at bytes
+    sent at bytes (inl (c, read, i)) = inl (c, read, record { not_before = i.not_before; not_late = i.not_late; below = more c.handle i.below })
+    sent at bytes (inr k) = inr k
+
+    was_noted : (at : ℕ) (x : Noted) → TimedNoted (λ y. by_device zs (g.born y)) end at x → TimedNoted (λ y. by_device zs (g.born y)) first at x
+    was_noted at (Executed objects c r) a = (a.0, more c.handle a.1)
+    was_noted at (Admitted ms) a = tt
+    was_noted at (Heartbeat ms) a = tt
+
 -- ---- a datagram comes to the device
 
 -- what is noted changes
@@ -580,6 +605,23 @@ timed_step_take s i k h left n g (Some x) e =
     timed_put s i k x (record { peer = x.peer; link = taken h x.link }) left n (after_take k h (Some x) n) e refl
     (λ is own. timed_taken (zeros s x.peer) x.peer h x.link left n.to_device (state_of (past n)).notes (g x own)) (λ l other own. g l own)
 
+timed_step_renewal : (s : Setup) (i k first now : ℕ) (left : List Departure) (n : Network) → TimedAt s i left n → (o : Option PeerLink) → slice_get n.links k ≡ o → TimedAt s i left (after_renewal k first now o n)
+timed_step_renewal s i k first now left n g None e = g
+timed_step_renewal s i k first now left n g (Some x) e = by_test (is_above first x.link.next) refl
+  where
+    y : PeerLink
+    y = record { peer = x.peer; link = renewed_link first now x.link }
+
+    m : Network
+    m = record n { links = with_link k x (renewed_link first now x.link) n.links; renewed = x.peer ∷ n.renewed }
+
+    by_test : (b : Bool) → is_above first x.link.next ≡ b → TimedAt s i left (cond b m n)
+    by_test true q =
+        timed_put s i k x y left n m e refl
+        (λ is own. timed_renewed (zeros s x.peer) x.peer (end_of x.link.next) first x.link.moment now x.link.untaken left n.to_device (state_of (past n)).notes (above_next first x.link.next q) (g x own))
+        (λ l other own. g l own)
+    by_test false q = g
+
 no_more : (zs : Zeros) (p : Peer) (end m : ℕ) (us : List Untaken) (left : List Departure) (out : List SentDatagram) (ns : List Note) → Timed zs p end m us left out ns → Timed zs p end m us (left ++ []) out ns
 no_more zs p end m us left out ns g = rw append-nil g
 
@@ -656,6 +698,7 @@ timed_step law s i left step n sound in_time g = one step in_time
     one (steps.Tick now) t = none (after_step (steps.Tick now) n) (λ l own. let f = g l own in f)
     one (steps.Local ono change) t = none (after_step (steps.Local ono change) n) (λ l own. let f = g l own in f)
     one (Take k h) t = none (after_step (Take k h) n) (timed_step_take s i k h left n g (slice_get n.links k) refl)
+    one (Renew k first now) t = none (after_step (Renew k first now) n) (timed_step_renewal s i k first now left n g (slice_get n.links k) refl)
 
 -- what left with the steps
 abbrev pub departed : List Departure → List Step → Network → List Departure

@@ -13,8 +13,8 @@ use Rattle.oca_control.specs.Untaken.{answer_under}
 use Rattle.oca_control.specs.Links.{present_moment, late_at, decision}
 use Rattle.oca_pair.specs.declared.start.Start.{Start}
 use Rattle.oca_pair.specs.Networks.{Network, PeerLink, SentDatagram, Setup, opening}
-use Rattle.oca_pair.specs.Steps.{Step, Submit, Due, ToDevice, ToLink, Other, Tick, Local, Take, given_by, after_step}
-use Rattle.oca_pair.specs.Steps.{after_steps}
+use Rattle.oca_pair.specs.Steps.{Step, Submit, Due, ToDevice, ToLink, Other, Tick, Local, Take, Renew, given_by}
+use Rattle.oca_pair.specs.Steps.{after_step, after_steps}
 use Rattle.oca_pair.specs.Happenings.{happenings}
 use Rattle.oca_pair.specs.Premises.{are_apart, Fit}
 use Rattle.oca_pair.specs.Laws.{Execution, executions_for, executions_under, answer_of, WasSubmitted, WasTaken}
@@ -45,6 +45,7 @@ departures_in (Other from bytes now) n = []
 departures_in (Tick now) n = []
 departures_in (Local ono change) n = []
 departures_in (Take link handle) n = []
+departures_in (Renew link first now) n = []
 
 -- the device's clock when something comes to it at this moment
 abbrev pub clock_at : ℕ → Network → ℕ

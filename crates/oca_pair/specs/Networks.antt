@@ -2,9 +2,10 @@
 -- sent between them. No list of a network ever loses a member, so a datagram can be delivered late, again, in any
 -- order, or never. Of events the latest stands first; of datagrams, submitted commands and taken answers the latest
 -- stands last.
-use Rattle.std.specs.Prelude.{ℕ, List, [], map}
+use Rattle.std.specs.Prelude.{ℕ, Bool, List, [], map}
+use Rattle.std.specs.List.{list_any}
 use Rattle.oca_types.specs.declared.words.Peer.{Peer}
-use Rattle.oca_types.specs.Peers.{CommandFields}
+use Rattle.oca_types.specs.Peers.{CommandFields, same_peer}
 use Rattle.oca_types.specs.Sizes.{DeviceSizes}
 use Rattle.oca_tree.specs.declared.object.Object.{Object}
 use Rattle.oca_device.specs.Events.{Event}
@@ -44,7 +45,7 @@ pub record TakenAnswer : Type 0 where
   pub answer : AnswerFields
 
 -- The device's address, its sizes, its objects at first and what happened to it; the links; the datagrams that were
--- sent to the device and to links; and what was submitted and taken.
+-- sent to the device and to links; what was submitted and taken; and the peers whose link was renewed.
 pub record Network : Type 0 where
   pub address : Peer
   pub sizes : DeviceSizes
@@ -55,6 +56,11 @@ pub record Network : Type 0 where
   pub to_links : List SentDatagram
   pub submitted : List SubmittedCommand
   pub taken : List TakenAnswer
+  pub renewed : List Peer
+
+-- the link of this peer was renewed
+abbrev pub is_renewed : Peer → Network → Bool
+is_renewed p n = list_any (λ q. same_peer q p) n.renewed
 
 -- a new link to the device, with the span and the moment of its peer
 abbrev pub started : Setup → Start → PeerLink
@@ -73,6 +79,7 @@ opening sizes s tree starts =
       to_links = [];
       submitted = [];
       taken = [];
+      renewed = [];
     }
 
 -- ---- the setup of `run_pair`: its device is at 127.0.0.1:65000, each link has this span and is made at moment 0, and
