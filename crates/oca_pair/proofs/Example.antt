@@ -13,10 +13,10 @@ use Rattle.oca_pdu.specs.Laws.{WrittenIsReadBack}
 use Rattle.oca_tree.specs.declared.object.Object.{Object}
 use Rattle.oca_device.specs.LawByEvents.{Happening, Passes, clock, admitted, has_room}
 use Rattle.oca_control.specs.Untaken.{Untaken}
-use Rattle.oca_control.specs.Links.{Request, command_under}
+use Rattle.oca_control.specs.Links.{Request, new_link, command_under}
 use Rattle.oca_pair.specs.declared.start.Start.{Start}
 use Rattle.oca_pair.specs.Networks.{Network, PeerLink, SentDatagram, Setup, device_address, run_setup, opening}
-use Rattle.oca_pair.specs.Steps.{Step, Submit, Due, ToDevice, Other, Take, after_steps}
+use Rattle.oca_pair.specs.Steps.{Step, Submit, Due, ToDevice, Other, Take, Renew, after_step, after_steps}
 use Rattle.oca_pair.specs.Happenings.{sayings}
 use Rattle.oca_pair.specs.Premises.{RequestFits, Fit, KeepsItsSession}
 use Rattle.oca_pair.specs.Laws.{CarriesUntaken, IsAnswered}
@@ -203,3 +203,12 @@ crowded_is_answered law tree =
     0 200000 0 sent_first the_only_link first refl refl refl
     (record { peer = refl; untaken = held 1; held = (0, lit< tt, refl); command = refl; bytes = refl })
     (room_in_the_crowd law) (crowded_keeps law tree)
+
+-- The link is renewed with 9 as its first handle, which is above the three that it gave: then it holds nothing, and its next
+-- command is under 9. With 3, which it gave, nothing is done.
+renewed_goes_on : (tree : List Object) →
+    (after_step (Renew 0 9 16000) (the_network tree)).links ≡ (record { peer = controller; link = new_link device_address 9 16000 3 }) ∷ []
+renewed_goes_on tree = refl
+
+renewed_below_does_nothing : (tree : List Object) → after_step (Renew 0 3 16000) (the_network tree) ≡ the_network tree
+renewed_below_does_nothing tree = refl
