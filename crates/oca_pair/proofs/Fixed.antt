@@ -41,11 +41,11 @@ fixed_kept (step ∷ es) n = fixed_kept es (after_step step n) ∙ one step
     by_take i h None = refl
     by_take i h (Some l) = refl
 
-    by_renewal : (i first now : ℕ) (o : Option PeerLink) → fixed (after_renewal i first now o n) ≡ fixed n
-    by_renewal i first now None = refl
-    by_renewal i first now (Some l) = by_test (is_above first l.link.next)
+    by_renewal : (i first span now origin : ℕ) (o : Option PeerLink) → fixed (after_renewal i first span now origin o n) ≡ fixed n
+    by_renewal i first span now origin None = refl
+    by_renewal i first span now origin (Some l) = by_test (is_above first l.link.next)
       where
-        by_test : (b : Bool) → fixed (cond b (record n { links = with_link i l (renewed_link first now l.link) n.links; renewed = l.peer ∷ n.renewed }) n) ≡ fixed n
+        by_test : (b : Bool) → fixed (cond b (record n { links = with_link i l (renewed_link first span now l.link) n.links; renewed = (record { peer = l.peer; zero = origin }) ∷ n.renewed }) n) ≡ fixed n
         by_test true = refl
         by_test false = refl
 
@@ -58,7 +58,7 @@ fixed_kept (step ∷ es) n = fixed_kept es (after_step step n) ∙ one step
     one (steps.Tick now) = refl
     one (steps.Local ono change) = refl
     one (Take i h) = by_take i h (slice_get n.links i)
-    one (Renew i first now) = by_renewal i first now (slice_get n.links i)
+    one (Renew i first span now origin) = by_renewal i first span now origin (slice_get n.links i)
 
 pub sizes_kept : (es : List Step) (n : Network) → (after_steps es n).sizes ≡ n.sizes
 sizes_kept es n = ap (λ (f : DeviceSizes × List Object). f.0) (fixed_kept es n)

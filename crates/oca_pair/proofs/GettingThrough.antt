@@ -200,12 +200,12 @@ runs_step first born s i p calls step n never g = one step never
         taking : (us : List Untaken) → l.peer ≡ p → (h : ℕ) → AreSentBy p (n.to_device ++ []) (sendings born h calls) → AreSentBy p (n.to_device ++ []) (sendings born h (TakesAnswer j (answer_under j us) ∷ calls))
         taking us same h a = by_answer (answer_under j us) h a
 
-    by_renewal : (k f now : ℕ) (o : Option PeerLink) → slice_get n.links k ≡ o → is_renewed p (after_renewal k f now o n) ≡ false → Runs first born s i p calls (after_renewal k f now o n)
-    by_renewal k f now None e never = g
-    by_renewal k f now (Some l) e never = by_test (is_above f l.link.next) never
+    by_renewal : (k f span now origin : ℕ) (o : Option PeerLink) → slice_get n.links k ≡ o → is_renewed p (after_renewal k f span now origin o n) ≡ false → Runs first born s i p calls (after_renewal k f span now origin o n)
+    by_renewal k f span now origin None e never = g
+    by_renewal k f span now origin (Some l) e never = by_test (is_above f l.link.next) never
       where
         m : Network
-        m = record n { links = with_link k l (renewed_link f now l.link) n.links; renewed = l.peer ∷ n.renewed }
+        m = record n { links = with_link k l (renewed_link f span now l.link) n.links; renewed = (record { peer = l.peer; zero = origin }) ∷ n.renewed }
 
         is_another : is_renewed p m ≡ false → nat_eq k i ≡ false
         is_another never = by_number (nat_eq k i) refl
@@ -220,7 +220,7 @@ runs_step first born s i p calls step n never g = one step never
         by_test : (b : Bool) → is_renewed p (cond b m n) ≡ false → Runs first born s i p calls (cond b m n)
         by_test true never = record {
           link = g.link;
-          there = put_elsewhere n.links k i (record { peer = l.peer; link = renewed_link f now l.link }) (is_another never) ∙ g.there;
+          there = put_elsewhere n.links k i (record { peer = l.peer; link = renewed_link f span now l.link }) (is_another never) ∙ g.there;
           peer = g.peer;
           made = g.made;
           sent = g.sent;
@@ -236,7 +236,7 @@ runs_step first born s i p calls step n never g = one step never
     one (steps.Tick now) never = record { link = g.link; there = g.there; peer = g.peer; made = g.made; sent = g.sent }
     one (steps.Local ono change) never = record { link = g.link; there = g.there; peer = g.peer; made = g.made; sent = g.sent }
     one (Take k j) never = by_take k j (slice_get n.links k) refl
-    one (Renew k f now) never = by_renewal k f now (slice_get n.links k) refl never
+    one (Renew k f span now origin) never = by_renewal k f span now origin (slice_get n.links k) refl never
 
 runs_steps : (first born s i : ℕ) (p : Peer) (calls : List Call) (es : List Step) (n : Network) → is_renewed p (after_steps es n) ≡ false → Runs first born s i p calls n →
     Runs first born s i p (calls_in i es n ++ calls) (after_steps es n)

@@ -78,7 +78,7 @@ apart_hears from d now (x ∷ xs) a = (heads xs a.0, apart_hears from d now xs a
 
 -- What holds of a link of a network.
 pub record LinkSound (s : Peer → ℕ) (n : Network) (l : PeerLink) : Type 0 where
-  pub span : l.link.span ≡ s l.peer
+  pub span : is_renewed l.peer n ≡ false → l.link.span ≡ s l.peer
   pub fair : Fair l.peer l.link.next l.link.untaken (past n) n.to_device n.to_links n.taken
   pub kept : Keeps l.peer (past n) → Kept l.peer (past n)
   pub consecutive : is_renewed l.peer n ≡ false → AreConsecutive (handles_of l.peer n.submitted ++ end_of l.link.next ∷ [])
@@ -131,20 +131,20 @@ sound_submit s i r now n fits g (Some l) e = record {
     span_kept (Ok h) = refl
     span_kept (Err fault) = refl
 
-    good_kept : (f : ℕ) (a : Result Handle ControlFault) → submission r l.link ≡ a → 0 < s l.peer → Good (s l.peer) f l.peer l.link.next l.link.untaken n.submitted (accepted_by l.peer (past n)) →
+    good_kept : (f : ℕ) (a : Result Handle ControlFault) → submission r l.link ≡ a → l.link.span ≡ s l.peer → 0 < s l.peer → Good (s l.peer) f l.peer l.link.next l.link.untaken n.submitted (accepted_by l.peer (past n)) →
         Good (s l.peer) f l.peer (after_submission a r now l.link).next (after_submission a r now l.link).untaken (n.submitted ++ submitted_by l.peer r a) (accepted_by l.peer (past n))
-    good_kept f (Err fault) q some w = good_submitted (s l.peer) f l.peer l.link.next l.link.untaken n.submitted [] (accepted_by l.peer (past n)) tt w
-    good_kept f (Ok h) q some w =
+    good_kept f (Err fault) q span_is some w = good_submitted (s l.peer) f l.peer l.link.next l.link.untaken n.submitted [] (accepted_by l.peer (past n)) tt w
+    good_kept f (Ok h) q span_is some w =
         let t = granted r l.link h q in
-        good_submit (s l.peer) f l.peer l.link.next l.link.untaken n.submitted (accepted_by l.peer (past n)) h.0 (present_moment now l.link) r some t.0 (rw was.span at t.1) w
+        good_submit (s l.peer) f l.peer l.link.next l.link.untaken n.submitted (accepted_by l.peer (past n)) h.0 (present_moment now l.link) r some t.0 (rw span_is at t.1) w
 
     mine : LinkSound s n' y
     mine = record {
-      span = span_kept (submission r l.link) ∙ was.span;
+      span = λ first. span_kept (submission r l.link) ∙ was.span first;
       fair = fair_submit l.peer r now l.link (past n) n.to_device n.to_links n.taken fits was.fair;
       kept = was.kept;
       consecutive = λ first. handles_submit (λ x y. y ≡ x + 1) (λ h. refl) l.peer r now l.link n.submitted (was.consecutive first);
-      good = λ first some keeps. let q = was.good first some keeps in (q.0, good_kept q.0 (submission r l.link) refl some q.1);
+      good = λ first some keeps. let q = was.good first some keeps in (q.0, good_kept q.0 (submission r l.link) refl (was.span first) some q.1);
     }
 
 -- ---- due
@@ -195,7 +195,7 @@ sound_due s i now n g (Some l) e = record {
 
     mine : LinkSound s n' y
     mine = record {
-      span = span_kept (decision now l.link) ∙ was.span;
+      span = λ first. span_kept (decision now l.link) ∙ was.span first;
       fair = fair_gone_on l.peer now l.link (past n) n.to_device n.to_links n.taken was.fair;
       kept = was.kept;
       consecutive = λ first. subst (λ (o : Option ℕ). AreConsecutive (handles_of l.peer n.submitted ++ end_of o ∷ [])) (sym (next_kept (decision now l.link))) (was.consecutive first);
@@ -246,22 +246,22 @@ sound_take s i h n g (Some l) e = record {
 
 -- ---- renew
 
-sound_renewal : (s : Peer → ℕ) (i first now : ℕ) (n : Network) → first < 2 ^ 32 → Sound s n → (o : Option PeerLink) → slice_get n.links i ≡ o → Sound s (after_renewal i first now o n)
-sound_renewal s i first now n low g None e = g
-sound_renewal s i first now n low g (Some l) e = by_test (is_above first l.link.next) refl
+sound_renewal : (s : Peer → ℕ) (i first span now origin : ℕ) (n : Network) → first < 2 ^ 32 → Sound s n → (o : Option PeerLink) → slice_get n.links i ≡ o → Sound s (after_renewal i first span now origin o n)
+sound_renewal s i first span now origin n low g None e = g
+sound_renewal s i first span now origin n low g (Some l) e = by_test (is_above first l.link.next) refl
   where
     y : PeerLink
-    y = record { peer = l.peer; link = renewed_link first now l.link }
+    y = record { peer = l.peer; link = renewed_link first span now l.link }
 
     n' : Network
-    n' = record n { links = with_link i l (renewed_link first now l.link) n.links; renewed = l.peer ∷ n.renewed }
+    n' = record n { links = with_link i l (renewed_link first span now l.link) n.links; renewed = (record { peer = l.peer; zero = origin }) ∷ n.renewed }
 
     was : LinkSound s n l
     was = each_at (LinkSound s n) n.links i l g.each e
 
     others : (z : PeerLink) → z.peer ≢ l.peer → LinkSound s n z → LinkSound s n' z
     others z other w = record {
-      span = w.span;
+      span = λ never. w.span (other_renewed z.peer l.peer (is_renewed z.peer n) never);
       fair = w.fair;
       kept = w.kept;
       consecutive = λ never. w.consecutive (other_renewed z.peer l.peer (is_renewed z.peer n) never);
@@ -270,7 +270,7 @@ sound_renewal s i first now n low g (Some l) e = by_test (is_above first l.link.
 
     mine : end_of l.link.next ≤ first → LinkSound s n' y
     mine above = record {
-      span = was.span;
+      span = λ never. absurd (now_renewed l.peer l.peer (is_renewed l.peer n) refl never);
       fair = fair_renewed l.peer first l.link.next l.link.untaken (past n) n.to_device n.to_links n.taken low above was.fair;
       kept = was.kept;
       consecutive = λ never. absurd (now_renewed l.peer l.peer (is_renewed l.peer n) refl never);
@@ -494,7 +494,7 @@ sound_step law s (Other from bytes now) n fits g = sound_other s from bytes now 
 sound_step law s (steps.Tick now) n fits g = sound_tick s now n g
 sound_step law s (steps.Local ono change) n fits g = sound_local s ono change n g
 sound_step law s (Take i h) n fits g = sound_take s i h n g (slice_get n.links i) refl
-sound_step law s (Renew i first now) n fits g = sound_renewal s i first now n fits g (slice_get n.links i) refl
+sound_step law s (Renew i first span now origin) n fits g = sound_renewal s i first span now origin n fits g (slice_get n.links i) refl
 
 pub sound_steps : (law : WrittenIsReadBack) (s : Peer → ℕ) (es : List Step) (n : Network) → AllByRecursion StepFits es → Sound s n → Sound s (after_steps es n)
 sound_steps law s [] n fits g = g
@@ -525,7 +525,7 @@ sound_opening w s tree starts a fits = record { apart = apart starts a; each = e
     each [] f = tt
     each (x ∷ xs) f = (
       record {
-        span = refl;
+        span = λ never. refl;
         fair = record { fits = f.0; own = tt; outgoing = tt; incoming = tt; untaken = tt; was_taken = tt; sendable = tt; unique = λ c d i j e. absurd i; rising = tt };
         kept = λ keeps. record { whole = refl; once = tt };
         consecutive = λ never. tt;

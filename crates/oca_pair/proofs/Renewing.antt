@@ -88,11 +88,11 @@ not_before_step p step n = one step
     by_take k h None e = e
     by_take k h (Some l) e = e
 
-    by_renewal : (k first now : ℕ) (o : Option PeerLink) → Stays (after_renewal k first now o n)
-    by_renewal k first now None e = e
-    by_renewal k first now (Some l) e = by_test (is_above first l.link.next) e
+    by_renewal : (k first span now origin : ℕ) (o : Option PeerLink) → Stays (after_renewal k first span now origin o n)
+    by_renewal k first span now origin None e = e
+    by_renewal k first span now origin (Some l) e = by_test (is_above first l.link.next) e
       where
-        by_test : (b : Bool) → Stays (cond b (record n { links = with_link k l (renewed_link first now l.link) n.links; renewed = l.peer ∷ n.renewed }) n)
+        by_test : (b : Bool) → Stays (cond b (record n { links = with_link k l (renewed_link first span now l.link) n.links; renewed = (record { peer = l.peer; zero = origin }) ∷ n.renewed }) n)
         by_test true e = other_renewed p l.peer (is_renewed p n) e
         by_test false e = e
 
@@ -105,7 +105,7 @@ not_before_step p step n = one step
     one (steps.Tick now) = λ e. e
     one (steps.Local ono change) = λ e. e
     one (Take k h) = by_take k h (slice_get n.links k)
-    one (Renew k first now) = by_renewal k first now (slice_get n.links k)
+    one (Renew k first span now origin) = by_renewal k first span now origin (slice_get n.links k)
 
 pub not_before : (p : Peer) (es : List Step) (n : Network) → is_renewed p (after_steps es n) ≡ false → is_renewed p n ≡ false
 not_before p [] n e = e

@@ -85,11 +85,11 @@ grown_step step n = one step
     by_take i h None = grown_not n
     by_take i h (Some l) = record { sent = []; to_links = none_sent; more = []; submitted = none_more }
 
-    by_renewal : (i first now : ℕ) (o : Option PeerLink) → Grown n (after_renewal i first now o n)
-    by_renewal i first now None = grown_not n
-    by_renewal i first now (Some l) = by_test (is_above first l.link.next)
+    by_renewal : (i first span now origin : ℕ) (o : Option PeerLink) → Grown n (after_renewal i first span now origin o n)
+    by_renewal i first span now origin None = grown_not n
+    by_renewal i first span now origin (Some l) = by_test (is_above first l.link.next)
       where
-        by_test : (b : Bool) → Grown n (cond b (record n { links = with_link i l (renewed_link first now l.link) n.links; renewed = l.peer ∷ n.renewed }) n)
+        by_test : (b : Bool) → Grown n (cond b (record n { links = with_link i l (renewed_link first span now l.link) n.links; renewed = (record { peer = l.peer; zero = origin }) ∷ n.renewed }) n)
         by_test true = record { sent = []; to_links = none_sent; more = []; submitted = none_more }
         by_test false = grown_not n
 
@@ -102,7 +102,7 @@ grown_step step n = one step
     one (steps.Tick now) = record { sent = []; to_links = none_sent; more = []; submitted = none_more }
     one (steps.Local ono change) = record { sent = []; to_links = none_sent; more = []; submitted = none_more }
     one (Take i h) = by_take i h (slice_get n.links i)
-    one (Renew i first now) = by_renewal i first now (slice_get n.links i)
+    one (Renew i first span now origin) = by_renewal i first span now origin (slice_get n.links i)
 
 grown_on : (n m o : Network) → Grown n m → Grown m o → Grown n o
 grown_on n m o a b = record {
@@ -184,12 +184,12 @@ to_device_step step n a = one step
     by_take i h None e = a
     by_take i h (Some l) e = put i l (taken h l.link) e refl
 
-    by_renewal : (i first now : ℕ) (o : Option PeerLink) → slice_get n.links i ≡ o → AreToDevice (after_renewal i first now o n)
-    by_renewal i first now None e = a
-    by_renewal i first now (Some l) e = by_test (is_above first l.link.next)
+    by_renewal : (i first span now origin : ℕ) (o : Option PeerLink) → slice_get n.links i ≡ o → AreToDevice (after_renewal i first span now origin o n)
+    by_renewal i first span now origin None e = a
+    by_renewal i first span now origin (Some l) e = by_test (is_above first l.link.next)
       where
-        by_test : (b : Bool) → AreToDevice (cond b (record n { links = with_link i l (renewed_link first now l.link) n.links; renewed = l.peer ∷ n.renewed }) n)
-        by_test true = put i l (renewed_link first now l.link) e refl
+        by_test : (b : Bool) → AreToDevice (cond b (record n { links = with_link i l (renewed_link first span now l.link) n.links; renewed = (record { peer = l.peer; zero = origin }) ∷ n.renewed }) n)
+        by_test true = put i l (renewed_link first span now l.link) e refl
         by_test false = a
 
     one : (step : Step) → AreToDevice (after_step step n)
@@ -201,7 +201,7 @@ to_device_step step n a = one step
     one (steps.Tick now) = a
     one (steps.Local ono change) = a
     one (Take i h) = by_take i h (slice_get n.links i) refl
-    one (Renew i first now) = by_renewal i first now (slice_get n.links i) refl
+    one (Renew i first span now origin) = by_renewal i first span now origin (slice_get n.links i) refl
 
 pub to_device_steps : (es : List Step) (n : Network) → AreToDevice n → AreToDevice (after_steps es n)
 to_device_steps [] n a = a
@@ -349,17 +349,17 @@ stands_step i h p step n never g = one step never
         stands_put i k h p l (taken j l.link) n.links n.taken (taken_by l.peer j (answer_under j l.link.untaken)) e
         (λ q same. by_taken j l (answer_under j l.link.untaken) q same) g
 
-    by_renewal : (k first now : ℕ) (o : Option PeerLink) → slice_get n.links k ≡ o → is_renewed p (after_renewal k first now o n) ≡ false →
-        Stands i p h (after_renewal k first now o n).links (after_renewal k first now o n).taken
-    by_renewal k first now None e never = g
-    by_renewal k first now (Some l) e never = by_test (is_above first l.link.next) never
+    by_renewal : (k first span now origin : ℕ) (o : Option PeerLink) → slice_get n.links k ≡ o → is_renewed p (after_renewal k first span now origin o n) ≡ false →
+        Stands i p h (after_renewal k first span now origin o n).links (after_renewal k first span now origin o n).taken
+    by_renewal k first span now origin None e never = g
+    by_renewal k first span now origin (Some l) e never = by_test (is_above first l.link.next) never
       where
         m : Network
-        m = record n { links = with_link k l (renewed_link first now l.link) n.links; renewed = l.peer ∷ n.renewed }
+        m = record n { links = with_link k l (renewed_link first span now l.link) n.links; renewed = (record { peer = l.peer; zero = origin }) ∷ n.renewed }
 
         by_test : (b : Bool) → is_renewed p (cond b m n) ≡ false → (let x : Network = cond b m n in Stands i p h x.links x.taken)
-        by_test true never = as_before i h p (with_link k l (renewed_link first now l.link) n.links) n.taken
-            (stands_put i k h p l (renewed_link first now l.link) n.links n.taken [] e (λ q same. absurd (now_renewed p l.peer (is_renewed p n) same never)) g)
+        by_test true never = as_before i h p (with_link k l (renewed_link first span now l.link) n.links) n.taken
+            (stands_put i k h p l (renewed_link first span now l.link) n.links n.taken [] e (λ q same. absurd (now_renewed p l.peer (is_renewed p n) same never)) g)
         by_test false never = g
 
     one : (step : Step) → is_renewed p (after_step step n) ≡ false → Stands i p h (after_step step n).links (after_step step n).taken
@@ -371,7 +371,7 @@ stands_step i h p step n never g = one step never
     one (steps.Tick now) never = record { link = g.link; there = g.there; peer = g.peer; kept = g.kept }
     one (steps.Local ono change) never = record { link = g.link; there = g.there; peer = g.peer; kept = g.kept }
     one (Take k j) never = by_take k j (slice_get n.links k) refl
-    one (Renew k first now) never = by_renewal k first now (slice_get n.links k) refl never
+    one (Renew k first span now origin) never = by_renewal k first span now origin (slice_get n.links k) refl never
 
 pub stands_steps : (i h : ℕ) (p : Peer) (es : List Step) (n : Network) → is_renewed p (after_steps es n) ≡ false → Stands i p h n.links n.taken → Stands i p h (after_steps es n).links (after_steps es n).taken
 stands_steps i h p [] n never g = g
@@ -512,11 +512,11 @@ executed_steps p x (e ∷ es) n i = executed_steps p x es (after_step e n) (one 
     by_take k h None = i
     by_take k h (Some l) = i
 
-    by_renewal : (k first now : ℕ) (o : Option PeerLink) → Has (after_renewal k first now o n)
-    by_renewal k first now None = i
-    by_renewal k first now (Some l) = by_test (is_above first l.link.next)
+    by_renewal : (k first span now origin : ℕ) (o : Option PeerLink) → Has (after_renewal k first span now origin o n)
+    by_renewal k first span now origin None = i
+    by_renewal k first span now origin (Some l) = by_test (is_above first l.link.next)
       where
-        by_test : (b : Bool) → Has (cond b (record n { links = with_link k l (renewed_link first now l.link) n.links; renewed = l.peer ∷ n.renewed }) n)
+        by_test : (b : Bool) → Has (cond b (record n { links = with_link k l (renewed_link first span now l.link) n.links; renewed = (record { peer = l.peer; zero = origin }) ∷ n.renewed }) n)
         by_test true = i
         by_test false = i
 
@@ -529,7 +529,7 @@ executed_steps p x (e ∷ es) n i = executed_steps p x es (after_step e n) (one 
     one (steps.Tick now) = executed_then p x (past n) (event.Tick now) i
     one (steps.Local ono change) = executed_then p x (past n) (event.Local ono change) i
     one (Take k h) = by_take k h (slice_get n.links k)
-    one (Renew k first now) = by_renewal k first now (slice_get n.links k)
+    one (Renew k first span now origin) = by_renewal k first span now origin (slice_get n.links k)
 
 -- what a delivery is answered with was executed then or before
 executed_by : (k now : ℕ) (p : Peer) (x : Execution) (n : Network) → IsExecutedNow k now p x n ⊎ WasExecuted k now p x n →

@@ -99,11 +99,11 @@ peers_step step n = one step
     by_take k h None e = refl
     by_take k h (Some l) e = peers_put n.links k l _ e refl
 
-    by_renewal : (k first now : ℕ) (o : Option PeerLink) → slice_get n.links k ≡ o → peers_of (after_renewal k first now o n).links ≡ peers_of n.links
-    by_renewal k first now None e = refl
-    by_renewal k first now (Some l) e = by_test (is_above first l.link.next)
+    by_renewal : (k first span now origin : ℕ) (o : Option PeerLink) → slice_get n.links k ≡ o → peers_of (after_renewal k first span now origin o n).links ≡ peers_of n.links
+    by_renewal k first span now origin None e = refl
+    by_renewal k first span now origin (Some l) e = by_test (is_above first l.link.next)
       where
-        by_test : (b : Bool) → peers_of (let m : Network = cond b (record n { links = with_link k l (renewed_link first now l.link) n.links; renewed = l.peer ∷ n.renewed }) n in m).links ≡ peers_of n.links
+        by_test : (b : Bool) → peers_of (let m : Network = cond b (record n { links = with_link k l (renewed_link first span now l.link) n.links; renewed = (record { peer = l.peer; zero = origin }) ∷ n.renewed }) n in m).links ≡ peers_of n.links
         by_test true = peers_put n.links k l _ e refl
         by_test false = refl
 
@@ -116,7 +116,7 @@ peers_step step n = one step
     one (steps.Tick now) = refl
     one (steps.Local ono change) = refl
     one (Take k h) = by_take k h (slice_get n.links k) refl
-    one (Renew k first now) = by_renewal k first now (slice_get n.links k) refl
+    one (Renew k first span now origin) = by_renewal k first span now origin (slice_get n.links k) refl
 
 peers_steps : (es : List Step) (n : Network) → peers_of (after_steps es n).links ≡ peers_of n.links
 peers_steps [] n = refl
@@ -286,11 +286,11 @@ does_step law s i l step n sound own = one step
     by_sent k now None there = inl refl
     by_sent k now (Some d) there = by_peer k now d there (same_peer d.peer p) refl
 
-    by_renewal : (k first now : ℕ) (o : Option PeerLink) → Does p (Renew k first now) n (after_renewal k first now o n)
-    by_renewal k first now None = inl refl
-    by_renewal k first now (Some z) = by_test (is_above first z.link.next)
+    by_renewal : (k first span now origin : ℕ) (o : Option PeerLink) → Does p (Renew k first span now origin) n (after_renewal k first span now origin o n)
+    by_renewal k first span now origin None = inl refl
+    by_renewal k first span now origin (Some z) = by_test (is_above first z.link.next)
       where
-        by_test : (b : Bool) → Does p (Renew k first now) n (cond b (record n { links = with_link k z (renewed_link first now z.link) n.links; renewed = z.peer ∷ n.renewed }) n)
+        by_test : (b : Bool) → Does p (Renew k first span now origin) n (cond b (record n { links = with_link k z (renewed_link first span now z.link) n.links; renewed = (record { peer = z.peer; zero = origin }) ∷ n.renewed }) n)
         by_test true = inl refl
         by_test false = inl refl
 
@@ -303,7 +303,7 @@ does_step law s i l step n sound own = one step
     one (steps.Tick now) = inl (executions_are n.sizes p n.tree (Tick now ∷ n.events) ∙ sym (executions_are n.sizes p n.tree n.events))
     one (steps.Local ono change) = inl (executions_are n.sizes p n.tree (Local ono change ∷ n.events) ∙ sym (executions_are n.sizes p n.tree n.events))
     one (Take k h) = by_take k h (slice_get n.links k)
-    one (Renew k first now) = by_renewal k first now (slice_get n.links k)
+    one (Renew k first span now origin) = by_renewal k first span now origin (slice_get n.links k)
 
 -- what is among the executions after steps was before them, or happens in one of them
 executed_in_steps : WrittenIsReadBack → (s : Peer → ℕ) (i : ℕ) (p : Peer) (es : List Step) (n : Network) → AllByRecursion StepFits es → Sound s n →

@@ -61,7 +61,7 @@ call_in i (ToDevice k now) n = []
 call_in i (Other from bytes now) n = []
 call_in i (Tick now) n = []
 call_in i (Local ono change) n = []
-call_in i (Renew link first now) n = []
+call_in i (Renew link first span now origin) n = []
 
 abbrev pub calls_in : ℕ → List Step → Network → List Call
 calls_in i [] n = []

@@ -31,7 +31,7 @@ pub record RequestFits (r : Request) : Type 0 where
 
 abbrev pub StepFits : Step → Type 0
 StepFits (Submit link request now) = RequestFits request
-StepFits (Renew link first now) = first < 2 ^ 32
+StepFits (Renew link first span now origin) = first < 2 ^ 32
 StepFits _ = Unit {0}
 
 abbrev pub StartFits : Start → Type 0

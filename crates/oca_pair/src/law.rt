@@ -1,10 +1,11 @@
 //! The laws of networks. The functions run nothing: their contracts are the laws.
 //!
 //! A schedule begins with a device that has heard nothing, and with links that gave nothing out. A step of a schedule can
-//! *renew* a link: a new link of the same address, port and span takes its place. The first handle of the new link is
-//! above all handles that the old link gave. Apart from this, the laws speak of links whose handles no earlier link used
-//! from their address and port, as long as the device remembers that one. [`Step`](crate::Step) has no such step, since
-//! [`run_pair`](crate::run_pair) renews no link.
+//! *renew* a link: a new link with the same address and port takes its place, with any span and a clock of its own. This
+//! happens if a panel goes on with a new link, or if its program is started again. The first handle of the new link must
+//! be above all handles that the old link gave. The laws do not speak of a link with other handles that another link used
+//! before from its address and port, as long as the device remembers that one. [`Step`](crate::Step) does not have this
+//! step, since [`run_pair`](crate::run_pair) renews no link.
 ghost use Rattle.oca_pair.specs.Happenings.{TheseHappened};
 ghost use Rattle.oca_pair.specs.Premises.{FewFindRoom};
 ghost use Rattle.oca_pair.specs.Laws.{EveryScheduleAnswersItsCommands};
@@ -39,7 +40,8 @@ use oca_tree::law_of_typed_requests;
 /// - If the peer kept its session, this is the only execution for the peer under this handle.
 ///
 /// The handle of each command that a link submitted is above the one before it, and by one if the link was never
-/// renewed. A link is *renewed* if a new link takes its place, with the same peer and span and a higher first handle.
+/// renewed. A link is *renewed* if a new link of the same peer takes its place, with a first handle above all handles
+/// that the old link gave.
 pub fn law_answers()
     ensures answers { EveryScheduleAnswersItsCommands }
     ensures happened { TheseHappened }
@@ -138,9 +140,10 @@ pub fn law_getting_through()
 
 /// Laws: over every schedule, no command of a link is executed twice if the link and the network are in time. The laws
 /// hold for all sizes, whatever sessions the device forgot meanwhile, and whatever happened to the other links. They
-/// hold too if the link is renewed, once or many times: a new link of the same address, port and span takes its place,
-/// whose first handle is above all handles that the old one gave. A *schedule* is a list of steps of one device and some
-/// links with different addresses and ports ([`Step`](crate::Step)). The function does nothing at run time.
+/// hold too if the link is *renewed*, once or many times: a new link with the same address and port takes its place, with
+/// any span and a clock of its own, and with a first handle above all handles that the old link gave. A *schedule* is a
+/// list of steps of one device and some links with different addresses and ports ([`Step`](crate::Step)). The function
+/// does nothing at run time.
 ///
 /// The premises, which are what *in time* means:
 /// - The link is never asked what is due while it is late. It is *asked* if its [`due`](oca_control::Link::due) is
