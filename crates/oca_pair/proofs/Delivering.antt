@@ -29,7 +29,7 @@ use Rattle.oca_control.specs.Links.{LinkState, Request, command_under, submissio
 use Rattle.oca_pair.specs.Networks.{SentDatagram, SubmittedCommand, TakenAnswer}
 use Rattle.oca_pair.specs.Steps.{sendings_in, submitted_by, given_by, content_read, taken_by}
 use Rattle.oca_pair.specs.Premises.{RequestFits}
-use Rattle.oca_pair.specs.Laws.{Execution, answer_of, handles_of, AreConsecutive}
+use Rattle.oca_pair.specs.Laws.{Execution, answer_of, handles_of, EachToNext}
 use Rattle.oca_pair.proofs.Core.{each_map, each_append}
 use Rattle.oca_pair.proofs.Lists.{IsIn, in_parts, in_last, each_in, same_self, same_of, other_is, equal_is}
 use Rattle.oca_pair.proofs.Executions.{executed_for}
@@ -37,7 +37,7 @@ use Rattle.oca_pair.proofs.Arrivals.{looked_at}
 use Rattle.oca_pair.proofs.Wire.{IsSendable, read_command, read_keep_alive, read_response}
 use Rattle.oca_pair.proofs.Fitting.{response_to, reply_fits}
 use Rattle.oca_pair.proofs.Truths.{Past, and_then, and_submitted, state_of, IsSubmitted, IsHonest, IsTrueAnswer, window_executed}
-use Rattle.oca_pair.proofs.Fair.{end_of, NextFits, IsOut, IsBack, IsHeld, IsFair, AreSendable, AreUnique, AreRising, AreOwn, Fair, fair_more, fair_then, owns_then, judged_duplicate}
+use Rattle.oca_pair.proofs.Fair.{end_of, NextFits, IsOut, IsBack, IsHeld, IsFair, AreSendable, AreUnique, AreOwn, Fair, fair_more, fair_then, owns_then, judged_duplicate}
 
 -- ---- a datagram of the link itself
 
@@ -251,10 +251,10 @@ next_fits h low = by_test (nat_eq h 4294967295) refl
     by_test false q = higher q
 
 -- one command more
-consecutive_more : (xs : List ℕ) (h k : ℕ) → k ≡ h + 1 → AreConsecutive (xs ++ h ∷ []) → AreConsecutive (xs ++ h ∷ k ∷ [])
-consecutive_more [] h k e a = (e, tt)
-consecutive_more (x ∷ []) h k e a = (a.0, (e, tt))
-consecutive_more (x ∷ y ∷ xs) h k e a = (a.0, consecutive_more (y ∷ xs) h k e a.1)
+next_more : (Is : ℕ → ℕ → Type 0) (xs : List ℕ) (h k : ℕ) → Is h k → EachToNext Is (xs ++ h ∷ []) → EachToNext Is (xs ++ h ∷ k ∷ [])
+next_more Is [] h k e a = (e, tt)
+next_more Is (x ∷ []) h k e a = (a.0, (e, tt))
+next_more Is (x ∷ y ∷ xs) h k e a = (a.0, next_more Is (y ∷ xs) h k e a.1)
 
 handles_more : (p : Peer) (xs : List SubmittedCommand) (new : SubmittedCommand) → handles_of p (xs ++ new ∷ []) ≡ handles_of p xs ++ handles_of p (new ∷ [])
 handles_more p xs new =
@@ -265,19 +265,36 @@ own_handle : (p : Peer) (new : SubmittedCommand) (b : Bool) → same_peer new.pe
     handles_of p (new ∷ []) ≡ map (λ (x : SubmittedCommand). x.command.handle) (cond b (new ∷ []) [])
 own_handle p new b e = ap (λ t. map (λ (x : SubmittedCommand). x.command.handle) (cond t (new ∷ []) [])) e
 
-rising_more : (p : Peer) (xs : List SubmittedCommand) (new : SubmittedCommand) (h n k : ℕ) → new.peer ≡ p → new.command.handle ≡ h → n ≡ h → k ≡ h + 1 →
-    AreConsecutive (handles_of p xs ++ n ∷ []) → AreConsecutive (handles_of p (xs ++ new ∷ []) ++ k ∷ [])
-rising_more p xs new h n k same own was is a =
+own_more : (Is : ℕ → ℕ → Type 0) (p : Peer) (xs : List SubmittedCommand) (new : SubmittedCommand) (h n k : ℕ) → new.peer ≡ p → new.command.handle ≡ h → n ≡ h → Is h k →
+    EachToNext Is (handles_of p xs ++ n ∷ []) → EachToNext Is (handles_of p (xs ++ new ∷ []) ++ k ∷ [])
+own_more Is p xs new h n k same own was is a =
     let one : handles_of p (new ∷ []) ≡ h ∷ [] = own_handle p new true (same_of new.peer p same) ∙ ap (λ m. m ∷ []) own in
     let all : handles_of p (xs ++ new ∷ []) ++ k ∷ [] ≡ handles_of p xs ++ h ∷ k ∷ [] =
     ap (λ ys. ys ++ k ∷ []) (handles_more p xs new ∙ ap (λ ys. handles_of p xs ++ ys) one) ∙ append_assoc (handles_of p xs) (h ∷ []) (k ∷ []) in
-    subst AreConsecutive (sym all) (consecutive_more (handles_of p xs) h k is (subst (λ m. AreConsecutive (handles_of p xs ++ m ∷ [])) was a))
+    subst (EachToNext Is) (sym all) (next_more Is (handles_of p xs) h k is (subst (λ m. EachToNext Is (handles_of p xs ++ m ∷ [])) was a))
 
-rising_of_another : (p q : Peer) (next : Option ℕ) (xs : List SubmittedCommand) (new : SubmittedCommand) → (q ≡ p → ⊥) → new.peer ≡ q → AreRising p next xs → AreRising p next (xs ++ new ∷ [])
-rising_of_another p q next xs new other its a =
+more_of_another : (Is : ℕ → ℕ → Type 0) (p q : Peer) (n : ℕ) (xs : List SubmittedCommand) (new : SubmittedCommand) → (q ≡ p → ⊥) → new.peer ≡ q →
+    EachToNext Is (handles_of p xs ++ n ∷ []) → EachToNext Is (handles_of p (xs ++ new ∷ []) ++ n ∷ [])
+more_of_another Is p q n xs new other its a =
     let none : handles_of p (new ∷ []) ≡ [] = own_handle p new false (other_is new.peer p (λ e. other (sym its ∙ e))) in
     let all : handles_of p (xs ++ new ∷ []) ≡ handles_of p xs = handles_more p xs new ∙ ap (λ ys. handles_of p xs ++ ys) none ∙ append-nil (handles_of p xs) in
-    subst (λ ys. AreConsecutive (ys ++ end_of next ∷ [])) (sym all) a
+    subst (λ ys. EachToNext Is (ys ++ n ∷ [])) (sym all) a
+
+-- the handles of the link of the peer, up to the next one, where it submits, or another link does
+pub handles_submit : (Is : ℕ → ℕ → Type 0) → ((h : ℕ) → Is h (h + 1)) → (p : Peer) (r : Request) (now : ℕ) (l : LinkState) (xs : List SubmittedCommand) →
+    EachToNext Is (handles_of p xs ++ end_of l.next ∷ []) → EachToNext Is (handles_of p (xs ++ submitted_by p r (submission r l)) ++ end_of (submitted r now l).next ∷ [])
+handles_submit Is one p r now l xs was = by_answer (submission r l) refl
+  where
+    by_answer : (a : Result Handle ControlFault) → submission r l ≡ a → EachToNext Is (handles_of p (xs ++ submitted_by p r a) ++ end_of (after_submission a r now l).next ∷ [])
+    by_answer (Err fault) e = rw append-nil was
+    by_answer (Ok h) e =
+        let new : SubmittedCommand = record { peer = p; command = command_under h.0 r } in
+        own_more Is p xs new h.0 (end_of l.next) (end_of (handle_after h.0)) refl refl (ap end_of (granted r l h e).0) (subst (Is h.0) (sym (end_after h.0)) (one h.0)) was
+
+pub handles_submitted_by : (Is : ℕ → ℕ → Type 0) (p q : Peer) (r : Request) (a : Result Handle ControlFault) (n : ℕ) (xs : List SubmittedCommand) → (q ≡ p → ⊥) →
+    EachToNext Is (handles_of p xs ++ n ∷ []) → EachToNext Is (handles_of p (xs ++ submitted_by q r a) ++ n ∷ [])
+handles_submitted_by Is p q r (Ok h) n xs other was = more_of_another Is p q n xs (record { peer = q; command = command_under h.0 r }) other refl was
+handles_submitted_by Is p q r (Err fault) n xs other was = rw append-nil was
 
 -- the link of the peer submits
 pub fair_submit : (p : Peer) (r : Request) (now : ℕ) (l : LinkState) (g : Past) (out back : List SentDatagram) (handed : List TakenAnswer) → RequestFits r →
@@ -306,7 +323,7 @@ fair_submit p r now l g out back handed fits f = by_answer (submission r l) refl
           tt,
         ))
         (unique new h.0 was refl)
-        (rising_more p g.submitted new h.0 (end_of l.next) (end_of (handle_after h.0)) refl refl was is f.rising)
+        (own_more (λ x y. x < y) p g.submitted new h.0 (end_of l.next) (end_of (handle_after h.0)) refl refl was (last h.0 (end_of (handle_after h.0)) is) f.rising)
         (λ a. each_append _ l.untaken (new_untaken (present_moment now l) c ∷ []) a ((in_last new g.submitted, tt), tt)) f
       where
         higher : (x a b h : ℕ) → a ≡ h → b ≡ h + 1 → x < a → x < b
@@ -351,15 +368,11 @@ pub fair_submitted_by : (p q : Peer) (r : Request) (a : Result Handle ControlFau
 fair_submitted_by p q r a next us g out back handed other f =
     fair_more p next next us us g out back handed (submitted_by q r a) f.fits
     (each_append _ g.submitted (submitted_by q r a) f.sendable (none a))
-    (λ c d i j e. f.unique c d (old c a i) (old d a j) e) (rising a) (λ x. x) f
+    (λ c d i j e. f.unique c d (old c a i) (old d a j) e) (handles_submitted_by (λ x y. x < y) p q r a (end_of next) g.submitted other f.rising) (λ x. x) f
   where
     none : (a : Result Handle ControlFault) → AreSendable p next (submitted_by q r a)
     none (Ok h) = ((λ same. absurd (other same)), tt)
     none (Err fault) = tt
-
-    rising : (a : Result Handle ControlFault) → AreRising p next (g.submitted ++ submitted_by q r a)
-    rising (Ok h) = rising_of_another p q next g.submitted (record { peer = q; command = command_under h.0 r }) other refl f.rising
-    rising (Err fault) = rw append-nil f.rising
 
     not_his : (c : CommandFields) (a : Result Handle ControlFault) → IsSubmitted p c (submitted_by q r a) → ⊥
     not_his c (Ok h) i = elim i [ inl e ↦ other (ap (λ (x : SubmittedCommand). x.peer) e) | inr n ↦ n ]

@@ -13,10 +13,10 @@ use Rattle.oca_pdu.specs.Laws.{WrittenIsReadBack}
 use Rattle.oca_tree.specs.declared.object.Object.{Object}
 use Rattle.oca_device.specs.LawByEvents.{Happening, Passes, clock, admitted, has_room}
 use Rattle.oca_control.specs.Untaken.{Untaken}
-use Rattle.oca_control.specs.Links.{Request, command_under}
+use Rattle.oca_control.specs.Links.{Request, new_link, command_under}
 use Rattle.oca_pair.specs.declared.start.Start.{Start}
 use Rattle.oca_pair.specs.Networks.{Network, PeerLink, SentDatagram, Setup, device_address, run_setup, opening}
-use Rattle.oca_pair.specs.Steps.{Step, Submit, Due, ToDevice, Other, Take, after_steps}
+use Rattle.oca_pair.specs.Steps.{Step, Submit, Due, ToDevice, Other, Take, Renew, after_step, after_steps}
 use Rattle.oca_pair.specs.Happenings.{sayings}
 use Rattle.oca_pair.specs.Premises.{RequestFits, Fit, KeepsItsSession}
 use Rattle.oca_pair.specs.Laws.{CarriesUntaken, IsAnswered}
@@ -116,7 +116,7 @@ finds_room law =
 -- so the third command, delivered once more, is answered
 pub repeated_is_answered : WrittenIsReadBack → (tree : List Object) → IsAnswered 2 400 (the_network tree) sent_third third
 repeated_is_answered law tree =
-    never_old_law law the_sizes the_setup tree the_starts the_steps controller (lit< tt) (lit≤ tt) refl meets 2 400 0 sent_third the_link third
+    never_old_law law the_sizes the_setup tree the_starts the_steps controller (lit< tt) (lit≤ tt) refl meets refl 2 400 0 sent_third the_link third
     refl refl refl carries_third (finds_room law) (keeps law)
 
 -- Before the device's datagram, the fourth that it sent, comes to the link, the first command is sent again, the third is asked
@@ -127,7 +127,7 @@ between = Due 0 410 ∷ Take 0 3 ∷ ToDevice 1 420 ∷ []
 pub repeated_comes_back : WrittenIsReadBack → (tree : List Object) → ComesBack 2 400 between 500 0 third controller (the_network tree)
 repeated_comes_back law tree =
     round_trip_law law the_sizes the_setup tree the_starts the_steps controller (lit< tt) (lit≤ tt) refl meets 2 400 0 sent_third the_link third between 500
-    refl refl refl carries_third (finds_room law) (keeps law) (tt, (tt, (tt, tt)))
+    refl refl refl carries_third (finds_room law) (keeps law) (tt, (tt, (tt, tt))) refl
 
 abbrev again : Untaken
 again = record { command = command_under 1 get_state; submitted = 0; times = 2; last = 410; answer = None }
@@ -199,7 +199,16 @@ room_in_the_crowd law =
 
 pub crowded_is_answered : WrittenIsReadBack → (tree : List Object) → IsAnswered 0 200000 (after_steps before_room (opening the_sizes the_setup tree the_starts)) sent_first first
 crowded_is_answered law tree =
-    never_old_law law the_sizes the_setup tree the_starts before_room controller (lit< tt) (lit≤ tt) refl ((lit< tt, tt), (tt, (fits, (tt, (tt, tt)))))
+    never_old_law law the_sizes the_setup tree the_starts before_room controller (lit< tt) (lit≤ tt) refl ((lit< tt, tt), (tt, (fits, (tt, (tt, tt))))) refl
     0 200000 0 sent_first the_only_link first refl refl refl
     (record { peer = refl; untaken = held 1; held = (0, lit< tt, refl); command = refl; bytes = refl })
     (room_in_the_crowd law) (crowded_keeps law tree)
+
+-- The link is renewed with the first handle 9, which is above the three that it gave, and the span 2: it holds nothing then,
+-- and its next command is under 9. With 3, which it gave, nothing is done.
+renewed_goes_on : (tree : List Object) →
+    (after_step (Renew 0 9 2 16000 0) (the_network tree)).links ≡ (record { peer = controller; link = new_link device_address 9 16000 2 }) ∷ []
+renewed_goes_on tree = refl
+
+renewed_below_does_nothing : (tree : List Object) → after_step (Renew 0 3 2 16000 0) (the_network tree) ≡ the_network tree
+renewed_below_does_nothing tree = refl

@@ -20,7 +20,8 @@ use Rattle.oca_control.specs.Answers.{AnswerFields, answer_of_response}
 use Rattle.oca_control.specs.Untaken.{Untaken}
 use Rattle.oca_pair.specs.Networks.{SentDatagram, SubmittedCommand, TakenAnswer}
 use Rattle.oca_pair.specs.Steps.{sendings_in}
-use Rattle.oca_pair.specs.Laws.{handles_of, AreConsecutive}
+use Rattle.oca_pair.specs.Laws.{handles_of}
+use Rattle.oca_pair.specs.Laws as laws
 use Rattle.oca_pair.proofs.Core.{each_map, each_append, has}
 use Rattle.oca_pair.proofs.Lists.{in_more}
 use Rattle.oca_pair.proofs.Wire.{IsSendable}
@@ -60,9 +61,9 @@ AreSendable p next xs = AllByRecursion (λ x. x.peer ≡ p → IsSendable x.comm
 abbrev pub AreUnique : Peer → List SubmittedCommand → Type 0
 AreUnique p xs = (c d : CommandFields) → IsSubmitted p c xs → IsSubmitted p d xs → c.handle ≡ d.handle → c ≡ d
 
--- its handles rise by one, up to the next one
+-- its handles rise, up to the next one
 abbrev pub AreRising : Peer → Option ℕ → List SubmittedCommand → Type 0
-AreRising p next xs = AreConsecutive (handles_of p xs ++ end_of next ∷ [])
+AreRising p next xs = laws.AreRising (handles_of p xs ++ end_of next ∷ [])
 
 abbrev pub AreOwn : Peer → Past → List Note → Type 0
 AreOwn p g ns = AllByRecursion (λ n. n.peer ≡ p → IsOwn p g n.what) ns

@@ -26,8 +26,8 @@ use Rattle.oca_control.proofs.Histories.{IsMade, IsMadeBy, HoldsAfter, holds_aft
 use Rattle.oca_control.proofs.InTime.{clock_from, sent_from, in_time_made}
 use Rattle.oca_pair.specs.declared.outcome.Outcome.TheVariants as outcomes
 use Rattle.oca_pair.specs.declared.start.Start.{Start}
-use Rattle.oca_pair.specs.Networks.{Network, PeerLink, SentDatagram, SubmittedCommand, TakenAnswer, Setup, started, opening}
-use Rattle.oca_pair.specs.Steps.{Step, Submit, Due, ToDevice, ToLink, Other, Take, has_link, with_link, submitted_by, after_submit, submit_outcome, given_by, after_due_step, after_delivery, content_read, hears_datagram, after_reception, taken_by, after_take, after_step, after_steps, on_link, outcome_of_step}
+use Rattle.oca_pair.specs.Networks.{Network, PeerLink, SentDatagram, SubmittedCommand, TakenAnswer, Setup, started, opening, is_renewed}
+use Rattle.oca_pair.specs.Steps.{Step, Submit, Due, ToDevice, ToLink, Other, Take, has_link, with_link, submitted_by, after_submit, submit_outcome, given_by, after_due_step, after_delivery, content_read, hears_datagram, after_reception, taken_by, after_take, Renew, is_above, renewed_link, after_renewal, after_step, after_steps, on_link, outcome_of_step}
 use Rattle.oca_pair.specs.Steps as steps
 use Rattle.oca_pair.specs.Premises.{are_apart, Fit}
 use Rattle.oca_pair.specs.RoundTrip.{IsAnswerTo, GotItsAnswer, ComesBack, RoundTrips}
@@ -38,6 +38,7 @@ use Rattle.oca_pair.proofs.Truths.{past, IsSubmitted, IsTrueAnswer}
 use Rattle.oca_pair.proofs.Fair.{IsFair}
 use Rattle.oca_pair.proofs.Delivering.{held_answer}
 use Rattle.oca_pair.proofs.Networks.{LinkSound, Sound, sound_after}
+use Rattle.oca_pair.proofs.Renewing.{now_renewed, not_before}
 use Rattle.oca_pair.proofs.Lawful.{true_answer}
 use Rattle.oca_pair.proofs.RoundTrip.{grown_steps, IsKept, Stands, stands_steps, round_trip_law}
 
@@ -124,8 +125,9 @@ runs_none first born s i p calls n k call e g = by_test (nat_eq k i) refl
         subst (λ (o : Option PeerLink). Runs first born s i p (called call o ++ calls) n) (sym (ap (λ (j : ℕ). slice_get n.links j) (sym (equal_is k i q)) ∙ e)) g
     by_test false q = g
 
-runs_step : (first born s i : ℕ) (p : Peer) (calls : List Call) (step : Step) (n : Network) → Runs first born s i p calls n → Runs first born s i p (call_in i step n ++ calls) (after_step step n)
-runs_step first born s i p calls step n g = one step
+runs_step : (first born s i : ℕ) (p : Peer) (calls : List Call) (step : Step) (n : Network) → is_renewed p (after_step step n) ≡ false → Runs first born s i p calls n →
+    Runs first born s i p (call_in i step n ++ calls) (after_step step n)
+runs_step first born s i p calls step n never g = one step never
   where
     none_more : n.to_device ≡ n.to_device ++ []
     none_more = sym (append-nil n.to_device)
@@ -198,21 +200,50 @@ runs_step first born s i p calls step n g = one step
         taking : (us : List Untaken) → l.peer ≡ p → (h : ℕ) → AreSentBy p (n.to_device ++ []) (sendings born h calls) → AreSentBy p (n.to_device ++ []) (sendings born h (TakesAnswer j (answer_under j us) ∷ calls))
         taking us same h a = by_answer (answer_under j us) h a
 
-    one : (step : Step) → Runs first born s i p (call_in i step n ++ calls) (after_step step n)
-    one (Submit k r now) = by_submit k r now (slice_get n.links k) refl
-    one (Due k now) = by_due k now (slice_get n.links k) refl
-    one (ToDevice k now) = by_delivery now (slice_get n.to_device k)
-    one (ToLink k now) = by_reception now (slice_get n.to_links k)
-    one (Other from bytes now) = by_other from bytes now (has_link from n.links)
-    one (steps.Tick now) = record { link = g.link; there = g.there; peer = g.peer; made = g.made; sent = g.sent }
-    one (steps.Local ono change) = record { link = g.link; there = g.there; peer = g.peer; made = g.made; sent = g.sent }
-    one (Take k j) = by_take k j (slice_get n.links k) refl
+    by_renewal : (k f span now origin : ℕ) (o : Option PeerLink) → slice_get n.links k ≡ o → is_renewed p (after_renewal k f span now origin o n) ≡ false → Runs first born s i p calls (after_renewal k f span now origin o n)
+    by_renewal k f span now origin None e never = g
+    by_renewal k f span now origin (Some l) e never = by_test (is_above f l.link.next) never
+      where
+        m : Network
+        m = record n { links = with_link k l (renewed_link f span now l.link) n.links; renewed = (record { peer = l.peer; zero = origin }) ∷ n.renewed }
 
-runs_steps : (first born s i : ℕ) (p : Peer) (calls : List Call) (es : List Step) (n : Network) → Runs first born s i p calls n → Runs first born s i p (calls_in i es n ++ calls) (after_steps es n)
-runs_steps first born s i p calls [] n g = g
-runs_steps first born s i p calls (e ∷ es) n g =
+        is_another : is_renewed p m ≡ false → nat_eq k i ≡ false
+        is_another never = by_number (nat_eq k i) refl
+          where
+            by_number : (b : Bool) → nat_eq k i ≡ b → b ≡ false
+            by_number true q =
+                let there : slice_get n.links i ≡ Some l = ap (λ (j : ℕ). slice_get n.links j) (sym (equal_is k i q)) ∙ e in
+                let same : l ≡ g.link = same_Some l g.link (sym there ∙ g.there) in
+                absurd (now_renewed p l.peer (is_renewed p n) (ap (λ (z : PeerLink). z.peer) same ∙ g.peer) never)
+            by_number false q = refl
+
+        by_test : (b : Bool) → is_renewed p (cond b m n) ≡ false → Runs first born s i p calls (cond b m n)
+        by_test true never = record {
+          link = g.link;
+          there = put_elsewhere n.links k i (record { peer = l.peer; link = renewed_link f span now l.link }) (is_another never) ∙ g.there;
+          peer = g.peer;
+          made = g.made;
+          sent = g.sent;
+        }
+        by_test false never = g
+
+    one : (step : Step) → is_renewed p (after_step step n) ≡ false → Runs first born s i p (call_in i step n ++ calls) (after_step step n)
+    one (Submit k r now) never = by_submit k r now (slice_get n.links k) refl
+    one (Due k now) never = by_due k now (slice_get n.links k) refl
+    one (ToDevice k now) never = by_delivery now (slice_get n.to_device k)
+    one (ToLink k now) never = by_reception now (slice_get n.to_links k)
+    one (Other from bytes now) never = by_other from bytes now (has_link from n.links)
+    one (steps.Tick now) never = record { link = g.link; there = g.there; peer = g.peer; made = g.made; sent = g.sent }
+    one (steps.Local ono change) never = record { link = g.link; there = g.there; peer = g.peer; made = g.made; sent = g.sent }
+    one (Take k j) never = by_take k j (slice_get n.links k) refl
+    one (Renew k f span now origin) never = by_renewal k f span now origin (slice_get n.links k) refl never
+
+runs_steps : (first born s i : ℕ) (p : Peer) (calls : List Call) (es : List Step) (n : Network) → is_renewed p (after_steps es n) ≡ false → Runs first born s i p calls n →
+    Runs first born s i p (calls_in i es n ++ calls) (after_steps es n)
+runs_steps first born s i p calls [] n never g = g
+runs_steps first born s i p calls (e ∷ es) n never g =
     subst (λ (xs : List Call). Runs first born s i p xs (after_steps es (after_step e n))) (sym (append_assoc (calls_in i es (after_step e n)) (call_in i e n) calls))
-    (runs_steps first born s i p (call_in i e n ++ calls) es (after_step e n) (runs_step first born s i p calls e n g))
+    (runs_steps first born s i p (call_in i e n ++ calls) es (after_step e n) never (runs_step first born s i p calls e n (not_before p es (after_step e n) never) g))
 
 runs_opening : (w : DeviceSizes) (s : Setup) (tree : List Object) (starts : List Start) (i : ℕ) (x : Start) → slice_get starts i ≡ Some x →
     Runs x.first_handle.0 (s.made x.peer) (s.span x.peer) i x.peer [] (opening w s tree starts)
@@ -310,14 +341,14 @@ module _ (spans : Peer → ℕ) (s first born i : ℕ) (some : 0 < s) (p : Peer)
   waits g sound sub trips none asked w = record {
     in_time = rw (clock_is, sent_is) at (in_time_made n.address first born s some before r now ms h calls g.link.link g.made asked w);
     copies = rw sent_is at copies;
-    enough = λ k moment between later there finds keeps fits. subst (λ (q : Peer). ComesBack k moment between later i c q n) g.peer
+    enough = λ k moment between later there finds keeps fits never. subst (λ (q : Peer). ComesBack k moment between later i c q n) g.peer
         (trips k moment i (copy_of p c) g.link c between later there g.there g.peer (record {
           peer = g.peer;
           untaken = u.0;
           held = in_contains u.0 g.link.link.untaken u.1;
           command = command_is;
           bytes = refl;
-        }) finds keeps fits);
+        }) finds keeps fits never);
   }
     where
       of : LinkSound spans n g.link
@@ -357,11 +388,12 @@ module _ (spans : Peer → ℕ) (s first born i : ℕ) (some : 0 < s) (p : Peer)
 pub gets_through : WrittenIsReadBack → (w : DeviceSizes) (s : Setup) (tree : List Object) (starts : List Start) (before later : List Step) (i : ℕ) (x : Start) (r : Request) (now ms : ℕ) (h : Handle) →
     0 < s.span x.peer → 2 * s.span x.peer ≤ w.window + 1 → are_apart s.address starts ≡ true → Fit starts (before ++ Submit i r now ∷ later) → slice_get starts i ≡ Some x →
     outcome_of_step (Submit i r now) (after_steps before (opening w s tree starts)) ≡ outcomes.Submitted h ∷ [] →
+    is_renewed x.peer (after_steps later (after_step (Submit i r now) (after_steps before (opening w s tree starts)))) ≡ false →
     IsAskedEvery ms (max (clock_of_calls (s.made x.peer) (calls_in i before (opening w s tree starts))) now) (calls_in i later (after_step (Submit i r now) (after_steps before (opening w s tree starts)))) →
     GetsThrough ms (max (clock_of_calls (s.made x.peer) (calls_in i before (opening w s tree starts))) now) i (command_under h.0 r) x.peer
     (calls_in i later (after_step (Submit i r now) (after_steps before (opening w s tree starts))))
     (after_steps later (after_step (Submit i r now) (after_steps before (opening w s tree starts))))
-gets_through law w s tree starts before later i x r now ms h some wide apart fit begins outcome asked = by_lost (is_lost all) refl
+gets_through law w s tree starts before later i x r now ms h some wide apart fit begins outcome never asked = by_lost (is_lost all) refl
   where
     start : Network
     start = opening w s tree starts
@@ -396,8 +428,14 @@ gets_through law w s tree starts before later i x r now ms h some wide apart fit
     all : List Call
     all = calls ++ Submits r now (Ok h) ∷ earlier
 
+    never_new : is_renewed p new ≡ false
+    never_new = not_before p later new never
+
+    never_old : is_renewed p old ≡ false
+    never_old = not_before p (Submit i r now ∷ []) old never_new
+
     runs_old : Runs f born (s.span p) i p earlier old
-    runs_old = subst (λ (xs : List Call). Runs f born (s.span p) i p xs old) (append-nil earlier) (runs_steps f born (s.span p) i p [] before start (runs_opening w s tree starts i x begins))
+    runs_old = subst (λ (xs : List Call). Runs f born (s.span p) i p xs old) (append-nil earlier) (runs_steps f born (s.span p) i p [] before start never_old (runs_opening w s tree starts i x begins))
 
     l : PeerLink
     l = runs_old.link
@@ -412,10 +450,10 @@ gets_through law w s tree starts before later i x r now ms h some wide apart fit
         ∙ ap (λ (a : Result Handle ControlFault). Submits r now a ∷ []) accepted
 
     runs_new : Runs f born (s.span p) i p (Submits r now (Ok h) ∷ earlier) new
-    runs_new = subst (λ (xs : List Call). Runs f born (s.span p) i p (xs ++ earlier) new) call_is (runs_step f born (s.span p) i p earlier (Submit i r now) old runs_old)
+    runs_new = subst (λ (xs : List Call). Runs f born (s.span p) i p (xs ++ earlier) new) call_is (runs_step f born (s.span p) i p earlier (Submit i r now) old never_new runs_old)
 
     runs : Runs f born (s.span p) i p all n
-    runs = runs_steps f born (s.span p) i p (Submits r now (Ok h) ∷ earlier) later new runs_new
+    runs = runs_steps f born (s.span p) i p (Submits r now (Ok h) ∷ earlier) later new never runs_new
 
     run_is : after_steps (before ++ Submit i r now ∷ later) start ≡ n
     run_is = after_more before (Submit i r now ∷ later) start
@@ -454,7 +492,7 @@ gets_through law w s tree starts before later i x r now ms h some wide apart fit
     second false b q = q
 
     stands : Stands i p h.0 n.links n.taken
-    stands = stands_steps i h.0 p later new (record {
+    stands = stands_steps i h.0 p later new never (record {
       link = runs_new.link;
       there = runs_new.there;
       peer = runs_new.peer;

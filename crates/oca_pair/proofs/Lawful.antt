@@ -25,11 +25,11 @@ use Rattle.oca_control.specs.Answers.{AnswerFields}
 use Rattle.oca_control.specs.Untaken.{Untaken}
 use Rattle.oca_pair.specs.declared.outcome.Outcome.TheVariants as outcomes
 use Rattle.oca_pair.specs.declared.start.Start.{Start}
-use Rattle.oca_pair.specs.Networks.{Network, PeerLink, SentDatagram, SubmittedCommand, TakenAnswer, Setup, opening}
+use Rattle.oca_pair.specs.Networks.{Network, PeerLink, SentDatagram, SubmittedCommand, TakenAnswer, Setup, opening, is_renewed}
 use Rattle.oca_pair.specs.Steps.{Step, sendings_in, after_steps}
 use Rattle.oca_pair.specs.Happenings.{happenings}
 use Rattle.oca_pair.specs.Premises.{are_apart, Fit, KeepsItsSession, FindsRoom}
-use Rattle.oca_pair.specs.Laws.{Execution, executions_in, executions_for, executions_under, IsAnswerOfItsCommand, handles_of, AreConsecutive, AnswersItsCommands, CarriesUntaken, IsAnswered, AnswersUntaken, ExecutesOnce}
+use Rattle.oca_pair.specs.Laws.{Execution, executions_in, executions_for, executions_under, IsAnswerOfItsCommand, handles_of, EachToNext, AnswersItsCommands, CarriesUntaken, IsAnswered, AnswersUntaken, ExecutesOnce}
 use Rattle.oca_pair.proofs.Fixed.{sizes_kept}
 use Rattle.oca_pair.proofs.Core.{IsServed}
 use Rattle.oca_pair.proofs.Lists.{IsIn, contains_in, in_contains, each_at, each_in, equal_is}
@@ -95,10 +95,10 @@ true_answer p h a n kept t =
     }
 
 -- without the last
-before_last : (xs : List ℕ) (h : ℕ) → AreConsecutive (xs ++ h ∷ []) → AreConsecutive xs
-before_last [] h a = tt
-before_last (x ∷ []) h a = tt
-before_last (x ∷ y ∷ xs) h a = (a.0, before_last (y ∷ xs) h a.1)
+before_last : (Is : ℕ → ℕ → Type 0) (xs : List ℕ) (h : ℕ) → EachToNext Is (xs ++ h ∷ []) → EachToNext Is xs
+before_last Is [] h a = tt
+before_last Is (x ∷ []) h a = tt
+before_last Is (x ∷ y ∷ xs) h a = (a.0, before_last Is (y ∷ xs) h a.1)
 
 pub answers_law : WrittenIsReadBack → (w : DeviceSizes) (s : Setup) (tree : List Object) (starts : List Start) (es : List Step) → are_apart s.address starts ≡ true → Fit starts es →
     AnswersItsCommands (after_steps es (opening w s tree starts))
@@ -112,9 +112,12 @@ answers_law law w s tree starts es apart fit =
       was_taken = λ i l h a own was.
           let of : LinkSound s.span n l = each_at (LinkSound s.span n) n.links i l sound.each own in
           true_answer l.peer h a n of.kept (each_in (λ (t : TakenAnswer). t.peer ≡ l.peer → IsTrueAnswer l.peer t.handle t.answer (past n)) _ n.taken of.fair.was_taken (contains_in _ n.taken was) refl);
-      handles = λ i l own.
+      rising = λ i l own.
           let of : LinkSound s.span n l = each_at (LinkSound s.span n) n.links i l sound.each own in
-          before_last (handles_of l.peer n.submitted) (end_of l.link.next) of.fair.rising;
+          before_last (λ x y. x < y) (handles_of l.peer n.submitted) (end_of l.link.next) of.fair.rising;
+      handles = λ i l own never.
+          let of : LinkSound s.span n l = each_at (LinkSound s.span n) n.links i l sound.each own in
+          before_last (λ x y. y ≡ x + 1) (handles_of l.peer n.submitted) (end_of l.link.next) (of.consecutive never);
     }
 
 -- ---- each command is executed once
@@ -242,23 +245,24 @@ answered_now law w s f n k now d next us u c wide there fair kept good held comm
     by_judgement Old q t = absurd t
 
 delivered : WrittenIsReadBack → (w : DeviceSizes) (s : Peer → ℕ) (n : Network) (k now : ℕ) (d : SentDatagram) (l : PeerLink) (c : CommandFields) → 0 < s l.peer → 2 * s l.peer ≤ n.sizes.window + 1 →
-    slice_get n.to_device k ≡ Some d → LinkSound s n l → CarriesUntaken d l c →
+    slice_get n.to_device k ≡ Some d → LinkSound s n l → CarriesUntaken d l c → is_renewed l.peer n ≡ false →
     FindsRoom d.peer now n → Keeps d.peer (and_then (Datagram d.peer d.bytes now) (past n)) → IsAnswered k now n d c
-delivered law w s n k now d l c some wide there of of_untaken finds keeps =
+delivered law w s n k now d l c some wide there of of_untaken never finds keeps =
     let As : Peer → Type 0 = λ x. Keeps x (past n) in
     let before : Keeps l.peer (past n) = subst As (sym of_untaken.peer) (keeps_before d.peer (Datagram d.peer d.bytes now) (past n) keeps) in
     let FairAs : Peer → Type 0 = λ x. Fair x l.link.next l.link.untaken (past n) n.to_device n.to_links n.taken in
     let KeptAs : Peer → Type 0 = λ x. Kept x (past n) in
-    let good = of.good some before in
+    let good = of.good never some before in
     let GoodAs : Peer → Type 0 = λ x. Good (s l.peer) good.0 x l.link.next l.link.untaken n.submitted (accepted_by x (past n)) in
     answered_now law w (s l.peer) good.0 n k now d l.link.next l.link.untaken of_untaken.untaken c wide there
     (subst FairAs of_untaken.peer of.fair) (subst KeptAs of_untaken.peer (of.kept before)) (subst GoodAs of_untaken.peer good.1) (contains_in of_untaken.untaken l.link.untaken of_untaken.held) of_untaken.command of_untaken.bytes finds keeps
 
 pub never_old_law : WrittenIsReadBack → (w : DeviceSizes) (s : Setup) (tree : List Object) (starts : List Start) (es : List Step) (p : Peer) → 0 < s.span p → 2 * s.span p ≤ w.window + 1 → are_apart s.address starts ≡ true → Fit starts es →
-    AnswersUntaken p (after_steps es (opening w s tree starts))
-never_old_law law w s tree starts es p some wide apart fit k now i d l c there own his of_untaken finds keeps =
+    is_renewed p (after_steps es (opening w s tree starts)) ≡ false → AnswersUntaken p (after_steps es (opening w s tree starts))
+never_old_law law w s tree starts es p some wide apart fit never k now i d l c there own his of_untaken finds keeps =
     let n : Network = after_steps es (opening w s tree starts) in
     let sound : Sound s.span n = sound_after law w s tree starts es apart fit in
     let of : LinkSound s.span n l = each_at (LinkSound s.span n) n.links i l sound.each own in
     let sizes : n.sizes ≡ w = sizes_kept es (opening w s tree starts) in
-    delivered law w s.span n k now d l c (subst (λ (q : Peer). 0 < s.span q) (sym his) some) (subst (λ (q : Peer). 2 * s.span q ≤ n.sizes.window + 1) (sym his) (rw sizes wide)) there of of_untaken finds (rw there at keeps)
+    delivered law w s.span n k now d l c (subst (λ (q : Peer). 0 < s.span q) (sym his) some) (subst (λ (q : Peer). 2 * s.span q ≤ n.sizes.window + 1) (sym his) (rw sizes wide)) there of of_untaken
+    (subst (λ (q : Peer). is_renewed q n ≡ false) (sym his) never) finds (rw there at keeps)

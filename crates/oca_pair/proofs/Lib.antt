@@ -9,6 +9,7 @@ pub mod Truths
 pub mod Ordered
 pub mod Arrivals
 pub mod Fair
+pub mod Renewing
 pub mod Delivering
 pub mod Keeping
 pub mod Span

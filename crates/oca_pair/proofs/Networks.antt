@@ -1,5 +1,5 @@
 -- What holds of each link of a network is kept by each step; and the laws.
-use Rattle.std.proofs.Common.{append-nil, ◌≡◌, ℕ, ◌<◌, ◌≤◌, ◌≢◌, Bool, true, false, cond, List, [], ◌∷◌, ◌++◌, Option, Some, None, refl, sym, ap, ◌∙◌, subst, arith, zero, suc, inl, inr}
+use Rattle.std.proofs.Common.{append-nil, ◌≡◌, ℕ, ◌+◌, ◌^◌, ◌<◌, ◌≤◌, ◌≢◌, Bool, true, false, cond, List, [], ◌∷◌, ◌++◌, Option, Some, None, refl, sym, ap, ◌∙◌, subst, arith, zero, suc, inl, inr}
 use Rattle.std.specs.Prelude.{◌&&◌, map, is_some, Result, Ok, Err}
 use Rattle.std.specs.List.{list_all, AllByRecursion, slice_get, slice_set, IsDistinct}
 use Rattle.oca_types.specs.declared.words.Peer.{Peer}
@@ -20,8 +20,9 @@ use Rattle.oca_control.specs.Answers.{AnswerFields, answer_of_response}
 use Rattle.oca_control.specs.Untaken.{Untaken, answer_under, without_handle}
 use Rattle.oca_control.specs.Links.{Request, submission, after_submission, Decision, GivesCommand, GivesKeepAlive, GivesNothing, IsLost, decision, after_due, gone_on, hears_content, received, taken, present_moment}
 use Rattle.oca_pair.specs.declared.start.Start.{Start}
-use Rattle.oca_pair.specs.Networks.{Network, PeerLink, SentDatagram, SubmittedCommand, TakenAnswer, Setup, started, opening}
-use Rattle.oca_pair.specs.Steps.{Step, Submit, Due, ToDevice, ToLink, Other, Take, has_link, sendings_in, submitted_by, after_submit, given_by, after_due_step, after_delivery, content_read, hears_datagram, after_reception, after_take, after_step, after_steps}
+use Rattle.oca_pair.specs.Networks.{Network, PeerLink, SentDatagram, SubmittedCommand, TakenAnswer, Setup, started, opening, is_renewed}
+use Rattle.oca_pair.specs.Laws.{handles_of, AreConsecutive}
+use Rattle.oca_pair.specs.Steps.{Step, Submit, Due, ToDevice, ToLink, Other, Take, Renew, with_link, is_above, renewed_link, after_renewal, has_link, sendings_in, submitted_by, after_submit, given_by, after_due_step, after_delivery, content_read, hears_datagram, after_reception, after_take, after_step, after_steps}
 use Rattle.oca_pair.specs.Steps as steps
 use Rattle.oca_pair.specs.Premises.{is_of_another_peer, are_apart, RequestFits, StepFits, StartFits, Fit}
 use Rattle.oca_pair.proofs.Core.{each_map, none_passes, has}
@@ -30,7 +31,8 @@ use Rattle.oca_pair.proofs.Arrivals.{Keeps, keeps_before}
 use Rattle.oca_pair.proofs.Wire.{IsSendable, read_command, read_keep_alive}
 use Rattle.oca_pair.proofs.Truths.{Past, past, and_then, state_of, IsSubmitted, IsTrueAnswer}
 use Rattle.oca_pair.proofs.Fair.{end_of, IsOut, IsBack, IsHeld, Fair, fair_other, fair_tick, fair_local}
-use Rattle.oca_pair.proofs.Delivering.{granted, fair_command, fair_keep_alive, fair_submit, fair_submitted_by, fair_gone_on, fair_sent, fair_received, fair_taken, fair_taken_by, held_answer}
+use Rattle.oca_pair.proofs.Renewing.{above_next, fair_renewed, now_renewed, other_renewed}
+use Rattle.oca_pair.proofs.Delivering.{granted, handles_submit, handles_submitted_by, fair_command, fair_keep_alive, fair_submit, fair_submitted_by, fair_gone_on, fair_sent, fair_received, fair_taken, fair_taken_by, held_answer}
 use Rattle.oca_pair.proofs.Keeping.{Kept, accepted_by, IsGrown, delivers, kept_other, accepted_other, executed_has}
 use Rattle.oca_pair.proofs.Span.{Good, good_submit, good_submitted, good_marked_sent, good_answered, good_without, good_grown}
 
@@ -76,10 +78,11 @@ apart_hears from d now (x ∷ xs) a = (heads xs a.0, apart_hears from d now xs a
 
 -- What holds of a link of a network.
 pub record LinkSound (s : Peer → ℕ) (n : Network) (l : PeerLink) : Type 0 where
-  pub span : l.link.span ≡ s l.peer
+  pub span : is_renewed l.peer n ≡ false → l.link.span ≡ s l.peer
   pub fair : Fair l.peer l.link.next l.link.untaken (past n) n.to_device n.to_links n.taken
   pub kept : Keeps l.peer (past n) → Kept l.peer (past n)
-  pub good : 0 < s l.peer → Keeps l.peer (past n) → (f : ℕ) × Good (s l.peer) f l.peer l.link.next l.link.untaken n.submitted (accepted_by l.peer (past n))
+  pub consecutive : is_renewed l.peer n ≡ false → AreConsecutive (handles_of l.peer n.submitted ++ end_of l.link.next ∷ [])
+  pub good : is_renewed l.peer n ≡ false → 0 < s l.peer → Keeps l.peer (past n) → (f : ℕ) × Good (s l.peer) f l.peer l.link.next l.link.untaken n.submitted (accepted_by l.peer (past n))
 
 pub record Sound (s : Peer → ℕ) (n : Network) : Type 0 where
   pub apart : Apart n.links
@@ -116,7 +119,8 @@ sound_submit s i r now n fits g (Some l) e = record {
       span = w.span;
       fair = fair_submitted_by z.peer l.peer r (submission r l.link) z.link.next z.link.untaken (past n) n.to_device n.to_links n.taken (λ same. other (sym same)) w.fair;
       kept = w.kept;
-      good = λ some keeps. let q = w.good some keeps in (
+      consecutive = λ first. handles_submitted_by (λ x y. y ≡ x + 1) z.peer l.peer r (submission r l.link) (end_of z.link.next) n.submitted (λ same. other (sym same)) (w.consecutive first);
+      good = λ first some keeps. let q = w.good first some keeps in (
         q.0,
         good_submitted (s z.peer) q.0 z.peer z.link.next z.link.untaken n.submitted (submitted_by l.peer r (submission r l.link)) (accepted_by z.peer (past n))
             (not_his z.peer (submission r l.link) (λ same. other (sym same))) q.1,
@@ -127,19 +131,20 @@ sound_submit s i r now n fits g (Some l) e = record {
     span_kept (Ok h) = refl
     span_kept (Err fault) = refl
 
-    good_kept : (f : ℕ) (a : Result Handle ControlFault) → submission r l.link ≡ a → 0 < s l.peer → Good (s l.peer) f l.peer l.link.next l.link.untaken n.submitted (accepted_by l.peer (past n)) →
+    good_kept : (f : ℕ) (a : Result Handle ControlFault) → submission r l.link ≡ a → l.link.span ≡ s l.peer → 0 < s l.peer → Good (s l.peer) f l.peer l.link.next l.link.untaken n.submitted (accepted_by l.peer (past n)) →
         Good (s l.peer) f l.peer (after_submission a r now l.link).next (after_submission a r now l.link).untaken (n.submitted ++ submitted_by l.peer r a) (accepted_by l.peer (past n))
-    good_kept f (Err fault) q some w = good_submitted (s l.peer) f l.peer l.link.next l.link.untaken n.submitted [] (accepted_by l.peer (past n)) tt w
-    good_kept f (Ok h) q some w =
+    good_kept f (Err fault) q span_is some w = good_submitted (s l.peer) f l.peer l.link.next l.link.untaken n.submitted [] (accepted_by l.peer (past n)) tt w
+    good_kept f (Ok h) q span_is some w =
         let t = granted r l.link h q in
-        good_submit (s l.peer) f l.peer l.link.next l.link.untaken n.submitted (accepted_by l.peer (past n)) h.0 (present_moment now l.link) r some t.0 (rw was.span at t.1) w
+        good_submit (s l.peer) f l.peer l.link.next l.link.untaken n.submitted (accepted_by l.peer (past n)) h.0 (present_moment now l.link) r some t.0 (rw span_is at t.1) w
 
     mine : LinkSound s n' y
     mine = record {
-      span = span_kept (submission r l.link) ∙ was.span;
+      span = λ first. span_kept (submission r l.link) ∙ was.span first;
       fair = fair_submit l.peer r now l.link (past n) n.to_device n.to_links n.taken fits was.fair;
       kept = was.kept;
-      good = λ some keeps. let q = was.good some keeps in (q.0, good_kept q.0 (submission r l.link) refl some q.1);
+      consecutive = λ first. handles_submit (λ x y. y ≡ x + 1) (λ h. refl) l.peer r now l.link n.submitted (was.consecutive first);
+      good = λ first some keeps. let q = was.good first some keeps in (q.0, good_kept q.0 (submission r l.link) refl (was.span first) some q.1);
     }
 
 -- ---- due
@@ -165,6 +170,7 @@ sound_due s i now n g (Some l) e = record {
       span = w.span;
       fair = fair_sent z.peer l.peer z.link.next z.link.untaken (past n) n.to_device n.to_links n.taken (given_by (decision now l.link)) (λ same. other (sym same)) w.fair;
       kept = w.kept;
+      consecutive = w.consecutive;
       good = w.good;
     }
 
@@ -173,6 +179,12 @@ sound_due s i now n g (Some l) e = record {
     span_kept GivesKeepAlive = refl
     span_kept GivesNothing = refl
     span_kept IsLost = refl
+
+    next_kept : (d : Decision) → (after_due d (present_moment now l.link) l.link).next ≡ l.link.next
+    next_kept (GivesCommand c) = refl
+    next_kept GivesKeepAlive = refl
+    next_kept GivesNothing = refl
+    next_kept IsLost = refl
 
     good_kept : (f : ℕ) (d : Decision) → Good (s l.peer) f l.peer l.link.next l.link.untaken n.submitted (accepted_by l.peer (past n)) →
         Good (s l.peer) f l.peer (after_due d (present_moment now l.link) l.link).next (after_due d (present_moment now l.link) l.link).untaken n.submitted (accepted_by l.peer (past n))
@@ -183,10 +195,11 @@ sound_due s i now n g (Some l) e = record {
 
     mine : LinkSound s n' y
     mine = record {
-      span = span_kept (decision now l.link) ∙ was.span;
+      span = λ first. span_kept (decision now l.link) ∙ was.span first;
       fair = fair_gone_on l.peer now l.link (past n) n.to_device n.to_links n.taken was.fair;
       kept = was.kept;
-      good = λ some keeps. let q = was.good some keeps in (q.0, good_kept q.0 (decision now l.link) q.1);
+      consecutive = λ first. subst (λ (o : Option ℕ). AreConsecutive (handles_of l.peer n.submitted ++ end_of o ∷ [])) (sym (next_kept (decision now l.link))) (was.consecutive first);
+      good = λ first some keeps. let q = was.good first some keeps in (q.0, good_kept q.0 (decision now l.link) q.1);
     }
 
 -- ---- take
@@ -212,6 +225,7 @@ sound_take s i h n g (Some l) e = record {
       span = w.span;
       fair = fair_taken_by z.peer l.peer h (answer_under h l.link.untaken) z.link.next z.link.untaken (past n) n.to_device n.to_links n.taken (λ same. other (sym same)) w.fair;
       kept = w.kept;
+      consecutive = w.consecutive;
       good = w.good;
     }
 
@@ -225,9 +239,50 @@ sound_take s i h n g (Some l) e = record {
       span = was.span;
       fair = fair_taken l.peer h l.link (past n) n.to_device n.to_links n.taken was.fair;
       kept = was.kept;
-      good = λ some keeps. let q = was.good some keeps in
+      consecutive = was.consecutive;
+      good = λ first some keeps. let q = was.good first some keeps in
           (q.0, good_kept q.0 (answer_under h l.link.untaken) (held_answer l.peer (past n) h l.link.untaken was.fair.untaken) q.1);
     }
+
+-- ---- renew
+
+sound_renewal : (s : Peer → ℕ) (i first span now origin : ℕ) (n : Network) → first < 2 ^ 32 → Sound s n → (o : Option PeerLink) → slice_get n.links i ≡ o → Sound s (after_renewal i first span now origin o n)
+sound_renewal s i first span now origin n low g None e = g
+sound_renewal s i first span now origin n low g (Some l) e = by_test (is_above first l.link.next) refl
+  where
+    y : PeerLink
+    y = record { peer = l.peer; link = renewed_link first span now l.link }
+
+    n' : Network
+    n' = record n { links = with_link i l (renewed_link first span now l.link) n.links; renewed = (record { peer = l.peer; zero = origin }) ∷ n.renewed }
+
+    was : LinkSound s n l
+    was = each_at (LinkSound s n) n.links i l g.each e
+
+    others : (z : PeerLink) → z.peer ≢ l.peer → LinkSound s n z → LinkSound s n' z
+    others z other w = record {
+      span = λ never. w.span (other_renewed z.peer l.peer (is_renewed z.peer n) never);
+      fair = w.fair;
+      kept = w.kept;
+      consecutive = λ never. w.consecutive (other_renewed z.peer l.peer (is_renewed z.peer n) never);
+      good = λ never. w.good (other_renewed z.peer l.peer (is_renewed z.peer n) never);
+    }
+
+    mine : end_of l.link.next ≤ first → LinkSound s n' y
+    mine above = record {
+      span = λ never. absurd (now_renewed l.peer l.peer (is_renewed l.peer n) refl never);
+      fair = fair_renewed l.peer first l.link.next l.link.untaken (past n) n.to_device n.to_links n.taken low above was.fair;
+      kept = was.kept;
+      consecutive = λ never. absurd (now_renewed l.peer l.peer (is_renewed l.peer n) refl never);
+      good = λ never. absurd (now_renewed l.peer l.peer (is_renewed l.peer n) refl never);
+    }
+
+    by_test : (b : Bool) → is_above first l.link.next ≡ b → Sound s (cond b n' n)
+    by_test true q = record {
+      apart = apart_put n.links i l y e refl g.apart;
+      each = each_put (LinkSound s n) (LinkSound s n') n.links i l y e g.apart others (mine (above_next first l.link.next q)) g.each;
+    }
+    by_test false q = g
 
 -- ---- a datagram comes to a link
 
@@ -258,11 +313,12 @@ sound_reception s now n g d k e = record { apart = apart_hears n.address d now n
           span = w.span;
           fair = fair_received n.address z.peer d.bytes now z.link (past n) n.to_device n.to_links n.taken back w.fair;
           kept = w.kept;
-          good = λ some keeps. let q = w.good some keeps in (q.0, good_received q.0 (same_peer n.address z.link.device) back q.1);
+          consecutive = w.consecutive;
+          good = λ first some keeps. let q = w.good first some keeps in (q.0, good_received q.0 (same_peer n.address z.link.device) back q.1);
         }
 
         unheard : LinkSound s n' z
-        unheard = record { span = w.span; fair = w.fair; kept = w.kept; good = w.good }
+        unheard = record { span = w.span; fair = w.fair; kept = w.kept; consecutive = w.consecutive; good = w.good }
 
         by_test : (b : Bool) → same_peer z.peer d.peer ≡ b → LinkSound s n' (cond b y z)
         by_test true q = heard (each_at (λ (x : SentDatagram). x.peer ≡ z.peer → IsBack z.peer (past n) x.bytes) n.to_links k d w.fair.incoming e (sym (same_is z.peer d.peer q)))
@@ -278,12 +334,12 @@ sound_reception s now n g d k e = record { apart = apart_hears n.address d now n
 sound_elsewhere : (s : Peer → ℕ) (n : Network) (q : Peer) (bytes : List ℕ) (now : ℕ) (packets : List (List ℕ)) (z : PeerLink) → same_peer q z.peer ≡ false → LinkSound s n z →
     Fair z.peer z.link.next z.link.untaken (and_then (Datagram q bytes now) (past n)) n.to_device (n.to_links ++ sendings_in q packets) n.taken
     × (Keeps z.peer (and_then (Datagram q bytes now) (past n)) → Kept z.peer (and_then (Datagram q bytes now) (past n)))
-    × (0 < s z.peer → Keeps z.peer (and_then (Datagram q bytes now) (past n)) →
+    × (is_renewed z.peer n ≡ false → 0 < s z.peer → Keeps z.peer (and_then (Datagram q bytes now) (past n)) →
     (f : ℕ) × Good (s z.peer) f z.peer z.link.next z.link.untaken n.submitted (accepted_by z.peer (and_then (Datagram q bytes now) (past n))))
 sound_elsewhere s n q bytes now packets z other w = (
   fair_other z.peer q z.link.next z.link.untaken (past n) n.to_device n.to_links n.taken bytes now packets (other_of q z.peer other) w.fair,
   (λ keeps. kept_other z.peer q bytes now (past n) other (w.kept (keeps_before z.peer (Datagram q bytes now) (past n) keeps))),
-  (λ some keeps. let good = w.good some (keeps_before z.peer (Datagram q bytes now) (past n) keeps) in
+  (λ first some keeps. let good = w.good first some (keeps_before z.peer (Datagram q bytes now) (past n) keeps) in
       (good.0, moved good.0 (accepted_by z.peer (and_then (Datagram q bytes now) (past n))) (accepted_other z.peer q bytes now (past n) other) good.1)),
 )
   where
@@ -331,12 +387,12 @@ own_kept law s f p next us g out back handed bytes now (inr is) fair keeps k =
 sound_own : (law : WrittenIsReadBack) (s : Peer → ℕ) (n : Network) (bytes : List ℕ) (now : ℕ) (z : PeerLink) → IsOut z.peer n.submitted bytes → LinkSound s n z →
     Fair z.peer z.link.next z.link.untaken (and_then (Datagram z.peer bytes now) (past n)) n.to_device (n.to_links ++ sendings_in z.peer (packets n.sizes n.tree n.events (Datagram z.peer bytes now))) n.taken
     × (Keeps z.peer (and_then (Datagram z.peer bytes now) (past n)) → Kept z.peer (and_then (Datagram z.peer bytes now) (past n)))
-    × (0 < s z.peer → Keeps z.peer (and_then (Datagram z.peer bytes now) (past n)) →
+    × (is_renewed z.peer n ≡ false → 0 < s z.peer → Keeps z.peer (and_then (Datagram z.peer bytes now) (past n)) →
     (f : ℕ) × Good (s z.peer) f z.peer z.link.next z.link.untaken n.submitted (accepted_by z.peer (and_then (Datagram z.peer bytes now) (past n))))
 sound_own law s n bytes now z out w = (
   own_fair law z.peer z.link.next z.link.untaken (past n) n.to_device n.to_links n.taken bytes now out w.fair,
   (λ keeps. (own_kept law (s z.peer) 0 z.peer z.link.next z.link.untaken (past n) n.to_device n.to_links n.taken bytes now out w.fair keeps (w.kept (before keeps))).0),
-  (λ some keeps. let good = w.good some (before keeps) in
+  (λ first some keeps. let good = w.good first some (before keeps) in
       (good.0, (own_kept law (s z.peer) good.0 z.peer z.link.next z.link.untaken (past n) n.to_device n.to_links n.taken bytes now out w.fair keeps (w.kept (before keeps))).1 good.1)),
 )
   where
@@ -348,7 +404,7 @@ abbrev AfterDatagram : (Peer → ℕ) → Network → PeerLink → Peer → List
 AfterDatagram s n z q bytes now =
     Fair z.peer z.link.next z.link.untaken (and_then (Datagram q bytes now) (past n)) n.to_device (n.to_links ++ sendings_in q (packets n.sizes n.tree n.events (Datagram q bytes now))) n.taken
     × (Keeps z.peer (and_then (Datagram q bytes now) (past n)) → Kept z.peer (and_then (Datagram q bytes now) (past n)))
-    × (0 < s z.peer → Keeps z.peer (and_then (Datagram q bytes now) (past n)) →
+    × (is_renewed z.peer n ≡ false → 0 < s z.peer → Keeps z.peer (and_then (Datagram q bytes now) (past n)) →
     (f : ℕ) × Good (s z.peer) f z.peer z.link.next z.link.untaken n.submitted (accepted_by z.peer (and_then (Datagram q bytes now) (past n))))
 
 sound_delivery : (law : WrittenIsReadBack) (s : Peer → ℕ) (now : ℕ) (n : Network) → Sound s n → (d : SentDatagram) (k : ℕ) → slice_get n.to_device k ≡ Some d → Sound s (after_delivery now (Some d) n)
@@ -368,7 +424,7 @@ sound_delivery law s now n g d k e = record { apart = g.apart; each = each_map o
     by_test z false q w = sound_elsewhere s n d.peer d.bytes now (packets n.sizes n.tree n.events (Datagram d.peer d.bytes now)) z q w
 
     one : (z : PeerLink) → LinkSound s n z → LinkSound s n' z
-    one z w = let a = by_test z (same_peer d.peer z.peer) refl w in record { span = w.span; fair = a.0; kept = a.1; good = a.2 }
+    one z w = let a = by_test z (same_peer d.peer z.peer) refl w in record { span = w.span; fair = a.0; kept = a.1; consecutive = w.consecutive; good = a.2 }
 
 -- other bytes come to the device
 sound_other : (s : Peer → ℕ) (from : Peer) (bytes : List ℕ) (now : ℕ) (n : Network) → Sound s n → Sound s (after_step (Other from bytes now) n)
@@ -385,7 +441,7 @@ sound_other s from bytes now n g = by_test (has_link from n.links) refl
     one : (z : PeerLink) → same_peer z.peer from ≡ false → LinkSound s n z → LinkSound s n' z
     one z other w =
         let a = sound_elsewhere s n from bytes now [] z (same_turned from z.peer ∙ other) w in
-        record { span = w.span; fair = quiet z (n.to_links ++ []) (append-nil n.to_links) a.0; kept = a.1; good = a.2 }
+        record { span = w.span; fair = quiet z (n.to_links ++ []) (append-nil n.to_links) a.0; kept = a.1; consecutive = w.consecutive; good = a.2 }
 
     each : (zs : List PeerLink) → AllByRecursion (λ (l : PeerLink). same_peer l.peer from ≡ false) zs → AllByRecursion (LinkSound s n) zs → AllByRecursion (LinkSound s n') zs
     each [] a p = tt
@@ -402,6 +458,7 @@ sound_tick s now n g = record {
     span = w.span;
     fair = fair_tick z.peer z.link.next z.link.untaken (past n) n.to_device n.to_links n.taken now w.fair;
     kept = w.kept;
+    consecutive = w.consecutive;
     good = w.good;
   }) n.links g.each;
 }
@@ -413,6 +470,7 @@ sound_local s ono change n g = record {
     span = w.span;
     fair = fair_local z.peer z.link.next z.link.untaken (past n) n.to_device n.to_links n.taken ono change w.fair;
     kept = w.kept;
+    consecutive = w.consecutive;
     good = w.good;
   }) n.links g.each;
 }
@@ -436,6 +494,7 @@ sound_step law s (Other from bytes now) n fits g = sound_other s from bytes now 
 sound_step law s (steps.Tick now) n fits g = sound_tick s now n g
 sound_step law s (steps.Local ono change) n fits g = sound_local s ono change n g
 sound_step law s (Take i h) n fits g = sound_take s i h n g (slice_get n.links i) refl
+sound_step law s (Renew i first span now origin) n fits g = sound_renewal s i first span now origin n fits g (slice_get n.links i) refl
 
 pub sound_steps : (law : WrittenIsReadBack) (s : Peer → ℕ) (es : List Step) (n : Network) → AllByRecursion StepFits es → Sound s n → Sound s (after_steps es n)
 sound_steps law s [] n fits g = g
@@ -466,10 +525,11 @@ sound_opening w s tree starts a fits = record { apart = apart starts a; each = e
     each [] f = tt
     each (x ∷ xs) f = (
       record {
-        span = refl;
+        span = λ never. refl;
         fair = record { fits = f.0; own = tt; outgoing = tt; incoming = tt; untaken = tt; was_taken = tt; sendable = tt; unique = λ c d i j e. absurd i; rising = tt };
         kept = λ keeps. record { whole = refl; once = tt };
-        good = λ some keeps. (x.first_handle.0, record { start = omega arith; untaken = tt; taken = λ y p q free. nothing x.first_handle.0 y p q; own = tt; order = tt; from = tt });
+        consecutive = λ never. tt;
+        good = λ never some keeps. (x.first_handle.0, record { start = omega arith; untaken = tt; taken = λ y p q free. nothing x.first_handle.0 y p q; own = tt; order = tt; from = tt });
       },
       each xs f.1,
     )

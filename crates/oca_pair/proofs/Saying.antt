@@ -30,7 +30,7 @@ use Rattle.oca_control.specs.Links.{Request, command_under, submission}
 use Rattle.oca_pair.specs.declared.outcome.Outcome.TheVariants as outcomes
 use Rattle.oca_pair.specs.declared.start.Start.{Start}
 use Rattle.oca_pair.specs.Networks.{Network, PeerLink, SentDatagram, SubmittedCommand, Setup, opening}
-use Rattle.oca_pair.specs.Steps.{Step, Submit, Due, ToDevice, ToLink, Other, Take, has_link, submitted_by, submit_outcome, after_submit, after_due_step, after_delivery, hears_datagram, after_reception, after_take, after_step, after_steps, on_link, delivery_outcome, outcome_of_step}
+use Rattle.oca_pair.specs.Steps.{Step, Submit, Due, ToDevice, ToLink, Other, Take, has_link, submitted_by, submit_outcome, after_submit, after_due_step, after_delivery, hears_datagram, after_reception, after_take, after_step, after_steps, on_link, delivery_outcome, outcome_of_step, Renew, with_link, is_above, renewed_link, after_renewal}
 use Rattle.oca_pair.specs.Steps as steps
 use Rattle.oca_pair.specs.Happenings.{happenings}
 use Rattle.oca_pair.specs.Premises.{are_apart, StepFits, Fit}
@@ -99,6 +99,14 @@ peers_step step n = one step
     by_take k h None e = refl
     by_take k h (Some l) e = peers_put n.links k l _ e refl
 
+    by_renewal : (k first span now origin : ℕ) (o : Option PeerLink) → slice_get n.links k ≡ o → peers_of (after_renewal k first span now origin o n).links ≡ peers_of n.links
+    by_renewal k first span now origin None e = refl
+    by_renewal k first span now origin (Some l) e = by_test (is_above first l.link.next)
+      where
+        by_test : (b : Bool) → peers_of (let m : Network = cond b (record n { links = with_link k l (renewed_link first span now l.link) n.links; renewed = (record { peer = l.peer; zero = origin }) ∷ n.renewed }) n in m).links ≡ peers_of n.links
+        by_test true = peers_put n.links k l _ e refl
+        by_test false = refl
+
     one : (step : Step) → peers_of (after_step step n).links ≡ peers_of n.links
     one (Submit k r now) = by_submit k r now (slice_get n.links k) refl
     one (Due k now) = by_due k now (slice_get n.links k) refl
@@ -108,6 +116,7 @@ peers_step step n = one step
     one (steps.Tick now) = refl
     one (steps.Local ono change) = refl
     one (Take k h) = by_take k h (slice_get n.links k) refl
+    one (Renew k first span now origin) = by_renewal k first span now origin (slice_get n.links k) refl
 
 peers_steps : (es : List Step) (n : Network) → peers_of (after_steps es n).links ≡ peers_of n.links
 peers_steps [] n = refl
@@ -277,6 +286,14 @@ does_step law s i l step n sound own = one step
     by_sent k now None there = inl refl
     by_sent k now (Some d) there = by_peer k now d there (same_peer d.peer p) refl
 
+    by_renewal : (k first span now origin : ℕ) (o : Option PeerLink) → Does p (Renew k first span now origin) n (after_renewal k first span now origin o n)
+    by_renewal k first span now origin None = inl refl
+    by_renewal k first span now origin (Some z) = by_test (is_above first z.link.next)
+      where
+        by_test : (b : Bool) → Does p (Renew k first span now origin) n (cond b (record n { links = with_link k z (renewed_link first span now z.link) n.links; renewed = (record { peer = z.peer; zero = origin }) ∷ n.renewed }) n)
+        by_test true = inl refl
+        by_test false = inl refl
+
     one : (step : Step) → Does p step n (after_step step n)
     one (Submit k r now) = by_submit k r now (slice_get n.links k)
     one (Due k now) = by_due k now (slice_get n.links k)
@@ -286,6 +303,7 @@ does_step law s i l step n sound own = one step
     one (steps.Tick now) = inl (executions_are n.sizes p n.tree (Tick now ∷ n.events) ∙ sym (executions_are n.sizes p n.tree n.events))
     one (steps.Local ono change) = inl (executions_are n.sizes p n.tree (Local ono change ∷ n.events) ∙ sym (executions_are n.sizes p n.tree n.events))
     one (Take k h) = by_take k h (slice_get n.links k)
+    one (Renew k first span now origin) = by_renewal k first span now origin (slice_get n.links k)
 
 -- what is among the executions after steps was before them, or happens in one of them
 executed_in_steps : WrittenIsReadBack → (s : Peer → ℕ) (i : ℕ) (p : Peer) (es : List Step) (n : Network) → AllByRecursion StepFits es → Sound s n →

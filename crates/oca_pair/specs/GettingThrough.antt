@@ -1,7 +1,7 @@
 -- THE LAW OF GETTING THROUGH (profile), over every schedule: a link that is asked often enough gives each command out
 -- to the device until it has the command's answer or is lost; and one copy that arrives, and the one response that
 -- comes back, are enough.
-use Rattle.std.specs.Prelude.{◌≡◌, ◌⊎◌, ℕ, ◌+◌, ◌*◌, ◌==◌, ◌<◌, ◌≤◌, max, true, if◌then◌else◌, List, [], ◌∷◌, ◌++◌}
+use Rattle.std.specs.Prelude.{◌≡◌, ◌⊎◌, ℕ, ◌+◌, ◌*◌, ◌==◌, ◌<◌, ◌≤◌, max, true, false, if◌then◌else◌, List, [], ◌∷◌, ◌++◌}
 use Rattle.std.specs.Prelude.{Option, Some, None}
 use Rattle.std.specs.List.{slice_get, AllByRecursion, Contains}
 use Rattle.oca_types.specs.declared.words.Peer.{Peer}
@@ -18,12 +18,12 @@ use Rattle.oca_control.specs.Histories.{Call, Submits, SendsDue, Receives, Takes
 use Rattle.oca_control.specs.Answering.{IsAskedEvery, IsSentInTime}
 use Rattle.oca_pair.specs.declared.outcome.Outcome.TheVariants as outcomes
 use Rattle.oca_pair.specs.declared.start.Start.{Start}
-use Rattle.oca_pair.specs.Networks.{Network, PeerLink, SentDatagram, Setup, opening}
-use Rattle.oca_pair.specs.Steps.{Step, Submit, Due, ToDevice, ToLink, Other, Tick, Local, Take, content_read}
+use Rattle.oca_pair.specs.Networks.{Network, PeerLink, SentDatagram, Setup, opening, is_renewed}
+use Rattle.oca_pair.specs.Steps.{Step, Submit, Due, ToDevice, ToLink, Other, Tick, Local, Take, Renew, content_read}
 use Rattle.oca_pair.specs.Steps.{after_step}
 use Rattle.oca_pair.specs.Steps.{after_steps, outcome_of_step}
 use Rattle.oca_pair.specs.Premises.{are_apart, StepFits, Fit, KeepsItsSession, FindsRoom}
-use Rattle.oca_pair.specs.RoundTrip.{GotItsAnswer, asked, ComesBack}
+use Rattle.oca_pair.specs.RoundTrip.{GotItsAnswer, asked, meanwhile, ComesBack}
 
 -- ---- THE CALLS OF A LINK in a schedule: what its steps make of the link of a number. As in a history the latest
 -- stands first.
@@ -61,6 +61,7 @@ call_in i (ToDevice k now) n = []
 call_in i (Other from bytes now) n = []
 call_in i (Tick now) n = []
 call_in i (Local ono change) n = []
+call_in i (Renew link first span now origin) n = []
 
 abbrev pub calls_in : ℕ → List Step → Network → List Call
 calls_in i [] n = []
@@ -91,7 +92,7 @@ pub record WaitsInTime (ms since i : ℕ) (c : CommandFields) (p : Peer) (calls 
   -- device then sends, whenever that is delivered, are enough: the round trip of `ComesBack`.
   pub enough : (k now : ℕ) (between : List Step) (later : ℕ) →
       slice_get n.to_device k ≡ Some (copy_of p c) → FindsRoom p now n → KeepsItsSession p (asked k now n) →
-      AllByRecursion StepFits between →
+      AllByRecursion StepFits between → is_renewed p (meanwhile k now between n) ≡ false →
       ComesBack k now between later i c p n
 
 -- The link got the command's answer, or is lost, or the command is waiting, and was sent in time.
@@ -100,7 +101,7 @@ GetsThrough ms since i c p calls n = GotItsAnswer i c p n ⊎ (IsLost i n ⊎ Wa
 
 -- Over every schedule, for all sizes and each link where the window is at least twice the link's span less one: so it
 -- is of each command that the link of a start submitted in a step, where from this step on the link is asked every so
--- many ms.
+-- many ms, and it was never renewed.
 abbrev pub EveryCommandGetsThrough : Type 0
 EveryCommandGetsThrough =
     (w : DeviceSizes) (s : Setup) (tree : List Object) (starts : List Start) (before later : List Step) (i : ℕ)
@@ -112,5 +113,5 @@ EveryCommandGetsThrough =
     0 < s.span x.peer → 2 * s.span x.peer ≤ w.window + 1 → are_apart s.address starts ≡ true →
     Fit starts (before ++ Submit i request now ∷ later) → slice_get starts i ≡ Some x →
     outcome_of_step (Submit i request now) old ≡ outcomes.Submitted h ∷ [] →
-    IsAskedEvery ms since (calls_in i later new) →
+    is_renewed x.peer (after_steps later new) ≡ false → IsAskedEvery ms since (calls_in i later new) →
     GetsThrough ms since i (command_under h.0 request) x.peer (calls_in i later new) (after_steps later new)

@@ -12,9 +12,9 @@ use Rattle.oca_control.specs.Answers.{AnswerFields}
 use Rattle.oca_control.specs.Untaken.{answer_under}
 use Rattle.oca_control.specs.Links.{present_moment, late_at, decision}
 use Rattle.oca_pair.specs.declared.start.Start.{Start}
-use Rattle.oca_pair.specs.Networks.{Network, PeerLink, SentDatagram, Setup, opening}
-use Rattle.oca_pair.specs.Steps.{Step, Submit, Due, ToDevice, ToLink, Other, Tick, Local, Take, given_by, after_step}
-use Rattle.oca_pair.specs.Steps.{after_steps}
+use Rattle.oca_pair.specs.Networks.{Network, PeerLink, SentDatagram, Setup, opening, zero_of}
+use Rattle.oca_pair.specs.Steps.{Step, Submit, Due, ToDevice, ToLink, Other, Tick, Local, Take, Renew, given_by}
+use Rattle.oca_pair.specs.Steps.{after_step, after_steps}
 use Rattle.oca_pair.specs.Happenings.{happenings}
 use Rattle.oca_pair.specs.Premises.{are_apart, Fit}
 use Rattle.oca_pair.specs.Laws.{Execution, executions_for, executions_under, answer_of, WasSubmitted, WasTaken}
@@ -22,29 +22,30 @@ use Rattle.oca_pair.specs.GettingThrough.{copy_of}
 
 -- ---- when datagrams leave, and when they arrive
 
--- A departure: a datagram that left for the device, and what its link's clock then said, in ms. Departures stand in the
--- order of `to_device`.
+-- A departure: a datagram that left for the device, and when, by the common clock, in ms. Departures stand in the order of
+-- `to_device`.
 pub record Departure : Type 0 where
   pub datagram : SentDatagram
   pub at : ℕ
 
 -- what leaves a link that is asked at this moment what is due
-abbrev pub leaving : ℕ → Option PeerLink → List Departure
-leaving now None = []
-leaving now (Some l) =
-    map (λ bytes. record { datagram = record { peer = l.peer; bytes = bytes }; at = present_moment now l.link })
-    (given_by (decision now l.link))
+abbrev pub leaving : Setup → Network → ℕ → Option PeerLink → List Departure
+leaving s n now None = []
+leaving s n now (Some l) =
+    let at : ℕ = zero_of s l.peer n + present_moment now l.link in
+    map (λ bytes. record { datagram = record { peer = l.peer; bytes = bytes }; at = at }) (given_by (decision now l.link))
 
 -- what leaves with a step
-abbrev pub departures_in : Step → Network → List Departure
-departures_in (Due link now) n = leaving now (slice_get n.links link)
-departures_in (Submit link request now) n = []
-departures_in (ToDevice k now) n = []
-departures_in (ToLink k now) n = []
-departures_in (Other from bytes now) n = []
-departures_in (Tick now) n = []
-departures_in (Local ono change) n = []
-departures_in (Take link handle) n = []
+abbrev pub departures_in : Setup → Step → Network → List Departure
+departures_in s (Due link now) n = leaving s n now (slice_get n.links link)
+departures_in s (Submit link request now) n = []
+departures_in s (ToDevice k now) n = []
+departures_in s (ToLink k now) n = []
+departures_in s (Other from bytes now) n = []
+departures_in s (Tick now) n = []
+departures_in s (Local ono change) n = []
+departures_in s (Take link handle) n = []
+departures_in s (Renew link first span now origin) n = []
 
 -- the device's clock when something comes to it at this moment
 abbrev pub clock_at : ℕ → Network → ℕ
@@ -69,14 +70,14 @@ StepIsInTime s i left (Due link now) n =
 StepIsInTime s i left (ToDevice k now) n =
     (l : PeerLink) (x : Departure) → slice_get n.links i ≡ Some l → slice_get left k ≡ Some x →
     x.datagram.peer ≡ l.peer →
-    ArrivesInTime (s.zero l.peer + x.at) (s.device_zero + clock_at now n)
+    ArrivesInTime x.at (s.device_zero + clock_at now n)
 StepIsInTime s i left _ n = Unit {0}
 
 -- all steps from a network on
 abbrev pub AreInTime : Setup → ℕ → List Departure → List Step → Network → Type 0
 AreInTime s i left [] n = Unit {0}
 AreInTime s i left (step ∷ steps) n =
-    StepIsInTime s i left step n × AreInTime s i (left ++ departures_in step n) steps (after_step step n)
+    StepIsInTime s i left step n × AreInTime s i (left ++ departures_in s step n) steps (after_step step n)
 
 -- ---- the law
 

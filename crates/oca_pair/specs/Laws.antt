@@ -1,6 +1,6 @@
 -- THE LAWS OF A NETWORK (profile), over every schedule.
-use Rattle.std.specs.Prelude.{◌≡◌, ◌==◌, ◌⊎◌, ℕ, ◌+◌, ◌*◌, ◌<◌, ◌≤◌, true, if◌then◌else◌, List, [], ◌∷◌, ◌++◌, map}
-use Rattle.std.specs.Prelude.{filter, Some}
+use Rattle.std.specs.Prelude.{◌≡◌, ◌==◌, ◌⊎◌, ℕ, ◌+◌, ◌*◌, ◌<◌, ◌≤◌, true, false, if◌then◌else◌, List, [], ◌∷◌, ◌++◌}
+use Rattle.std.specs.Prelude.{map, filter, Some}
 use Rattle.std.specs.List.{slice_get, Contains, IsDistinct}
 use Rattle.oca_types.specs.declared.words.Peer.{Peer}
 use Rattle.oca_types.specs.Replies.{Reply}
@@ -25,6 +25,7 @@ use Rattle.oca_control.specs.Untaken.{Untaken, answer_under}
 use Rattle.oca_pair.specs.declared.outcome.Outcome.TheVariants as outcomes
 use Rattle.oca_pair.specs.declared.start.Start.{Start}
 use Rattle.oca_pair.specs.Networks.{Network, PeerLink, SentDatagram, SubmittedCommand, TakenAnswer, Setup, opening}
+use Rattle.oca_pair.specs.Networks.{is_renewed}
 use Rattle.oca_pair.specs.Steps.{Step, ToDevice, after_step, after_steps, outcome_of_step}
 use Rattle.oca_pair.specs.Happenings.{happenings}
 use Rattle.oca_pair.specs.Premises.{are_apart, Fit, KeepsItsSession, FindsRoom}
@@ -97,14 +98,22 @@ pub record IsAnswerOfItsCommand (p : Peer) (h : ℕ) (answer : AnswerFields) (n 
 abbrev pub handles_of : Peer → List SubmittedCommand → List ℕ
 handles_of p submitted = map (λ x. x.command.handle) (filter (λ x. same_peer x.peer p) submitted)
 
--- each is the one before it plus one, so that no two are equal
+-- so is each number to the next one
+abbrev pub EachToNext : (ℕ → ℕ → Type 0) → List ℕ → Type 0
+EachToNext Is [] = Unit {0}
+EachToNext Is (h ∷ []) = Unit {0}
+EachToNext Is (h ∷ k ∷ more) = Is h k × EachToNext Is (k ∷ more)
+
+-- each is above the one before it, so that no two are equal
+abbrev pub AreRising : List ℕ → Type 0
+AreRising handles = EachToNext (λ h k. h < k) handles
+
+-- each is the one before it plus one
 abbrev pub AreConsecutive : List ℕ → Type 0
-AreConsecutive [] = Unit {0}
-AreConsecutive (h ∷ []) = Unit {0}
-AreConsecutive (h ∷ k ∷ more) = (k ≡ h + 1) × AreConsecutive (k ∷ more)
+AreConsecutive handles = EachToNext (λ h k. k ≡ h + 1) handles
 
 -- Of each answer that a link holds, and of each that was taken from it; and each command that it submitted has a handle
--- of its own, the one before it plus one.
+-- of its own, above the one before it: where the link was never renewed, the one before it plus one.
 pub record AnswersItsCommands (n : Network) : Type 0 where
   pub held : (i : ℕ) (l : PeerLink) (h : ℕ) (answer : AnswerFields) → slice_get n.links i ≡ Some l →
       answer_under h l.link.untaken ≡ Some answer →
@@ -112,7 +121,9 @@ pub record AnswersItsCommands (n : Network) : Type 0 where
   pub was_taken : (i : ℕ) (l : PeerLink) (h : ℕ) (answer : AnswerFields) → slice_get n.links i ≡ Some l →
       WasTaken l.peer h answer n.taken →
       IsAnswerOfItsCommand l.peer h answer n
-  pub handles : (i : ℕ) (l : PeerLink) → slice_get n.links i ≡ Some l → AreConsecutive (handles_of l.peer n.submitted)
+  pub rising : (i : ℕ) (l : PeerLink) → slice_get n.links i ≡ Some l → AreRising (handles_of l.peer n.submitted)
+  pub handles : (i : ℕ) (l : PeerLink) → slice_get n.links i ≡ Some l → is_renewed l.peer n ≡ false →
+      AreConsecutive (handles_of l.peer n.submitted)
 
 -- Over every schedule, for all sizes:
 abbrev pub EveryScheduleAnswersItsCommands : Type 0
@@ -161,12 +172,14 @@ AnswersUntaken p n = (k now i : ℕ) (d : SentDatagram) (l : PeerLink) (c : Comm
     slice_get n.to_device k ≡ Some d → slice_get n.links i ≡ Some l → l.peer ≡ p → CarriesUntaken d l c →
     FindsRoom d.peer now n → KeepsItsSession d.peer (after_step (ToDevice k now) n) → IsAnswered k now n d c
 
--- Over every schedule, for all sizes and each link where the window is at least twice the link's span less one:
+-- Over every schedule, for all sizes and each link that was never renewed, where the window is at least twice the link's
+-- span less one:
 abbrev pub NoUntakenCommandIsTooOld : Type 0
 NoUntakenCommandIsTooOld =
     (w : DeviceSizes) (s : Setup) (tree : List Object) (starts : List Start) (steps : List Step) (p : Peer) →
+    let n : Network = after_steps steps (opening w s tree starts) in
     0 < s.span p → 2 * s.span p ≤ w.window + 1 → are_apart s.address starts ≡ true → Fit starts steps →
-    AnswersUntaken p (after_steps steps (opening w s tree starts))
+    is_renewed p n ≡ false → AnswersUntaken p n
 
 -- No command of a link is executed twice, where its peer kept its session.
 abbrev pub ExecutesOnce : Network → Type 0

@@ -2,9 +2,10 @@
 -- sent between them. No list of a network ever loses a member, so a datagram can be delivered late, again, in any
 -- order, or never. Of events the latest stands first; of datagrams, submitted commands and taken answers the latest
 -- stands last.
-use Rattle.std.specs.Prelude.{ℕ, List, [], map}
+use Rattle.std.specs.Prelude.{ℕ, Bool, if◌then◌else◌, List, [], ◌∷◌, map}
+use Rattle.std.specs.List.{list_any}
 use Rattle.oca_types.specs.declared.words.Peer.{Peer}
-use Rattle.oca_types.specs.Peers.{CommandFields}
+use Rattle.oca_types.specs.Peers.{CommandFields, same_peer}
 use Rattle.oca_types.specs.Sizes.{DeviceSizes}
 use Rattle.oca_tree.specs.declared.object.Object.{Object}
 use Rattle.oca_device.specs.Events.{Event}
@@ -43,8 +44,13 @@ pub record TakenAnswer : Type 0 where
   pub handle : ℕ
   pub answer : AnswerFields
 
+-- a new link in the place of another one: its peer, and the moment of the common clock at which its clock showed 0
+pub record Renewal : Type 0 where
+  pub peer : Peer
+  pub zero : ℕ
+
 -- The device's address, its sizes, its objects at first and what happened to it; the links; the datagrams that were
--- sent to the device and to links; and what was submitted and taken.
+-- sent to the device and to links; what was submitted and taken; and the renewals of links, the latest first.
 pub record Network : Type 0 where
   pub address : Peer
   pub sizes : DeviceSizes
@@ -55,6 +61,19 @@ pub record Network : Type 0 where
   pub to_links : List SentDatagram
   pub submitted : List SubmittedCommand
   pub taken : List TakenAnswer
+  pub renewed : List Renewal
+
+-- the link of this peer was renewed
+abbrev pub is_renewed : Peer → Network → Bool
+is_renewed p n = list_any (λ x. same_peer x.peer p) n.renewed
+
+-- when the clock of the peer's link showed 0, by the common clock: as in the latest renewal of the link, or as set up
+abbrev pub zero_after : List Renewal → Peer → ℕ → ℕ
+zero_after [] p first = first
+zero_after (x ∷ more) p first = if same_peer x.peer p then x.zero else zero_after more p first
+
+abbrev pub zero_of : Setup → Peer → Network → ℕ
+zero_of s p n = zero_after n.renewed p (s.zero p)
 
 -- a new link to the device, with the span and the moment of its peer
 abbrev pub started : Setup → Start → PeerLink
@@ -73,6 +92,7 @@ opening sizes s tree starts =
       to_links = [];
       submitted = [];
       taken = [];
+      renewed = [];
     }
 
 -- ---- the setup of `run_pair`: its device is at 127.0.0.1:65000, each link has this span and is made at moment 0, and

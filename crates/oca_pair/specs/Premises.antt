@@ -10,7 +10,7 @@ use Rattle.oca_device.specs.LawByEvents.{session, last_moment, has_room}
 use Rattle.oca_control.specs.Links.{Request}
 use Rattle.oca_pair.specs.declared.start.Start.{Start}
 use Rattle.oca_pair.specs.Networks.{Network}
-use Rattle.oca_pair.specs.Steps.{Step, Submit}
+use Rattle.oca_pair.specs.Steps.{Step, Submit, Renew}
 use Rattle.oca_pair.specs.Happenings.{happenings}
 
 -- ---- of starts: no two have one peer, and none has the device's address
@@ -31,6 +31,7 @@ pub record RequestFits (r : Request) : Type 0 where
 
 abbrev pub StepFits : Step → Type 0
 StepFits (Submit link request now) = RequestFits request
+StepFits (Renew link first span now origin) = first < 2 ^ 32
 StepFits _ = Unit {0}
 
 abbrev pub StartFits : Start → Type 0

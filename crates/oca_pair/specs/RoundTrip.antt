@@ -1,6 +1,6 @@
 -- THE LAW OF THE ROUND TRIP (profile), over every schedule: a command that a link holds untaken comes to the device,
 -- what the device sends comes to the link, and the link has the command's answer, whatever happens in between.
-use Rattle.std.specs.Prelude.{◌≡◌, ◌⊎◌, ℕ, ◌+◌, ◌*◌, ◌<◌, ◌≤◌, true, List, [], ◌∷◌, ◌++◌, length, Some}
+use Rattle.std.specs.Prelude.{◌≡◌, ◌⊎◌, ℕ, ◌+◌, ◌*◌, ◌<◌, ◌≤◌, true, false, List, [], ◌∷◌, ◌++◌, length, Some}
 use Rattle.std.specs.List.{slice_get, AllByRecursion, Contains}
 use Rattle.oca_types.specs.declared.words.Peer.{Peer}
 use Rattle.oca_types.specs.Replies.{Reply}
@@ -13,7 +13,7 @@ use Rattle.oca_device.specs.Answers.{response}
 use Rattle.oca_control.specs.Answers.{AnswerFields}
 use Rattle.oca_control.specs.Untaken.{Untaken, answer_under}
 use Rattle.oca_pair.specs.declared.start.Start.{Start}
-use Rattle.oca_pair.specs.Networks.{Network, PeerLink, SentDatagram, Setup, opening}
+use Rattle.oca_pair.specs.Networks.{Network, PeerLink, SentDatagram, Setup, opening, is_renewed}
 use Rattle.oca_pair.specs.Steps.{Step, ToDevice, ToLink, after_step, after_steps}
 use Rattle.oca_pair.specs.Premises.{are_apart, StepFits, Fit, KeepsItsSession, FindsRoom}
 use Rattle.oca_pair.specs.Laws.{answer_of, IsAnswerOfItsCommand, WasTaken, CarriesUntaken}
@@ -84,11 +84,12 @@ pub record ComesBack (k now : ℕ) (between : List Step) (later i : ℕ) (c : Co
       answer ≡ answer_of sent_back.reply
 
 -- Each delivery of a datagram that carries an untaken command of the link of this peer comes back, under the premises
--- of `AnswersUntaken`. Of what happens after that delivery nothing is asked.
+-- of `AnswersUntaken`. Of what happens after that delivery nothing is asked, but that the link is not renewed.
 abbrev pub RoundTrips : Peer → Network → Type 0
 RoundTrips p n = (k now i : ℕ) (d : SentDatagram) (l : PeerLink) (c : CommandFields) (between : List Step) (later : ℕ) →
     slice_get n.to_device k ≡ Some d → slice_get n.links i ≡ Some l → l.peer ≡ p → CarriesUntaken d l c →
     FindsRoom d.peer now n → KeepsItsSession d.peer (asked k now n) → AllByRecursion StepFits between →
+    is_renewed p (meanwhile k now between n) ≡ false →
     ComesBack k now between later i c l.peer n
 
 -- Over every schedule, for all sizes and each link where the window is at least twice the link's span less one:

@@ -1,6 +1,6 @@
 -- THE STEPS OF A NETWORK (profile). A schedule is any list of steps, of which the first comes first.
-use Rattle.std.specs.Prelude.{ℕ, ◌+◌, Bool, true, not, if◌then◌else◌, List, [], ◌∷◌, ◌++◌, map, length, Option, Some}
-use Rattle.std.specs.Prelude.{None, is_some, Result, Ok, Err}
+use Rattle.std.specs.Prelude.{ℕ, ◌+◌, Bool, true, false, not, if◌then◌else◌, nat_le, List, [], ◌∷◌, ◌++◌, map}
+use Rattle.std.specs.Prelude.{length, Option, Some, None, is_some, Result, Ok, Err}
 use Rattle.std.specs.List.{list_any, slice_get, slice_set}
 use Rattle.oca_types.specs.declared.words.Peer.{Peer}
 use Rattle.oca_types.specs.declared.words.Handle.{Handle}
@@ -21,7 +21,7 @@ use Rattle.oca_tree.specs.LocalChanges.{LocalChange, ToValue, ToLabel, ToEnabled
 use Rattle.oca_control.specs.declared.fault.ControlFault.{ControlFault}
 use Rattle.oca_control.specs.Answers.{AnswerFields}
 use Rattle.oca_control.specs.Untaken.{answer_under}
-use Rattle.oca_control.specs.Links.{LinkState, Request, command_under, submission, after_submission, Decision}
+use Rattle.oca_control.specs.Links.{LinkState, Request, new_link, command_under, submission, after_submission, Decision}
 use Rattle.oca_control.specs.Links.{GivesCommand, GivesKeepAlive, GivesNothing, IsLost, decision, due_bytes, gone_on}
 use Rattle.oca_control.specs.Links.{reception, received, taken}
 use Rattle.oca_pair.specs.declared.outcome.Outcome.{Outcome}
@@ -46,6 +46,9 @@ pub data Step : Type 0 where
   Local : (ono : ℕ) (change : LocalChange) → Step
   -- the answer to a command is asked of a link
   Take : (link : ℕ) (handle : ℕ) → Step
+  -- a link is replaced by a new one of the same peer: with this first handle and span, made at this moment of its own
+  -- clock, which showed 0 at the moment `origin` of the common clock
+  Renew : (link first span now origin : ℕ) → Step
 
 -- the peer is that of a link
 abbrev pub has_link : Peer → List PeerLink → Bool
@@ -61,6 +64,7 @@ is_there (Other from bytes now) n = not (has_link from n.links)
 is_there (Tick now) n = true
 is_there (Local ono change) n = true
 is_there (Take link handle) n = is_some (slice_get n.links link)
+is_there (Renew link first span now origin) n = is_some (slice_get n.links link)
 
 -- the datagrams of a peer with these bytes
 abbrev pub sendings_in : Peer → List (List ℕ) → List SentDatagram
@@ -157,6 +161,23 @@ take_outcome (Some answer) =
     outcomes.Answer (record { status = answer.status; count = answer.count; params = record { items = answer.params } })
 take_outcome None = outcomes.NoAnswer
 
+-- ---- RENEW: where the first handle is above all that the link gave, there is a new link in its place, which holds
+-- nothing; what was sent for the old one may still arrive. Else nothing is done.
+abbrev pub is_above : ℕ → Option ℕ → Bool
+is_above first None = false
+is_above first (Some next) = nat_le next first
+
+abbrev pub renewed_link : ℕ → ℕ → ℕ → LinkState → LinkState
+renewed_link first span now l = new_link l.device first now span
+
+abbrev pub after_renewal : ℕ → ℕ → ℕ → ℕ → ℕ → Option PeerLink → Network → Network
+after_renewal i first span now origin None n = n
+after_renewal i first span now origin (Some l) n =
+    if is_above first l.link.next then record n {
+      links = with_link i l (renewed_link first span now l.link) n.links;
+      renewed = (record { peer = l.peer; zero = origin }) ∷ n.renewed;
+    } else n
+
 -- ---- LOCAL: what the device says of a change at its own front
 abbrev pub set_outcome : Option SetFault → Outcome
 set_outcome None = outcomes.Set
@@ -187,6 +208,7 @@ after_step (Other from bytes now) n =
 after_step (Tick now) n = record n { events = event.Tick now ∷ n.events }
 after_step (Local ono change) n = record n { events = event.Local ono change ∷ n.events }
 after_step (Take link handle) n = after_take link handle (slice_get n.links link) n
+after_step (Renew link first span now origin) n = after_renewal link first span now origin (slice_get n.links link) n
 
 -- THE NETWORK AFTER A SCHEDULE.
 abbrev pub after_steps : List Step → Network → Network
@@ -219,6 +241,7 @@ outcome_of_step (Tick now) n = outcomes.Ticked ∷ []
 outcome_of_step (Local ono change) n = local_outcome (state_after n.sizes n.tree n.events).tree ono change ∷ []
 outcome_of_step (Take link handle) n =
     on_link (λ l. take_outcome (answer_under handle l.link.untaken)) (slice_get n.links link)
+outcome_of_step (Renew link first span now origin) n = on_link (λ l. outcomes.Nothing) (slice_get n.links link)
 
 -- THE OUTCOMES OF A SCHEDULE, in order.
 abbrev pub outcomes_of : List Step → Network → List Outcome

@@ -1,7 +1,11 @@
 //! The laws of networks. The functions run nothing: their contracts are the laws.
 //!
-//! A schedule begins with a device that has heard nothing, and with links that gave nothing out. So the laws speak of
-//! links whose handles no earlier link used from their address and port, as long as the device remembers that one.
+//! A schedule begins with a device that has heard nothing, and with links that gave nothing out. A step of a schedule can
+//! *renew* a link: a new link with the same address and port takes its place, with any span and a clock of its own. This
+//! happens if a panel goes on with a new link, or if its program is started again. The first handle of the new link must
+//! be above all handles that the old link gave. The laws do not speak of a link with other handles that another link used
+//! before from its address and port, as long as the device remembers that one. [`Step`](crate::Step) does not have this
+//! step, since [`run_pair`](crate::run_pair) renews no link.
 ghost use Rattle.oca_pair.specs.Happenings.{TheseHappened};
 ghost use Rattle.oca_pair.specs.Premises.{FewFindRoom};
 ghost use Rattle.oca_pair.specs.Laws.{EveryScheduleAnswersItsCommands};
@@ -35,7 +39,9 @@ use oca_tree::law_of_typed_requests;
 /// - The answer is the reply of this execution.
 /// - If the peer kept its session, this is the only execution for the peer under this handle.
 ///
-/// The handles of the commands that a link submitted rise by one.
+/// The handle of each command that a link submitted is above the one before it, and by one if the link was never
+/// renewed. A link is *renewed* if a new link of the same peer takes its place, with a first handle above all handles
+/// that the old link gave.
 pub fn law_answers()
     ensures answers { EveryScheduleAnswersItsCommands }
     ensures happened { TheseHappened }
@@ -56,7 +62,7 @@ pub fn law_answers()
 ///
 /// The first law has these premises:
 /// - The link's span `s` ([`Span`](oca_types::Span)) is at least 1. The reply window has `w` commands
-///   ([`Window`](oca_types::Window)), with `2 * s <= w + 1`.
+///   ([`Window`](oca_types::Window)), with `2 * s <= w + 1`. The link was never renewed: no new link took its place.
 /// - A datagram with a command that is still in flight at its link is delivered to the device.
 /// - The datagram finds room, and the link's peer kept its session, this datagram counted.
 ///
@@ -87,11 +93,12 @@ pub fn law_never_old()
 /// The premises:
 /// - The link's span `s` ([`Span`](oca_types::Span)) is at least 1. The reply window has `w` commands
 ///   ([`Window`](oca_types::Window)), with `2 * s <= w + 1`.
+/// - No new link takes the link's place: it is never renewed.
 /// - A datagram with a command that is still in flight at its link is delivered to the device.
 /// - The datagram finds room, and the link's peer kept its session, this datagram counted.
 ///
-/// The device then sends one datagram to the link. Any steps may follow until this datagram is delivered to the link:
-/// no further premise is needed. The conclusions:
+/// The device then sends one datagram to the link. Any other steps may follow until this datagram is delivered to the
+/// link: no further premise is needed. The conclusions:
 /// - If the command was still in flight just before that delivery, the link then has the command's answer.
 /// - Otherwise the answer was taken earlier.
 /// - The answer is the reply of an execution of that very command for the link's peer.
@@ -112,6 +119,7 @@ pub fn law_round_trip()
 /// The premises:
 /// - The link's span `s` ([`Span`](oca_types::Span)) is at least 1. The reply window has `w` commands
 ///   ([`Window`](oca_types::Window)), with `2 * s <= w + 1`.
+/// - The link is never renewed: no new link takes its place.
 /// - The link is asked at least every `ms` milliseconds from the submit of the command on, each time until `due`
 ///   returns no command.
 ///
@@ -131,9 +139,11 @@ pub fn law_getting_through()
 }
 
 /// Laws: over every schedule, no command of a link is executed twice if the link and the network are in time. The laws
-/// hold for all sizes, whatever sessions the device forgot meanwhile, and whatever happened to the other links. A
-/// *schedule* is a list of steps of one device and some links with different addresses and ports
-/// ([`Step`](crate::Step)). The function does nothing at run time.
+/// hold for all sizes, whatever sessions the device forgot meanwhile, and whatever happened to the other links. They
+/// hold too if the link is *renewed*, once or many times: a new link with the same address and port takes its place, with
+/// any span and a clock of its own, and with a first handle above all handles that the old link gave. A *schedule* is a
+/// list of steps of one device and some links with different addresses and ports ([`Step`](crate::Step)). The function
+/// does nothing at run time.
 ///
 /// The premises, which are what *in time* means:
 /// - The link is never asked what is due while it is late. It is *asked* if its [`due`](oca_control::Link::due) is

@@ -11,11 +11,13 @@ use Rattle.oca_control.specs.Untaken.{answer_under}
 use Rattle.oca_control.specs.Links.{LinkState, Request, submission, submitted, gone_on, received, taken}
 use Rattle.oca_pair.specs.Networks.{Network, PeerLink, SentDatagram, TakenAnswer}
 use Rattle.oca_pair.specs.declared.outcome.Outcome.TheVariants as outcomes
-use Rattle.oca_pair.specs.Steps.{Step, Submit, Due, ToDevice, ToLink, Other, Take, has_link, content_read, hears_datagram, after_submit, after_due_step, after_delivery, after_reception, taken_by, after_take, after_step, after_steps, on_link, submit_outcome, outcome_of_step}
+use Rattle.oca_pair.specs.Steps.{Step, Submit, Due, ToDevice, ToLink, Other, Take, has_link, content_read, hears_datagram, after_submit, after_due_step, after_delivery, after_reception, taken_by, after_take, after_step, after_steps, on_link, submit_outcome, outcome_of_step, Renew, with_link, is_above, renewed_link, after_renewal}
 use Rattle.oca_pair.specs.Steps as steps
 use Rattle.oca_pair.proofs.Lists.{same_self, IsIn, in_more, in_last, each_at}
 use Rattle.oca_pair.proofs.RoundTrip.{AreToDevice, to_device_step}
 use Rattle.oca_device.specs.Events.{Datagram}
+use Rattle.oca_panel.specs.Panels.{PanelState}
+use Rattle.oca_promise.specs.Renewals.{EveryRenewalIsAStep}
 use Rattle.oca_promise.specs.Doings.{Doing, Submits, Sends, Hears, Takes, done, all_done, IsStepFor, GoesOnWith, Plays}
 
 -- the link of this number is the peer's, and in this state
@@ -49,6 +51,20 @@ take_there : (i : ℕ) (p : Peer) (l : LinkState) (h : ℕ) (n : Network) → Is
 take_there i p l h n e =
     let x : PeerLink = record { peer = p; link = l } in
     ap (λ (o : Option PeerLink). slice_get (after_take i h o n).links i) e ∙ set_there n.links i x (record { peer = p; link = taken h l }) e
+
+pub renew_there : (i : ℕ) (p : Peer) (l : LinkState) (first span now origin : ℕ) (n : Network) → is_above first l.next ≡ true → IsLinkOf i p l n → IsLinkOf i p (renewed_link first span now l) (after_step (Renew i first span now origin) n)
+renew_there i p l first span now origin n above e =
+    let x : PeerLink = record { peer = p; link = l } in
+    let m : Network = record n { links = with_link i x (renewed_link first span now l) n.links; renewed = (record { peer = p; zero = origin }) ∷ n.renewed } in
+    ap (λ (o : Option PeerLink). slice_get (after_renewal i first span now origin o n).links i) e
+    ∙ ap (λ (b : Bool). let y : Network = if b then m else n in slice_get y.links i) above
+    ∙ set_there n.links i x (record { peer = p; link = renewed_link first span now l }) e
+
+-- so a renewed panel's link is that of its number
+pub renewals_are_steps : EveryRenewalIsAStep
+renewals_are_steps first span old new renewed n i p origin above e =
+    renew_there i p old.link first span renewed.now origin n above e
+    ∙ ap (λ (s : PanelState). let y : PeerLink = record { peer = p; link = s.link } in Some y) (sym renewed.panel)
 
 heard_there : (from p : Peer) (bytes : List ℕ) (now : ℕ) (l : LinkState) → hears_datagram from (record { peer = p; bytes = bytes }) now (record { peer = p; link = l }) ≡ record { peer = p; link = received from (content_read bytes) now l }
 heard_there from p bytes now l = by_test (same_peer p p) (same_self p)
@@ -154,6 +170,14 @@ taken_stays p h a step n is = one step
     by_take i k None = is
     by_take i k (Some l) = in_more _ n.taken (taken_by l.peer k (answer_under k l.link.untaken)) is
 
+    by_renewal : (i first span now origin : ℕ) (o : Option PeerLink) → HasTaken p h a (after_renewal i first span now origin o n)
+    by_renewal i first span now origin None = is
+    by_renewal i first span now origin (Some l) = by_test (is_above first l.link.next)
+      where
+        by_test : (b : Bool) → HasTaken p h a (let m : Network = if b then record n { links = with_link i l (renewed_link first span now l.link) n.links; renewed = (record { peer = l.peer; zero = origin }) ∷ n.renewed } else n in m)
+        by_test true = is
+        by_test false = is
+
     one : (step : Step) → HasTaken p h a (after_step step n)
     one (Submit i r now) = by_submit i r now (slice_get n.links i)
     one (Due i now) = by_due i now (slice_get n.links i)
@@ -163,6 +187,7 @@ taken_stays p h a step n is = one step
     one (steps.Tick now) = is
     one (steps.Local ono change) = is
     one (Take i k) = by_take i k (slice_get n.links i)
+    one (Renew i first span now origin) = by_renewal i first span now origin (slice_get n.links i)
 
 taken_stays_on : (p : Peer) (h : ℕ) (a : AnswerFields) (steps : List Step) (n : Network) → HasTaken p h a n → HasTaken p h a (after_steps steps n)
 taken_stays_on p h a [] n is = is

@@ -376,7 +376,7 @@ fit_first starts xs ys fit = (fit.0, each xs fit.1)
 
 in_time_first : (s : Setup) (i : ℕ) (left : List Departure) (xs ys : List Step) (n : Network) → AreInTime s i left (xs ++ ys) n → AreInTime s i left xs n
 in_time_first s i left [] ys n time = tt
-in_time_first s i left (x ∷ xs) ys n time = (time.0, in_time_first s i (left ++ departures_in x n) xs ys (after_step x n) time.1)
+in_time_first s i left (x ∷ xs) ys n time = (time.0, in_time_first s i (left ++ departures_in s x n) xs ys (after_step x n) time.1)
 
 -- what was read in the steps behind a submit was read in all of the steps
 read_in_all : (target : ℕ) (reading : Reading) (i now : ℕ) (request : RequestFields) (first later steps : List Step) (n : Network) → steps ≡ first ++ Submit i request now ∷ later →

@@ -2,3 +2,4 @@ pub mod Doings
 pub mod Calls
 pub mod Promises
 pub mod Flights
+pub mod Renewals

@@ -4,6 +4,7 @@ ghost use Rattle.oca_promise.specs.Calls.{EveryAnsweredCallKeeps, EveryCallIsInT
 ghost use Rattle.oca_promise.specs.Promises.{EverySetKeeps, EveryRefusedSetKeeps, EveryReadingKeeps, EveryGetKeeps};
 ghost use Rattle.oca_promise.specs.Promises.{EveryLockKeeps, EveryUnlockKeeps, EveryClassKeeps, EveryRoleKeeps};
 ghost use Rattle.oca_promise.specs.Promises.{EveryLabelKeeps, EveryMembersKeep, EveryDescriptionKeeps};
+ghost use Rattle.oca_promise.specs.Renewals.{EveryRenewalIsAStep};
 ghost use Rattle.oca_promise.specs.Flights.{EveryAnsweredFlightKeeps, EveryFlightIsInTime};
 ghost use Rattle.oca_promise.specs.Flights.{EverySetInFlightKeeps, EveryReadingInFlightKeeps, EveryAnswerInFlightKeeps};
 
@@ -33,6 +34,9 @@ use oca_pdu::law_reading;
 /// - Members: the numbers are those of the block's members, if the object is a block.
 /// - Lock and unlock: the object was locked for this peer, or its lock was released.
 /// - Class, role, label, and what a walk returns of an object (its class and its role) are the object's.
+/// - Renewal: after [`renew`](oca_panel::Panel::renew) the panel is in the same network, so all this holds of its later
+///   calls too. The new link must be to the same device, and have a first handle above all handles that the old link
+///   gave.
 ///
 /// If the end does not record what it delivers, all this holds of some deliveries and an answer that fit the call.
 pub fn law_of_calls()
@@ -50,6 +54,7 @@ pub fn law_of_calls()
     ensures label { EveryLabelKeeps }
     ensures members { EveryMembersKeep }
     ensures describes { EveryDescriptionKeeps }
+    ensures renewal { EveryRenewalIsAStep }
 {
     law_of_what_is_said();
     law_reading();
