@@ -960,7 +960,7 @@ struct oca_link { void *at; bool is_open; };
 /* Opens a link to the device at the address `ip` (an IPv4 address as a number, the first byte highest) and the port
  * `port`, and takes the memory for the link. Nothing is sent. `now` is the moment, in milliseconds of the caller's
  * clock. The link's first command gets the handle `first_handle`, and each later command the next one. `first_handle`
- * must be above every handle that the device heard from the same address and port. Handles from before a pause of more
+ * must be above every handle that was used from the same address and port. Handles from before a pause of more
  * than two minutes, in which nothing was sent from there, do not count. `span` (1 to 32; 16 is usual) limits the
  * commands in flight: a command is refused while its handle would not be below the lowest handle whose answer was not
  * taken yet, plus the span. Returns OCA_DONE. Otherwise the first of these that applies, and then nothing is changed.

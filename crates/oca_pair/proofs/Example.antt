@@ -204,11 +204,15 @@ crowded_is_answered law tree =
     (record { peer = refl; untaken = held 1; held = (0, lit< tt, refl); command = refl; bytes = refl })
     (room_in_the_crowd law) (crowded_keeps law tree)
 
--- The link is renewed with the first handle 9, which is above the three that it gave, and the span 2: it holds nothing then,
--- and its next command is under 9. With 3, which it gave, nothing is done.
+-- The link gave the handles 1, 2 and 3. It is renewed with the first handle 9, or with 4, which its next command would get,
+-- and the span 2: it holds nothing then, and its next command is under that handle. With 3, which it gave, nothing is done.
 renewed_goes_on : (tree : List Object) →
     (after_step (Renew 0 9 2 16000 0) (the_network tree)).links ≡ (record { peer = controller; link = new_link device_address 9 16000 2 }) ∷ []
 renewed_goes_on tree = refl
+
+renewed_goes_on_with_the_next : (tree : List Object) →
+    (after_step (Renew 0 4 2 16000 0) (the_network tree)).links ≡ (record { peer = controller; link = new_link device_address 4 16000 2 }) ∷ []
+renewed_goes_on_with_the_next tree = refl
 
 renewed_below_does_nothing : (tree : List Object) → after_step (Renew 0 3 2 16000 0) (the_network tree) ≡ the_network tree
 renewed_below_does_nothing tree = refl

@@ -1,5 +1,5 @@
 -- A link is renewed: what of it was true stays true, since its handles rise.
-use Rattle.std.proofs.Common.{◌≡◌, ℕ, ◌^◌, ◌<◌, ◌≤◌, ◌≢◌, Bool, true, false, cond, List, [], ◌∷◌, ◌++◌, Option, Some, None, refl, sym, ap, ◌∙◌, arith}
+use Rattle.std.proofs.Common.{◌≡◌, ℕ, ◌^◌, ◌<◌, ◌≤◌, Bool, true, false, cond, List, [], ◌∷◌, ◌++◌, Option, Some, None, refl, sym, ap, ◌∙◌, arith}
 use Rattle.std.specs.Prelude.{nat_le, ◌||◌}
 use Rattle.std.specs.List.{AllByRecursion, slice_get}
 use Rattle.std.proofs.lemmas.Bool.Decides.{nat_tests}
@@ -8,12 +8,12 @@ use Rattle.oca_types.specs.Peers.{same_peer}
 use Rattle.oca_device.specs.Events.{Datagram}
 use Rattle.oca_control.specs.Untaken.{Untaken}
 use Rattle.oca_control.specs.Links.{Request}
-use Rattle.oca_pair.specs.Networks.{Network, PeerLink, SentDatagram, TakenAnswer, is_renewed}
+use Rattle.oca_pair.specs.Networks.{Network, PeerLink, SentDatagram, TakenAnswer, is_renewed, opening}
 use Rattle.oca_pair.specs.Steps as steps
 use Rattle.oca_pair.specs.Steps.{Step, Submit, Due, ToDevice, ToLink, Other, Take, Renew, has_link, with_link, after_submit, after_due_step, after_delivery, after_reception, after_take, is_above, renewed_link, after_renewal, after_step, after_steps}
-use Rattle.oca_pair.specs.Laws.{AreRising}
+use Rattle.oca_pair.specs.Laws.{AreRising, IsNoRenewal, OnlyRenewalsRenew}
 use Rattle.oca_pair.proofs.Core.{each_map, either_false}
-use Rattle.oca_pair.proofs.Lists.{same_self, same_of, differs}
+use Rattle.oca_pair.proofs.Lists.{same_of, differs}
 use Rattle.oca_pair.proofs.Truths.{Past}
 use Rattle.oca_pair.proofs.Fair.{end_of, Fair}
 
@@ -110,3 +110,49 @@ not_before_step p step n = one step
 pub not_before : (p : Peer) (es : List Step) (n : Network) → is_renewed p (after_steps es n) ≡ false → is_renewed p n ≡ false
 not_before p [] n e = e
 not_before p (x ∷ es) n e = not_before_step p x n (not_before p es (after_step x n) e)
+
+-- what is no renewal renews nothing
+stays_so : (p : Peer) (step : Step) (n : Network) → IsNoRenewal step → is_renewed p (after_step step n) ≡ is_renewed p n
+stays_so p step n none = one step none
+  where
+    by_submit : (k : ℕ) (r : Request) (now : ℕ) (o : Option PeerLink) → is_renewed p (after_submit k r now o n) ≡ is_renewed p n
+    by_submit k r now None = refl
+    by_submit k r now (Some l) = refl
+
+    by_due : (k now : ℕ) (o : Option PeerLink) → is_renewed p (after_due_step k now o n) ≡ is_renewed p n
+    by_due k now None = refl
+    by_due k now (Some l) = refl
+
+    by_delivery : (now : ℕ) (o : Option SentDatagram) → is_renewed p (after_delivery now o n) ≡ is_renewed p n
+    by_delivery now None = refl
+    by_delivery now (Some d) = refl
+
+    by_reception : (now : ℕ) (o : Option SentDatagram) → is_renewed p (after_reception now o n) ≡ is_renewed p n
+    by_reception now None = refl
+    by_reception now (Some d) = refl
+
+    by_other : (from : Peer) (bytes : List ℕ) (now : ℕ) (b : Bool) → is_renewed p (cond b n (record n { events = Datagram from bytes now ∷ n.events })) ≡ is_renewed p n
+    by_other from bytes now true = refl
+    by_other from bytes now false = refl
+
+    by_take : (k h : ℕ) (o : Option PeerLink) → is_renewed p (after_take k h o n) ≡ is_renewed p n
+    by_take k h None = refl
+    by_take k h (Some l) = refl
+
+    one : (step : Step) → IsNoRenewal step → is_renewed p (after_step step n) ≡ is_renewed p n
+    one (Submit k r now) none = by_submit k r now (slice_get n.links k)
+    one (Due k now) none = by_due k now (slice_get n.links k)
+    one (ToDevice k now) none = by_delivery now (slice_get n.to_device k)
+    one (ToLink k now) none = by_reception now (slice_get n.to_links k)
+    one (Other from bytes now) none = by_other from bytes now (has_link from n.links)
+    one (steps.Tick now) none = refl
+    one (steps.Local ono change) none = refl
+    one (Take k h) none = by_take k h (slice_get n.links k)
+    one (Renew k first span now origin) none = absurd none
+
+stay_so : (p : Peer) (es : List Step) (n : Network) → AllByRecursion IsNoRenewal es → is_renewed p (after_steps es n) ≡ is_renewed p n
+stay_so p [] n none = refl
+stay_so p (x ∷ es) n none = stay_so p es (after_step x n) none.1 ∙ stays_so p x n none.0
+
+pub only_renewals_renew : OnlyRenewalsRenew
+only_renewals_renew w s tree starts es p none = stay_so p es (opening w s tree starts) none

@@ -89,7 +89,8 @@ pub record WaitsInTime (ms since i : ℕ) (c : CommandFields) (p : Peer) (calls 
   pub in_time : IsSentInTime ms since (clock_of_calls since calls) (sendings since c.handle calls)
   pub copies : AllByRecursion (λ x. WasSent p c x.bytes n) (sendings since c.handle calls)
   -- One copy that is delivered now, under the premises of the law of untaken commands, and the one datagram that the
-  -- device then sends, whenever that is delivered, are enough: the round trip of `ComesBack`.
+  -- device then sends, whenever that is delivered, are enough where the link is not renewed till then: the round trip of
+  -- `ComesBack`.
   pub enough : (k now : ℕ) (between : List Step) (later : ℕ) →
       slice_get n.to_device k ≡ Some (copy_of p c) → FindsRoom p now n → KeepsItsSession p (asked k now n) →
       AllByRecursion StepFits between → is_renewed p (meanwhile k now between n) ≡ false →

@@ -73,6 +73,12 @@ StepIsInTime s i left (ToDevice k now) n =
     ArrivesInTime x.at (s.device_zero + clock_at now n)
 StepIsInTime s i left _ n = Unit {0}
 
+-- Renewing a link is always in time.
+abbrev pub EveryRenewalIsInTime : Type 0
+EveryRenewalIsInTime =
+    (s : Setup) (i k first span now origin : ℕ) (left : List Departure) (n : Network) →
+    StepIsInTime s i left (Renew k first span now origin) n
+
 -- all steps from a network on
 abbrev pub AreInTime : Setup → ℕ → List Departure → List Step → Network → Type 0
 AreInTime s i left [] n = Unit {0}

@@ -1,7 +1,7 @@
 -- THE LAWS OF A NETWORK (profile), over every schedule.
 use Rattle.std.specs.Prelude.{◌≡◌, ◌==◌, ◌⊎◌, ℕ, ◌+◌, ◌*◌, ◌<◌, ◌≤◌, true, false, if◌then◌else◌, List, [], ◌∷◌, ◌++◌}
 use Rattle.std.specs.Prelude.{map, filter, Some}
-use Rattle.std.specs.List.{slice_get, Contains, IsDistinct}
+use Rattle.std.specs.List.{slice_get, AllByRecursion, Contains, IsDistinct}
 use Rattle.oca_types.specs.declared.words.Peer.{Peer}
 use Rattle.oca_types.specs.Replies.{Reply}
 use Rattle.oca_types.specs.Peers.{CommandFields, same_peer}
@@ -26,7 +26,7 @@ use Rattle.oca_pair.specs.declared.outcome.Outcome.TheVariants as outcomes
 use Rattle.oca_pair.specs.declared.start.Start.{Start}
 use Rattle.oca_pair.specs.Networks.{Network, PeerLink, SentDatagram, SubmittedCommand, TakenAnswer, Setup, opening}
 use Rattle.oca_pair.specs.Networks.{is_renewed}
-use Rattle.oca_pair.specs.Steps.{Step, ToDevice, after_step, after_steps, outcome_of_step}
+use Rattle.oca_pair.specs.Steps.{Step, ToDevice, Renew, after_step, after_steps, outcome_of_step}
 use Rattle.oca_pair.specs.Happenings.{happenings}
 use Rattle.oca_pair.specs.Premises.{are_apart, Fit, KeepsItsSession, FindsRoom}
 
@@ -180,6 +180,16 @@ NoUntakenCommandIsTooOld =
     let n : Network = after_steps steps (opening w s tree starts) in
     0 < s.span p → 2 * s.span p ≤ w.window + 1 → are_apart s.address starts ≡ true → Fit starts steps →
     is_renewed p n ≡ false → AnswersUntaken p n
+
+-- Where no step renews a link, no link was renewed.
+abbrev pub IsNoRenewal : Step → Type 0
+IsNoRenewal (Renew link first span now origin) = ⊥
+IsNoRenewal _ = Unit {0}
+
+abbrev pub OnlyRenewalsRenew : Type 0
+OnlyRenewalsRenew =
+    (w : DeviceSizes) (s : Setup) (tree : List Object) (starts : List Start) (steps : List Step) (p : Peer) →
+    AllByRecursion IsNoRenewal steps → is_renewed p (after_steps steps (opening w s tree starts)) ≡ false
 
 -- No command of a link is executed twice, where its peer kept its session.
 abbrev pub ExecutesOnce : Network → Type 0

@@ -13,7 +13,7 @@ use Rattle.oca_control.specs.Answers.{AnswerFields}
 use Rattle.oca_control.specs.Links.{LinkState, new_link}
 use Rattle.oca_pair.specs.declared.start.Start.{Start}
 
--- HOW A NETWORK IS SET UP: the device's address; and for the link of each peer its span, and the moment at which it was
+-- HOW A NETWORK IS SET UP: the device's address; and for the first link of each peer its span, and the moment at which it was
 -- made, in ms by the link's clock. The clocks of the device and of each link run alike: `device_zero` and `zero` are the
 -- moments of one common clock at which they showed 0.
 pub record Setup : Type 0 where

@@ -1,5 +1,6 @@
 -- THE LAW OF THE ROUND TRIP (profile), over every schedule: a command that a link holds untaken comes to the device,
--- what the device sends comes to the link, and the link has the command's answer, whatever happens in between.
+-- what the device sends comes to the link, and the link has the command's answer, whatever happens in between but a
+-- renewal of the link.
 use Rattle.std.specs.Prelude.{◌≡◌, ◌⊎◌, ℕ, ◌+◌, ◌*◌, ◌<◌, ◌≤◌, true, false, List, [], ◌∷◌, ◌++◌, length, Some}
 use Rattle.std.specs.List.{slice_get, AllByRecursion, Contains}
 use Rattle.oca_types.specs.declared.words.Peer.{Peer}
@@ -70,7 +71,7 @@ pub record IsSentBack (k now : ℕ) (between : List Step) (n : Network) (c : Com
   pub sent : (asked k now n).to_links ≡ n.to_links ++ datagram ∷ []
   pub delivered : slice_get (meanwhile k now between n).to_links (length n.to_links) ≡ Some datagram
 
--- What comes of it, whatever the steps between are.
+-- What comes of it, whatever the steps between are that renew no link of the peer.
 pub record ComesBack (k now : ℕ) (between : List Step) (later i : ℕ) (c : CommandFields) (p : Peer) (n : Network) : Type
     0 where
   pub sent_back : IsSentBack k now between n c p
@@ -84,7 +85,8 @@ pub record ComesBack (k now : ℕ) (between : List Step) (later i : ℕ) (c : Co
       answer ≡ answer_of sent_back.reply
 
 -- Each delivery of a datagram that carries an untaken command of the link of this peer comes back, under the premises
--- of `AnswersUntaken`. Of what happens after that delivery nothing is asked, but that the link is not renewed.
+-- of `AnswersUntaken`. Of what happens after that delivery nothing is asked, but that the link was never renewed, before
+-- or since.
 abbrev pub RoundTrips : Peer → Network → Type 0
 RoundTrips p n = (k now i : ℕ) (d : SentDatagram) (l : PeerLink) (c : CommandFields) (between : List Step) (later : ℕ) →
     slice_get n.to_device k ≡ Some d → slice_get n.links i ≡ Some l → l.peer ≡ p → CarriesUntaken d l c →

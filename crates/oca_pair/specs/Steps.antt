@@ -161,8 +161,8 @@ take_outcome (Some answer) =
     outcomes.Answer (record { status = answer.status; count = answer.count; params = record { items = answer.params } })
 take_outcome None = outcomes.NoAnswer
 
--- ---- RENEW: where the first handle is above all that the link gave, there is a new link in its place, which holds
--- nothing; what was sent for the old one may still arrive. Else nothing is done.
+-- ---- RENEW: where the first handle is no lower than the one that the link's next command would get, there is a new link in
+-- its place, which holds nothing; what was sent for the old one may still arrive. Else nothing is done.
 abbrev pub is_above : ℕ → Option ℕ → Bool
 is_above first None = false
 is_above first (Some next) = nat_le next first

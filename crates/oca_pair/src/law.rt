@@ -3,17 +3,18 @@
 //! A schedule begins with a device that has heard nothing, and with links that gave nothing out. A step of a schedule can
 //! *renew* a link: a new link with the same address and port takes its place, with any span and a clock of its own. This
 //! happens if a panel goes on with a new link, or if its program is started again. The first handle of the new link must
-//! be above all handles that the old link gave. The laws do not speak of a link with other handles that another link used
-//! before from its address and port, as long as the device remembers that one. [`Step`](crate::Step) does not have this
-//! step, since [`run_pair`](crate::run_pair) renews no link.
+//! not be lower than the handle that the next command of the old link would get. So it is above all handles that the old
+//! link and the links before it gave. The laws say nothing of a link with a lower first handle at an address and port that
+//! another link used before. [`Step`](crate::Step) does not have this step, since [`run_pair`](crate::run_pair) renews no
+//! link.
 ghost use Rattle.oca_pair.specs.Happenings.{TheseHappened};
 ghost use Rattle.oca_pair.specs.Premises.{FewFindRoom};
 ghost use Rattle.oca_pair.specs.Laws.{EveryScheduleAnswersItsCommands};
-ghost use Rattle.oca_pair.specs.Laws.{NoUntakenCommandIsTooOld, EveryCommandIsExecutedOnce};
+ghost use Rattle.oca_pair.specs.Laws.{NoUntakenCommandIsTooOld, EveryCommandIsExecutedOnce, OnlyRenewalsRenew};
 ghost use Rattle.oca_pair.specs.RoundTrip.{EveryRoundTripBringsTheAnswer};
 ghost use Rattle.oca_pair.specs.GettingThrough.{EveryCommandGetsThrough};
 ghost use Rattle.oca_pair.specs.InTime.{EveryCommandInTimeIsExecutedOnce, EveryAnswerInTimeIsOfOneExecution};
-ghost use Rattle.oca_pair.specs.InTime.{NoCopyInTimeFindsItsSessionForgotten};
+ghost use Rattle.oca_pair.specs.InTime.{NoCopyInTimeFindsItsSessionForgotten, EveryRenewalIsInTime};
 ghost use Rattle.oca_pair.specs.Saying.{OfEachAnswer, IsOfOneExecutionSince, RefusalsChangeNothing, OksSayWhatIsHeld};
 ghost use Rattle.oca_pair.specs.Saying.{ReadingsWereHeld, SettingsWereMade, ClassesStay, ClassesMetAreThoseAtFirst};
 
@@ -40,8 +41,8 @@ use oca_tree::law_of_typed_requests;
 /// - If the peer kept its session, this is the only execution for the peer under this handle.
 ///
 /// The handle of each command that a link submitted is above the one before it, and by one if the link was never
-/// renewed. A link is *renewed* if a new link of the same peer takes its place, with a first handle above all handles
-/// that the old link gave.
+/// renewed. A link is *renewed* if a new link of the same peer takes its place, with a first handle no lower than the
+/// handle that the next command of the old link would get.
 pub fn law_answers()
     ensures answers { EveryScheduleAnswersItsCommands }
     ensures happened { TheseHappened }
@@ -71,12 +72,16 @@ pub fn law_answers()
 ///
 /// The second law holds for all sizes: no command of a link is executed twice if its peer kept its session.
 ///
+/// The clause `never`: no link was renewed by a schedule without a step that renews one. So the premise holds for each
+/// schedule of [`run_pair`](crate::run_pair).
+///
 /// The third law holds for all sizes: a datagram finds room if at most as many peers as there is room for sent
 /// well-formed datagrams in the last 120,000 ms, its own peer counted.
 pub fn law_never_old()
     ensures answered { NoUntakenCommandIsTooOld }
     ensures once { EveryCommandIsExecutedOnce }
     ensures room { FewFindRoom }
+    ensures never { OnlyRenewalsRenew }
 {
     law_written_is_read_back();
 }
@@ -93,12 +98,12 @@ pub fn law_never_old()
 /// The premises:
 /// - The link's span `s` ([`Span`](oca_types::Span)) is at least 1. The reply window has `w` commands
 ///   ([`Window`](oca_types::Window)), with `2 * s <= w + 1`.
-/// - No new link takes the link's place: it is never renewed.
+/// - The link was never renewed until that response is delivered: no new link took its place.
 /// - A datagram with a command that is still in flight at its link is delivered to the device.
 /// - The datagram finds room, and the link's peer kept its session, this datagram counted.
 ///
-/// The device then sends one datagram to the link. Any other steps may follow until this datagram is delivered to the
-/// link: no further premise is needed. The conclusions:
+/// The device then sends one datagram to the link. Any steps but a renewal of this link may follow until this datagram is
+/// delivered to the link: no further premise is needed. The conclusions:
 /// - If the command was still in flight just before that delivery, the link then has the command's answer.
 /// - Otherwise the answer was taken earlier.
 /// - The answer is the reply of an execution of that very command for the link's peer.
@@ -141,9 +146,9 @@ pub fn law_getting_through()
 /// Laws: over every schedule, no command of a link is executed twice if the link and the network are in time. The laws
 /// hold for all sizes, whatever sessions the device forgot meanwhile, and whatever happened to the other links. They
 /// hold too if the link is *renewed*, once or many times: a new link with the same address and port takes its place, with
-/// any span and a clock of its own, and with a first handle above all handles that the old link gave. A *schedule* is a
-/// list of steps of one device and some links with different addresses and ports ([`Step`](crate::Step)). The function
-/// does nothing at run time.
+/// any span and a clock of its own, and with a first handle no lower than the handle that the next command of the old link
+/// would get. The premises must then hold for the links before it too. A *schedule* is a list of steps of one device and
+/// some links with different addresses and ports ([`Step`](crate::Step)). The function does nothing at run time.
 ///
 /// The premises, which are what *in time* means:
 /// - The link is never asked what is due while it is late. It is *asked* if its [`due`](oca_control::Link::due) is
@@ -164,6 +169,7 @@ pub fn law_once_in_time()
     ensures once { EveryCommandInTimeIsExecutedOnce }
     ensures answers { EveryAnswerInTimeIsOfOneExecution }
     ensures session { NoCopyInTimeFindsItsSessionForgotten }
+    ensures renewal { EveryRenewalIsInTime }
 {
     law_written_is_read_back();
 }

@@ -1,6 +1,7 @@
 -- What holds where a schedule plays what was done with a link.
-use Rattle.std.proofs.Common.{◌≡◌, ℕ, Bool, true, false, List, [], ◌∷◌, ◌++◌, Option, Some, None, Result, Ok, refl, sym, ap, ◌∙◌, subst, zero, suc, inl, inr}
-use Rattle.std.specs.Prelude.{map, if◌then◌else◌}
+use Rattle.std.proofs.Common.{◌≡◌, ℕ, ◌≤◌, Bool, true, false, List, [], ◌∷◌, ◌++◌, Option, Some, None, Result, Ok, refl, sym, ap, ◌∙◌, subst, zero, suc, inl, inr, arith}
+use Rattle.std.specs.Prelude.{map, nat_le, if◌then◌else◌}
+use Rattle.std.proofs.lemmas.Bool.Decides.{nat_tests}
 use Rattle.std.specs.List.{slice_get, slice_set}
 use Rattle.oca_types.specs.declared.words.Peer.{Peer}
 use Rattle.oca_types.specs.declared.words.Handle.{Handle}
@@ -60,10 +61,13 @@ renew_there i p l first span now origin n above e =
     ∙ ap (λ (b : Bool). let y : Network = if b then m else n in slice_get y.links i) above
     ∙ set_there n.links i x (record { peer = p; link = renewed_link first span now l }) e
 
+no_lower : (a b : ℕ) → a ≤ b → nat_le a b ≡ true
+no_lower a b q = grind (arith, nat_tests)
+
 -- so a renewed panel's link is that of its number
 pub renewals_are_steps : EveryRenewalIsAStep
-renewals_are_steps first span old new renewed n i p origin above e =
-    renew_there i p old.link first span renewed.now origin n above e
+renewals_are_steps first span old new renewed n i p origin next is above e =
+    renew_there i p old.link first span renewed.now origin n (ap (is_above first) is ∙ no_lower next first above) e
     ∙ ap (λ (s : PanelState). let y : PeerLink = record { peer = p; link = s.link } in Some y) (sym renewed.panel)
 
 heard_there : (from p : Peer) (bytes : List ℕ) (now : ℕ) (l : LinkState) → hears_datagram from (record { peer = p; bytes = bytes }) now (record { peer = p; link = l }) ≡ record { peer = p; link = received from (content_read bytes) now l }

@@ -34,9 +34,9 @@ use oca_pdu::law_reading;
 /// - Members: the numbers are those of the block's members, if the object is a block.
 /// - Lock and unlock: the object was locked for this peer, or its lock was released.
 /// - Class, role, label, and what a walk returns of an object (its class and its role) are the object's.
-/// - Renewal: after [`renew`](oca_panel::Panel::renew) the panel is in the same network, so all this holds of its later
-///   calls too. The new link must be to the same device, and have a first handle above all handles that the old link
-///   gave.
+/// - Renewal: after [`renew`](oca_panel::Panel::renew) the panel's link is the link of the same network after a step that
+///   renews it, so all this holds of its later calls too. The new link must be to the same device, with a first handle
+///   no lower than the handle that the next command of the old link would get.
 ///
 /// If the end does not record what it delivers, all this holds of some deliveries and an answer that fit the call.
 pub fn law_of_calls()

@@ -13,8 +13,9 @@ impl<E: End> Panel<E> {
     /// begins at the end's present moment, as in [`Panel::open`]. Call it if the link is lost or late. Nothing is sent,
     /// no memory is taken, and nothing is refused.
     ///
-    /// `first` is the handle of the first command of the new link. It must be above all handles of the old link: if
-    /// not, a command may get no answer, or the answer to a command of the old link. `span` is the new span. Commands
+    /// `first` is the handle of the first command of the new link. It must not be lower than
+    /// [`next_handle`](Panel::next_handle): if it is, a command may get no answer, or the answer to a command of an
+    /// earlier link. `span` is the new span. Commands
     /// of the old link are not sent again, and their answers are lost. The panel's `wait` and
     /// [`unanswered`](Panel::unanswered) stay.
     pub fn renew(&mut self, device: Peer, first: Handle, span: Span)

@@ -6,4 +6,5 @@ returns c = record {
   once = once_in_time c.law_written_is_read_back.ensures;
   answers = answers_in_time c.law_written_is_read_back.ensures;
   session = session_in_time c.law_written_is_read_back.ensures;
+  renewal = λ s i k first span now origin left n. tt;
 }
