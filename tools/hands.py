@@ -169,12 +169,8 @@ def of_object(obj):
     return f"{obj.ono} {obj.setting()}" + (f" {obj.lock[0]} {obj.lock[1][4]}" if obj.lock else "")
 
 
-def of_command(target, method, params):
-    return f"{target} {method[0]}.{method[1]}" + (f" {params.hex()}" if params else "")
-
-
 def heard_as(device, asks):
-    heard = [of_command(*it) for it in asked(device)]
+    heard = [f"{target} {level}.{index} {params.hex()}".rstrip() for target, (level, index), params in asked(device)]
     if asks == "nothing":
         return ["nothing"] if not {method for _, method, _ in asked(device)} & {*SETS} else heard
     wanted = asks.split(", ")
