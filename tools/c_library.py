@@ -130,10 +130,16 @@ def panels(checks, made, prefix, folder):
         checks.same(f"the walk of a device that is gone {words}", said_by([made / "network-c11-sanitized", port]), ("lost\n", 1))
 
 
-def each_call_sanitized(checks, made, prefix):
-    parts = [TOP / f"c/{name}.c" for name in PARTS]
-    program = compiled(made / "calls-sanitized", *SANITIZED, f"-I{prefix}/include", made / "c_library.c", *parts, prefix / "lib/liboca.a")
-    checks.counted("each call under the sanitizers", *said_by([program]))
+def each_call(checks, made, prefix):
+    """Each call under the sanitizers, over an arena, over a heap that counts the blocks that were not given back, and on the first x86-64."""
+    calls, core = made / "c_library.c", prefix / "lib/liboca_c.a"
+    for what, words in (("under the sanitizers", [*SANITIZED, calls, *(TOP / f"c/{name}.c" for name in PARTS), prefix / "lib/liboca.a"]),
+                        ("over an arena", ["-DARENA=(6u<<20)", calls, TOP / "examples/c/heap.c", core]),
+                        ("whose blocks of memory are given back", ["-DCOUNTS_BLOCKS", calls, core])):
+        checks.counted(f"each call {what}", *said_by([compiled(made / "calls", f"-I{prefix}/include", *words)]))
+    if not shutil.which("qemu-x86_64"):
+        return print("NOT TRIED: an x86-64 of the first kind, without qemu-x86_64")
+    checks.same("each call on an x86-64 of the first kind", said_by(["qemu-x86_64", "-cpu", "Opteron_G1", made / "calls-c++17"])[1], 0)
 
 
 def random_calls(checks, made, prefix):
@@ -162,31 +168,25 @@ def of_a_socket(checks, made):
     checks.same("the send buffers that are asked for", asked.read_text(), 2 * "4000000\n")
 
 
-def full_datagram(checks, made):
-    """A datagram of 1,472 bytes, 86 commands, is answered by the device of the example as any other is."""
-    run, port = serving([made / "device-c11", 0, 2])
-    with bound() as end:
-        end.settimeout(30)
-        end.sendto(FULL, ("127.0.0.1", port))
-        counts = []
-        while sum(counts) < 86:
-            counts.append(oca.number(end.recv(2000)[8:10]))
-    checks.same("what a full datagram gets from the device of the example", (len(FULL), sum(counts)), (1472, 86))
-    rest(run)
-
-
-def oversize(checks, made):
-    """Neither device executes a datagram of 1,473 bytes that begins with 86 commands: it answers the next command."""
-    kept = made / "kept of a large datagram"
-    for name, words in (("device", [made / "device-c11", 0, 3]), ("mixer", [made / "mixer-plain", kept, 0, 3])):
+def large_datagrams(checks, made):
+    """A datagram of 1,472 bytes, 86 commands, is answered as any other is. One of 1,473 bytes that begins with them is not executed, and the next command
+    is answered."""
+    for name, words in (("device", [made / "device-c11", 0, 3]), ("mixer", [made / "mixer-plain", made / "kept of a large datagram", 0, 3])):
         run, port = serving(words)
         with bound() as end:
             end.settimeout(30)
-            for data in (FULL + b"\x3b", oca.command(99, 4097, 4, 1)):
-                end.sendto(data, ("127.0.0.1", port))
-            got = end.recv(2000)
-        wanted = 1473, oca.response(99, 0, 1, b"\1")
-        checks.same(f"the {name} behind a datagram that is too large", (len(FULL + b"\x3b"), got), wanted)
+            end.connect(("127.0.0.1", port))
+            counts = []
+            end.send(FULL)
+            while sum(counts) < 86:
+                counts.append(oca.number(end.recv(2000)[8:10]))
+            checks.same(f"what a full datagram gets from the {name}", (len(FULL), sum(counts)), (1472, 86))
+            large = bytearray(FULL + b"\x3b")
+            for at in range(14, 1472, 17):  # the handles of its commands, which were not sent before
+                large[at:at + 4] = (100 + at).to_bytes(4, "big")
+            for data in (large, oca.command(9999, 4097, 4, 1)):
+                end.send(data)
+            checks.same(f"the {name} behind a datagram that is too large", (len(large), end.recv(2000)), (1473, oca.response(9999, 0, 1, b"\1")))
         rest(run)
 
 
@@ -643,12 +643,6 @@ def on_arm(checks, made):
     checks.same("what `make uninstall` leaves for AArch64", files_below(prefix), [])
 
 
-def on_the_first_kind(checks, made):
-    if not shutil.which("qemu-x86_64"):
-        return print("NOT TRIED: an x86-64 of the first kind, without qemu-x86_64")
-    checks.same("each call on an x86-64 of the first kind", said_by(["qemu-x86_64", "-cpu", "Opteron_G1", made / "calls-c++17"])[1], 0)
-
-
 def names(checks, archive, header, prefix):
     """Each prototype has its symbol, and each symbol of the library its prototype."""
     text = re.sub(r"/\*.*?\*/", "", header.read_text(), flags=re.DOTALL)
@@ -688,9 +682,9 @@ def main():
         panels(checks, made, prefix, folder)
         for part in (stays_below, prefixes, beside_another_kind):
             part(checks, made, archive)
-        for part in (warnings, by_cmake, each_call_sanitized, random_calls, mixers, from_python):
+        for part in (warnings, by_cmake, each_call, random_calls, mixers, from_python):
             part(checks, made, prefix)
-        for part in (arenas, on_arm, on_the_first_kind, full_datagram, of_a_socket, oversize, examples_alone, refused_memory):
+        for part in (arenas, on_arm, large_datagrams, of_a_socket, examples_alone, refused_memory):
             part(checks, made)
         for device, panel in itertools.product(LANGUAGES, repeat=2):
             device_and_panel(checks, made, device, panel)
@@ -698,11 +692,6 @@ def main():
             checks.same("each call under valgrind", said_by([*CAREFUL, made / "calls-c11"])[1], 0)
             checks.same("the panel of the library under valgrind", said_by([*CAREFUL, made / "network-c11"])[1], 0)
             device_and_panel(checks, made, before=CAREFUL, seconds=8)
-        calls, core = made / "c_library.c", f"{prefix}/lib/liboca_c.a"
-        arena = compiled(made / "arena", "-DARENA=(6u<<20)", f"-I{prefix}/include", calls, TOP / "examples/c/heap.c", core)
-        checks.same("each call over an arena", said_by([arena])[1], 0)
-        counted = compiled(made / "counted", "-DCOUNTS_BLOCKS", f"-I{prefix}/include", calls, core)
-        checks.same("each call, and each block of memory is given back", said_by([counted])[1], 0)
     return checks.verdict()
 
 

@@ -20,7 +20,7 @@ from pathlib import Path
 
 import checks
 import oca_profile as oca
-from checks import bound, by_turns, free_port, next_line, read_until
+from checks import at, bound, by_turns, free_port, next_line, read_until
 from peers import Other, Served, commands_in
 from tables import data, table
 
@@ -118,12 +118,6 @@ class OldSession(Served):
         for port in ports:
             for handle in (oca.U32 - 1, oca.U32):
                 self.device.datagram((127, 0, 0, 1, port), oca.command(handle, 100, 1, 1), 0)
-
-
-@contextlib.contextmanager
-def silent():
-    with bound() as s:
-        yield s.getsockname()[1]
 
 
 def asked(device):
@@ -314,8 +308,8 @@ def helps(checks):
 
 
 def ended(checks, command, answers, words, lines):
-    with Served(stagebox()) if answers else silent() as device:
-        return checks.run(device, command, *words.split(), given=lines)[2]
+    with Served(stagebox()) if answers else bound() as device:
+        return checks.run(device if answers else at(device), command, *words.split(), given=lines)[2]
 
 
 class Terminal:

@@ -162,19 +162,16 @@ def versions(checks):
             checks.same(f"{program} {word}", checks.ran(program, word), (f"{program} {number}\nchecked with {toolchain}\n", "", 0))
 
 
-def granted():
-    with bound() as asks:
-        asks.setsockopt(socket.SOL_SOCKET, socket.SO_SNDBUF, 4_000_000)
-        return asks.getsockopt(socket.SOL_SOCKET, socket.SO_SNDBUF)
-
-
 def serves(checks):
     """`serve`: where it listens, its window and its counts."""
     run = checks.start("ocadev", "serve", "--port", 0, "--turns", TURNS, "--ip", "127.0.0.2", "--window", 2)
     said = re.fullmatch(r"listening 127\.0\.0\.2:(\d+)\n", run.stderr.readline())
     checks.same("serve: where it listens", said is not None, True)
     note = run.stderr.readline() if are_few() else ""
-    few = (note[:len(NOTE)], f" {granted()} bytes" in note or note)
+    with bound() as asks:
+        asks.setsockopt(socket.SOL_SOCKET, socket.SO_SNDBUF, 4_000_000)
+        granted = asks.getsockopt(socket.SOL_SOCKET, socket.SO_SNDBUF)
+    few = (note[:len(NOTE)], f" {granted} bytes" in note or note)
     checks.same("serve: how many bytes the system grants", few, (NOTE, True) if are_few() else ("", ""))
     device = ("127.0.0.2", int(said[1]))
     first, *others, stranger = [bound() for _ in range(17)]
