@@ -96,14 +96,17 @@ def page(name, said, declared, types, general, answers, version):
     return "\n".join([*parts, ".SH NOTES", roff(general), ""])
 
 
+def version_of(header):
+    number = int(re.search(r"OCA_VERSION 0x(\w+)u", header)[1], 16)
+    return f"{number >> 16}.{number >> 8 & 255}.{number & 255}"
+
+
 def write(folder):
     header = HEADER.read_text()
-    number = int(re.search(r"OCA_VERSION 0x(\w+)u", header)[1], 16)
-    version = f"{number >> 16}.{number >> 8 & 255}.{number & 255}"
     found, general = pages(header)
     folder.mkdir(parents=True, exist_ok=True)
     for name, (said, declared, types) in found.items():
-        (folder / f"{name}.3").write_text(page(name, said, declared, types, general, answers_text(header, name), version))
+        (folder / f"{name}.3").write_text(page(name, said, declared, types, general, answers_text(header, name), version_of(header)))
     return found
 
 

@@ -27,6 +27,7 @@ from selftest_builds import FakeCrate, fake_tools, is_same, laid, main_of, memor
 from selftest_tools import checks, edits, lossy, snippets
 
 import panel
+import peers
 import runs
 from checks import waited
 from tables import data
@@ -41,10 +42,6 @@ def gate_over(folder, steps):
     ran = subprocess.run(words, env=env, capture_output=True, text=True, timeout=120)
     told = [line.removeprefix("gate: wrong: ") for line in ran.stdout.splitlines() if line.startswith("gate: wrong: ")]
     return ran.returncode, run.last_line(ran.stdout), sorted(told)
-
-
-def is_as_wanted(steps, passes, last, folder):
-    return is_same((int(not passes), last), gate_over(folder, steps)[:2])
 
 
 def tells_what_failed(folder):
@@ -71,10 +68,7 @@ def finds_what_is_left_out(folder):
 
 def leaves_none_out(_):
     """Each tool of this repository that is a program stands in a step of its gate."""
-    missing = run.left_out([step for part in run.paragraphs(HERE / "steps") for step in part], run.TOP / "tools")
-    for name in missing:
-        print(f"no step runs tools/{name}")
-    return not missing
+    return is_same([], run.left_out([step for part in run.paragraphs(HERE / "steps") for step in part], run.TOP / "tools"))
 
 
 def goes_on_beside(folder):
@@ -135,10 +129,6 @@ def waits_for_proofs(folder):
     return all(found) and real(1_000_000) and not real(0)
 
 
-def is_counted(command, least, wanted, _):
-    return is_same(wanted, said(run.watched, command, least)[0])
-
-
 def knows_the_least(folder):
     """`rt ci` is to pass a check for each crate and each edit that must fail; those of other folders are none of its."""
     its = ("crates/a/must-fail/one.edit", "crates/b/must-fail/one.edit", "crates/b/must-fail/two.edit", "crates/b/wrong/three.edit")
@@ -148,11 +138,8 @@ def knows_the_least(folder):
 
 def knows_what_is_waited_for(folder):
     """The crate that most others use is proved first, where it uses none of them; of the kit's libraries none is."""
-    found = []
-    for text in ("a: x\nb: a x\nc staticlib: a b x # a\n", "b: a\n# b\na: b\nc: a\n", "a: x\nb: x\n", ""):
-        (folder / "crates.txt").write_text(text)
-        found.append(run.waited_for(folder))
-    return found == ["a", None, None, None]
+    wanted = {"a: x\nb: a x\nc staticlib: a b x # a\n": "a", "b: a\n# b\na: b\nc: a\n": None, "a: x\nb: x\n": None, "": None}
+    return is_same(wanted, {text: laid(folder, {"crates.txt": text}) or run.waited_for(folder) for text in wanted})
 
 
 def counts_all(folder):
@@ -180,10 +167,10 @@ def counts_all(folder):
 def knows_the_lanes(_):
     """The lanes: as many as there are processors, and as memory holds, at least one; or as many as RT_JOBS says."""
     found = []
-    for processors, memory, says, _ in DATA.lanes:
+    for processors, memory, says, wanted in DATA.lanes:
         with patch.dict(os.environ, RT_JOBS=says):
-            found.append(kit.lanes(fake_tools(processors, memory)))
-    return is_same([wanted for *_, wanted in DATA.lanes], found)
+            found.append(is_same(wanted, kit.lanes(fake_tools(processors, memory))))
+    return all(found)
 
 
 def says_what_is_missing(_):
@@ -413,10 +400,6 @@ def told_of_clause(crate, clause, narrow, whole, wanted):
     return said(trial.told)[1].strip().split(": ", 1)[1].startswith(wanted)
 
 
-def is_lost(now, wanted, _):
-    return is_same([*wanted], lost(DATA.steps, now))
-
-
 def lost(before, now):
     """The earlier commands that no step has with as many checks, and doubles; but `# was:` lines."""
     steps, old = ([run.Step(line) for line in text.splitlines() if line.strip() and not line.startswith("#")] for text in (now, before))
@@ -449,10 +432,7 @@ def stands_on_its_sources(_):
     words = ["make", "-pq", "library", f"TARGET={target}", f"LIBRARY={library}"]  # its rules; nothing is made
     told = subprocess.run(words, cwd=run.TOP, capture_output=True, text=True).stdout.splitlines()
     rule = next((line for line in told if line.startswith(f"{library}: ")), "")
-    missing = sorted(wanted - set(rule.split()))
-    if missing:
-        print(f"the library does not stand on {', '.join(missing[:3])}")
-    return len(wanted) > 100 and not missing
+    return len(wanted) > 100 and is_same(set(), wanted - set(rule.split()))
 
 
 def compares_examples(folder):
@@ -497,25 +477,22 @@ def is_carried_badly(network, waits, order):
     wrong += [f"counts {counts}"] if counts != (len(waits), lost, len(twice), overtaken) or not overtaken else []
     wrong += ["a third copy"] if max(map(len, waits)) > 2 else []
     wrong += ["a wait"] if min(copies) < 0 or max(copies) > 701 else []
-    if wrong:
-        print(f"lossy.py: {wrong}")
-    return not wrong
+    return is_same([], wrong)
 
 
 def carries_badly(_):
     """The network of lossy.py is bad both ways, by a clock that goes on with each datagram."""
     count, clock = 5000, SimpleNamespace(now=0)
     waits, order = [[] for _ in range(count)], []
-    with patch.object(lossy, "time", SimpleNamespace(time=lambda: clock.now / 1000)):
-        network = lossy.Network(None, 1)
-        network.carry = lambda way, number: order.append((way, number)) or waits[number].append(clock.now - number)
+    with patch.object(peers, "time", SimpleNamespace(time=lambda: clock.now / 1000)):
+        network = lossy.bad_network(None, 1)
+        network.carry = lambda way, number, _: order.append((way, number)) or waits[number].append(clock.now - number)
         for moment in range(count + 1000):
             clock.now = moment
             if moment < count:
-                network.accept(moment % 3 == 0, moment)
+                network.accept(moment % 3 == 0, moment, None)
             network.deliver()
-    for end in (network.front, network.back):
-        end.close()
+    network.front.close()
     return is_carried_badly(network, waits, order) and all(way == (number % 3 == 0) for way, number in order)
 
 
@@ -559,7 +536,9 @@ def each(check, rows):
 
 
 SIGNALS = [(f"a gate that signal {number} ends", number, None) for number in (signal.SIGTERM, signal.SIGINT, signal.SIGHUP)]
-ROWS = [*each(is_as_wanted, DATA.cases), *each(is_counted, DATA.of_ci), *each(is_lost, DATA.of_steps),
+ROWS = [*each(lambda steps, passes, last, folder: is_same((int(not passes), last), gate_over(folder, steps)[:2]), DATA.cases),
+        *each(lambda command, least, wanted, _: is_same(wanted, said(run.watched, command, least)[0]), DATA.of_ci),
+        *each(lambda now, wanted, _: is_same([*wanted], lost(DATA.steps, now)), DATA.of_steps),
         *each(ends_when_told, [*SIGNALS, ("a gate under nohup goes on", signal.SIGTERM, signal.SIGHUP)])] + [(it.__doc__, it) for it in (
     finds_what_is_left_out, knows_the_least, knows_what_is_waited_for, ends_all_that_hangs, tells_what_failed,
     goes_on_beside, begins_early, compares_examples, builds_as_asked, compares_documents, lists_each_edit,

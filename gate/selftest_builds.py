@@ -396,8 +396,7 @@ def make_fails_with(goal, folder):
         runs = [*DATA.goals[goal]]
         wanted = runs[:runs.index(fails) + 1] if fails else runs
         said = [line.removeprefix("said by ") for line in ran.stdout.splitlines() if line.startswith("said by ")]
-        if (ran.returncode == 0) != (not fails) or log.read_text().splitlines() != wanted or said != wanted:
-            print(f"make {goal}, where {fails or 'nothing'} fails: status {ran.returncode}, {log.read_text()!r}")
+        if not is_same((not fails, wanted, wanted), (ran.returncode == 0, log.read_text().splitlines(), said)):
             return False
     return True
 

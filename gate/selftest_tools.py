@@ -71,9 +71,7 @@ def tries_edits_in_groups(folder):
         good = sum(it == "refused" for it in wanted.values())
         wrong = [it for it in {*told, *wanted} if not told.get(it, "").startswith(wanted.get(it, "none"))]
         ends = (int(good < len(wanted)), f"{good} passed, {len(wanted) - good} failed")
-        if wrong or (status, last) != ends:
-            print(f"edits.py {words}: {[(it, told.get(it)) for it in wrong]}, {status}, {last}, in place of {ends}")
-            right = False
+        right &= is_same(([], *ends), ([(it, told.get(it)) for it in wrong], status, last))
     return right
 
 
@@ -146,10 +144,7 @@ def finds_what_documents_say(_):
     noted = lambda lines, _: found.extend(it for it, _ in snippets.commands_of(lines))
     with patch.multiple(snippets, fault_of_session=noted, is_in=lambda *_: True):
         said(lambda: found.extend(where for name in snippets.DOCUMENTS for where, fault in snippets.checks_of(name, "none") if not fault))
-    missing = [it for it in wanted if found.count(it) < wanted.count(it)]
-    for it in missing:
-        print(f"snippets.py does not come to: {it}")
-    return len(wanted) > 15 and not missing
+    return len(wanted) > 15 and is_same([], [it for it in wanted if found.count(it) < wanted.count(it)])
 
 
 def finds_examples(folder):
@@ -288,9 +283,7 @@ def calls_all_that_it_has(folder):
     """Each function of the tools and of the gate is named by another piece of them; one that is not is found."""
     laid(folder / "modules", DATA.modules)
     left = uncalled([run.TOP / it for it in ("tools", "gate", "bench", "examples", "examples/python")])
-    for it in left:
-        print(f"nothing calls {it}")
-    return sorted(uncalled([folder / "modules"])) == [*DATA.uncalled] and not left
+    return is_same([], left) and sorted(uncalled([folder / "modules"])) == [*DATA.uncalled]
 
 
 # a definition of a spec: its line begins with its name, or with what it is and its name
@@ -309,10 +302,7 @@ def defined_twice(top):
 def finds_names_defined_twice(folder):
     """A name has one definition in all specs; where it has two, the name is found."""
     laid(folder / "crates", DATA.specs)
-    found = defined_twice(run.TOP)
-    for name, files in found.items():
-        print(f"{name} is defined in {', '.join(files)}")
-    return [*defined_twice(folder)] == ["same"] and not found
+    return is_same({}, defined_twice(run.TOP)) and [*defined_twice(folder)] == ["same"]
 
 
 # What a run asks for, reads and writes that `unreliable.py` makes fail, and what each failure is answered with.
@@ -347,9 +337,7 @@ def fails_each_in_turn(_):
         said(runs.pieces_of, ["a"], b"")
         wanted = (slip != ("", 0), 4 - (slip in slips[:4]), 8, 3)
         wrong += [slip] if (runs.failed > 0, *map(runs.tried.get, ("refused", "ends", "pieces"))) != wanted else []
-    for it in wrong:
-        print(f"unreliable.py: {it} is passed over")
-    return not wrong
+    return is_same([], wrong)
 
 
 def sees_what_is_not_kept(folder):
@@ -362,7 +350,7 @@ def sees_what_is_not_kept(folder):
         its = keep.Checks(str(place))
         with patch.multiple(keep, KILLS=3, random=SimpleNamespace(uniform=lambda *_: 0.15)):
             said(keep.kills, its, str(place))
-        found.append(is_same((is_well, is_well), (its.passed == 3, its.failed == 0)))
+        found.append(is_same((is_well, is_well), (its.passed == 5, its.failed == 0)))
     return all(found)
 
 

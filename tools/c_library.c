@@ -1,8 +1,12 @@
 /* Each call of the C library on a closed handle, at its limits, and once as it should be: the calls are rows, and here is what they need. It prints
- * what is wrong. */
+ * what is wrong. With a word, of a socket alone, over tools/unreliable.c: whether receives are interrupted. */
+#define _POSIX_C_SOURCE 200809L
 #include <oca.h>
 
+#include <fcntl.h>
+#include <signal.h>
 #include <string.h>
+#include <sys/time.h>
 
 #include "c_checks.h"
 
@@ -172,9 +176,12 @@ static void stores(void *context, enum oca_store_result stored) {
     it->stores = it->stores * 10 + (int)stored + 1;
 }
 
+static void on_alarm(int number) { (void)number; }
+
 #include "c_library_calls.h" /* made by c_rows.py of rows/c_library_calls.toml */
 
-int main(void) {
-    each();
+int main(int count, char **words) {
+    if (count > 1) of_a_socket(words[1][0] == 'i');
+    else each();
     return verdict();
 }

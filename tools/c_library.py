@@ -11,8 +11,8 @@ also sanitized. Each call is tried on a closed handle and at its limits (c_libra
 is refused in turn. Header and library name the same functions. What is installed lies below its folder, one for each
 kind of processor, and `make uninstall` leaves nothing. The last line is 'N passed, M failed'."""
 import filecmp
+import itertools
 import os
-import random
 import re
 import select
 import shlex
@@ -21,7 +21,6 @@ import struct
 import subprocess
 import sys
 import tempfile
-import threading
 import time
 from pathlib import Path
 
@@ -29,17 +28,17 @@ sys.path.insert(0, str(Path(__file__).resolve().parent.parent / "gate"))
 import reference
 import c_rows
 import oca_profile as oca
-from c_rows import LANGUAGES, SANITIZED
-from checks import Checks, bound, free_port, layer, next_line, waited, write
+from c_rows import LANGUAGES, SANITIZED, STRICT, compiled, ran
+from checks import Checks, bound, free_port, lines_in, next_line, over_the_layer, port_said, waited, write
 from embedded import bound_at, channels
-from peers import Lossy, Peer
+from keep import DONE, Peer, over_kills
+from peers import Lossy
 from tables import TOP, data
 
 AMPLIFIER = "1: open 0 dB/10, 2: muted 0 dB/10\n1: open -60 dB/10, 2: muted 0 dB/10\n"
 PANEL = "open channel 1: status 0\ngain to -6 dB: status 0\ngain: -60 dB/10\n"
-STRICT = ["-O2", "-Wall", "-Wextra", "-Werror"]
 RESULTS = {name: int(number) for name, number in re.findall(r"(OCA_\w+) = (\d+)", (TOP / "include/oca.h").read_text())}
-DATA = data("c_library")
+DATA, VERSION = data("c_library"), reference.version_of(reference.HEADER.read_text())
 CARELESS = [("unused-result", it) for it in DATA.unused] + [("nonnull", f"(void)!{it}") for it in DATA.null]
 INSTALLED = [*DATA.installed]
 CALLS = 1_500_000  # of a run of random ones
@@ -50,10 +49,9 @@ CAREFUL = ["valgrind", "-q", "--error-exitcode=99", "--leak-check=full"]
 
 def library(target):
     """The library for a kind of processor, proved and built by one process, since other steps run beside this one."""
-    run = subprocess.run([sys.executable, "gate/library.py", target], cwd=TOP, stdout=subprocess.PIPE, stderr=subprocess.STDOUT, text=True,
-                         env=dict(os.environ, LIBRARY_JOBS="1"))
+    run = ran(sys.executable, "gate/library.py", target, cwd=TOP, timeout=None, env=dict(os.environ, LIBRARY_JOBS="1"))
     if run.returncode:
-        sys.exit(f"no library for {target}:\n{run.stdout[-2000:]}")
+        sys.exit(f"no library for {target}:\n{run.stdout[-2000:]}{run.stderr[-2000:]}")
     return TOP / f"crates/oca_c/out/{target}/liboca_c.a"
 
 
@@ -64,30 +62,17 @@ def flags(prefix, lib="lib"):
     return [[f"-I{prefix}/include"], [f"-L{prefix}/{lib}", "-loca"]]
 
 
-def compiled(program, *words, language="c11", strict=STRICT):
-    """A program, strictly compiled."""
-    subprocess.run([*LANGUAGES[language], *strict, "-o", program, *words], check=True)
-    return program
+def compile_all(made, language, *words):
+    """The device and the panel of the examples, and each call of the library, from copies of their sources."""
+    for name, source in (("device", "examples/c/device.c"), ("panel", "examples/c/panel.c"), ("calls", made / "c_library.c")):
+        text = shutil.copy(TOP / source, made / f"{name}.c")
+        compiled(made / f"{name}-{language}", text, "-x", "none", *words, language=language)
 
 
-def compile_all(made, prefix):
-    cflags, shared = flags(prefix)
-    c_rows.test("c_library", made)
-    for language in LANGUAGES:
-        libs = [*shared, f"-Wl,-rpath,{prefix}/lib"] if language == "c11" else [f"{prefix}/lib/liboca.a"]
-        for name, source in (("device", "examples/c/device.c"), ("panel", "examples/c/panel.c"), ("calls", made / "c_library.c")):
-            text = made / f"{name}.c"
-            shutil.copy(TOP / source, text)
-            compiled(made / f"{name}-{language}", *cflags, text, "-x", "none", *libs, language=language)
-
-
-def listening(run):
-    return int(re.search(r":(\d+)", run.stderr.readline())[1])
-
-
-def serving(words):
-    run = subprocess.Popen([str(word) for word in words], stdout=subprocess.PIPE, stderr=subprocess.PIPE, text=True)
-    return run, listening(run)
+def serving(words, **how):
+    """A run of a program that serves, whose input stays open, and its port."""
+    run = subprocess.Popen([*map(str, words)], stdin=subprocess.PIPE, stdout=subprocess.PIPE, stderr=subprocess.PIPE, text=True, **over_the_layer(how))
+    return run, port_said(run)
 
 
 def rest(run):
@@ -99,12 +84,8 @@ def stop(run):
     return run.communicate(timeout=120)[1]
 
 
-def ran(*words, **how):
-    return subprocess.run([*map(str, words)], **{"capture_output": True, "text": True, "timeout": 300, **how})
-
-
-def said_by(words, **settings):
-    run = ran(*words, env=dict(os.environ, **settings))
+def said_by(words, **how):
+    run = ran(*words, **how)
     return run.stdout, run.returncode
 
 
@@ -113,12 +94,6 @@ def device_and_panel(checks, made, device="c11", panel="c11", before=(), seconds
     run, port = serving([*before, made / f"device-{device}", 0, seconds])
     checks.same(f"{before}: the panel ({panel})", said_by([*before, made / f"panel-{panel}", port]), (PANEL, 0))
     checks.same(f"{before}: the device ({device})", rest(run), (AMPLIFIER, 0))
-
-
-def against_each_other(checks, made):
-    for device in LANGUAGES:
-        for panel in LANGUAGES:
-            device_and_panel(checks, made, device, panel)
 
 
 def against_the_programs(checks, made, folder):
@@ -155,11 +130,16 @@ def panels(checks, made, prefix, folder):
         checks.same(f"the walk of a device that is gone {words}", said_by([made / "network-c11-sanitized", port]), ("lost\n", 1))
 
 
-def each_call_sanitized(checks, made, prefix):
-    parts = [TOP / f"c/{name}.c" for name in PARTS]
-    program = compiled(made / "calls-sanitized", *SANITIZED, f"-I{prefix}/include", made / "c_library.c", *parts, prefix / "lib/liboca.a",
-                       strict=STRICT[1:])
-    checks.counted("each call under the sanitizers", *said_by([program]))
+def each_call(checks, made, prefix):
+    """Each call under the sanitizers, over an arena, over a heap that counts the blocks that were not given back, and on the first x86-64."""
+    calls, core = made / "c_library.c", prefix / "lib/liboca_c.a"
+    for what, words in (("under the sanitizers", [*SANITIZED, calls, *(TOP / f"c/{name}.c" for name in PARTS), prefix / "lib/liboca.a"]),
+                        ("over an arena", ["-DARENA=(6u<<20)", calls, TOP / "examples/c/heap.c", core]),
+                        ("whose blocks of memory are given back", ["-DCOUNTS_BLOCKS", calls, core])):
+        checks.counted(f"each call {what}", *said_by([compiled(made / "calls", f"-I{prefix}/include", *words)]))
+    if not shutil.which("qemu-x86_64"):
+        return print("NOT TRIED: an x86-64 of the first kind, without qemu-x86_64")
+    checks.same("each call on an x86-64 of the first kind", said_by(["qemu-x86_64", "-cpu", "Opteron_G1", made / "calls-c++17"])[1], 0)
 
 
 def random_calls(checks, made, prefix):
@@ -178,79 +158,35 @@ def random_calls(checks, made, prefix):
             checks.same(f"what {name} answered and its page does not say", unsaid, set())
 
 
-# A program that is told of its socket: whether it is closed where another program is started, a send to a port at which there is no room, how far
-# the clock goes on behind a send while the machine sleeps, a receive that a signal interrupts, and a wait.
-OF_A_SOCKET = """#define _POSIX_C_SOURCE 200809L
-#include <oca.h>
-#include <fcntl.h>
-#include <signal.h>
-#include <stdio.h>
-#include <unistd.h>
-static void on_alarm(int number) { (void)number; }
-int main(int count, char **words) {
-    struct oca_socket own = OCA_SOCKET_INIT;
-    struct sigaction action = {.sa_handler = on_alarm};
-    uint8_t bytes[9] = {0};
-    size_t len = 0;
-    uint32_t ip = 0;
-    uint16_t port = 0;
-    if (count < 1 || !words || oca_socket_open(&own, 0x7F000001, 0) != OCA_SOCKET_DONE) return 2;
-    printf("%d", (fcntl(own.file, F_GETFD) & FD_CLOEXEC) != 0);
-    printf(" %u", (unsigned)oca_socket_receive(&own, bytes, sizeof bytes, &len, &ip, &port));
-    printf(" %u", (unsigned)oca_socket_send(&own, bytes, 1, 0x7F000001, 9));
-    const uint64_t before = oca_socket_now();
-    (void)oca_socket_send(&own, bytes, 1, 0x7F000001, own.port);
-    const uint64_t slept = (oca_socket_now() - before) / 1000;
-    printf(" %u", (unsigned)oca_socket_receive(&own, bytes, sizeof bytes, &len, &ip, &port));
-    (void)sigaction(SIGALRM, &action, NULL);
-    (void)alarm(1);
-    printf(" %u %u\\n", (unsigned)oca_socket_wait(&own, oca_socket_now() + 20000), (unsigned)slept);
-    oca_socket_close(&own);
-    return 0;
-}
-"""
-
-
 def of_a_socket(checks, made):
     """A socket asks for a send buffer of 4,000,000 bytes and is closed where another program is started; a send that finds no room does not wait; its
     clock counts sleep; and nothing has come where a signal interrupts a receive or a wait."""
-    source, program, asked = made / "socket.c", made / "of_a_socket", made / "asked"
-    source.write_text(OF_A_SOCKET)
+    asked = made / "asked"
     asked.touch()
-    subprocess.run(["cc", "-std=c11", *STRICT, f"-I{TOP}/include", "-o", program, source, TOP / "c/socket.c"], check=True)
-    done, nothing, system = (RESULTS[f"OCA_SOCKET_{name}"] for name in ("DONE", "NOTHING", "SYSTEM"))
-    for settings, wanted in (({"STALL": 9, "SLEPT": 100}, f"1 {nothing} {system} {done} {nothing} 100\n"),
-                             ({"INTERRUPT": 1, "STALL": 9}, f"1 {nothing} {system} {nothing} {nothing} 0\n")):
-        words = {"LD_PRELOAD": layer("unreliable"), "ASKED": str(asked)} | {name: str(it) for name, it in settings.items()}
-        checks.same(f"a socket, {settings}", said_by([program], **words), (wanted, 0))
+    for how, settings in (("at rest", {"STALL": 9, "SLEPT": 100}), ("interrupted", {"STALL": 9, "INTERRUPT": 1})):
+        checks.counted(f"a socket, {how}", *said_by([made / "calls-c11", how], ASKED=asked, **settings))
     checks.same("the send buffers that are asked for", asked.read_text(), 2 * "4000000\n")
 
 
-def full_datagram(checks, made):
-    """A datagram of 1,472 bytes, 86 commands, is answered by the device of the example as any other is."""
-    run, port = serving([made / "device-c11", 0, 2])
-    with bound() as end:
-        end.settimeout(30)
-        end.sendto(FULL, ("127.0.0.1", port))
-        counts = []
-        while sum(counts) < 86:
-            counts.append(oca.number(end.recv(2000)[8:10]))
-    checks.same("what a full datagram gets from the device of the example", (len(FULL), sum(counts)), (1472, 86))
-    rest(run)
-
-
-def oversize(checks, made):
-    """Neither device executes a datagram of 1,473 bytes that begins with 86 commands: it answers the next command."""
-    kept = made / "kept of a large datagram"
-    for name, words in (("device", [made / "device-c11", 0, 3]), ("mixer", [made / "mixer-plain", kept, 0, 3])):
+def large_datagrams(checks, made):
+    """A datagram of 1,472 bytes, 86 commands, is answered as any other is. One of 1,473 bytes that begins with them is not executed, and the next command
+    is answered."""
+    for name, words in (("device", [made / "device-c11", 0, 3]), ("mixer", [made / "mixer-plain", made / "kept of a large datagram", 0, 3])):
         run, port = serving(words)
         with bound() as end:
             end.settimeout(30)
-            for data in (FULL + b"\x3b", oca.command(99, 4097, 4, 1)):
-                end.sendto(data, ("127.0.0.1", port))
-            got = end.recv(2000)
-        wanted = 1473, oca.response(99, 0, 1, b"\1")
-        checks.same(f"the {name} behind a datagram that is too large", (len(FULL + b"\x3b"), got), wanted)
+            end.connect(("127.0.0.1", port))
+            counts = []
+            end.send(FULL)
+            while sum(counts) < 86:
+                counts.append(oca.number(end.recv(2000)[8:10]))
+            checks.same(f"what a full datagram gets from the {name}", (len(FULL), sum(counts)), (1472, 86))
+            large = bytearray(FULL + b"\x3b")
+            for at in range(14, 1472, 17):  # the handles of its commands, which were not sent before
+                large[at:at + 4] = (100 + at).to_bytes(4, "big")
+            for data in (large, oca.command(9999, 4097, 4, 1)):
+                end.send(data)
+            checks.same(f"the {name} behind a datagram that is too large", (len(large), end.recv(2000)), (1473, oca.response(9999, 0, 1, b"\1")))
         rest(run)
 
 
@@ -310,92 +246,71 @@ def for_every_processor(checks, archive):
     checks.same("instructions", len(used) > 50, True)
 
 
-def mixer(made, name, kept, seconds, before=(), **settings):
-    words = [*before, made / f"mixer-{name}", kept, "0", str(seconds)]
-    return subprocess.Popen(words, stdin=subprocess.PIPE, stdout=subprocess.PIPE, stderr=subprocess.PIPE, text=True,
-                            env=dict(os.environ, **settings))
-
-
 def a_mixer(checks, made, name, before=()):
     """What is set at the mixer is there behind a kill; a file that fails stays, a broken one is refused."""
-    kept = made / f"kept of {name}"
-    start = lambda seconds: mixer(made, name, kept, seconds, before)
+    kept, new = made / f"kept of {name}", made / f"kept of {name}.new"
+    words = lambda seconds: [*before, made / f"mixer-{name}", kept, 0, seconds]
     until = lambda test: waited(test, 20, 0.05) is not None
-    run = start(600)
-    network = Lossy(listening(run))
-    for channel in (0, 31):
-        block = 4096 + 16 * channel
-        checks.same(f"{name}: the panel at channel {channel + 1}", said_by([made / "panel-c11", network.port, block + 1, block + 2]), (PANEL, 0))
-    asker = Peer(network.port)
-    for words in ((4194, 2, 9, b"\0\4Bass"), (100, 2, 9, b"\0\3FOH"), (4195, 2, 2, b"\0"), (4211, 4, 4, b"\0\1", b"\0\3DAT"),
-                  (4211, 4, 8, b"\0\1", b"\0")):
-        checks.same(f"{name}: set {words[0]}", asker.ask(*words), (0, b""))
-    lines = ["gain 7 -30", "source 9 2", "open 3", "gain 4 101", "source 10 3", "gain 33 1", "y" * 63, "y" * 64, "y" * 65,
-             "open 5" + 300 * " ", "gain 7 -31"]
-    write(run, "".join(f"{it}\n" for it in lines), ends=False)
-    checks.same(f"{name}: the front", until(lambda: asker.ask(4194, 5, 1)[1][:2] == b"\xff\xe1"), True)
-    checks.same(f"{name}: datagrams were lost", network.lost > 0, True)
-    network.close()
+    run, port = serving(words(600))
+    with Lossy(port) as network:
+        for block in (4096, 4592):
+            checks.same(f"{name}: the panel at the channel {block}", said_by([made / "panel-c11", network.port, block + 1, block + 2]), (PANEL, 0))
+        asker = Peer(network.port, 4194)
+        for ono, level, index, *params in DATA.mixer_set:
+            checks.same(f"{name}: set {ono}", asker.ask(ono, level, index, *map(bytes.fromhex, params)), DONE)
+        lines = [*DATA.mixer_lines, "y" * 63, "y" * 64, "y" * 65, "open 5" + 300 * " ", "gain 7 -31"]
+        write(run, "".join(f"{it}\n" for it in lines), ends=False)
+        checks.same(f"{name}: the front", until(lambda: asker.trim() == -31), True)
+        checks.same(f"{name}: datagrams were lost", network.lost > 0, True)
     held = lambda: kept.exists() and b"Bass" in kept.read_bytes() and b"DAT" in kept.read_bytes() and struct.pack("<q", -31) in kept.read_bytes()
     checks.same(f"{name}: what was set is kept", until(held), True)
     checks.same(f"{name}: its notes", sorted(set(stop(run).splitlines())), ["front: no such line"])
-    run = start(12 if before else 6)
-    asker = Peer(listening(run))
+    run, port = serving(words(12 if before else 6))
+    asker = Peer(port)
     for ono, level, index, params in DATA.desk:
         asked = asker.ask(ono, level, index, *([b"\0\1"] if index == 3 else []))
         checks.same(f"{name}: {ono} {level}.{index} after the restart", asked, (0, bytes.fromhex(params)))
     stop(run)
-    run = start(12 if before else 2)
-    asker = Peer(listening(run))
+    run, port = serving(words(12 if before else 2))
+    asker = Peer(port, 4194)
     for value in (1, 2, 3, 4):
-        checks.same(f"{name}: the gain is {value}", asker.ask(4194, 5, 2, struct.pack(">h", value)), (0, b""))
+        checks.same(f"{name}: the gain is {value}", asker.trims(value), DONE)
         time.sleep(0.3)
     run.communicate()
-    run = start(12 if before else 6)
-    asker = Peer(listening(run))
-    checks.same(f"{name}: what was set before its end", asker.ask(4194, 5, 1)[1][:2], b"\0\4")
+    run, port = serving(words(12 if before else 6))
+    checks.same(f"{name}: what was set before its end", Peer(port, 4194).trim(), 4)
     whole = kept.read_bytes()
-    (made / f"kept of {name}.new").mkdir()
+    new.mkdir()
     write(run, "gain 7 -32\n", ends=False)
     checks.same(f"{name}: not kept", run.stderr.readline(), f"not kept: {kept}: unlink: Is a directory\n")
     checks.same(f"{name}: and as it was", kept.read_bytes() == whole, True)
-    (made / f"kept of {name}.new").rmdir()
+    new.rmdir()
     checks.same(f"{name}: kept later", until(lambda: struct.pack("<q", -32) in kept.read_bytes()), True)
     checks.same(f"{name}: its end", (run.communicate(timeout=120)[1], run.returncode), ("", 0))
     for what, bad in (("cut", whole[:-1]), ("longer", whole + b"\0"), ("turned", whole[:5000] + bytes([whole[5000] ^ 1]) + whole[5001:]), ("empty", b"")):
         kept.write_bytes(bad)
-        run = start(1)
-        checks.same(f"{name}: a file that is {what}", (run.communicate(timeout=120)[1], run.returncode), (f"{kept}: it is not whole, or not of this program\n", 1))
+        run = ran(*words(1))
+        checks.same(f"{name}: a file that is {what}", (run.stderr, run.returncode), (f"{kept}: it is not whole, or not of this program\n", 1))
         checks.same(f"{name}: and it stays", kept.read_bytes() == bad, True)
 
 
-def calls_of_a_mixer(made, kept, turns, **settings):
-    """What a mixer calls for its file, and what it says: each line of its front is given, and so many calls awaited."""
-    calls = made / f"calls for {kept.name}"
-    run = mixer(made, "plain", kept, 600, LD_PRELOAD=layer("unreliable"), CALLS=str(calls), **settings)
-    listening(run)
-    made_so_far = lambda: calls.read_text().splitlines() if calls.exists() else []
-    for line, count in turns:
-        write(run, f"{line}\n", ends=False)
-        waited(lambda least=count: len(made_so_far()) >= least, 20, 0.05)
-    run.kill()
-    return made_so_far(), run.communicate()[1]
-
-
 # What fails as the mixer keeps its second state, how the mixer calls that, and how many calls it has made of that state.
-FAILS = [({}, "", 0), ({"FULL": "5"}, "write: No space left on device\n", 0),
-         ({"FAIL_SYNC": "3"}, "fsync: Input/output error\n", 1)]
+FAILS = [({}, "", 0), ({"FULL": 5}, "write: No space left on device\n", 0), ({"FAIL_SYNC": 3}, "fsync: Input/output error\n", 1)]
 
 
 def kept_safely(checks, made):
-    """The file is on the disk before it takes its place, and then its folder. What fails is told, and tried again."""
+    """The file is on the disk before it takes its place, and then its folder. What fails is told, and tried again. Each line of the front is given,
+    and so many calls are awaited."""
     for at, (fails, says, before) in enumerate(FAILS):
-        kept = made / f"kept safely {at}"
-        wanted = [f"fsync {kept}.new", f"rename {kept.name}.new {kept.name}", f"fsync {made}"]
-        calls = [*wanted, *wanted[:before], *wanted]
-        said = calls_of_a_mixer(made, kept, (("gain 7 -30", 3), ("gain 7 -31", len(calls))), **fails)
+        kept, calls = made / f"kept safely {at}", made / f"calls {at}"
+        stored = [f"fsync {kept}.new", f"rename {kept.name}.new {kept.name}", f"fsync {made}"]
+        wanted = [*stored, *stored[:before], *stored]
+        run, _ = serving([made / "mixer-plain", kept, 0, 600], CALLS=calls, **fails)
+        for line, count in (("gain 7 -30", len(stored)), ("gain 7 -31", len(wanted))):
+            write(run, f"{line}\n", ends=False)
+            waited(lambda: len(lines_in(calls)) >= count, 20, 0.05)
         noted = f"not kept: {kept}: {says}" if says else ""
-        checks.same(f"the mixer's file: what is called where {fails} fails", said, (calls, noted))
+        checks.same(f"the mixer's file: what is called where {fails} fails", (stop(run), lines_in(calls)), (noted, wanted))
         checks.same(f"and what is kept then, {fails}", struct.pack("<q", -31) in kept.read_bytes(), True)
 
 
@@ -403,49 +318,34 @@ def answers_wait(checks, made):
     """A command that can't be stored is answered only once it can be, one that reads at once."""
     kept = made / "kept with answers that wait"
     run, port = serving([made / "mixer-plain", kept, 0, 600])
-    asker, set_it, read_it = Peer(port, patience=1), (4114, 5, 2, struct.pack(">h", -7)), (4114, 5, 1)
-    checks.same("a command that is stored", asker.ask(4113, 4, 2, b"\2"), (0, b""))
+    asker = Peer(port, 4114, patience=1)
+    checks.same("a command that is stored", asker.ask(4113, 4, 2, b"\2"), DONE)
     (made / f"{kept.name}.new").mkdir()
     asker.handle += 1
-    told = [asker.again(*set_it, copies=1) for _ in range(3)]
+    told = [asker.trims_again(-7, copies=1) for _ in range(3)]
     checks.same("a command that cannot be stored, and copies of it", told, [None] * 3)
     checks.same("what is kept meanwhile", struct.pack("<q", -7) in kept.read_bytes(), False)
     own = asker.handle
-    checks.same("a command that reads meanwhile", (asker.ask(*read_it, copies=1) or [None])[0], 0)
-    refused = asker.ask(4114, 5, 2, struct.pack(">h", 101), copies=1)
-    checks.same("a command that is refused meanwhile", (refused or [None])[0], 7)
+    checks.same("a command that reads meanwhile", asker.trim(copies=1), -7)
+    checks.same("a command that is refused meanwhile", asker.trims(101, copies=1), (7, b""))
     (made / f"{kept.name}.new").rmdir()
     asker.handle = own
-    checks.same("a copy, once it can be stored", (asker.again(*set_it, copies=1) or [None])[0], 0)
+    checks.same("a copy, once it can be stored", asker.trims_again(-7, copies=1), DONE)
     checks.same("what the mixer said", stop(run), f"not kept: {kept}: unlink: Is a directory\n")
     run, port = serving([made / "mixer-plain", kept, 0, 600])
-    checks.same("what was answered, behind a kill", Peer(port).ask(*read_it)[1][:2], struct.pack(">h", -7))
+    checks.same("what was answered, behind a kill", Peer(port, 4114).trim(), -7)
     second = started([made / "mixer-plain", kept, 0, 1])
     checks.same("a second mixer with the file", second, ("", f"{kept}:".split(" ")[0], 1))
     stop(run)
 
 
 def killed(checks, made):
-    """Over 30 kills at random moments: what was answered is there, or what was asked behind it."""
-    kept, chance, held, answers = made / "kept over kills", random.Random(30), 0, 0
-    for turn in range(30):
-        run, port = serving([made / "mixer-plain", kept, 0, 600])
-        asker, asked, told = Peer(port, 0.05, 4), held, (0, b"")
-        killer = threading.Timer(chance.uniform(0.02, 0.3), run.kill)
-        killer.start()
-        while told == (0, b"") and run.poll() is None:
-            held, asked = asked, (asked + 601) % 700 - 600
-            told = asker.ask(4114, 5, 2, struct.pack(">h", asked))
-            answers += told == (0, b"")
-        killer.join()
-        run.communicate()
-        may_be = {asked} if told == (0, b"") else {held, asked}
-        run, port = serving([made / "mixer-plain", kept, 0, 600])
-        held = struct.unpack(">h", Peer(port).ask(4114, 5, 1)[1][:2])[0]
-        stop(run)
-        checks.same(f"kill {turn}: {held} is one of {may_be}", held in may_be, True)
-    checks.same("some numbers were answered", answers > 0, True)
-    print(f"  30 kills, {answers} answers")
+    """The mixer, killed at random moments."""
+    def serve():
+        run, port = serving([made / "mixer-plain", made / "kept over kills", 0, 600])
+        return run, port, Peer(port, 4114) if port else None
+
+    over_kills(checks, serve)
 
 
 def from_python(checks, made, prefix):
@@ -478,9 +378,9 @@ def mixers(checks, made, prefix):
     compiled(made / "mixer.o", f"-I{prefix}/include", "-c", TOP / "examples/c/mixer.c", language="c++17")
     (made / "held.c").write_text(HELD)
     mixer, whole = [TOP / "examples/c/mixer.c"], [TOP / "examples/c/mixer.c", *(TOP / f"c/{name}.c" for name in PARTS)]
-    for name, more, of in (("plain", ["-O2"], mixer), ("sanitized", SANITIZED, whole), ("threads", ["-O1", "-g", "-fsanitize=thread"], whole),
-                           ("held", ["-O2", f"-I{TOP}"], [made / "held.c"])):
-        compiled(made / f"mixer-{name}", "-Wpedantic", *more, f"-I{prefix}/include", *of, f"{prefix}/lib/liboca.a", "-pthread", strict=STRICT[1:])
+    for name, more, of in (("plain", [], mixer), ("sanitized", SANITIZED, whole), ("threads", ["-O1", "-g", "-fsanitize=thread"], whole),
+                           ("held", [f"-I{TOP}"], [made / "held.c"])):
+        compiled(made / f"mixer-{name}", "-Wpedantic", *more, f"-I{prefix}/include", *of, f"{prefix}/lib/liboca.a", "-pthread")
         a_mixer(checks, made, name)
     kept_safely(checks, made)
     answers_wait(checks, made)
@@ -494,11 +394,11 @@ def refused_memory(checks, made):
     """Each request for memory refused in turn: the program says so and ends, or does without."""
     for words, refused in (([made / "device-c11", 0, 0], "not started: 8\n"), ([made / "panel-c11", 9], "not opened: 8\n")):
         counts, times = made / "counts", 0
-        quick = dict(os.environ, LD_PRELOAD=layer("unreliable"), COUNTS=str(counts), FAIL_SEND="1000", ERRNO="101")
-        ran(*words, env=quick)
+        quick = {"COUNTS": counts, "FAIL_SEND": 1000, "ERRNO": 101}
+        ran(*words, **quick)
         requests = int(counts.read_text().split()[0])
         for number in range(1, min(requests, 200) + 1):
-            run = ran(*words, env=quick | {"REFUSE": str(number)})
+            run = ran(*words, **quick, REFUSE=number)
             times += run.stderr == refused and run.returncode == 1
             checks.same(f"{words[0].name}: request {number} refused", run.returncode in (0, 1), True)
         checks.same(f"{words[0].name}: it says that memory was refused", times > 0, True)
@@ -584,15 +484,10 @@ def prefixes(checks, made, archive):
         checks.same(f"what is installed below {place.name}", files_below(place), INSTALLED)
         cflags, libs = flags(place)
         panel = compiled(made / "panel-placed", *cflags, TOP / "examples/c/panel.c", *libs)
-        checks.same(f"the panel of {place.name}", said_by([panel], LD_LIBRARY_PATH=f"{place}/lib"), ("", 2))
+        checks.same(f"the panel of {place.name}", said_by([panel], env=os.environ | {"LD_LIBRARY_PATH": f"{place}/lib"}), ("", 2))
     if shutil.which("pkg-config"):
-        told = said_by(["pkg-config", "--modversion", "oca"], PKG_CONFIG_PATH=f"{made}/rel/lib/pkgconfig")
-        checks.same("the version that pkg-config tells", told, ("{}.{}.{}\n".format(*own_version()), 0))
-
-
-def own_version():
-    number = int(re.search(r"#define OCA_VERSION 0x(\w+)u", (TOP / "include/oca.h").read_text())[1], 16)
-    return number >> 16, number >> 8 & 255, number & 255
+        told = said_by(["pkg-config", "--modversion", "oca"], env=os.environ | {"PKG_CONFIG_PATH": f"{made}/rel/lib/pkgconfig"})
+        checks.same("the version that pkg-config tells", told, (f"{VERSION}\n", 0))
 
 
 def configured(made, folder, *words, version="1.1"):
@@ -608,7 +503,7 @@ def targets_in(run):
 
 
 def targets_below(prefix, lib):
-    kinds = {"oca": "liboca.so." + ".".join(map(str, own_version())), "static": "liboca.a", "core": "liboca_c.a"}
+    kinds = {"oca": f"liboca.so.{VERSION}", "static": "liboca.a", "core": "liboca_c.a"}
     return [f"oca::{kind} {prefix}/{lib}/{file} {prefix}/include" for kind, file in kinds.items()]
 
 
@@ -626,7 +521,7 @@ def by_cmake(checks, made, prefix):
         checks.same(f"the panel that CMake built with oca::{kind}", said_by([made / f"cmade/panel-{kind}", port])[1], 0)
     run.communicate(timeout=120)
     for form, more, is_kept in DATA.versions:
-        version = form.format(*map(sum, zip(own_version(), more)))
+        version = form.format(*map(sum, zip(map(int, VERSION.split(".")), more)))
         found = configured(made, "none", f"-DCMAKE_PREFIX_PATH={prefix}", version=version)
         is_refused = "oca-config.cmake, version:" in found.stderr
         checks.same(f"version {version}", (found.returncode == 0, is_refused), (is_kept, not is_kept))
@@ -714,10 +609,9 @@ def without_a_system(checks, made, prefix):
     """The bare device, over 24,576 bytes, answers one peer over its serial line, and no more."""
     if not shutil.which("qemu-system-aarch64"):
         return print("NOT TRIED: a board without an operating system, without qemu-system-aarch64")
-    program = made / "bare"
-    subprocess.run(["aarch64-linux-gnu-gcc", "-std=c11", *STRICT, "-Wpedantic", "-ffreestanding", "-nostdlib", "-static", "-DARENA=24576", f"-I{prefix}/include",
-                    "-Wl,-Ttext=0x40100000", "-o", program, TOP / "examples/c/bare.c", TOP / "examples/c/heap.c", f"{prefix}/{OF_ARM}/liboca_c.a", "-lgcc"], check=True)
-    board = Board(program)
+    words = "-Wpedantic -ffreestanding -nostdlib -static -DARENA=24576 -Wl,-Ttext=0x40100000".split()
+    board = Board(compiled(made / "bare", *words, f"-I{prefix}/include", TOP / "examples/c/bare.c", TOP / "examples/c/heap.c",
+                           f"{prefix}/{OF_ARM}/liboca_c.a", "-lgcc", language="arm"))
     checks.same("how the device without a system starts", board.read(2), b"\0\0")
     for asked, wanted in BARE:
         board.say(asked)
@@ -739,23 +633,14 @@ def on_arm(checks, made):
         return print(f"NOT TRIED: AArch64, without {' and '.join(tools)}")
     prefix = made / "arm"
     installs_for_arm(checks, made, prefix, library(ARM))
-    for name, source in (("device", "examples/c/device.c"), ("panel", "examples/c/panel.c"), ("calls", made / "c_library.c")):
-        subprocess.run(["aarch64-linux-gnu-gcc", "-std=c11", *STRICT, f"-I{prefix}/include", "-o", made / f"{name}-arm", TOP / source,
-                        f"{prefix}/{OF_ARM}/liboca.a"], check=True)
+    compile_all(made, "arm", f"-I{prefix}/include", f"{prefix}/{OF_ARM}/liboca.a")
     emulated = ["qemu-aarch64", "-L", "/usr/aarch64-linux-gnu"]
     device_and_panel(checks, made, "arm", "arm", emulated, 6)
-    checks.same("each call on AArch64", said_by([*emulated, made / "calls-arm"])[1], 0)
-    first = ["qemu-aarch64", "-cpu", "cortex-a53", "-L", "/usr/aarch64-linux-gnu"]
-    checks.same("each call on an AArch64 of the first kind", said_by([*first, made / "calls-arm"])[1], 0)
+    for kind in ([], ["-cpu", "cortex-a53"]):
+        checks.same(f"each call on AArch64 {kind}", said_by([*emulated, *kind, made / "calls-arm"])[1], 0)
     without_a_system(checks, made, prefix)
     make("uninstall", prefix, "none", TARGET=ARM)
     checks.same("what `make uninstall` leaves for AArch64", files_below(prefix), [])
-
-
-def on_the_first_kind(checks, made):
-    if not shutil.which("qemu-x86_64"):
-        return print("NOT TRIED: an x86-64 of the first kind, without qemu-x86_64")
-    checks.same("each call on an x86-64 of the first kind", said_by(["qemu-x86_64", "-cpu", "Opteron_G1", made / "calls-c++17"])[1], 0)
 
 
 def names(checks, archive, header, prefix):
@@ -785,7 +670,10 @@ def main():
         made = Path(place)
         prefix = made / "usr"
         make("install-library", prefix, archive)
-        compile_all(made, prefix)
+        c_rows.test("c_library", made)
+        cflags, shared = flags(prefix)
+        compile_all(made, "c11", *cflags, *shared, f"-Wl,-rpath,{prefix}/lib")
+        compile_all(made, "c++17", *cflags, f"{prefix}/lib/liboca.a")
         names(checks, archive, TOP / "include/oca.h", prefix)
         for_every_processor(checks, archive)
         for language in LANGUAGES:
@@ -794,19 +682,16 @@ def main():
         panels(checks, made, prefix, folder)
         for part in (stays_below, prefixes, beside_another_kind):
             part(checks, made, archive)
-        for part in (warnings, by_cmake, each_call_sanitized, random_calls, mixers, from_python):
+        for part in (warnings, by_cmake, each_call, random_calls, mixers, from_python):
             part(checks, made, prefix)
-        for part in (arenas, on_arm, on_the_first_kind, against_each_other, full_datagram, of_a_socket, oversize, examples_alone, refused_memory):
+        for part in (arenas, on_arm, large_datagrams, of_a_socket, examples_alone, refused_memory):
             part(checks, made)
+        for device, panel in itertools.product(LANGUAGES, repeat=2):
+            device_and_panel(checks, made, device, panel)
         if shutil.which("valgrind"):
             checks.same("each call under valgrind", said_by([*CAREFUL, made / "calls-c11"])[1], 0)
             checks.same("the panel of the library under valgrind", said_by([*CAREFUL, made / "network-c11"])[1], 0)
             device_and_panel(checks, made, before=CAREFUL, seconds=8)
-        calls, core = made / "c_library.c", f"{prefix}/lib/liboca_c.a"
-        arena = compiled(made / "arena", "-DARENA=(6u<<20)", f"-I{prefix}/include", calls, TOP / "examples/c/heap.c", core)
-        checks.same("each call over an arena", said_by([arena])[1], 0)
-        counted = compiled(made / "counted", "-DCOUNTS_BLOCKS", f"-I{prefix}/include", calls, core)
-        checks.same("each call, and each block of memory is given back", said_by([counted])[1], 0)
     return checks.verdict()
 
 

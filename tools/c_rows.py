@@ -15,16 +15,30 @@ what it points to. Where bytes or items are given with their number, a word is a
 colon between. A word that holds blanks stands in parentheses."""
 import re
 import shutil
+import subprocess
 from pathlib import Path
 
+from checks import over_the_layer
 from tables import data
 
 HERE = Path(__file__).resolve().parent
 LANGUAGES = {"c11": ["cc", "-std=c11"], "c++17": ["c++", "-x", "c++", "-std=c++17"]}
+COMPILERS = LANGUAGES | {"arm": ["aarch64-linux-gnu-gcc", "-std=c11"]}
+STRICT = ["-O2", "-Wall", "-Wextra", "-Werror"]
 SANITIZED = ["-O1", "-g", "-fsanitize=address,undefined", "-fno-sanitize-recover=all"]
 WORD = re.compile(r'(?:"(?:\\.|[^"\\])*"|\((?:[^()]|\((?:[^()]|\([^()]*\))*\))*\)|[^\s"()])+')
 A_TEXT = r'"(?:\\.|[^"\\])*"'
 ALONE = re.compile(r"struct oca_(device|link|socket|server|store|panel|flight) \*")  # a pointer to one, whatever number stands behind it
+
+
+def ran(*words, **how):
+    return subprocess.run([*map(str, words)], **{"capture_output": True, "text": True, "timeout": 300, **over_the_layer(how)})
+
+
+def compiled(program, *words, language="c11"):
+    """A program, strictly compiled."""
+    subprocess.run([*COMPILERS[language], *STRICT, "-o", program, *words], check=True)
+    return program
 
 
 def prototypes():

@@ -12,6 +12,7 @@ import socket
 import subprocess
 import sys
 import tempfile
+import threading
 import time
 from pathlib import Path
 
@@ -50,11 +51,24 @@ def at(end):
     return "{}:{}".format(*end.getsockname())
 
 
+def sockets(kind):
+    """The sockets of this machine, `tcp` or `udp` of IPv4: of each the address and port at both ends, the bytes that wait to be sent and to be read,
+    and the number of its file."""
+    end = lambda text: (socket.inet_ntoa(bytes.fromhex(text[:8])[::-1]), int(text[9:], 16))
+    for row in map(str.split, Path("/proc/net", kind).read_text().splitlines()[1:]):
+        yield end(row[1]), end(row[2]), [int(it, 16) for it in row[4].split(":")], row[9]
+
+
 def comes(end):
     """The datagrams that come to a socket, each with its sender, until none comes in its time."""
     with contextlib.suppress(TimeoutError):
         while True:
             yield end.recvfrom(2048)
+
+
+def next_command(end, passed=()):
+    """The next datagram that comes, and from where; nothing where none comes in its time. Keep-alives are passed over, and these."""
+    return next(((data, sender) for data, sender in comes(end) if data[7:8] != b"\4" and data not in passed), (b"", None))
 
 
 def heard(end):
@@ -66,10 +80,15 @@ def heard(end):
     return found
 
 
-def ended(run, seconds=60):
-    """What a run printed, what it said of faults, and its status; that it did not end, where it does not in so many seconds."""
+def lines_in(path):
+    """The lines of a file, none where it is not there."""
+    return Path(path).read_text().splitlines() if Path(path).exists() else []
+
+
+def ended(run, seconds=60, given=None):
+    """What a run with this input printed, what it said of faults, and its status; that it did not end, where it does not in so many seconds."""
     try:
-        return (*run.communicate(timeout=seconds), run.returncode)
+        return (*run.communicate(given, timeout=seconds), run.returncode)
     except subprocess.TimeoutExpired:
         run.kill()
         return ("it did not end", *run.communicate(timeout=60))
@@ -132,11 +151,36 @@ def nulls_of(run, seconds=30):
     return sorted(number for number, what in files().items() if what == "/dev/null") if is_there() else None
 
 
+class Beside:
+    """What goes on in a thread of its own while a block lasts: `step`, again and again."""
+
+    is_over = False
+
+    def __enter__(self):
+        self.thread = threading.Thread(target=self.run, daemon=True)
+        self.thread.start()
+        return self
+
+    def run(self):
+        while not self.is_over:
+            self.step()
+
+    def __exit__(self, *_):
+        self.is_over = True
+        self.thread.join()
+
+
+def port_said(run):
+    """The port at which a run says first that it listens; 0 if it does not."""
+    found = re.fullmatch(r"listening [\d.]+:(\d+)\n", run.stderr.readline())
+    return int(found[1]) if found else 0
+
+
 class Serving:
     """A run of a program that serves: the notes that it says first, and where it says that it listens. It is ended with the block that it stands in."""
 
     def __init__(self, *words, notes=0, **how):
-        how = {"stdout": subprocess.DEVNULL, "stderr": subprocess.PIPE, "text": True, **how}
+        how = {"stdout": subprocess.DEVNULL, "stderr": subprocess.PIPE, "text": True, **over_the_layer(how)}
         self.process = subprocess.Popen([*map(str, words)], **how)
         self.notes = [self.process.stderr.readline() for _ in range(notes)]
         self.said = self.process.stderr.readline()
@@ -198,8 +242,8 @@ class Checks:
         self.expect(f"not found: {other!r} in place of {there!r}{where}", is_found)
 
     def start(self, *words, given=None, text=True, **how):
-        """A run of a program of the folder, with this input; without one it stays open."""
-        how = {"stdin": subprocess.PIPE, "stdout": subprocess.PIPE, "stderr": subprocess.PIPE, **how}
+        """A run of a program of the folder, with this input; without one it stays open. What is written in capitals is done by the layer."""
+        how = {"stdin": subprocess.PIPE, "stdout": subprocess.PIPE, "stderr": subprocess.PIPE, **over_the_layer(how)}
         run = subprocess.Popen([f"{self.folder}/{words[0]}", *map(str, words[1:])], text=text, **how)
         self.started.append(run)
         if given is not None:
@@ -209,12 +253,12 @@ class Checks:
     def serve(self, *words, **how):
         """`ocadev serve` at a port that the system chooses, and this port; 0 if it does not listen."""
         run = self.start("ocadev", "serve", "--port", 0, *words, **how)
-        found = re.match(r"listening [\d.]+:(\d+)\n", run.stderr.readline())
+        port = port_said(run)
         read_note(run)
-        return run, int(found[1]) if found else 0
+        return run, port
 
-    def ran(self, *words, given="", **how):
-        return ended(self.start(*words, given=given, **how))
+    def ran(self, *words, given="", seconds=60, **how):
+        return ended(self.start(*words, **how), seconds, given)
 
     def part(self, part):
         """Runs a part, and ends what it started. If times alone were wrong it is tried twice more: a machine that stands still for a second or
@@ -277,9 +321,11 @@ def layer(name):
     return f"{place}/{name}.so"
 
 
-def layered(**settings):
-    """The environment of a run over the layer `unreliable.c`, which does what these settings say."""
-    return os.environ | {"LD_PRELOAD": layer("unreliable")} | {name: str(value) for name, value in settings.items()}
+def over_the_layer(how):
+    """How a program is started: names in capitals are settings of the layer `unreliable.c`, and if there are any, it runs over that."""
+    settings = {name: str(value) for name, value in how.items() if name.isupper()}
+    rest = {name: value for name, value in how.items() if name not in settings}
+    return rest | {"env": os.environ | {"LD_PRELOAD": layer("unreliable")} | settings} if settings else rest
 
 
 class Ahead:

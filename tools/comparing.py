@@ -1,6 +1,8 @@
 """What the tools share that hold the programs against laws and against the second implementation. Other tools use it; it has no `main`."""
 import collections
+import functools
 import multiprocessing
+import random
 import subprocess
 import sys
 from pathlib import Path
@@ -65,14 +67,40 @@ def events_of(lines):
     return [its for its in found if its]
 
 
-def in_processes(work, what, batch, refuses, rules, count=300, seed=1):
+# How runs are held against laws: the cases of a number; what the program says of cases; the walk of the laws along what it said of one, or a Break; that
+# as a text; what is counted of it; some that are altered, each with the law that is to refuse it and, if it is to stand there, the place of the break;
+# and the laws alone.
+Comparison = collections.namedtuple("Comparison", "made told hold shown count altered laws")
+
+
+def work(how, job):
+    """The counts of a range of numbers, and the text of the first break or None."""
+    program, seed, numbers = job
+    cases, total = [case for n in numbers for case in how.made(seed, n)], collections.Counter()
+    r = random.Random(f"{seed} {numbers[0]} altered")
+    for case, said in zip(cases, how.told(program, cases), strict=True):
+        try:
+            walk = how.hold(case, said)
+        except Break as fault:
+            return total, how.shown(case, said, fault)
+        total += how.count(case, said, walk)
+        for law, at, other in filter(None, how.altered(r, case, said, walk)):
+            fault = broken(how.laws, case, other)
+            is_refused = fault is not None and fault.law == law and at in (None, fault.at)
+            total += collections.Counter({"altered": 1, "altered, refused": int(is_refused)})
+            if not is_refused:
+                print(f"altered for '{law}' at {at}, " + (f"refused by '{fault.law}' at {fault.at}" if fault else "not refused"))
+    return total, None
+
+
+def in_processes(how, what, batch, refuses, rules, count=300, seed=1):
     """Holds so many runs of the program in processes side by side, as the words FOLDER [COUNT [SEED]] say, and each wrong
     rule: the number, the seed, the counts, and what is found of the rules. A break is printed and ends this process."""
     folder, count, seed = [*sys.argv[1:], *("", count, seed)[len(sys.argv) - 1:]]
     count, seed, total = int(count), int(seed), collections.Counter()
     jobs = [(f"{folder}/trials", seed, range(count)[first:first + batch]) for first in range(0, count, batch)]
     with multiprocessing.Pool(min(4, multiprocessing.cpu_count())) as pool:
-        for counts, fault in pool.imap(work, jobs):
+        for counts, fault in pool.imap(functools.partial(work, how), jobs):
             total += counts
             if fault:
                 print(f"{fault}\nseed {seed}: a break after {total[what]} {what} without one")

@@ -6,16 +6,14 @@ nothing.
 Usage: embedded.py BIN     BIN is the folder with `amplifier`, `panel` and `ocadev`"""
 import os
 import re
-import socket
 import struct
 import subprocess
 import sys
 import tempfile
-from pathlib import Path
 
 import oca_profile as oca
 import peers
-from checks import Checks, bound, write
+from checks import Checks, bound, port_said, sockets, write
 from tables import table
 
 DATA, OPENED = table("embedded"), "open channel 1: status 0\n"
@@ -35,7 +33,7 @@ class Peer(peers.Peer):
 def amplified(checks, **settings):
     """A run of the amplifier, whose input stays open, its port, and a peer of it."""
     run = checks.start("amplifier", 0, 100000, bufsize=1, **settings)
-    port = int(re.search(r":(\d+)", run.stderr.readline())[1])
+    port = port_said(run)
     return run, port, Peer(port)
 
 
@@ -117,8 +115,7 @@ def objects(checks):
 
 def bound_at(port):
     """The addresses of this machine at which somebody has this UDP port, of IPv4."""
-    rows = [line.split()[1].split(":") for line in Path("/proc/net/udp").read_text().splitlines()[1:]]
-    return [socket.inet_ntoa(bytes.fromhex(ip)[::-1]) for ip, number in rows if int(number, 16) == port]
+    return [ip for (ip, own), *_ in sockets("udp") if own == port]
 
 
 def at_this_machine(checks):

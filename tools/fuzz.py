@@ -99,15 +99,12 @@ class Panel:
         r = self.r
         if r.randrange(5):
             target, *asked = usual(r)
-            return oca.Command(handle, self.in_a_strip(target), *asked)
+            if self.channels and target in STRIP and not r.randrange(2):
+                target = 4103 + 4 * r.choice([0, self.channels - 1, r.randrange(self.channels)]) + STRIP[target]
+            return oca.Command(handle, target, *asked)
         level, index = r.choice(METHODS)
         params = bytes(r.randrange(256) for _ in range(r.choice([0, 0, 1, 2, 3, 9])))
         return oca.Command(handle, r.choice(ONOS), level, index, r.randrange(3), params)
-
-    def in_a_strip(self, target):
-        if not self.channels or target not in STRIP or self.r.randrange(2):
-            return target
-        return 4103 + 4 * self.r.choice([0, self.channels - 1, self.r.randrange(self.channels)]) + STRIP[target]
 
 
 STRIP = {4096: 0, 4097: 1, 4098: 2, 4100: 3}

@@ -20,7 +20,7 @@ from pathlib import Path
 
 import checks
 import oca_profile as oca
-from checks import bound, by_turns, free_port, next_line, read_until
+from checks import at, bound, by_turns, free_port, next_line, read_until
 from peers import Other, Served, commands_in
 from tables import data, table
 
@@ -120,12 +120,6 @@ class OldSession(Served):
                 self.device.datagram((127, 0, 0, 1, port), oca.command(handle, 100, 1, 1), 0)
 
 
-@contextlib.contextmanager
-def silent():
-    with bound() as s:
-        yield s.getsockname()[1]
-
-
 def asked(device):
     found = {command.handle: (command.target, method, command.params) for data, _ in device.heard for command, method in commands_in(data)}
     return list(found.values())
@@ -169,12 +163,8 @@ def of_object(obj):
     return f"{obj.ono} {obj.setting()}" + (f" {obj.lock[0]} {obj.lock[1][4]}" if obj.lock else "")
 
 
-def of_command(target, method, params):
-    return f"{target} {method[0]}.{method[1]}" + (f" {params.hex()}" if params else "")
-
-
 def heard_as(device, asks):
-    heard = [of_command(*it) for it in asked(device)]
+    heard = [f"{target} {level}.{index} {params.hex()}".rstrip() for target, (level, index), params in asked(device)]
     if asks == "nothing":
         return ["nothing"] if not {method for _, method, _ in asked(device)} & {*SETS} else heard
     wanted = asks.split(", ")
@@ -318,8 +308,8 @@ def helps(checks):
 
 
 def ended(checks, command, answers, words, lines):
-    with Served(stagebox()) if answers else silent() as device:
-        return checks.run(device, command, *words.split(), given=lines)[2]
+    with Served(stagebox()) if answers else bound() as device:
+        return checks.run(device if answers else at(device), command, *words.split(), given=lines)[2]
 
 
 class Terminal:

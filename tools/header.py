@@ -132,14 +132,10 @@ def number_in(text, form):
     return int(re.search(form, text, re.M)[1].replace("_", ""), 0)
 
 
-def result_texts(header):
-    """What the header says of those results, or of all where they are not those that its enums have; what it must say."""
-    there, said = dict(re.findall(r'case (OCA_\w+): return "([^"]*)";', header)), texts()
-    return {word: there.get(word) for word in said} if there.keys() == results(header) else there, said
-
-
 def compared(header):
-    """What is compared besides prototypes: by its name what the header has, and what it must have."""
+    """What is compared besides prototypes: by its name what the header has, and what it must have. Of results the texts are those that `texts` knows, or
+    all where they are not those of the results that its enums have."""
+    there, said = dict(re.findall(r'case (OCA_\w+): return "([^"]*)";', header)), texts()
     enums = {name: arms(*of) for name, *of in DATA.arms} | {name: variants(*of) for name, *of in DATA.variants} | {"oca_method": methods()}
     words = source("oca_calls/src/words.rt")
     verdict = re.search(r"\} => \[0, (.*?)\]", words)[1].split(", ")
@@ -157,7 +153,7 @@ def compared(header):
                              number_in(source("oca_calls/src/spec_words.rt"), r"const SPEC_SIZE: u32 = (\d+);")),
         "status texts": (re.findall(r'"(\w+)"', re.search(r"oca_status_text.*?\};", header, re.S)[0]),
                          re.findall(r'Status::\w+ => "(\w+)"', source("oca_types/src/status.rt"))),
-        "result texts": result_texts(header),
+        "result texts": ({word: there.get(word) for word in said} if there.keys() == results(header) else there, said),
         "most": (most, {of: number_in(source(file), rf"const {name}: usize = (\d+);") for of, file, name in DATA.most}),
         "version": (number_in(header, r"#define OCA_VERSION (0x[0-9a-fA-F]+)u"), number_in(source("oca_c/src/version.rt"), r"^    (0x[0-9A-Fa-f_]+)$")),
     }
@@ -187,15 +183,11 @@ def comments(header):
 
 
 def part(page, heading):
-    return page.split(f"\n.SH {heading}\n")[-1].split("\n.SH")[0] if f"\n.SH {heading}\n" in page else ""
+    return page.partition(f"\n.SH {heading}\n")[2].split("\n.SH")[0]
 
 
 def words(text):
     return re.findall(r"\w+", text)
-
-
-def stands(some, text):
-    return f" {' '.join(words(some))} " in f" {' '.join(words(text))} "
 
 
 def page_faults(name, page, header, comment, title):
@@ -207,7 +199,7 @@ def page_faults(name, page, header, comment, title):
     tried = [
         (f"is not titled by its name and {title}", page.startswith(f".TH {name} 3 {title}\n")),
         ("does not say in a line what the call does", about and about == comment[:len(about)]),
-        ("does not have its declaration", stands(declared, part(page, "SYNOPSIS"))),
+        ("does not have its declaration", f" {' '.join(words(declared))} " in f" {' '.join(words(part(page, 'SYNOPSIS')))} "),
         ("does not say what the header says", comment and words(part(page, "DESCRIPTION"))[:len(comment)] == comment),
         ("does not show what its declaration names", all(f"{it} {{" in part(page, "SYNOPSIS") for it in types)),
         ("does not say what it can answer", answers == set(reference.answers_of(name)) and bool(answers) == bool(re.search(f"enum oca_((store|socket)_)?result {name}", declared))),
@@ -245,15 +237,11 @@ def list_wrong(page, made):
     return len(wanted), wrong or ["the list of docs/API.md has another order"] * (there != wanted)
 
 
-def made_pages():
+def main():
+    header, made, checks = (TOP / "include/oca.h").read_text(), api.made(), Checks()
     with tempfile.TemporaryDirectory() as place:
         reference.write(Path(place))
-        return {file.stem: file.read_text() for file in Path(place).glob("*.3")}
-
-
-def main():
-    header, texts, checks = (TOP / "include/oca.h").read_text(), made_pages(), Checks()
-    made = api.made()
+        texts = {file.stem: file.read_text() for file in Path(place).glob("*.3")}
     for compared, wrong in (differences(header), pages_wrong(header, texts), list_wrong(api.PAGE.read_text(), made)):
         checks.all_but(compared, [f"include/oca.h: {line}" for line in wrong])
     for there, other in DATA.wrong:

@@ -12,7 +12,6 @@ import os
 import random
 import re
 import resource
-import select
 import shutil
 import signal
 import struct
@@ -25,11 +24,13 @@ from pathlib import Path
 
 import checks
 import peers
+from checks import Beside, lines_in, port_said, waited
 from oca_profile import text_bytes
 from tables import data, octets
 
 MUTE, TRIM = 4097, 4100
 KILLS, STOPS = 30, 20
+LISTENING = re.compile(r"listening [\d.]+:(\d+)\n")
 DONE = (0, b"")
 NOT_KEPT, AGAIN = r"note: the state is not kept: [^\n]*\n", "note: the state is kept again: "
 DATA = data("keep")
@@ -41,14 +42,20 @@ def number(value):
 
 
 class Peer(peers.Peer):
+    """A controller that sets and reads this gain."""
+
+    def __init__(self, port, gain=TRIM, **how):
+        super().__init__(port, **how)
+        self.gain = gain
+
     def trims(self, value, **how):
-        return self.ask(TRIM, 5, 2, number(value), **how)
+        return self.ask(self.gain, 5, 2, number(value), **how)
 
     def trims_again(self, value, **how):
-        return self.again(TRIM, 5, 2, number(value), **how)
+        return self.again(self.gain, 5, 2, number(value), **how)
 
-    def trim(self):
-        answer = self.ask(TRIM, 5, 1)
+    def trim(self, **how):
+        answer = self.ask(self.gain, 5, 1, **how)
         return answer and struct.unpack(">h", answer[1][:2])[0]
 
 
@@ -61,11 +68,11 @@ def limit_files(most):
 class Checks(checks.Checks):
     def serve(self, keep, *words, most=None, refusing=False):
         """A device at a port of the system's, what it says first, and its peer; over the layer or not."""
-        run = self.start("ocadev", "serve", "--port", "0", "--keep", keep, *words, text=False, stdin=subprocess.DEVNULL,
-                         env=checks.layered(REFUSING=f"{keep}.refusing", TOLD=f"{keep}.told") if refusing else None,
-                         preexec_fn=None if most is None else lambda: limit_files(most))
-        said = run.stderr.readline().decode()
-        listening = re.match(r"listening [\d.]+:(\d+)\n", said)
+        layer = {"REFUSING": f"{keep}.refusing", "TOLD": f"{keep}.told"} if refusing else {}
+        run = self.start("ocadev", "serve", "--port", "0", "--keep", keep, *words, stdin=subprocess.DEVNULL,
+                         preexec_fn=None if most is None else lambda: limit_files(most), **layer)
+        said = run.stderr.readline()
+        listening = LISTENING.fullmatch(said)
         return run, said, Peer(int(listening[1])) if listening else None
 
     @contextlib.contextmanager
@@ -100,7 +107,7 @@ class Checks(checks.Checks):
 
 def stop(run, how=signal.SIGKILL):
     run.send_signal(how)
-    return run.communicate(timeout=30)[1].decode()
+    return run.communicate(timeout=30)[1]
 
 
 def answers(peer, commands):
@@ -156,26 +163,28 @@ def written_once(checks, folder):
         checks.same("the file behind a copy of the command", which(), before)
 
 
-def kills(checks, folder):
-    """Whenever it is killed, the file is whole and has what was answered, and at most the next command besides."""
-    keep, last = f"{folder}/killed", 0
-    for turn in range(KILLS):
-        run, said, peer = checks.serve(keep, "--channels", "200")
+def over_kills(checks, serve):
+    """Whenever a device is killed, its file is whole and has what was answered, and at most the next command besides."""
+    held = asked = answered = refused = 0
+    for turn in range(KILLS + 1):
+        run, said, peer = serve()
         if peer is None:
             checks.same(f"it starts after kill {turn}", said, "listening")
             return
         value = peer.trim()
-        checks.same(f"what was there after kill {turn}, {value} of {last}", last <= value <= last + 1, True)
+        checks.same(f"what was there after kill {turn}, {value} of {held}", value in (held, asked), True)
         killer = threading.Timer(random.uniform(0.02, 0.25), run.kill)
         killer.start()
-        while value < 590 and peer.trims(value + 1) is not None:
-            value += 1
+        held = value
+        while (told := peer.trims(asked := (held + 601) % 700 - 600)) is not None:
+            held, answered, refused = asked, answered + 1, refused + (told[0] != 0)
         killer.join()
         run.communicate()
-        last = value
-        if value >= 560:
-            os.remove(keep)
-            last = 0
+    checks.same(f"some of {answered} numbers were answered, and none refused", (answered > 0, refused), (True, 0))
+
+
+def kills(checks, folder):
+    over_kills(checks, lambda: checks.serve(f"{folder}/killed", "--channels", "200"))
 
 
 def stops(checks, folder):
@@ -237,13 +246,11 @@ def put(path, words):
 
 
 def lines_told(keep):
-    with contextlib.suppress(FileNotFoundError):
-        return Path(f"{keep}.told").read_text().splitlines()
-    return []
+    return lines_in(f"{keep}.told")
 
 
 def are_refused(keep, step, count):
-    return checks.waited(lambda: lines_told(keep).count(f"refused {step}") >= count, 20) is not None
+    return waited(lambda: lines_told(keep).count(f"refused {step}") >= count, 20) is not None
 
 
 def of_system(code):
@@ -294,27 +301,23 @@ def short_writes(checks, folder):
 IN_FLIGHT, STORES = 8, 10
 
 
-class Setter:
-    """A panel that sets without pause: so many commands are on their way at once, each with another value."""
+class Setter(Beside):
+    """A panel that sets without pause while it goes on: so many commands are on their way at once, each with another value."""
+
+    goes_on = True
 
     def __init__(self, peer):
-        self.peer, self.open, self.statuses, self.last, self.heard = peer, {}, [], 0, time.monotonic()
+        self.peer, self.open, self.statuses, self.last = peer, {}, [], 0
+        peer.socket.settimeout(3)
 
-    def fill(self):
-        while len(self.open) < IN_FLIGHT:
+    def step(self):
+        while self.goes_on and len(self.open) < IN_FLIGHT:
             self.last += 1
-            value = self.last % 600
-            self.open[self.peer.send(TRIM, 5, 2, number(value))] = value
-
-    def take(self):
-        handle, status = struct.unpack(">IB", self.peer.socket.recv(2000)[14:19])
-        self.heard = time.monotonic()
-        if self.open.pop(handle, None) is not None:
-            self.statuses.append(status)
-
-    def repeat(self):
-        if time.monotonic() - self.heard > 3:
-            self.heard = time.monotonic()
+            self.open[self.peer.send(TRIM, 5, 2, number(self.last % 600))] = self.last % 600
+        try:
+            handle, status = struct.unpack(">IB", self.peer.socket.recv(2000)[14:19])
+            self.statuses += [status] if self.open.pop(handle, None) is not None else []
+        except TimeoutError:
             for handle, value in self.open.items():
                 self.peer.copy(handle, TRIM, 5, 2, number(value))
 
@@ -333,26 +336,19 @@ def slow_store(checks, folder):
     """With an fsync of 300 ms, beside a panel that sets without pause, no reading waits for more than one store."""
     keep, what = f"{folder}/slow", "beside a slow store"
     run, _, peer = checks.serve(keep, refusing=True)
-    setter, reader, before, sent = Setter(peer), Peer(peer.socket.getpeername()[1]), {}, 0
+    reader, before, answered = Peer(peer.socket.getpeername()[1], patience=60), {}, 0
     put(f"{keep}.refusing", "slow 300")
-    until = time.monotonic() + 120
-    stored = lambda: lines_told(keep).count("stored")
-    while time.monotonic() < until and (stored() < STORES or setter.open or len(before) > sent):
-        if stored() < STORES:
-            setter.fill()
-            if len(before) == sent:
-                handle = reader.send(TRIM, 5, 1)
-                before[handle] = stored()  # behind the sending: what is stored before it is counted, is no store that the reading waited for
-        for ready in select.select([peer.socket, reader.socket], [], [], 0.2)[0]:
-            if ready is reader.socket:
-                ready.recv(2000)
-                sent += 1
-                time.sleep(0.02)
-            else:
-                setter.take()
-        setter.repeat()
+    stored, until = lambda: lines_told(keep).count("stored"), time.monotonic() + 120
+    with Setter(peer) as setter, contextlib.suppress(TimeoutError):
+        while stored() < STORES and time.monotonic() < until:
+            handle = reader.send(TRIM, 5, 1)
+            before[handle] = stored()  # behind the sending: what is stored before it is counted, is no store that the reading waited for
+            answered += len(reader.socket.recv(2000)) > 0
+            time.sleep(0.02)
+        setter.goes_on = False
+        waited(lambda: not setter.open, 60)
     waits, stores = waits_of(lines_told(keep), before, reader.socket.getsockname()[1])
-    checks.same(f"{what}: readings that are not answered", len(before) - sent, 0)
+    checks.same(f"{what}: readings that are not answered", len(before) - answered, 0)
     checks.same(f"{what}: readings that wait for more than one store", [it for it in waits.items() if it[1] > 1], [])
     checks.same(f"{what}: some readings wait for one", 1 in waits.values(), True)
     checks.same(f"{what}: commands that are not answered", len(setter.open), 0)
@@ -448,7 +444,7 @@ def refuses(checks, what, keep, reason, more=None, **how):
     run, said, peer = checks.serve(keep, **how)
     if peer is not None:
         stop(run)
-    err = said + ("" if peer else run.stderr.read().decode())
+    err = said + ("" if peer else run.stderr.read())
     checks.same(f"{what}: nothing is served", (peer is None, run.wait(timeout=30)), (True, 1))
     checks.same(f"{what}: the reason", err, f"note: {more or keep}: {reason}\nread failed\n")
 
@@ -459,7 +455,7 @@ def broken(checks, folder):
         keep, contents = f"{folder}/broken{at}", octets(contents)
         Path(keep).write_bytes(contents)
         run, said, peer = checks.serve(keep)
-        err = said + (run.communicate(timeout=30)[1].decode() if peer is None else stop(run))
+        err = said + (run.communicate(timeout=30)[1] if peer is None else stop(run))
         checks.same(f"broken {at}: the fault", err.splitlines()[-1], fault)
         checks.same(f"broken {at}: the status", run.returncode, 2)
         checks.same(f"broken {at}: the file", Path(keep).read_bytes(), contents)
@@ -582,8 +578,8 @@ def power_cuts(checks, folder):
     os.mkdir(f"{folder}/cuts")
     calls = "openat,open,write,fsync,fdatasync,fcntl,dup,close,rename,renameat,renameat2,unlink,unlinkat,sendto"
     run = subprocess.Popen(["strace", "-f", "-xx", "-s", "1000000", "-o", log, "-e", f"trace={calls}", f"{checks.folder}/ocadev", "serve",
-                            "--port", "0", "--keep", keep], stdin=subprocess.DEVNULL, stdout=subprocess.PIPE, stderr=subprocess.PIPE)
-    peer = Peer(int(re.match(r"listening [\d.]+:(\d+)\n", run.stderr.readline().decode())[1]))
+                            "--port", "0", "--keep", keep], stdin=subprocess.DEVNULL, stdout=subprocess.PIPE, stderr=subprocess.PIPE, text=True)
+    peer = Peer(port_said(run))
     for value in range(1, 6):
         checks.same("a command before the power is cut", peer.trims(value), DONE)
     os.kill(int(Path(f"/proc/{run.pid}/task/{run.pid}/children").read_text().split()[0]), signal.SIGTERM)

@@ -12,7 +12,7 @@ import random
 import sys
 
 import oca_profile as oca
-from comparing import broken, changed, events_of, in_processes, runs_of, verdict, wrong_rules
+from comparing import Comparison, broken, changed, events_of, in_processes, runs_of, verdict, wrong_rules
 from fuzz import Panel, datagram, moment
 from oca_law import LARGEST_DATAGRAM, Datagram, Local, Tick, Told, shown_objects, walk
 from schedules import PEERS, peer, some_change
@@ -237,7 +237,7 @@ KINDS = [lapses, forgetting, crowds, windows, packings, limits, fronts, wander, 
 
 def made(seed, number):
     r = random.Random(f"{seed} {number}")
-    return KINDS[number % len(KINDS)](r)
+    return [KINDS[number % len(KINDS)](r)]
 
 
 # ---- tales: what was said of the events of a history
@@ -349,7 +349,7 @@ def refuses(job):
     sentence, edits = RULES[name]
     wrong, first = changed(edits), None
     for number in range(WRONG_HISTORIES):
-        history = made(f"{seed} {name}", number)
+        (history,) = made(f"{seed} {name}", number)
         fault = broken(walk, history, tale_of(history, wrong.Device(wrong.bench(history.channels), history.window, history.peers)))
         if fault and fault.law == sentence:
             return True, sentence, f"{name}: '{sentence}' refuses history {number}, at event {fault.at}"
@@ -361,8 +361,8 @@ RULES, WRONG_HISTORIES = wrong_rules("wrong_devices"), 400
 
 
 # ---- the whole
-def count_of(tale):
-    total = collections.Counter(events=len(tale), packets=sum(len(told.packets) for told in tale))
+def count_of(_, tale, __):
+    total = collections.Counter(histories=1, events=len(tale), packets=sum(len(told.packets) for told in tale))
     for told in tale:
         total["said " + told.verdict[0]] += 1
         total["writes"] += len(told.written or ())
@@ -371,30 +371,8 @@ def count_of(tale):
     return total
 
 
-def alterations(r, history, tale):
-    """Of some lines altered, how many were refused where they stand, by the sentence that they belong to."""
-    total = collections.Counter()
-    for sentence, at, other in filter(None, (altered(r, history, tale) for _ in range(3))):
-        fault = broken(walk, history, other)
-        is_refused = fault is not None and (fault.law, fault.at) == (sentence, at)
-        total += collections.Counter({"altered": 1, "altered, refused": int(is_refused)})
-        if not is_refused:
-            print(f"altered for '{sentence}' at event {at}, " + (f"refused by '{fault.law}' at {fault.at}" if fault else "not refused"))
-    return total
-
-
-def work(job):
-    """The counts of a range of numbers, and the text of the first break or None."""
-    program, seed, numbers = job
-    histories, total = [made(seed, n) for n in numbers], collections.Counter()
-    r = random.Random(f"{seed} {numbers[0]} altered")
-    for history, tale in zip(histories, tales(program, histories), strict=True):
-        fault = broken(walk, history, tale)
-        if fault:
-            return total, shown(history, tale, fault)
-        total["histories"] += 1
-        total += count_of(tale) + alterations(r, history, tale)
-    return total, None
+def alterations(r, history, tale, _):
+    return [altered(r, history, tale) for _ in range(3)]
 
 
 def summary(seed, total, wrong):
@@ -405,7 +383,8 @@ def summary(seed, total, wrong):
 
 
 def main():
-    count, seed, total, wrong = in_processes(work, "histories", 9, refuses, RULES)
+    how = Comparison(made, tales, walk, shown, count_of, alterations, walk)
+    count, seed, total, wrong = in_processes(how, "histories", 9, refuses, RULES)
     for found, _, said in wrong:
         if not found:
             print(f"FAILED: {said}")

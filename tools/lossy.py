@@ -15,87 +15,33 @@ the second implementation says; with 16 under way the answers tell the commands 
 command was executed twice, if a copy was too old before its answer was carried, or if an answer is wrong or missing;
 `directed` also if with a window of 31 the copy is not answered from the window, or with the smaller one is not too
 old."""
-import heapq
 import random
 import re
-import select
 import subprocess
 import sys
 import time
 
 import oca_profile as oca
-from checks import Serving, at, bound, free_port, verdict, write
+from checks import Serving, at, free_port, verdict, waited, write
+from peers import Flood, Lossy
 
-LOSS, DOUBLING, SLOW = 0.2, 0.2, 0.15
 TURNS = 20000
 
 
-class Network:
-    """Carries datagrams between one controller and one device, as badly as the seed says. `behind` is how many copies of commands it
-    carried behind an answer to their command: only those may be too old, since nobody waits for them."""
-
-    def __init__(self, device, seed):
-        self.random = random.Random(seed)
-        self.front, self.back = bound(), bound()  # the controller takes the front for the device
-        self.device, self.controller, self.answered, self.behind = device, None, set(), 0
-        self.due, self.number, self.latest = [], 0, {True: -1, False: -1}
-        self.lost = self.doubled = self.overtaken = self.carried = 0
-
-    def wait(self):
-        return self.random.uniform(0, 0.7) if self.random.random() < SLOW else self.random.uniform(0, 0.02)
-
-    def accept(self, inward, data):
-        """A datagram that was sent: it will be delivered not at all, once or twice, after a while."""
-        self.carried += 1
-        if self.random.random() < LOSS:
-            self.lost += 1
-            return
-        copies = 2 if self.random.random() < DOUBLING else 1
-        self.doubled += copies - 1
-        for _ in range(copies):
-            heapq.heappush(self.due, (time.time() + self.wait(), self.number, inward, data))
-        self.number += 1
-
-    def carry(self, inward, data):
-        for kind, *message in oca.check(data):
-            if inward and kind == "command":
-                self.behind += message[1].handle in self.answered
-            elif not inward and kind == "response":
-                self.answered.add(message[0])
-        if inward:
-            self.back.sendto(data, self.device)
-        elif self.controller:
-            self.front.sendto(data, self.controller)
-
-    def deliver(self):
-        while self.due and self.due[0][0] <= time.time():
-            _, number, inward, data = heapq.heappop(self.due)
-            if number < self.latest[inward]:
-                self.overtaken += 1
-            self.latest[inward] = max(self.latest[inward], number)
-            self.carry(inward, data)
-
-    def step(self):
-        """Takes what comes within 20 ms or until the next delivery is due, and delivers what is."""
-        due = self.due[0][0] - time.time() if self.due else 0.02
-        for end in select.select([self.front, self.back], [], [], min(0.02, max(0, due)))[0]:
-            data, sender = end.recvfrom(65535)
-            if end is self.front:
-                self.controller = sender
-            self.accept(end is self.front, data)
-        self.deliver()
+def bad_network(device, seed):
+    return Lossy(device, seed, 0.2, 0.2, 0.15, 0.02)
 
 
-class Directed(Network):
+class Directed(Lossy):
     """Carries all but command 16 at once. Its first copy overtakes 15, and the next comes behind 30 other answers."""
 
     LATE, OTHERS = 16, 30
 
     def __init__(self, device):
-        super().__init__(device, 0)
+        super().__init__(device)
         self.first, self.kept = [], []
 
-    def accept(self, inward, data):
+    def accept(self, inward, data, to):
         self.carried += 1
         kind, *message = oca.check(data)[0]
         if kind == "keep-alive":
@@ -104,21 +50,21 @@ class Directed(Network):
         if inward and len(self.first) < self.LATE:  # the first 16, the last of them first
             self.first += [data] if data not in self.first else []
             for waiting in self.first[::-1] if len(self.first) == self.LATE else []:
-                self.carry(True, waiting)
+                self.carry(True, waiting, to)
                 time.sleep(0.002)
         elif handle != self.LATE:
-            self.carry(inward, data)
+            self.carry(inward, data, to)
         elif not inward:
-            self.kept = [data]
+            self.kept = [(data, to)]
         elif len(self.answered) == self.OTHERS:
-            self.carry(True, data)
+            self.carry(True, data, to)
             self.answered.add(self.LATE)
 
     def step(self):
         super().step()
         if self.LATE in self.answered and self.kept:  # the copy came: now its first answer goes to the controller
             time.sleep(0.2)
-            self.carry(False, self.kept.pop())
+            self.carry(False, *self.kept.pop())
 
 
 def set_and_read(r, count):
@@ -153,21 +99,16 @@ class Run:
     def __init__(self, folder, commands, window, network_of, words):
         words = [f"{folder}/ocactl", "run", "--first-handle", "1", "--port", str(free_port()), *words]
         with Serving(f"{folder}/ocadev", "serve", "--port", 0, "--turns", TURNS, "--window", window, stdout=subprocess.PIPE) as serving:
-            device, self.network = serving.process, network_of((serving.ip, serving.port))
-            network = self.network
-            panel = subprocess.Popen([*words, "--device", at(network.front)], stdin=subprocess.PIPE, stdout=subprocess.PIPE)
-            lines = [f"{c.target} {c.level} {c.index} {c.count} {oca.hex_text(c.params)}\n" for c in commands]
-            write(panel, "".join(lines).encode())
-            end = time.time() + 2 * len(commands) + 60
-            while panel.poll() is None and time.time() < end:
-                network.step()
-            panel.kill()
-            for _ in range(50):  # what is still on its way
-                network.step()
-            while device.poll() is None and time.time() < end + 30:  # its remaining turns: malformed datagrams of one byte
-                for _ in range(100):
-                    network.back.sendto(b"\0", network.device)
-                time.sleep(0.005)
+            device = serving.process
+            with network_of(serving.port) as self.network:
+                panel = subprocess.Popen([*words, "--device", at(self.network.front)], stdin=subprocess.PIPE, stdout=subprocess.PIPE)
+                lines = [f"{c.target} {c.level} {c.index} {c.count} {oca.hex_text(c.params)}\n" for c in commands]
+                write(panel, "".join(lines).encode())
+                waited(lambda: panel.poll() is not None, 2 * len(commands) + 60)
+                panel.kill()
+                time.sleep(1)  # what is still on its way
+            with Flood(serving.port):
+                waited(lambda: device.poll() is not None, 30)
         self.answers, self.status = panel.stdout.read().decode().splitlines(), panel.wait()
         self.report = {name: int(n) for name, n in re.findall(r"([a-z-]+) ([0-9]+)", device.stdout.read())}
         self.wrong = sum(a != b for a, b in zip(self.answers, answers_of(commands)))
@@ -181,7 +122,7 @@ class Run:
 
 def told(folder, commands, window, seed, words):
     """Runs the commands, prints what came of them, and answers whether all was as promised."""
-    run = Run(folder, commands, window, lambda device: Network(device, seed), words)
+    run = Run(folder, commands, window, lambda device: bad_network(device, seed), words)
     network = run.network
     good = run.is_as_promised(len(commands))
     print(f"{len(commands)} commands, window {window}: of {network.carried} datagrams {network.lost} lost, {network.doubled} doubled, "

@@ -27,8 +27,12 @@ PAGES = TOP / "man"
 DATA = data("manual")
 
 
+def told_by(*words):
+    return subprocess.run(words, capture_output=True, text=True, timeout=30, check=True).stdout
+
+
 def help_of(program, *words):
-    return subprocess.run([program, *words, "--help"], capture_output=True, text=True, timeout=30, check=True).stdout
+    return told_by(program, *words, "--help")
 
 
 def listed_in_help(text, heading):
@@ -61,17 +65,12 @@ def options_in(text):
     return {name.replace("\\", "").lstrip("-"): (value or None, default_of(told)) for name, value, told in blocks}
 
 
-def has_options(heading, name, names):
-    listed = set(re.findall(r"[a-z]+", heading)) & names
-    return (name in listed) != heading.startswith("All commands")
-
-
 def commands_in_page(text):
     """The options of each command: for each its value or none, and its default or none."""
     commands = {name: options_in(rest) for name, rest in parts_of(text, "COMMANDS")}
     for heading, rest in parts_of(text, "COMMON OPTIONS"):
         for name, options in commands.items():
-            if has_options(heading, name, commands.keys()):
+            if (name in re.findall(r"[a-z]+", heading)) != heading.startswith("All commands"):
                 twice = options.keys() & options_in(rest).keys()
                 options |= options_in(rest) | {option: ("two values", None) for option in twice}
     return commands
@@ -138,29 +137,21 @@ def ends_told(text, program):
     return faults
 
 
-def title_of(program, folder):
-    version = subprocess.run([f"{folder}/{program}", "--version"], capture_output=True, text=True, timeout=30, check=True).stdout.split()[1]
-    return reference.title(program.upper(), 1, f"Rouxcanyon {version}", "User Commands")
-
-
-def warned_of_calls():
-    """What groff warns of in the pages of the calls from C, and how many these are."""
-    with tempfile.TemporaryDirectory() as folder:
-        reference.write(Path(folder))
-        pages = sorted(Path(folder).iterdir())
-        return warnings_of(*pages), len(pages)
-
-
 def main():
     folder, checks = sys.argv[1], Checks()
     for name in ("ocadev", "ocactl", "ocapanel"):
-        page = PAGES / f"{name}.1"
-        faults, count = faults_of(page.read_text(), f"{folder}/{name}")
+        page, program = PAGES / f"{name}.1", f"{folder}/{name}"
+        faults, count = faults_of(page.read_text(), program)
         faults += warnings_of(page) + ends_told(page.read_text(), name)
         checks.all_but(count + len(DATA.ended[name]), [f"{name}.1: {fault}" for fault in faults])
-        checks.expect(f"{name}.1 is titled otherwise than {title_of(name, folder)}", page.read_text().startswith(title_of(name, folder) + "\n"))
-    for faults, count in (warned_of_calls(), explanations(folder)):
-        checks.all_but(count, faults)
+        title = reference.title(name.upper(), 1, f"Rouxcanyon {told_by(program, '--version').split()[1]}", "User Commands")
+        checks.expect(f"{name}.1 is titled otherwise than {title}", page.read_text().startswith(f"{title}\n"))
+    with tempfile.TemporaryDirectory() as place:
+        reference.write(Path(place))
+        pages = sorted(Path(place).iterdir())
+        checks.all_but(len(pages), warnings_of(*pages))
+    faults, count = explanations(folder)
+    checks.all_but(count, faults)
     for name, there, other in DATA.wrong:
         faults = lambda wrong: faults_of(wrong, f"{folder}/{name}")[0] + ends_told(wrong, name)
         checks.finds(f" in {name}.1", (PAGES / f"{name}.1").read_text(), there, other, faults)

@@ -1,7 +1,11 @@
 """Two machines that are network namespaces of Linux, with links between them. Other tools use it; it has no `main`."""
+import contextlib
+import ctypes
 import os
 import shutil
 import subprocess
+
+NEW_NETWORK = 0x40000000  # CLONE_NEWNET of Linux
 
 
 def is_able(tool):
@@ -9,6 +13,12 @@ def is_able(tool):
         return True
     print(f"{tool}: NOT TRIED: it needs root and `ip`\n1 passed, 0 failed")
     return False
+
+
+def go_to(file):
+    """This thread goes to the network namespace of this file."""
+    if ctypes.CDLL(None, use_errno=True).setns(file.fileno(), NEW_NETWORK):
+        raise OSError(ctypes.get_errno(), "setns")
 
 
 class Machines:
@@ -36,5 +46,13 @@ class Machines:
     def ip(line):
         subprocess.run(["ip", *line.split()], check=True)
 
-    def start(self, machine, *words, stdin=subprocess.DEVNULL):
-        return subprocess.Popen(["ip", "netns", "exec", machine, *map(str, words)], stdin=stdin, stdout=subprocess.PIPE, stderr=subprocess.PIPE, text=True)
+    @staticmethod
+    @contextlib.contextmanager
+    def within(machine):
+        """While this lasts the sockets, threads and programs that this thread makes are at this machine."""
+        with open("/proc/thread-self/ns/net") as own, open(f"/var/run/netns/{machine}") as its:
+            go_to(its)
+            try:
+                yield
+            finally:
+                go_to(own)

@@ -8,14 +8,13 @@ Datagrams of 1 or 122 keep-alives come in the names of silent hosts, at several 
 second must get each answer, the slowest within 100 ms longer than alone; at least half of the datagrams must have been
 sent. It needs root and `ip` (iproute2); else it says so, and tries nothing. The last line is 'N passed, M failed'."""
 import os
-import re
 import socket
 import sys
 import time
 
 import namespaces
 import oca_profile as oca
-from checks import tries, verdict
+from checks import Beside, Serving, tries, verdict
 from peers import Peer
 
 DEVICE, PEER, SILENT = "10.91.0.1", "10.91.0.2", "10.91.0.{}"
@@ -40,22 +39,24 @@ def forged(source, port, payload):
     return head[:10] + checksum(head).to_bytes(2, "big") + head[12:] + udp
 
 
-def flood(hosts, rate, alive, seconds):
-    """Sends datagrams in the names of silent hosts, and prints how many."""
-    raw = socket.socket(socket.AF_INET, socket.SOCK_RAW, socket.IPPROTO_RAW)
-    made = [forged(SILENT.format(100 + host), 9000, oca.pdu(4, [oca.u16(5)]) * alive) for host in range(hosts)]
-    begun, sent = time.monotonic(), 0
-    while time.monotonic() < begun + seconds:
-        if sent < rate * (time.monotonic() - begun):
-            raw.sendto(made[sent % hosts], (DEVICE, 0))
-            sent += 1
+class Flood(Beside):
+    """Sends datagrams in the names of silent hosts."""
+
+    def __init__(self, hosts, rate, alive):
+        self.raw = socket.socket(socket.AF_INET, socket.SOCK_RAW, socket.IPPROTO_RAW)
+        self.made = [forged(SILENT.format(100 + host), 9000, oca.pdu(4, [oca.u16(5)]) * alive) for host in range(hosts)]
+        self.rate, self.begun, self.sent = rate, time.monotonic(), 0
+
+    def step(self):
+        if self.sent < self.rate * (time.monotonic() - self.begun):
+            self.raw.sendto(self.made[self.sent % len(self.made)], (DEVICE, 0))
+            self.sent += 1
         else:
             time.sleep(0.0005)
-    print(sent)
 
 
 def ask(seconds):
-    """Asks for a state twenty times a second: prints how many were asked, how many answered at the first sending, and the slowest in ms."""
+    """Asks for a state twenty times a second: how many were asked, how many answered at the first sending, and the slowest in ms."""
     peer = Peer(PORT, 1, 1, DEVICE)
     answered = slowest = 0
     begun = time.monotonic()
@@ -64,21 +65,14 @@ def ask(seconds):
         answered += peer.ask(4097, 4, 1) == (0, b"\1")
         slowest = max(slowest, 1000 * (time.monotonic() - sent))
         time.sleep(0.05)
-    print(peer.handle, answered, round(slowest))
+    return peer.handle, answered, round(slowest)
 
 
 def run(room, folder, silent, seconds):
     """What the peer says of its questions while these hosts are silent, and how many datagrams came in their names."""
-    device = room.start(room.device, f"{folder}/ocadev", "serve", "--ip", DEVICE, "--port", PORT)
-    assert re.match("listening ", device.stderr.readline())
-    me = [sys.executable, os.path.abspath(__file__)]
-    flooding = room.start(room.peers, *me, "flood", *silent, seconds + 1) if silent else None
-    asking = room.start(room.peers, *me, "ask", seconds)
-    said = asking.communicate(timeout=seconds + 60)[0]
-    sent = flooding.communicate(timeout=60)[0] if flooding else "0"
-    device.kill()
-    device.communicate()
-    return tuple(map(int, f"{said} {sent}".split()))
+    with room.within(room.device), Serving(f"{folder}/ocadev", "serve", "--ip", DEVICE, "--port", PORT):
+        with room.within(room.peers), Flood(*silent or (1, 0, 1)) as flood:
+            return *ask(seconds), flood.sent
 
 
 def is_well(said, alone, fewest):
@@ -95,10 +89,6 @@ def tried(room, folder, silent, seconds, alone=None):
 
 
 def main():
-    if sys.argv[1] == "flood":
-        return flood(*map(int, sys.argv[2:6]))
-    if sys.argv[1] == "ask":
-        return ask(int(sys.argv[2]))
     if not namespaces.is_able("neighbours"):
         return 0
     folder, seconds = os.path.abspath(sys.argv[1]), int(sys.argv[2]) if len(sys.argv) > 2 else 4

@@ -18,14 +18,12 @@ import struct
 import subprocess
 import sys
 import tempfile
-import threading
 import time
-from pathlib import Path
 
 import checks
 import oca_profile as oca
-from checks import at, bound, comes, ended, free_port, heard, layered, next_line, nulls_of, tries, waited, write
-from peers import Peer
+from checks import Beside, at, bound, ended, free_port, heard, lines_in, next_command, next_line, nulls_of, tries, waited, write
+from peers import Flood, Peer
 from tables import data
 
 GET, ASKS = (4097, 4, 1), ("--target", 4097, "--level", 4, "--index", 1, "--count", 0)
@@ -45,11 +43,6 @@ def response(handle, params=b"\1"):
     return oca.response(handle, 0, 1, params)
 
 
-def next_command(device):
-    """The next command that comes, and from where; nothing where none comes in ten seconds. Keep-alives are passed over."""
-    return next(((data, sender) for data, sender in comes(device) if data[7:8] != b"\4"), (b"", None))
-
-
 def answered(peer):
     """The datagram that answers the next GetState of a peer."""
     peer.ask(*GET)
@@ -58,60 +51,38 @@ def answered(peer):
 
 class Checks(checks.Checks):
     def start(self, *words, close=(), stack=0, **how):
-        """A run in this folder, with these descriptors closed, so much stack where it is said, and what is written in capitals done by the layer."""
-        settings = {name: how.pop(name) for name in list(how) if name.isupper()}
-        how = {"env": layered(**settings) if settings else None, "stdin": subprocess.DEVNULL, **how}
-
+        """A run with these descriptors closed, and so much stack where it is said."""
         def prepare():
             for fd in close:
                 os.close(fd)
             if stack:
                 resource.setrlimit(resource.RLIMIT_STACK, (stack, stack))
 
-        return super().start(*words, preexec_fn=prepare, **how)
+        return super().start(*words, preexec_fn=prepare, **{"stdin": subprocess.DEVNULL, **how})
 
     def send(self, device, handle, *words, **settings):
         return ended(self.start("ocactl", "send", "--device", device, "--first-handle", handle, *ASKS, *words, **settings))
 
 
-class Waits:
+class Waits(Beside):
     """Waits of 50 ms, one after another in a thread of their own: how long one takes on this machine just now."""
 
-    def __enter__(self):
-        self.took, self.ends = [], False
-        self.thread = threading.Thread(target=self.wait, daemon=True)
-        self.thread.start()
-        return self
+    def __init__(self):
+        self.took = []
 
-    def wait(self):
-        while not self.ends:
-            begun = time.monotonic()
-            time.sleep(WAIT_MS / 1000)
-            self.took.append((time.monotonic() - begun) * 1000)
+    def step(self):
+        begun = time.monotonic()
+        time.sleep(WAIT_MS / 1000)
+        self.took.append((time.monotonic() - begun) * 1000)
 
     def __exit__(self, *_):
-        self.ends = True
-        self.thread.join()
+        super().__exit__()
         self.one = max(WAIT_MS, sum(self.took) / len(self.took))
 
 
 def counts_in(report):
     words = report.split()
     return {name: int(value) for name, value in zip(words[::2], words[1::2])}
-
-
-def flooded(run, port):
-    """What a run of `serve` printed that is ended by datagrams of no bytes, each of which is a turn: its report, and what it said of faults."""
-    def flood():
-        with bound() as peer:
-            while run.poll() is None:
-                for _ in range(100):
-                    peer.sendto(b"", ("127.0.0.1", port))
-                time.sleep(0.005)
-
-    thread = threading.Thread(target=flood, daemon=True)
-    thread.start()
-    return run.communicate(timeout=60)
 
 
 def turns_of(checks, turns, settings):
@@ -174,7 +145,8 @@ def refused_sends(checks):
                                  (errno.EPERM, 2, ("--stats", 86400)), (errno.EPERM, 2, ("--keep", f"{place.name}/state"))):
         run, port = checks.serve("--turns", TURNS_OF_A_COPY, *words, FAIL_SEND=count, ERRNO=number)
         checks.same(f"error {number}: the answer to a copy", answered(Peer(port)), response(1))
-        out, told = flooded(run, port)
+        with Flood(port):
+            out, told = run.communicate(timeout=60)
         counts, lines = counts_in(out), told.splitlines()
         counted = [counts.get("executed"), counts.get("kept", 0) >= count, counts.get("failed-sends")]
         checks.same(f"error {number} {words}: executed, kept, failed sends", counted, [1, True, count])
@@ -213,10 +185,8 @@ def runs(checks):
 
 def with_a_buffer(checks, granted, *words):
     with tempfile.TemporaryDirectory() as place:
-        run = checks.start(*words, GRANTED=granted, ASKED=f"{place}/asked")
-        said, asked = run.communicate(timeout=60)[1], Path(place, "asked")
-        notes = [line.split(":")[1] for line in said.splitlines() if "send buffer" in line]
-        return notes, run.returncode, asked.read_text() if asked.exists() else ""
+        _, said, status = ended(checks.start(*words, GRANTED=granted, ASKED=f"{place}/asked"))
+        return [line.split(":")[1] for line in said.splitlines() if "send buffer" in line], status, lines_in(f"{place}/asked")
 
 
 def send_buffers(checks):
@@ -224,12 +194,12 @@ def send_buffers(checks):
     for granted, is_said in ((1, True), (499999, True), (500000, False), (8000000, False), (0, False), (-1, False)):
         got = with_a_buffer(checks, granted, "ocadev", "serve", "--port", 0, "--turns", 1)
         note = f" the system grants a send buffer of {granted} bytes"
-        wanted = ([note] * is_said, 0, "4000000\n")
+        wanted = ([note] * is_said, 0, ["4000000"])
         checks.same(f"{granted} bytes are granted: notes, status, what is asked", got, wanted)
     with bound() as device:
         to = ("--device", at(device))
         got = with_a_buffer(checks, 1, "ocactl", "send", *to, *SENT, "--turns", 0)
-        checks.same("`send`: notes, status, what is asked", got, ([], 3, "4000000\n"))
+        checks.same("`send`: notes, status, what is asked", got, ([], 3, ["4000000"]))
 
 
 def arrivals(device):
@@ -406,18 +376,18 @@ def kept_safely(checks):
     """A state is on the disk before it takes its place, and then its folder; once for each set."""
     for is_alone in (False, True):
         with tempfile.TemporaryDirectory() as room, bound() as peer:
-            place = os.path.realpath(room)
+            place, calls = os.path.realpath(room), f"{room}/calls"
             state = "state" if is_alone else f"{place}/state"
-            run, port = checks.serve("--keep", state, cwd=place, CALLS=f"{place}/calls")
+            run, port = checks.serve("--keep", state, cwd=place, CALLS=calls)
             wanted = []
             for handle, value in ((1, b"\2"), (2, b"\1")):
                 peer.sendto(oca.command(handle, 4097, 4, 2, 1, value), ("127.0.0.1", port))
                 checks.same(f"--keep {state}: the answer to {handle}", peer.recv(2000), oca.response(handle))
                 wanted += [f"fsync {place}/state.new", f"rename {state}.new {state}", f"fsync {place}"]
-                waited(lambda: calls_in(place) == wanted, 30)
-                checks.same(f"--keep {state}: what is called for {handle}", calls_in(place), wanted)
+                waited(lambda: lines_in(calls) == wanted, 30)
+                checks.same(f"--keep {state}: what is called for {handle}", lines_in(calls), wanted)
                 time.sleep(10 * WAIT_MS / 1000)
-                checks.same(f"--keep {state}: what is called in ten turns behind {handle}", calls_in(place), wanted)
+                checks.same(f"--keep {state}: what is called in ten turns behind {handle}", lines_in(calls), wanted)
             run.kill()
 
 
@@ -444,11 +414,6 @@ def reports_behind_a_sleep(checks):
     took = time.monotonic() - begun
     checks.same("--stats behind a sleep: what is told", [line[:12] for line in lines], ["note: turns "] * 3)
     checks.expect("--stats behind a sleep: three reports take more than a second", took > 1, f"{took:.2f} s")
-
-
-def calls_in(room):
-    path = Path(room, "calls")
-    return path.read_text().splitlines() if path.exists() else []
 
 
 def calls_in_a_row(checks):

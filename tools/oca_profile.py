@@ -203,11 +203,6 @@ def utf8(data):
     return text
 
 
-def whole_number(data, low, high):
-    found = re.fullmatch(rb"-?[0-9]{1,20}", data)
-    return int(data) if found and low <= int(data) <= high and abs(int(data)) <= U64 else None
-
-
 def listed(tree, line):
     """The object of a line; a LineFault has the word for its first fault from the left, or why it is not added."""
     refused(any(b < 32 for b in line), "form")
@@ -226,7 +221,7 @@ def listed(tree, line):
         wanted = next_of(fields)
         state = need(next((n for n, name in enumerate(names) if name.encode() == wanted), None), "value")
     elif kind != "block":
-        low, high, state = (need(whole_number(next_of(fields), *LIMITS[kind]), "number") for _ in range(3))
+        low, high, state = (need(digits(next_of(fields).decode("latin-1"), 20, LIMITS[kind][1], LIMITS[kind][0]), "number") for _ in range(3))
     lockable = need({b"lockable": True, b"no-lock": False}.get(next_of(fields)), "lockable")
     last = next_of(fields)
     refused(next(fields, None) is not None, "form")
@@ -266,17 +261,14 @@ class Reader:
         front, self.data = self.data[:n], self.data[n:]
         return front
 
-    def unsigned(self, n):
-        return number(self.take(n))
-
-    def signed(self, n):
-        return int.from_bytes(self.take(n), "big", signed=True)
+    def number(self, n, signed=False):
+        return int.from_bytes(self.take(n), "big", signed=signed)
 
     def boolean(self):
-        return self.take(1)[0] != 0
+        return self.number(1) != 0
 
     def text(self):
-        count = self.unsigned(2)
+        count = self.number(2)
         for size in range(0, min(64, len(self.data)) + 1):
             with contextlib.suppress(UnicodeDecodeError):
                 text = self.data[:size].decode("utf-8")
@@ -286,7 +278,7 @@ class Reader:
         raise Bad
 
     def listed(self, obj, read):
-        if self.unsigned(2) != len(obj.names):
+        if self.number(2) != len(obj.names):
             raise Bad
         return [read() for _ in obj.names]
 
@@ -362,8 +354,8 @@ def nothing(*_):
 
 # How parameters are read, a letter each: a truth, a text, an integer of one or two bytes, the value of the object's class, and a list of as many
 # truths or texts as a switch has positions.
-READERS = {"b": lambda r, _: r.boolean(), "t": lambda r, _: r.text(), "1": lambda r, _: r.unsigned(1), "2": lambda r, _: r.unsigned(2),
-           "v": lambda r, obj: r.boolean() if obj.kind == "boolean" else (r.signed if WIDTHS[obj.kind][1] else r.unsigned)(WIDTHS[obj.kind][0]),
+READERS = {"b": lambda r, _: r.boolean(), "t": lambda r, _: r.text(), "1": lambda r, _: r.number(1), "2": lambda r, _: r.number(2),
+           "v": lambda r, obj: r.boolean() if obj.kind == "boolean" else r.number(*WIDTHS[obj.kind]),
            "B": lambda r, obj: r.listed(obj, r.boolean), "T": lambda r, obj: r.listed(obj, r.text)}
 # The methods of all classes and of each, by DefLevel and MethodIndex: what they need of a lock (R: read, W: write, L: lock), how their parameters are
 # read, what they answer, and what they change.
@@ -731,10 +723,10 @@ def step_line(step):
 
 
 # ---- scripts
-def digits(field, most, largest):
-    if not 1 <= len(field) <= most or any(ch not in "0123456789" for ch in field) or int(field) > largest:
-        return None
-    return int(field)
+def digits(field, most, largest, least=None):
+    """The number that so many digits at most are, behind a minus or not where there is a least number; None where it is another one or none."""
+    is_one = re.fullmatch(rf"{'' if least is None else '-?'}[0-9]{{1,{most}}}", field)
+    return int(field) if is_one and (least or 0) <= int(field) <= largest else None
 
 
 def peer_of(field):

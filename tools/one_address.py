@@ -8,21 +8,20 @@ The machines are network namespaces. A program sets a mute, it is executed, and 
 back, and the first link goes: with its address or without. A copy may come over the second link only from the first
 address, if that is still there. It needs root and `ip` (iproute2); else it says so, and tries nothing. The last line is
 'N passed, M failed'."""
+import contextlib
 import http.client
 import json
-import os
-import re
-import subprocess
 import sys
+import threading
 
 import namespaces
 import peers
-from checks import Checks, Serving, bound, ended, next_line, read_until, waited, write
+from checks import Checks, Serving, bound, ended, read_until, waited
 
 DEVICE, PORT, OWN_PORT, MUTE = "10.98.9.9", 65000, 20001, 4097
 # the links: the panel's address at each, and the device's
 FIRST, SECOND = ("10.98.1.1", "10.98.1.2"), ("10.98.2.1", "10.98.2.2")
-MUTED, UNMUTED = b"\1", b"\2"
+UNMUTED = b"\2"
 # the commands that mute: what `ocactl` is called with, and what its input is
 BY_OCACTL = [(("set", MUTE, "muted"), ""), (("run",), f"{MUTE} 4 2 1 01\n"),
               (("send", "--target", MUTE, "--level", 4, "--index", 2, "--count", 1, "--params", "01"), "")]
@@ -53,106 +52,78 @@ class Relay(peers.Relay):
     """Before `ocadev serve`: loses the first mute's answer, then all until the link is gone."""
 
     def __init__(self, device):
-        self.passes, self.setting, self.other = True, set(), peers.Peer(device, 10, 1)
         super().__init__(device, bound(DEVICE, PORT))
-
-    def goes_forth(self, _):
-        return self.passes
+        self.passes, self.setting, self.is_executed, self.other = True, set(), threading.Event(), peers.Peer(device, 10, 1)
 
     def forth(self, data, way):
-        sets_mute = any(command.asks()[:3] == (MUTE, 4, 2) for _, command in peers.messages_in(data, "command"))
-        if not super().forth(data, way) or not sets_mute:
+        if not self.passes:
             return
-        is_first = not self.setting
-        self.setting.add(way)
-        if is_first:
-            way.recv(2000)
-            self.passes = False
-            self.other.ask(MUTE, 4, 2, UNMUTED)
-            print("executed", flush=True)
+        super().forth(data, way)
+        if any(command.asks()[:3] == (MUTE, 4, 2) for _, command in peers.messages_in(data, "command")):
+            self.setting.add(way)
+            if not self.is_executed.is_set():
+                way.recv(2000)
+                self.passes = False
+                self.other.ask(MUTE, 4, 2, UNMUTED)
+                self.is_executed.set()
 
 
-def relay(folder):
-    """A device behind the relay, until the input says that the program ended: the mute, and how many peers set it."""
-    with Serving(f"{folder}/ocadev", "serve", "--port", 0) as device, Relay(device.port) as way:
-        print("listening", flush=True)
-        sys.stdin.readline()
-        way.passes = True
-        sys.stdin.readline()
-        state = way.other.ask(MUTE, 4, 1)
-        print({MUTED: "muted", UNMUTED: "unmuted"}.get(state and state[1]), len(way.setting), flush=True)
+@contextlib.contextmanager
+def relayed(folder):
+    """The machines, and the relay before a device."""
+    with Machines() as machines, machines.within(machines.device), Serving(f"{folder}/ocadev", "serve", "--port", 0) as device, Relay(device.port) as way:
+        yield machines, way
 
 
-def order(host):
-    """Orders a mute of `ocapanel`, once it shows it, and prints how that fared."""
-    def ask(method, path, body=None):
-        c = http.client.HTTPConnection(host, timeout=20)
-        c.request(method, path, body, {"Host": host, "Origin": f"http://{host}", "Content-Type": "application/json"})
-        return json.loads(c.getresponse().read() or "null")
-
-    waited(lambda: any(o["ono"] == MUTE and o.get("value") for o in ask("GET", "/values?since=0")["objects"]), 40, 0.05)
-    ticket = ask("POST", "/set", json.dumps({"ono": MUTE, "value": "muted"}))
-    fared = lambda: [told["trouble"] for told in ask("GET", "/values?since=0")["told"] if told["ticket"] == ticket]
-    waited(fared, 40, 0.05)
-    print(*fared() or ["not told"])
+def ask(host, method, path, body=None):
+    """What `ocapanel` answers, or nothing."""
+    c = http.client.HTTPConnection(host, timeout=20)
+    c.request(method, path, body and json.dumps(body), {"Host": host, "Origin": f"http://{host}", "Content-Type": "application/json"})
+    return json.loads(c.getresponse().read() or "null")
 
 
-def relayed(machines, folder):
-    relay = machines.start(machines.device, sys.executable, os.path.abspath(__file__), "relay", folder, stdin=subprocess.PIPE)
-    if relay.stdout.readline() != "listening\n":
-        sys.exit(f"one_address: no relay: {relay.communicate()[1]}")
-    return relay
-
-
-def cut_between(checks, what, machines, relay, run, keeps_address):
-    """Cuts the first link once the mute is executed, lets what comes pass, and answers how the run ended."""
-    executed = next_line(relay, 30) == "executed\n"
+def cut_between(checks, what, machines, way, keeps_address, how):
+    """Cuts the first link once the mute is executed, lets what comes pass, and answers how that fared."""
+    is_executed = way.is_executed.wait(30)
     machines.cut(keeps_address)
-    write(relay, "gone\n", ends=False)
-    how = ended(run)
-    state = relay.communicate("ended\n", timeout=60)[0].split()
-    checks.same(f"{what}: executed, then set back, by one peer", (executed, state), (True, ["unmuted", "1"]))
-    return how
+    way.passes = True
+    fared = how()
+    state = way.other.ask(MUTE, 4, 1), len(way.setting)
+    checks.same(f"{what}: executed, then set back, by one peer", (is_executed, state), (True, ((0, UNMUTED), 1)))
+    return fared
 
 
-def by_ocactl(checks, folder, what, words, lines, keeps_address):
-    with Machines() as machines:
-        relay = relayed(machines, folder)
-        run = machines.start(machines.peers, f"{folder}/ocactl", words[0], "--device", f"{DEVICE}:{PORT}", "--port", OWN_PORT,
-                             "--first-handle", 1, *words[1:], stdin=subprocess.PIPE)
-        write(run, lines)
-        out, told, status = cut_between(checks, what, machines, relay, run, keeps_address)
+def by_ocactl(checks, what, keeps_address, words, lines):
+    with relayed(checks.folder) as (machines, way):
+        with machines.within(machines.peers):
+            run = checks.start("ocactl", words[0], "--device", f"{DEVICE}:{PORT}", "--port", OWN_PORT, "--first-handle", 1, *words[1:], given=lines)
+        out, told, status = cut_between(checks, what, machines, way, keeps_address, lambda: ended(run))
         gone = f"note: the address {FIRST[0]} is gone\n" in told
         checks.same(f"{what}: status, whether it is lost, whether the address is said to be gone", (status, "lost" in out, gone),
                     (0, False, False) if keeps_address else (3, True, True))
 
 
-def by_ocapanel(checks, folder, what, keeps_address):
-    with Machines() as machines:
-        relay = relayed(machines, folder)
-        panel = machines.start(machines.peers, f"{folder}/ocapanel", "--device", f"{DEVICE}:{PORT}", "--listen", "127.0.0.1:0", "--no-token", "--verbose")
-        host = re.search(r"http://([\d.:]+)/", panel.stderr.readline())[1]
-        page = machines.start(machines.peers, sys.executable, os.path.abspath(__file__), "order", host)
-        fared, _, _ = cut_between(checks, what, machines, relay, page, keeps_address)
-        notes = b"" if keeps_address else read_until(panel.stderr.fileno(), lambda said: b"gone" in said, 20)
-        panel.kill()
-        panel.wait()
+def by_ocapanel(checks, what, keeps_address):
+    words = ["--device", f"{DEVICE}:{PORT}", "--listen", "127.0.0.1:0", "--no-token", "--verbose"]
+    with relayed(checks.folder) as (machines, way), machines.within(machines.peers), Serving(f"{checks.folder}/ocapanel", *words) as panel:
+        values = lambda: ask(f"127.0.0.1:{panel.port}", "GET", "/values?since=0")
+        waited(lambda: any(o["ono"] == MUTE and o.get("value") for o in values()["objects"]), 40, 0.05)
+        ticket = ask(f"127.0.0.1:{panel.port}", "POST", "/set", {"ono": MUTE, "value": "muted"})
+        fared = lambda: [told["trouble"] for told in values()["told"] if told["ticket"] == ticket]
+        cut_between(checks, what, machines, way, keeps_address, lambda: waited(fared, 40, 0.05))
+        notes = b"" if keeps_address else read_until(panel.process.stderr.fileno(), lambda said: b"gone" in said, 20)
         checks.same(f"{what}: whether the order is said to be done, and the address gone",
-                    (fared == "None\n", f"the address {FIRST[0]} is gone" in notes.decode()), (keeps_address, not keeps_address))
+                    (fared() == [None], f"the address {FIRST[0]} is gone" in notes.decode()), (keeps_address, not keeps_address))
 
 
 def main():
-    if sys.argv[1] == "relay":
-        return relay(sys.argv[2])
-    if sys.argv[1] == "order":
-        return order(sys.argv[2])
     if not namespaces.is_able("one_address"):
         return 0
-    folder, checks = os.path.abspath(sys.argv[1]), Checks()
+    checks = Checks(sys.argv[1])
     for what, keeps_address in (("the address goes", False), ("the link goes", True)):
         for words, lines in BY_OCACTL:
-            by_ocactl(checks, folder, f"`{words[0]}`, {what}", words, lines, keeps_address)
-        by_ocapanel(checks, folder, f"`ocapanel`, {what}", keeps_address)
+            by_ocactl(checks, f"`{words[0]}`, {what}", keeps_address, words, lines)
+        by_ocapanel(checks, f"`ocapanel`, {what}", keeps_address)
     return checks.verdict()
 
 

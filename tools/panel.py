@@ -9,6 +9,7 @@ import base64
 import contextlib
 import errno
 import hashlib
+import http.client
 import json
 import os
 import random
@@ -25,8 +26,8 @@ from pathlib import Path
 from unittest.mock import patch
 
 import oca_profile as oca
-from checks import Ahead, Checks, Serving, bound, by_turns, free_port, layered, tries, waited
-from hands import SETS, Deaf, OldSession, stagebox
+from checks import Ahead, Checks, Serving, at, bound, by_turns, free_port, sockets, tries, waited
+from hands import SETS, Deaf, OldSession, address, stagebox
 from peers import Lossy, Other, Peer, Served, commands_in
 from tables import TOP, each, octets, table
 
@@ -66,24 +67,37 @@ def request(row):
     return "\r\n".join(lines).encode()
 
 
-def whole_answer(s):
-    """The next whole answer on a connection, or what came of it."""
-    answer, size = b"", 1
-    with contextlib.suppress(OSError):
-        while len(answer) < size and (piece := s.recv(1 << 20)):
-            answer += piece
-            head, end, _ = answer.partition(b"\r\n\r\n")
-            length = re.search(rb"\r\ncontent-length: (\d+)", head, re.IGNORECASE)
-            size = len(head + end) + (int(length[1]) if length else 0) if end else len(answer) + 1
-    return answer
+class Connection(socket.socket):
+    """A connection to a panel; of one that takes little the system keeps few bytes that come."""
+
+    def __init__(self, to, small):
+        super().__init__()
+        self.settimeout(20)
+        if small:
+            self.setsockopt(socket.SOL_SOCKET, socket.SO_RCVBUF, 4096)
+        self.connect(to)
+        self.file = self.makefile("rb")
+
+    def answer(self):
+        """The status, the fields of the head and the text of the next answer; status 0 where none comes."""
+        with contextlib.suppress(OSError):
+            status = re.match(rb"HTTP/1\.[01] (\d{3})", self.file.readline())
+            if status:
+                fields = http.client.parse_headers(self.file)
+                return int(status[1]), fields, self.file.read(int(fields.get("content-length", 0)))
+        return 0, {}, b""
+
+    def close(self):
+        self.file.close()
+        super().close()
 
 
 class Panel(Serving):
     """`ocapanel` at a port that the system chose, unless another is given, with no token unless `token` says so."""
 
-    def __init__(self, device_port, *words, address=None, ip="127.0.0.1", port=0, token=False, notes=0, **more):
-        device, token = address or f"127.0.0.1:{device_port}", [] if token else ["--no-token"]
-        super().__init__(f"{ITS.folder}/ocapanel", "--device", device, "--listen", f"{ip}:{port}", *words, *token, notes=notes, env=layered(**more) if more else None)
+    def __init__(self, device, *words, ip="127.0.0.1", port=0, token=False, notes=0, **settings):
+        words += () if token else ("--no-token",)
+        super().__init__(f"{ITS.folder}/ocapanel", "--device", address(device), "--listen", f"{ip}:{port}", *words, notes=notes, **settings)
         self.told_ip, self.ip, self.host = self.ip, ip, f"{ip}:{self.port}"
         self.since, self.epoch, self.run, self.shown, self.told = 0, 0, None, {}, {}
 
@@ -100,25 +114,15 @@ class Panel(Serving):
             yield data, row, *self.exchange(data)
 
     def connected(self, small=False):
-        """A connection; of one that takes little the system keeps few bytes that come."""
-        s = socket.socket()
-        s.settimeout(20)
-        if small:
-            s.setsockopt(socket.SOL_SOCKET, socket.SO_RCVBUF, 4096)
-        s.connect((self.ip, self.port))
-        return s
+        return Connection((self.ip, self.port), small)
 
     def exchange(self, data, seconds=20):
-        """The status, the fields of the head and the text of the answer to these bytes; status 0 where none comes."""
-        answer = b""
+        """What answers these bytes."""
         with contextlib.suppress(OSError), self.connected() as s:
             s.settimeout(seconds)
             s.sendall(data)
-            answer = whole_answer(s)
-        head, _, text = answer.partition(b"\r\n\r\n")
-        status = re.match(rb"HTTP/1\.[01] (\d{3})", head)
-        fields = (line.partition(": ") for line in head.decode("latin-1").split("\r\n")[1:])
-        return int(status[1]) if status else 0, {name.lower(): value for name, _, value in fields}, text
+            return s.answer()
+        return 0, {}, b""
 
     def asks(self, method, path, text=None, **fields):
         return request({"method": method, "path": path, "text": text, "Host": self.host} | fields)
@@ -299,15 +303,15 @@ def protected(panel):
 
 def in_one_piece(panel):
     """Requests in one piece are answered in a row: in a tenth of a second, not in some 35."""
-    asked, count, size, seen = panel.asks("GET", "/"), 2500, 1, 0
+    asked, count, seen = panel.asks("GET", "/"), 2500, 1
     with contextlib.suppress(OSError), panel.connected() as s:
         s.sendall(asked)
-        size = seen = len(whole_answer(s))
+        first = s.answer()[2]
         s.sendall(asked * (count - 1))
         until = time.monotonic() + 20
-        while seen < size * count and time.monotonic() < until and (piece := s.recv(1 << 20)):
-            seen += len(piece)
-    same(f"bytes of {count} answers to requests in one piece", seen, size * count)
+        while seen < count and time.monotonic() < until and s.answer()[2] == first != b"":
+            seen += 1
+    same(f"whole answers to {count} requests in one piece", seen, count)
 
 
 def slow(panel):
@@ -337,9 +341,8 @@ def slow(panel):
 
 def open_ends(panel, connections):
     """Those of these connections of which the panel has its end open: before it takes one, and once it is closed, no file is behind it."""
-    rows = [line.split() for line in Path("/proc/net/tcp").read_text().splitlines()[1:]]
-    ports = {tuple(at.split(":")[1] for at in row[1:3]) for row in rows if row[9] != "0"}
-    return [s for s in connections if (f"{panel.port:04X}", f"{s.getsockname()[1]:04X}") in ports]
+    ports = {(own, its) for (_, own), (_, its), _, file in sockets("tcp") if file != "0"}
+    return [s for s in connections if (panel.port, s.getsockname()[1]) in ports]
 
 
 def little_by_little(panel):
@@ -373,7 +376,7 @@ def answered(panel, visitors):
     for s in visitors:
         with contextlib.suppress(OSError):
             s.sendall(panel.asks("GET", "/values?since=0"))
-            count += whole_answer(s).startswith(b"HTTP/1.1 200")
+            count += s.answer()[0] == 200
     return count
 
 
@@ -423,20 +426,20 @@ def ends(panel):
     for row in panel.rows("ends"):
         with panel.connected() as s:
             s.sendall(request(row))
-            answer = whole_answer(s)
+            status, *_ = s.answer()
             s.settimeout(10 if row["ends"] else 1)
             try:
                 ended = s.recv(1) == b""
             except OSError as fault:
                 ended = isinstance(fault, ConnectionError)
-            same(f"{row['raw']!r}: whether its connection ends", (bool(answer), ended), (True, row["ends"]))
+            same(f"{row['raw']!r}: whether its connection ends", (status > 0, ended), (True, row["ends"]))
 
 
 def waiting(panel, s):
     """How many bytes of the panel's answers wait in the system on a connection, at either end."""
-    own, its = (f"{port:04X}" for port in (s.getsockname()[1], panel.port))
-    queues = {tuple(at.split(":")[1] for at in row[1:3]): row[4].split(":") for row in map(str.split, Path("/proc/net/tcp").read_text().splitlines()[1:])}
-    return int(queues.get((its, own), "0")[0], 16) + int(queues.get((own, its), "00")[1], 16)
+    own, its = s.getsockname()[1], panel.port
+    queues = {(near, far): waits for (_, near), (_, far), waits, _ in sockets("tcp")}
+    return queues.get((its, own), [0])[0] + queues.get((own, its), [0, 0])[1]
 
 
 def taken_late(panel):
@@ -445,7 +448,7 @@ def taken_late(panel):
         count, asked = 1, panel.asks("GET", "/")
         for each_of in (s, other):
             each_of.sendall(asked)
-        size = len(whole_answer(other))
+        size = len(other.answer()[2])
         while waited(lambda: waiting(panel, s) >= count * size, 0.5) is not None:  # until the system does not take a whole answer
             count += 1
             s.sendall(asked)
@@ -539,9 +542,7 @@ def is_lost(panel, other):
     check(link["lost_for"] is not None and link["lost"] >= 1 and not values["walked"], f"the device is lost: {link}")
     panel.comes(lambda v: (v["link"]["lost_for"] or 0) > link["lost_for"], f"it is lost for longer and longer, first {link}")
 
-    def is_lost_again(found):
-        times.append(found["link"]["lost_for"] or 0)
-        return found["link"]["lost"] > link["lost"]
+    is_lost_again = lambda v: times.append(v["link"]["lost_for"] or 0) or v["link"]["lost"] > link["lost"]
     is_longer = panel.wait(is_lost_again, 60) is not None and times == sorted(times)
     check(is_longer, f"where it is lost once more, it is lost since it was lost first: {times[-9:]} ms")
     same("an order of an object that is not found yet", panel.order("/set", MUTE, "unmuted")[0], 404)
@@ -616,9 +617,6 @@ class Noting(Other):
         self.holds, self.fails, self.needs, self.noise = False, False, 0.0, []
         self.held, self.answered = [], 0.0  # what is kept back, and when the last of the other answers was asked for
         vars(self).update(does)
-
-    def hears(self, *_):
-        return True
 
     def datagram(self, peer, data, now):
         for one, method in commands_in(data):
@@ -800,12 +798,10 @@ def right_behind():
     with walked(Noting(oca.bench(), 4097, (4, 2), needs=0.002)) as (_, panel), panel.connected() as s:
         for _ in range(400):
             s.sendall(panel.orders_by("/set", {"ono": 4097, "value": "muted"}))
-            ticket, begun = ticket_in(whole_answer(s)), time.monotonic()
+            ticket, begun = ticket_in(s.answer()), time.monotonic()
             s.sendall(panel.asks("GET", "/values?since=0&told=0"))
-            if time.monotonic() < begun + 0.001:
-                told.append(ticket in {one["ticket"] for one in json.loads(whole_answer(s).rsplit(b"\r\n\r\n", 1)[1])["told"]})
-            else:
-                whole_answer(s)
+            is_try, values = time.monotonic() < begun + 0.001, json.loads(s.answer()[2])
+            told += [ticket in {one["ticket"] for one in values["told"]}] if is_try else []
             if told[-3:] == 3 * [True] or len(told) == 40:
                 break
     check(told[-3:] == 3 * [True], f"whether a page is told how an order ended behind which it asks: {told}")
@@ -813,7 +809,7 @@ def right_behind():
 
 def failing():
     """While each receive fails the panel waits as long as ever, and takes next to no processor."""
-    with bound() as silent, Panel(silent.getsockname()[1], FAIL_RECEIVE=10**9, ERRNO=errno.ENETDOWN) as panel:
+    with bound() as silent, Panel(at(silent), FAIL_RECEIVE=10**9, ERRNO=errno.ENETDOWN) as panel:
         time.sleep(0.5)
         used = used_by(panel, 2)
         check(used < 0.4, f"a panel whose receives fail uses {used:.2f} of a processor")
@@ -884,7 +880,7 @@ def commands_at(silent, seconds):
 def asleep():
     """The sleep of the machine counts: a command that was sent before it is not sent again."""
     for seconds, again in ((16, False), (10, True)):
-        with bound() as silent, Panel(silent.getsockname()[1], SLEPT=seconds):
+        with bound() as silent, Panel(at(silent), SLEPT=seconds):
             heard = commands_at(silent, 2)
         same(f"a sleep of {seconds} seconds: whether the first command is sent again", bool(heard) and heard.count(min(heard)) > 1, again)
         check(heard, f"a sleep of {seconds} seconds: commands are sent")
@@ -903,7 +899,8 @@ def stopped(panel, ahead=None, seconds=0.0):
 
 
 def ticket_in(answer):
-    return int(answer.rsplit(b"\r\n\r\n", 1)[1]) if answer.startswith(b"HTTP/1.1 202") else 0
+    status, _, text = answer
+    return int(text) if status == 202 else 0
 
 
 def late_orders():
@@ -919,15 +916,15 @@ def late_orders():
             same(f"an order until {before!r}", panel.order("/set", TRIM, "8", before=before)[0], 400)
         with panel.connected() as old, contextlib.ExitStack() as others:
             old.sendall(panel.asks("GET", "/nothing"))
-            check(whole_answer(old).startswith(b"HTTP/1.1 404"), "a connection is there")
+            same("a connection is there", old.answer()[0], 404)
             now = panel.look()["now"]
             with stopped(panel, ahead, 6):
                 new, page = (others.enter_context(panel.connected()) for _ in range(2))
                 for s in (old, new):
                     s.sendall(panel.orders_by("/set", {"ono": MUTE, "value": "unmuted"}))
                 page.sendall(panel.orders_by("/set", {"ono": TRIM, "value": "9", "before": now + 4000}))
-            answers = [whole_answer(s) for s in (old, new, page)]
-        same("orders that waited for 6 s", panel.settled([ticket_in(it) for it in answers]), 3 * [LATE])
+            tickets = [ticket_in(s.answer()) for s in (old, new, page)]
+        same("orders that waited for 6 s", panel.settled(tickets), 3 * [LATE])
         same("and did nothing", ocactl(device.port, "get", MUTE, TRIM), f"{MUTE} muted\n{TRIM} 7\n")
         same("the next order is carried out", panel.fare("/set", MUTE, "unmuted"), None)
 
@@ -942,17 +939,6 @@ def filled(panel):
     return s
 
 
-def last_answer(s):
-    """The last of the answers on a connection, once it is one to an order, or what came last where it was closed."""
-    rest = b""
-    with contextlib.suppress(OSError):
-        while b"HTTP/1.1 202" not in rest and (piece := s.recv(1 << 20)):
-            rest = rest[-2000:] + piece
-        while not re.search(rb"HTTP/1.1 202.*\r\n\r\n\d+$", rest, re.DOTALL) and (piece := s.recv(1 << 20)):
-            rest += piece
-    return rest[rest.rfind(b"HTTP/1.1"):]
-
-
 def behind_untaken_answers():
     """An order that is read late, behind untaken answers, is told as not sent. Tried again if slow."""
     ahead = Ahead()
@@ -964,10 +950,11 @@ def behind_untaken_answers():
                     s.sendall(panel.orders_by("/set", {"ono": MUTE, "value": "unmuted"}))
                 time.sleep(0.3)
                 s.setsockopt(socket.SOL_SOCKET, socket.SO_RCVBUF, 1 << 20)
-                answer = last_answer(s)
-            if ticket_in(answer):
+                while (answer := s.answer())[0] == 200:  # of the page, before the one to the order
+                    pass
+            if ticket := ticket_in(answer):
                 break
-        same("an order that waited behind answers that nobody took, and over 2 s", panel.settled([ticket_in(answer)]), [LATE])
+        same("an order that waited behind answers that nobody took, and over 2 s", panel.settled([ticket]), [LATE])
         same("and did nothing", ocactl(device.port, "get", MUTE), f"{MUTE} muted\n")
 
 
@@ -991,27 +978,21 @@ def over_a_stop():
     return check(False, "an order in flight is lost before the stop")
 
 
-def address_towards(device):
-    host, port = device.split(":")
-    with socket.socket(socket.AF_INET, socket.SOCK_DGRAM) as s, contextlib.suppress(OSError):
-        s.connect((host, int(port)))
-        return s.getsockname()[0]
-
-
 def bound_for():
     """The socket is at the one address that reaches the device, or the given one, or nowhere."""
-    rows = [(device, (), address_towards(device)) for device in ("127.0.0.1:9", "127.255.0.2:9", "10.255.255.254:9", "126.0.0.1:9", "192.0.2.1:9")]
+    rows = []
+    for host in ("127.0.0.1", "127.255.0.2", "10.255.255.254", "126.0.0.1", "192.0.2.1"):
+        with socket.socket(socket.AF_INET, socket.SOCK_DGRAM) as s:
+            rows.append((f"{host}:9", (), None if s.connect_ex((host, 9)) else s.getsockname()[0]))
     same("the system reaches itself from 127.0.0.1", [wanted for _, _, wanted in rows[:2]], ["127.0.0.1"] * 2)
     for device, given, wanted in [*rows, ("127.0.0.1:9", ("--ip", "127.0.0.2"), "127.0.0.2"), ("127.0.0.1:9", ("--ip", "0.0.0.0"), "127.0.0.1")]:
         if not wanted:
             _, err, status = ITS.ran("ocapanel", "--device", device, "--listen", "127.0.0.1:0")
             same(f"no route to {device}", (status, err.splitlines()[1:]), (1, ["socket failed"]))
             continue
-        with Panel(0, *given, address=device) as panel:
+        with Panel(device, *given) as panel:
             links = [os.readlink(it) for it in Path(f"/proc/{panel.process.pid}/fd").iterdir()]
-            udp = [line.split() for line in Path("/proc/net/udp").read_text().splitlines()[1:]]
-            at = [socket.inet_ntoa(bytes.fromhex(row[1].split(":")[0])[::-1]) for row in udp if f"socket:[{row[9]}]" in links]
-            same(f"where the socket for {device} {given} is", at, [wanted])
+            same(f"where the socket for {device} {given} is", [ip for (ip, _), _, _, file in sockets("udp") if f"socket:[{file}]" in links], [wanted])
 
 
 # What a device with one mute is asked in this order, to find its objects, and then for the order that sets the mute and for the one that locks it.
@@ -1077,7 +1058,7 @@ def limits_of_orders():
 def spans():
     """Half of the span is for what the panel asks by itself; of a device that says nothing it asks five things."""
     for given, most in ((["--span", "2"], 1), (["--span", "4"], 2), (["--span", "8"], 4), ([], 5)):
-        with bound() as silent, Panel(silent.getsockname()[1], *given) as panel:
+        with bound() as silent, Panel(at(silent), *given) as panel:
             got = len({*commands_at(silent, 2)})
             same(f"{given}: commands in flight, and how many the page is told of", (got, panel.look()["link"]["in_flight"]), (most, most))
 
@@ -1100,7 +1081,7 @@ def counted():
 def at_its_port():
     """The socket for the device is at the port that is given; and a panel that follows another one at its port is answered."""
     port = str(free_port())
-    with bound() as silent, Panel(silent.getsockname()[1], "--port", port):
+    with bound() as silent, Panel(at(silent), "--port", port):
         silent.settimeout(20)
         same(f"--port {port}: from where the device is asked", silent.recvfrom(2000)[1], ("127.0.0.1", int(port)))
     turn, answered = None, []
@@ -1124,17 +1105,14 @@ def at_an_old_port():
         same("its orders are carried out", panel.fare("/set", 4097, "unmuted"), None)
 
 
-def is_free(port):
-    with contextlib.suppress(OSError), socket.socket() as s:
-        s.bind(("127.0.0.1", port))
-        return True
-    return False
-
-
 def by_its_names():
     """A panel is asked by its own address, and one at 127.0.0.1 also as localhost; a page orders under the name by
     which it was asked, and under no other. At port 80 browsers leave the port out; where it can't be had this is left out."""
-    for ip, port in (("127.0.0.1", 0), ("127.0.0.2", 0), *[("127.0.0.1", 80)] * is_free(80)):
+    places = [("127.0.0.1", 0), ("127.0.0.2", 0)]
+    with contextlib.suppress(OSError), socket.socket() as s:
+        s.bind(("127.0.0.1", 80))
+        places.append(("127.0.0.1", 80))
+    for ip, port in places:
         with walked(ip=ip, port=port) as (_, panel):
             if same(f"--listen {ip}:{port}: where it tells that it is", panel.told_ip, ip):
                 for data, row, status, *_ in panel.asked(f"at {ip}:{port}"):
@@ -1278,11 +1256,11 @@ def steady():
     with Device() as device, Panel(device.port) as panel, panel.connected() as s, panel.connected() as idle, contextlib.suppress(OSError):
         begun = time.monotonic()
         idle.sendall(panel.asks("GET", "/nothing"))
-        whole_answer(idle)
+        idle.answer()
         while time.monotonic() < begun + (33 if idled else 60) and asked == answered:
             asked += 1
             s.sendall(panel.asks("GET", "/nothing"))
-            answered += whole_answer(s).startswith(b"HTTP/1.1 404")
+            answered += s.answer()[0] == 404
             if not idled and select.select([idle], [], [], 0.5)[0]:
                 idled = time.monotonic() - begun
             elif idled:

@@ -23,10 +23,11 @@ import time
 from concurrent.futures import ThreadPoolExecutor
 from pathlib import Path
 
+import oca_profile as oca
 import page
 from checks import free_port, waited
 from panel import ITS, MUTE, TREE, TRIM, Device, Panel, check, locked, many_tree, ocactl, same
-from peers import Lossy
+from peers import Lossy, Peer
 from tables import data, table
 
 CASES = Path(__file__).resolve().parent / "page_cases"
@@ -201,10 +202,6 @@ class Window:
         if release:
             self.mouse("mouseReleased", x, y - by)
 
-    def let_go(self, what):
-        x, y, _, _ = self.place(what)
-        self.mouse("mouseReleased", x, y)
-
     def key(self, key, code=0, text=""):
         for kind, more in (("keyDown", {"text": text}) if text else ("rawKeyDown", {}), ("keyUp", {})):
             self.call("Input.dispatchKeyEvent", type=kind, key=key, code=key, windowsVirtualKeyCode=code, **more)
@@ -334,12 +331,12 @@ def steps(device, one, name, two=None, panel=None, relay=None, place=None):
     sends = lambda number: lambda whom: (device if whom == "device" else panel).process.send_signal(number)
     lock = contextlib.ExitStack()
     does = {"run": one.run, "wait": one.wait, "holds": one.holds, "click": one.click, "wheel": one.wheel, "key": one.key, "type": one.type,
-            "drag": one.drag, "let go": one.let_go, "sleep": time.sleep, "stop": sends(signal.SIGSTOP), "go on": sends(signal.SIGCONT),
+            "drag": one.drag, "let go": lambda what: one.mouse("mouseReleased", *one.place(what)[:2]), "sleep": time.sleep, "stop": sends(signal.SIGSTOP), "go on": sends(signal.SIGCONT),
             "loses": lambda share: setattr(relay, "share", share), "other runs": lambda script: two.run(script),
             "choose": one.choose, "other chooses": lambda *place: two.choose(*place), "other holds": lambda *what: two.holds(*what),
             "size": one.size, "prefers": one.prefers, "looks": lambda script, value, what: same(what, one.looks(script), value),
             "locks": lambda ono: lock.enter_context(locked(device.port, ono)), "unlocks": lock.close,
-            "label": lambda ono, text: give_label(device, ono, text), "picture": lambda file: Path(place, file).write_bytes(one.picture()),
+            "label": lambda ono, text: Peer(device.port).ask(ono, 2, 9, oca.text_bytes(text)), "picture": lambda file: Path(place, file).write_bytes(one.picture()),
             "is told": lambda words, told, what: check(told in ocactl(device.port, *words.split()), what),
             "agrees": lambda ono, what: same(what, said(device, ono), [one.run(row(ono, ".value"))]),
             "is": lambda script, value, what: same(what, one.run(script), value),
@@ -349,11 +346,6 @@ def steps(device, one, name, two=None, panel=None, relay=None, place=None):
             "device": lambda onos, values, what: same(what, said(device, *onos), values)}
     for action, *given in BY_HAND[name]:
         does[action](*(it.replace("DEVICE", f"127.0.0.1:{device.port}") if isinstance(it, str) else it for it in given))
-
-
-def give_label(device, ono, text):
-    params = (len(text).to_bytes(2, "big") + text.encode()).hex()
-    ocactl(device.port, "send", *f"--target {ono} --level 2 --index 9 --count 1 --params {params}".split())
 
 
 def pictures(browser, place):
@@ -475,17 +467,11 @@ BY_ROWS = {"stalls": (TREE, (), LIVE, False), "watching": (TREE, ("--read-only",
            "large": (many_tree()[0], (), "rows.size>4000&&isOpen()", False), "hostile": (HOSTILE, (), LIVE, False)}
 
 
-def by_rows(browser, name):
-    tree, words, shown, is_by_way = BY_ROWS[name]
-    with Device(0, tree) as device, Lossy(device.port, share=0) as way, \
-            program((way if is_by_way else device).port, *words) as panel, \
-            opened(browser, panel.address, f"{name}: the page is live", 90, shown) as one:
-        steps(device, one, name, panel=panel, relay=way)
-
-
 def programs(browser):
-    for name in BY_ROWS:
-        by_rows(browser, name)
+    for name, (tree, words, shown, is_by_way) in BY_ROWS.items():
+        with Device(0, tree) as device, Lossy(device.port, share=0) as way, program((way if is_by_way else device).port, *words) as panel, \
+                opened(browser, panel.address, f"{name}: the page is live", 90, shown) as one:
+            steps(device, one, name, panel=panel, relay=way)
     for tries in (begun_anew, bad_network, ages, with_token):
         tries(browser)
 

@@ -1,14 +1,14 @@
 """Controllers and independent devices for what is tried against either, and ways between both. Other tools use it; it has no `main`."""
 import contextlib
+import heapq
 import random
 import select
 import socket
 import struct
-import threading
 import time
 
 import oca_profile as oca
-from checks import bound
+from checks import Beside, bound
 
 
 class Peer:
@@ -56,98 +56,124 @@ class Peer:
         return (self.ask(*command) or (None,))[0]
 
 
-class Relay:
+class Relay(Beside):
     """A way between controllers, each with a port of its own behind it, and the device at this port of this machine, in
-    a thread. `goes_forth` and `goes_back` say whether a datagram goes on. It stands at a free port, or at this
-    socket."""
+    a thread. It stands at a free port, or at this socket."""
 
     def __init__(self, device, front=None):
-        self.front, self.ways, self.device, self.ends = front or bound(), {}, ("127.0.0.1", device), False
+        self.front, self.ways, self.device = front or bound(), {}, ("127.0.0.1", device)
         self.port = self.front.getsockname()[1]
-        self.thread = threading.Thread(target=self.run, daemon=True)
-        self.thread.start()
 
-    def run(self):
-        while not self.ends:
-            controllers = {way: controller for controller, way in self.ways.items()}
-            for end in select.select([self.front, *controllers], [], [], 0.05)[0]:
-                with contextlib.suppress(OSError):
-                    data, sender = end.recvfrom(65535)
-                    if end is self.front:
-                        self.ways[sender] = self.ways.get(sender) or bound()
-                        self.forth(data, self.ways[sender])
-                    elif self.goes_back(data):
-                        self.front.sendto(data, controllers[end])
-
-    def goes_back(self, _):
-        return True
+    def step(self, seconds=0.05):
+        controllers = {way: controller for controller, way in self.ways.items()}
+        for end in select.select([self.front, *controllers], [], [], seconds)[0]:
+            with contextlib.suppress(OSError):
+                data, sender = end.recvfrom(65535)
+                if end is self.front:
+                    self.ways[sender] = self.ways.get(sender) or bound()
+                    self.forth(data, self.ways[sender])
+                else:
+                    self.back(data, controllers[end])
 
     def forth(self, data, way):
-        goes_on = self.goes_forth(data)
-        if goes_on:
-            way.sendto(data, self.device)
-        return goes_on
+        way.sendto(data, self.device)
 
-    def close(self):
-        self.ends = True
-        self.thread.join()
+    def back(self, data, controller):
+        self.front.sendto(data, controller)
+
+    def __exit__(self, *_):
+        super().__exit__()
         for end in (self.front, *self.ways.values()):
             end.close()
 
-    def __enter__(self):
-        return self
-
-    def __exit__(self, *_):
-        self.close()
-
 
 class Lossy(Relay):
-    """A way that loses one datagram of five each way, or another share."""
+    """A way that loses a share of the datagrams each way, as the seed says, doubles another share of the others, and keeps each copy for up to `quick`
+    seconds, but a share for up to 0.7. `behind` is how many copies of commands it carried behind an answer to their command: only those may be too old,
+    since nobody waits for them."""
 
-    def __init__(self, device, seed=1, share=0.2):
-        self.random, self.share, self.lost, self.came = random.Random(seed), share, 0, 0
+    def __init__(self, device, seed=1, share=0.2, doubling=0.0, slow=0.0, quick=0.0):
         super().__init__(device)
+        self.random, self.share, self.doubling, self.slow, self.quick = random.Random(seed), share, doubling, slow, quick
+        self.answered, self.due, self.number, self.latest = set(), [], 0, {True: -1, False: -1}
+        self.behind = self.lost = self.doubled = self.overtaken = self.carried = 0
 
-    def goes_forth(self, _):
-        is_lost = self.random.random() < self.share
-        self.came += 1
-        self.lost += is_lost
-        return not is_lost
+    def wait(self):
+        return self.random.uniform(0, 0.7 if self.random.random() < self.slow else self.quick)
 
-    goes_back = goes_forth
+    def accept(self, inward, data, to):
+        """A datagram that was sent: it will be delivered not at all, once or twice, after a while."""
+        self.carried += 1
+        if self.random.random() < self.share:
+            self.lost += 1
+            return
+        copies = 2 if self.random.random() < self.doubling else 1
+        self.doubled += copies - 1
+        for _ in range(copies):
+            heapq.heappush(self.due, (time.time() + self.wait(), self.number, self.random.random(), inward, data, to))
+        self.number += 1
+
+    def forth(self, data, way):
+        self.accept(True, data, way)
+
+    def back(self, data, controller):
+        self.accept(False, data, controller)
+
+    def carry(self, inward, data, to):
+        for kind, *message in oca.check(data):
+            if inward and kind == "command":
+                self.behind += message[1].handle in self.answered
+            elif not inward and kind == "response":
+                self.answered.add(message[0])
+        (super().forth if inward else super().back)(data, to)
+
+    def deliver(self):
+        while self.due and self.due[0][0] <= time.time():
+            _, number, _, inward, data, to = heapq.heappop(self.due)
+            self.overtaken += number < self.latest[inward]
+            self.latest[inward] = max(self.latest[inward], number)
+            with contextlib.suppress(OSError):
+                self.carry(inward, data, to)
+
+    def step(self):
+        """Takes what comes within 20 ms or until the next delivery is due, and delivers what is."""
+        super().step(min(0.02, max(0, self.due[0][0] - time.time())) if self.due else 0.02)
+        self.deliver()
 
 
-class Served:
+class Flood(Beside):
+    """Datagrams of no bytes to a device with a number of turns, each of which is a turn, so that it comes to their end."""
+
+    def __init__(self, port):
+        self.to, self.peer = ("127.0.0.1", port), bound()
+
+    def step(self):
+        for _ in range(100):
+            self.peer.sendto(b"", self.to)
+        time.sleep(0.005)
+
+
+class Served(Beside):
     """The second implementation's device at 127.0.0.1, in a thread of its own; `heard` has each datagram with what was said of it."""
 
-    def __init__(self, tree=None, port=0, window=32, peers=16):
-        self.device = oca.Device(tree, window, peers)
+    def __init__(self, tree=None, window=32, peers=16):
+        self.device, self.begun = oca.Device(tree, window, peers), time.monotonic()
         self.tree, self.heard = self.device.tree, []
-        self.socket = bound(port=port)
+        self.socket = bound()
         self.socket.settimeout(0.05)
-        self.port, self.ends = self.socket.getsockname()[1], False
-        self.thread = threading.Thread(target=self.serve, daemon=True)
+        self.port = self.socket.getsockname()[1]
 
-    def serve(self):
-        begun = time.monotonic()
-        while not self.ends:
-            try:
-                data, sender = self.socket.recvfrom(65535)
-            except TimeoutError:
-                continue
+    def step(self):
+        with contextlib.suppress(TimeoutError):
+            data, sender = self.socket.recvfrom(65535)
             peer = (*map(int, sender[0].split(".")), sender[1])
-            said, packets = self.device.datagram(peer, data, int(1000 * (time.monotonic() - begun)))
+            said, packets = self.device.datagram(peer, data, int(1000 * (time.monotonic() - self.begun)))
             self.heard.append((data, said))
             for packet in packets:
                 self.socket.sendto(packet, sender)
 
-    def __enter__(self):
-        self.thread.start()
-        return self
-
     def __exit__(self, *_):
-        self.ends = True
-        self.thread.join()
+        super().__exit__()
         self.socket.close()
 
 
@@ -168,6 +194,9 @@ class Other(Served):
     def __init__(self, tree=None, window=32):
         super().__init__(tree, window=window)
         self.answers, self.device.datagram = self.device.datagram, self.datagram
+
+    def hears(self, *_):
+        return True
 
     def datagram(self, peer, data, now):
         return self.answers(peer, data, now) if self.hears(peer, data) else ("", [])

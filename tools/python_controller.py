@@ -20,8 +20,8 @@ from pathlib import Path
 from types import ModuleType
 
 import oca_profile as oca
-from checks import Checks, Serving, free_port
-from lossy import Network
+from checks import Checks, Serving, at, free_port, waited
+from lossy import bad_network
 from tables import TOP, table
 
 EXAMPLE, TREE = TOP / "examples/python/controller.py", "examples/stagebox.tree"
@@ -94,7 +94,7 @@ class Device(Serving):
 
     def __init__(self, folder):
         super().__init__(f"{folder}/ocadev", *f"serve --tree {TREE} --port 0 --peers 64 --verbose".split(), cwd=TOP)
-        self.address, self.lines = (self.ip, self.port), []
+        self.address, self.lines = f"{self.ip}:{self.port}", []
         self.reader = threading.Thread(target=lambda: self.lines.extend(self.process.stderr), daemon=True)
         self.reader.start()
 
@@ -115,9 +115,8 @@ def ran(*words, **settings):
 
 def runs(checks, folder, device):
     """The example's commands beside `ocactl`'s, over 127.0.0.1."""
-    at = "{}:{}".format(*device.address)
-    python = lambda *words, **settings: ran(sys.executable, str(EXAMPLE), at, *words, **settings)
-    ocactl = lambda name, *words: ran(f"{folder}/ocactl", name, "--device", at, "--port", str(free_port()), *words)
+    python = lambda *words, **settings: ran(sys.executable, str(EXAMPLE), device.address, *words, **settings)
+    ocactl = lambda name, *words: ran(f"{folder}/ocactl", name, "--device", device.address, "--port", str(free_port()), *words)
     listed, status = python("list")
     wanted = [line.split(" ", 3) for line in ocactl("tree")[0]]
     checks.same("list", [[ono, container, role] for ono, _, container, role in map(parts, listed)],
@@ -128,16 +127,16 @@ def runs(checks, folder, device):
         checks.same(what, (python if who == "python" else ocactl)(*words.split()), ([*printed], status))
     for words in map(str.split, DATA["nothing"]):
         checks.same(f"nothing to do: {words}", python(*words), ([], 1))
-    lock(checks, at, python, ocactl)
+    lock(checks, device.address, python, ocactl)
 
 
 def parts(line):
     return re.fullmatch(r'(\d+) (\S+) (\d+) "(.*)" "[^"]*"', line).groups()
 
 
-def lock(checks, at, python, ocactl):
+def lock(checks, address, python, ocactl):
     """Locks that the example holds while its input is open."""
-    words = [sys.executable, str(EXAMPLE), at, "lock", "4098", "4096", "4103"]
+    words = [sys.executable, str(EXAMPLE), address, "lock", "4098", "4096", "4103"]
     holder = subprocess.Popen(words, cwd=TOP, stdin=subprocess.PIPE, stdout=subprocess.PIPE, text=True)
     checks.same("lock", [holder.stdout.readline() for _ in range(3)], ["4098 locked\n", "4096 InvalidRequest\n", "4103 locked\n"])
     for what, who, words, printed, status in DATA["while_locked"]:
@@ -153,14 +152,14 @@ class Watch:
 
     def __init__(self, network):
         self.network, self.accepts, network.accept = network, network.accept, self.accept
-        self.senders, self.sent, self.copies, self.wrong = set(), {}, {}, []
+        self.ports, self.sent, self.copies, self.wrong = set(), {}, {}, []
         self.most = self.alive = 0
 
-    def accept(self, inward, data):
+    def accept(self, inward, data, to):
         if inward:
-            self.senders.add(self.network.controller)
+            self.ports.add(to.getsockname()[1])
             self.note(data)
-        self.accepts(inward, data)
+        self.accepts(inward, data, to)
 
     def note(self, data):
         """A datagram that the controller sent, held against the rules."""
@@ -182,21 +181,17 @@ class Watch:
 
 def over_the_network(checks, device, seed, least, *words, keep_alives=0):
     """The example over a bad network: what it prints, with its status. It must have had so many commands in flight."""
-    network = Network(device.address, seed)
+    network = bad_network(device.port, seed)
     watch = Watch(network)
-    process = subprocess.Popen([sys.executable, str(EXAMPLE), "{}:{}".format(*network.front.getsockname()), *words], cwd=TOP,
-                               stdin=subprocess.PIPE, stdout=subprocess.PIPE, text=True)
-    end = time.monotonic() + 240
-    while process.poll() is None and time.monotonic() < end:
-        network.step()
-        if process.stdin and watch.alive >= keep_alives:
-            process.stdin.close()
-            process.stdin = None
-    process.kill()
-    for _ in range(60):    # what is still on its way
-        network.step()
+    with network:
+        process = subprocess.Popen([sys.executable, str(EXAMPLE), at(network.front), *words], cwd=TOP, stdin=subprocess.PIPE, stdout=subprocess.PIPE, text=True)
+        waited(lambda: watch.alive >= keep_alives or process.poll() is not None, 240)
+        process.stdin.close()
+        waited(lambda: process.poll() is not None, 240)
+        process.kill()
+        time.sleep(1)    # what is still on its way
     name = words[0]
-    checks.same(f"{name}: one address and port", len(watch.senders), 1)
+    checks.same(f"{name}: one address and port", len(watch.ports), 1)
     checks.same(f"{name}: the rules", watch.wrong, [])
     checks.same(f"{name}: no command is sent more often than it may", max(watch.copies.values()) <= TRIES, True)
     checks.same(f"{name}: in flight", watch.most, least)
@@ -225,7 +220,7 @@ def at_a_loss(checks, device):
 def executed_once(checks, device, watches):
     """Each command that a network brought was executed once, and none was too old but behind its answer."""
     for watch in watches:
-        executed, old, reused = device.executed(watch.network.back.getsockname()[1])
+        executed, old, reused = device.executed(*watch.ports)
         checks.same("executed once", (executed, reused), (len(watch.sent), 0))
         checks.same("too old", old <= watch.network.behind, True)
 

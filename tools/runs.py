@@ -34,7 +34,7 @@ import tempfile
 import termios
 import time
 
-from checks import Checks, at, bound, comes, ended, free_port, heard, write
+from checks import Checks, at, bound, ended, free_port, heard, next_command, write
 from tables import each, octets, table
 
 # Runs a program without any word, not even its own name: a system may make a word of nothing of that.
@@ -43,10 +43,6 @@ KEYS = set("words tree given exchange status prints fault note lines place longe
 
 
 class Runs(Checks):
-    def ran(self, words, given=b"", **how):
-        how = {"stdout": subprocess.PIPE, **({} if "stdin" in how else {"input": given}), **how}
-        return subprocess.run([f"{self.folder}/{words[0]}", *words[1:]], stderr=subprocess.PIPE, timeout=120, check=False, **how)
-
     def check(self, words, is_well, told):
         self.expect(" ".join(words)[:200], is_well, f"{told!s:.600}")
 
@@ -99,9 +95,9 @@ def ran_cut(runs, words, given, prints):
 def ran_in_room(runs, words, given, most):
     with tempfile.TemporaryFile() as out:
         limit = lambda: resource.setrlimit(resource.RLIMIT_FSIZE, (most, most))
-        run = runs.ran(words, given, stdout=out, preexec_fn=limit, restore_signals=False)
+        _, told, status = runs.ran(*words, given=given, seconds=120, text=False, stdout=out, preexec_fn=limit, restore_signals=False)
         out.seek(0)
-        return out.read(), run.stderr, run.returncode
+        return out.read(), told, status
 
 
 def handles_heard(end, run, least):
@@ -129,13 +125,6 @@ def lets_ahead(runs, words, given, end, ahead):
     runs.check(words, len(handles) == ahead, (sorted(handles), ended(run, 120)))
 
 
-def next_new(end, seen):
-    """The next datagram that comes, and from where: no keep-alive, and none that was seen; nothing where none comes."""
-    data, sender = next(((data, sender) for data, sender in comes(end) if data[7:8] != b"\4" and data not in seen), (None, None))
-    seen.add(data)
-    return data.hex() if data else "nothing", sender
-
-
 def talks(runs, words, talk, end):
     """A run, and what was exchanged with it meanwhile: each datagram and each line that comes is a check."""
     run, seen, sender = runs.start(*words, text=False), set(), None
@@ -145,8 +134,9 @@ def talks(runs, words, talk, end):
         elif kind == ".":
             write(run, b"")
         elif kind == "<":
-            data, sender = next_new(end, seen)
-            runs.same(f"{' '.join(words)}: what comes", data, said)
+            data, sender = next_command(end, seen)
+            seen.add(data)
+            runs.same(f"{' '.join(words)}: what comes", data.hex() or "nothing", said)
             runs.same(f"{' '.join(words)}: from where", sender, ("127.0.0.1", int(words[words.index("--port") + 1])))
         elif kind == ">" and sender:
             end.sendto(bytes.fromhex(said), sender)
@@ -195,10 +185,9 @@ def tried(runs, row, path):
             all_said = [ran_cut(runs, words, given, prints) if "cut" in row else ran_in_room(runs, words, given, row["room"])]
         else:
             unread = {"stdin": os.open("/", os.O_RDONLY)} if "longer" in row else {}
-            run = runs.ran(words, given, **unread)
+            all_said = [runs.ran(*words, given=given, seconds=120, text=False, **unread)]
             for stream in unread.values():
                 os.close(stream)
-            all_said = [(run.stdout, run.stderr, run.returncode)]
         for said in all_said:
             runs.compare(words, row, said)
         if "sent" in row:
@@ -214,10 +203,10 @@ def refuses_no_word(runs, program):
 def serves_nobody(runs):
     """A device that nobody asks says where it listens, and counts its turns."""
     words = ["ocadev", "serve", "--port", "0", "--turns", "2"]
-    counts = b"turns 2 executed 0 kept 0 old 0 reused 0 malformed 0 no-room 0 oversize 0 quiet 2 failed-receives 0 failed-sends 0\n"
-    run = runs.ran(words)
-    is_told = run.stderr.startswith(b"listening 127.0.0.1:") and run.stderr.endswith(b"\n")
-    runs.check(words, run.returncode == 0 and run.stdout == counts and is_told, run)
+    counts = "turns 2 executed 0 kept 0 old 0 reused 0 malformed 0 no-room 0 oversize 0 quiet 2 failed-receives 0 failed-sends 0\n"
+    printed, told, status = runs.ran(*words)
+    is_told = told.startswith("listening 127.0.0.1:") and told.endswith("\n")
+    runs.check(words, status == 0 and printed == counts and is_told, (printed, told, status))
 
 
 def main(folder):

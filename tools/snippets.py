@@ -18,7 +18,6 @@ A table's second line is its rule (`|---|`), which stands nowhere else, and each
 cells as the first. No item of a list is without a text. The last line is 'N passed, M failed'."""
 import os
 import re
-import signal
 import subprocess
 import sys
 import tempfile
@@ -56,40 +55,34 @@ def is_like(expected, printed):
     return re.fullmatch(pattern, "".join(line + "\n" for line in printed)) is not None
 
 
-class Session:
-    """Runs the commands of a block, and collects what they print in the order in which it is to stand."""
+def rest(process):
+    """The lines that a command prints from here on, until it ends; none if they were taken."""
+    if process.stdout.closed:
+        return []
+    try:
+        return process.communicate(timeout=120)[0].splitlines()
+    except subprocess.TimeoutExpired:
+        process.kill()
+        process.stdout.close()
+        return ["(it went on)"]
 
-    def __init__(self, folder):
-        self.folder, self.beside, self.printed = folder, [], []
 
-    def run(self, command, expected):
+def printed_by(commands, folder):
+    """What the commands of a session print, in the order in which it is to stand."""
+    begun = lambda command: subprocess.Popen(["bash", "-c", command], cwd=folder, stdin=subprocess.DEVNULL,
+                                             stdout=subprocess.PIPE, stderr=subprocess.STDOUT, text=True)
+    beside, printed = [], []
+    for command, behind in commands:
         if command.endswith(" &"):
-            process = subprocess.Popen(["bash", "-c", f"exec {command[:-2]}"], cwd=self.folder, stdin=subprocess.DEVNULL,
-                stdout=subprocess.PIPE, stderr=subprocess.STDOUT, text=True)
-            self.beside.append(process)
-            self.printed += [process.stdout.readline().rstrip("\n") for _ in expected]
+            beside.append(begun(f"exec {command[:-2]}"))
+            printed += [beside[-1].stdout.readline().rstrip("\n") for _ in behind]
         elif command.startswith("kill %"):
-            self.end(self.beside[int(command[6:]) - 1], signal.SIGTERM)
+            process = beside[int(command[6:]) - 1]
+            process.terminate()
+            printed += rest(process)
         else:
-            done = subprocess.run(["bash", "-c", command], cwd=self.folder, stdin=subprocess.DEVNULL, timeout=120,
-                                  stdout=subprocess.PIPE, stderr=subprocess.STDOUT, text=True)
-            self.printed += done.stdout.splitlines()
-
-    def end(self, process, number=None):
-        """Waits for a command that went on beside the others, and takes the rest of what it printed."""
-        if number and process.poll() is None:
-            process.send_signal(number)
-        if not process.stdout.closed:
-            try:
-                self.printed += process.communicate(timeout=60)[0].splitlines()
-            except subprocess.TimeoutExpired:
-                process.kill()
-                self.printed.append("(it went on)")
-            process.stdout.close()
-
-    def end_all(self):
-        for process in self.beside:
-            self.end(process)
+            printed += rest(begun(command))
+    return printed + [line for process in beside for line in rest(process)]
 
 
 def commands_of(lines):
@@ -112,16 +105,10 @@ def fault_of_session(lines, programs):
             if name != "bin":
                 os.symlink(TOP / name, f"{folder}/{name}")
         os.symlink(programs, f"{folder}/bin")
-        session = Session(folder)
-        try:
-            for command, behind in commands:
-                session.run(command, behind)
-        finally:
-            session.end_all()
-    session.printed = [line for line in session.printed if not line.startswith(NOTE)]
-    if is_like(expected, session.printed):
+        printed = [line for line in printed_by(commands, folder) if not line.startswith(NOTE)]
+    if is_like(expected, printed):
         return None
-    return "printed\n" + "\n".join(session.printed) + "\nin place of\n" + "\n".join(expected)
+    return "printed\n" + "\n".join(printed) + "\nin place of\n" + "\n".join(expected)
 
 
 def is_in(code, text):

@@ -14,13 +14,12 @@ import select
 import signal
 import subprocess
 import sys
-import threading
 import time
 from pathlib import Path
 
 import checks
 import peers
-from checks import Ahead, ended, free_port, layered, waited, write
+from checks import Ahead, ended, free_port, waited, write
 from tables import data, octets
 
 DATA = data("standstill")
@@ -40,31 +39,28 @@ class Relay(peers.Relay):
 
     def __init__(self, device):
         self.loses_answers = self.loses_copies = True
-        self.is_cut, self.is_set, self.last = False, False, 2**32
+        self.is_cut, self.last = False, 2**32
         self.copies = self.commands = self.answers = self.passed = 0
         self.handles, self.kept = set(), []
         super().__init__(device)
 
     def forth(self, datagram, way):
-        self.passed += super().forth(datagram, way) and self.is_set
-
-    def goes_forth(self, datagram):
         found = peers.messages_in(datagram, "command")
         setting = [command.handle for _, command in found if sets(command)]
-        self.is_set = bool(setting)
         self.handles.update(setting)
         self.commands += len(found)
-        goes_on = not self.is_cut and (not setting or not self.copies or not self.loses_copies)
-        self.copies += self.is_set
-        return goes_on
+        if not self.is_cut and (not setting or not self.copies or not self.loses_copies):
+            super().forth(datagram, way)
+            self.passed += bool(setting)
+        self.copies += bool(setting)
 
-    def goes_back(self, datagram):
+    def back(self, datagram, controller):
         found = [handle for handle, *_ in peers.messages_in(datagram, "response")]
         if any(handle > self.last or self.loses_answers and handle in self.handles for handle in found):
             self.kept.append(datagram)
-            return False
-        self.answers += len(found)
-        return True
+        else:
+            self.answers += len(found)
+            super().back(datagram, controller)
 
     def give(self):
         for datagram in list(self.kept):
@@ -76,25 +72,20 @@ class Scene:
 
     def __init__(self, checks):
         self.checks, self.time = checks, Ahead()
-        device = self.start("ocadev", "serve", "--port", "0")
-        self.device = int(device.stderr.readline().split(b":")[1])
-        threading.Thread(target=device.stderr.read, daemon=True).start()
-        self.relay, self.peer = Relay(self.device), peers.Peer(self.device, 0.3, PATIENCE)
-
-    def start(self, *words, **streams):
-        return self.checks.start(*words, env=layered(**self.time.settings), text=False, **streams)
+        _, device = checks.serve(**self.time.settings)
+        self.relay, self.peer = Relay(device), peers.Peer(device, 0.3, PATIENCE)
 
     def control(self, command, *words, stdout=subprocess.PIPE):
-        return self.start("ocactl", command, "--device", f"127.0.0.1:{self.relay.port}", "--port", str(free_port()), "--first-handle", "1",
-                          *words, stdin=subprocess.PIPE, stdout=stdout, stderr=subprocess.DEVNULL)
-
-    def close(self):
-        self.relay.close()
+        return self.checks.start("ocactl", command, "--device", f"127.0.0.1:{self.relay.port}", "--port", free_port(), "--first-handle", 1, *words,
+                                 stdout=stdout, stderr=subprocess.DEVNULL, text=False, **self.time.settings)
 
 
 class Checks(checks.Checks):
+    @contextlib.contextmanager
     def scene(self):
-        return contextlib.closing(Scene(self))
+        scene = Scene(self)
+        with scene.relay:
+            yield scene
 
     def comes(self, what, holds):
         self.expect(what, waited(holds, PATIENCE, 0.002) is not None)

@@ -11,15 +11,12 @@ Usage: unreliable.py BIN     BIN is the folder with `ocadev`, `ocactl` and `tria
 - Ends: each read and each write fails in turn, in pieces of 100 bytes and of one. The run says `read failed` or `write failed`
   with status 1, and printed a front of what it prints otherwise. Pieces of 1, 7 and 100 bytes change nothing."""
 import collections
-import os
 import sys
 import tempfile
-import threading
-import time
 from pathlib import Path
 
 import oca_profile as oca
-from checks import Checks, free_port, layer
+from checks import Checks, ended, free_port
 from damaged import MESSAGES
 from peers import Peer, Served
 from tables import data
@@ -56,8 +53,7 @@ class Runs(Checks):
 
     def run(self, words, script, **settings):
         """(standard output, standard error, status, the counts)"""
-        settings = {"LD_PRELOAD": layer("unreliable"), "COUNTS": self.counts} | settings
-        said = self.ran(*words, given=script, text=False, env=os.environ | {name: str(value) for name, value in settings.items()})
+        said = self.ran(*words, given=script, text=False, COUNTS=self.counts, **settings)
         return *said, [int(n) for n in self.counts.read_text().split()]
 
     def memory(self, words, script):
@@ -80,28 +76,24 @@ class Runs(Checks):
         self.same(f"{words} with no memory after its start", [*self.run(words, script, REFUSE_FROM=requests + 1)[:3]], wanted)
 
     def serving(self, turns, commands, **settings):
-        """What `ocadev serve` prints and asks for in so many turns, and what a controller is answered meanwhile: it sets and reads a mute."""
-        port, done = free_port(), []
-        words = ["ocadev", "serve", "--port", port, "--turns", turns]
-        serves = threading.Thread(target=lambda: done.append(self.run(words, b"", **settings)))
-        serves.start()
+        """The status of `ocadev serve` with so many turns, how often it asked for memory, and what a controller is answered meanwhile: it sets and
+        reads a mute."""
+        run, port = self.serve("--turns", turns, COUNTS=self.counts, **settings)
         peer, told = Peer(port), []
-        while commands and serves.is_alive() and peer.ask(4097, 4, 1) is None:  # it does not listen yet
-            time.sleep(0.02)
         for k in range(commands):
             state = bytes([1 + k % 2])
             told += [(peer.ask(4097, 4, 2, state), peer.ask(4097, 4, 1), state)]
-        serves.join()
-        return done[0], told
+        _, _, status = ended(run)
+        return status, int(self.counts.read_text().split()[0]), told
 
     def over_sockets(self):
         """Nothing is asked for by a device that is served, nor by a controller that sends, once it began."""
-        (_, _, status, (idle, *_)), _ = self.serving(1, 0)
+        status, idle, _ = self.serving(1, 0)
         for settings in ({}, {"REFUSE_FROM": idle + 1}):
-            (_, said, code, (requests, *_)), told = self.serving(120, 50, **settings)
+            code, requests, told = self.serving(120, 50, **settings)
             for its in told:
                 self.same("a mute that is set and read", its[:2], ((0, b""), (0, its[2])))
-            self.same(f"served {settings}, {said!r}", (requests, code, len(told)), (idle, status, 50))
+            self.same(f"served {settings}", (requests, code, len(told)), (idle, status, 50))
         with Served() as device:
             words = lambda: ["ocactl", "run", "--device", f"127.0.0.1:{device.port}", "--ahead", 16, "--port", free_port()]
             *_, (idle, *_) = self.run(words(), b"")

@@ -7,7 +7,6 @@ Usage: words.py BIN     BIN is the folder with `ocadev` and `ocactl`
 This script is the device that hears `ocactl`, and the controller that speaks to `ocadev serve`. The last line is 'N
 passed, M failed'."""
 import contextlib
-import os
 import random
 import re
 import select
@@ -20,7 +19,7 @@ from pathlib import Path
 
 import oca_profile as oca
 from checks import (
-    NOTE, Checks, are_few, at, bound, by_turns, comes, ended, free_port, heard, next_line, read_note, read_until, write)
+    NOTE, Checks, are_few, at, bound, by_turns, comes, ended, free_port, heard, next_command, next_line, read_note, read_until, write)
 from manual import commands_in_help, help_of, options_in_help
 from tables import TOP, data, table
 
@@ -33,13 +32,11 @@ def controls(checks, device, command, *words, given=None, first=1):
     return checks.start("ocactl", command, "--device", at(device), "--first-handle", first, "--port", free_port(), *words, given=given)
 
 
-def answers(device, handle, status=0, count=0, params=b"", wanted=None):
-    """Takes the next datagram, or the next one that is wanted, and answers it under this handle: what came, and from where."""
-    data, sender = device.recvfrom(2000)
-    while wanted and data != wanted:
-        data, sender = device.recvfrom(2000)
-    device.sendto(oca.response(handle, status, count, params), sender)
-    return data, sender
+def answers(device, handle, status=0, passed=()):
+    """Takes the next command that is none of these, and answers it under this handle: what came."""
+    data, sender = next_command(device, passed)
+    device.sendto(oca.response(handle, status), sender)
+    return data
 
 
 def heard_until(device, holds):
@@ -73,18 +70,8 @@ def drives_while_it_waits(checks):
             checks.same(f"{name}: keep-alives while nothing is under way", (set(came) <= {ALIVE, *wanted[:2]}, came.count(ALIVE)), (True, 2))
             write(run, rest or "1 2 3 0 -\n")
             if rest != "\n":
-                answers(device, 3, wanted=wanted[2])
+                answers(device, 3, passed=wanted[:2])
             checks.same(f"{name}: what comes then", ended(run), ("" if rest == "\n" else "answer 0 0 -\n", "", 0))
-
-
-def next_command(device, before=b""):
-    """The next command of a run, and its sender; keep-alives are echoed, and copies of the one before left."""
-    while True:
-        data, sender = device.recvfrom(2000)
-        if data not in (ALIVE, before):
-            return data, sender
-        if data == ALIVE:
-            device.sendto(ALIVE, sender)
 
 
 def at_own_ports(checks):
@@ -100,7 +87,7 @@ def at_own_ports(checks):
                 first = int.from_bytes(data[14:18], "big")
                 checks.same(f"{words[0]}: what is asked first", data, oca.command(first, 100, 1, 1))
                 device.sendto(oca.response(first), sender)
-            data, sender = next_command(device, data)
+            data, sender = next_command(device, [data])
             handle = int.from_bytes(data[14:18], "big")
             checks.same(f"{words[0]}: its bytes", data, oca.command(handle, *command))
             checks.same(f"{words[0]}: its own port", sender[1] == own, not taken)
@@ -175,19 +162,16 @@ def versions(checks):
             checks.same(f"{program} {word}", checks.ran(program, word), (f"{program} {number}\nchecked with {toolchain}\n", "", 0))
 
 
-def granted():
-    with bound() as asks:
-        asks.setsockopt(socket.SOL_SOCKET, socket.SO_SNDBUF, 4_000_000)
-        return asks.getsockopt(socket.SOL_SOCKET, socket.SO_SNDBUF)
-
-
 def serves(checks):
     """`serve`: where it listens, its window and its counts."""
     run = checks.start("ocadev", "serve", "--port", 0, "--turns", TURNS, "--ip", "127.0.0.2", "--window", 2)
     said = re.fullmatch(r"listening 127\.0\.0\.2:(\d+)\n", run.stderr.readline())
     checks.same("serve: where it listens", said is not None, True)
     note = run.stderr.readline() if are_few() else ""
-    few = (note[:len(NOTE)], f" {granted()} bytes" in note or note)
+    with bound() as asks:
+        asks.setsockopt(socket.SOL_SOCKET, socket.SO_SNDBUF, 4_000_000)
+        granted = asks.getsockopt(socket.SOL_SOCKET, socket.SO_SNDBUF)
+    few = (note[:len(NOTE)], f" {granted} bytes" in note or note)
     checks.same("serve: how many bytes the system grants", few, (NOTE, True) if are_few() else ("", ""))
     device = ("127.0.0.2", int(said[1]))
     first, *others, stranger = [bound() for _ in range(17)]
@@ -233,8 +217,7 @@ def typed(checks):
             run, took = controls(checks, device, "run", *more), []
             for handle in range(1, 9):
                 write(run, "1 2 3 0 -\n", ends=False)
-                data, _ = answers(device, handle, handle)
-                checks.same(f"run {more}, typed: its bytes", data, oca.command(handle, 1, 2, 3))
+                checks.same(f"run {more}, typed: its bytes", answers(device, handle, handle), oca.command(handle, 1, 2, 3))
                 begun = time.monotonic()
                 line = next_line(run)
                 took.append(time.monotonic() - begun)

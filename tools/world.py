@@ -36,7 +36,7 @@ from unittest.mock import patch
 
 import oca_profile as oca
 import schedules
-from comparing import Break, broken, changed, in_processes, runs_of, verdict, wrong_rules
+from comparing import Break, Comparison, broken, changed, in_processes, runs_of, verdict, wrong_rules
 from schedules import PAIRS, crowd, directed, fronts, lossy, slow, visitors, wander
 from tables import data
 
@@ -385,7 +385,8 @@ def hold(schedule, lines):
 
 def shown(schedule, lines, fault):
     text = schedule.text()
-    return [text[0]] + [f"{line:44}{said}" for line, said in zip(text[1:], lines[1:])] + [f"BREAK of '{fault.law}' at step {fault.at}: {fault.what}"]
+    told = [f"{line:44}{said}" for line, said in zip(text[1:], lines[1:])]
+    return "\n".join([text[0], *told, f"BREAK of '{fault.law}' at step {fault.at}: {fault.what}"])
 
 
 def made(seed, number):
@@ -407,42 +408,23 @@ def made(seed, number):
     return [schedule.take_all()]
 
 
-def altered(r, walk, lines):
-    """The same transcript with one line changed that a law speaks of, and the law; or None."""
-    if not walk.within or not walk.places:
-        return None
+def altered(r, _, lines, walk):
+    """The same transcript with one line changed that a law speaks of, and the law, if there is such a line."""
+    if not walk or not walk.within or not walk.places:
+        return []
     law = r.choice(sorted(walk.places))
     at = 1 + r.choice(walk.places[law])
     status, count, params = (lines[at].split(" ") + [""] * 4)[1:4]
     new = {"answers": f"answer {int(status) ^ 1} {count} {params}" if r.randrange(2) else lines[at].removesuffix("-") + "00",
            "untaken": "served 0 0 1", "once": "served 1 0 0", "round trip": "nothing new"}[law]
-    return law, lines[:at] + [new] + lines[at + 1:]
+    return [(law, None, lines[:at] + [new] + lines[at + 1:])]
 
 
-def work(job):
-    """The counts of a range of numbers, and the text of the first break or None."""
-    program, seed, numbers = job
-    schedules = [s for n in numbers for s in made(seed, n)]
-    total, r = collections.Counter(), random.Random(f"{seed} {numbers[0]} altered")
-    for schedule, lines in zip(schedules, transcripts(program, schedules)):
-        try:
-            walk = hold(schedule, lines)
-        except Break as fault:
-            return total, "\n".join(shown(schedule, lines, fault))
-        total["schedules"] += 1
-        if fits(schedule.window, schedule.span):
-            total["of sizes that fit"] += 1
-            total[f"size {schedule.window} {schedule.span}"] += 1
-        if walk is None:
-            total["refused"] += 1
-            continue
-        total += walk.count
-        change = altered(r, walk, lines)
-        if change:
-            total["altered"] += 1
-            fault = broken(laws, schedule, change[1])
-            total["altered, refused"] += fault is not None and fault.law == change[0]
-    return total, None
+def count_of(schedule, _, walk):
+    total = collections.Counter({"schedules": 1, "refused": int(walk is None)})
+    if fits(schedule.window, schedule.span):
+        total.update(["of sizes that fit", f"size {schedule.window} {schedule.span}"])
+    return total + walk.count if walk else total
 
 
 def laws(schedule, lines, fit=None):
@@ -472,7 +454,7 @@ def first_broken(program, schedules):
     for schedule, lines in zip(schedules, transcripts(program, schedules)):
         fault = broken(laws, schedule, lines, True)
         if fault and fault.law == "untaken" and lines == schedule.expected():
-            return "\n".join(shown(schedule, lines, fault)), fault
+            return shown(schedule, lines, fault), fault
     return None, None
 
 
@@ -517,7 +499,8 @@ def main():
     if sys.argv[2] == "broken":
         text, _ = first_broken(program, [directed(*map(int, sys.argv[3:]))])
         return print(text or "no break")
-    count, seed, total, wrong = in_processes(work, "schedules", BATCH, refuses, RULES)
+    how = Comparison(made, transcripts, hold, shown, count_of, altered, laws)
+    count, seed, total, wrong = in_processes(how, "schedules", BATCH, refuses, RULES)
     for _, said in wrong:
         print(said)
     good = sizes(program, seed)
