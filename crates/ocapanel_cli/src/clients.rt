@@ -43,20 +43,12 @@ struct Client {
     is_known: bool,
 }
 
-/// What became of a connection.
-#[derive(Clone, Copy)]
-enum Stands {
-    /// It waits for the browser.
-    Waits,
-    /// There may be more to do.
-    HasMore,
-    /// It is over.
-    Ended,
-}
+/// A connection is over: all was said, or it failed.
+struct Over;
 
 impl Client {
-    /// Reads once, where it wants to. Returns whether it is to go on: nothing failed.
-    fn read(&mut self, now: u64) -> Result<bool, ()> {
+    /// Reads once, where it wants to. Returns whether something may have come.
+    fn read(&mut self, now: u64) -> Result<bool, Over> {
         if !self.http.wants_read() {
             return Ok(false);
         }
@@ -66,17 +58,17 @@ impl Client {
                 Ok(true)
             }
             Err(error) if error.kind() == io::ErrorKind::WouldBlock => Ok(false),
-            Err(_) => Err(()),
+            Err(_) => Err(Over),
         }
     }
 
     /// Writes once, where it wants to. Returns whether something was written.
-    fn write(&mut self, now: u64) -> Result<bool, ()> {
+    fn write(&mut self, now: u64) -> Result<bool, Over> {
         if !self.http.wants_write() {
             return Ok(false);
         }
         match self.http.write_to(&mut self.stream) {
-            Ok(0) => Err(()),
+            Ok(0) => Err(Over),
             Ok(_) => {
                 if !self.http.wants_write() {
                     self.begun = None;
@@ -87,12 +79,12 @@ impl Client {
                 self.begun = self.begun.or(Some(now));
                 Ok(false)
             }
-            Err(_) => Err(()),
+            Err(_) => Err(Over),
         }
     }
 
-    /// Reads, answers and writes once.
-    fn step(&mut self, site: &mut Site, now: u64) -> Result<bool, ()> {
+    /// Reads, answers and writes once. Returns whether something moved.
+    fn step(&mut self, site: &mut Site, now: u64) -> Result<bool, Over> {
         let read = self.read(now)?;
         let (calls, admitted) = (site.calls(), site.admitted());
         self.http.advance(site);
@@ -101,41 +93,37 @@ impl Client {
         }
         self.is_known = self.is_known || site.admitted() != admitted;
         let written = self.write(now)?;
+        if self.http.is_done() {
+            return Err(Over);
+        }
         Ok(read || written)
     }
 
-    /// Reads, answers by `site` and writes on each connection that is ready, and closes those that ended or are late at
-    /// the moment `now`, in milliseconds of the program's clock. A connection is late if nothing moved on it for more
-    /// than 30,000 ms. It is also late if a request is not whole, or an answer is not taken, for more than 5,000 ms. The
-    /// beginning of a request that was read together with the end of the request before does not count: 5,000 ms begin
-    /// with the next byte. A new connection counts as one whose request is begun: it is late 5,000 ms after its
-    /// beginning even if no byte came.
-    fn serve(&mut self, site: &mut Site, now: u64) -> Stands {
+    /// Reads, answers and writes as long as something moves, until an order was taken or the others have their turn.
+    /// Returns whether there may be more to do.
+    fn steps(&mut self, site: &mut Site, now: u64) -> Result<bool, Over> {
         let ticket = site.view().next_ticket();
         site.doubt(self.doubts);
         for _ in 0..ROUNDS {
             if site.view().next_ticket() != ticket {
-                return Stands::HasMore;
+                return Ok(true);
             }
-            match self.step(site, now) {
-                Ok(moves) => {
-                    if self.http.is_done() {
-                        return Stands::Ended;
-                    }
-                    if !moves {
-                        return Stands::Waits;
-                    }
-                    self.moved = now;
-                }
-                Err(()) => return Stands::Ended,
+            if !self.step(site, now)? {
+                return Ok(false);
             }
+            self.moved = now;
         }
-        Stands::HasMore
+        Ok(true)
     }
 
-    /// Whether nothing is left to be read where it waits: an answer that is not taken keeps it from reading.
-    fn has_read_all(&self) -> bool {
-        self.http.wants_read()
+    /// Serves it, where it is ready. Returns whether there may be more to do. Where it waits and has read all, nothing on
+    /// it is from the time of a stop: an answer that is not taken keeps it from reading.
+    fn serve(&mut self, site: &mut Site, now: u64) -> Result<bool, Over> {
+        if self.ready {
+            self.ready = self.steps(site, now)?;
+            self.doubts = self.doubts && (self.ready || !self.http.wants_read());
+        }
+        Ok(self.ready)
     }
 
     /// Whether it is too slow, or idle for too long.
@@ -160,27 +148,6 @@ fn is_waited_for(stream: &mut TcpStream, poll: &Poll, token: Token) -> bool {
     let _ = stream.set_nodelay(true);
     let both = Interest::READABLE | Interest::WRITABLE;
     poll.registry().register(stream, token, both).is_ok()
-}
-
-/// A connection on which nothing came yet.
-fn client_of(
-    alloc: Global,
-    stream: TcpStream,
-    token: Token,
-    keys: RandomState,
-    now: u64,
-    doubts: bool,
-) -> Client {
-    Client {
-        stream,
-        http: Connection::new(alloc, keys, config()),
-        token,
-        ready: true,
-        moved: now,
-        begun: Some(now),
-        doubts,
-        is_known: false,
-    }
 }
 
 /// The limits of a connection.
@@ -234,7 +201,7 @@ impl Clients {
         }
     }
 
-    /// Keeps a connection, where the system takes it.
+    /// Keeps a connection on which nothing came yet, where the system takes it and there is memory for it.
     fn keep(
         &mut self,
         mut stream: TcpStream,
@@ -243,66 +210,45 @@ impl Clients {
         now: u64,
         doubts: bool,
     ) {
-        let token = self.next_token();
+        self.tokens = self.tokens.saturating_add(1);
+        let token = Token(self.tokens);
         if is_waited_for(&mut stream, poll, token) {
             self.more = true;
-            self.push(client_of(self.alloc, stream, token, keys, now, doubts));
+            drop(
+                self.clients.push(Client {
+                    stream,
+                    http: Connection::new(self.alloc, keys, config()),
+                    token,
+                    ready: true,
+                    moved: now,
+                    begun: Some(now),
+                    doubts,
+                    is_known: false,
+                }),
+            );
         }
-    }
-
-    /// Puts a connection behind the others, where there is memory for it.
-    fn push(&mut self, client: Client) {
-        drop(self.clients.push(client));
-    }
-
-    /// A token that no source has.
-    fn next_token(&mut self) -> Token {
-        self.tokens = self.tokens.saturating_add(1);
-        Token(self.tokens)
     }
 
     /// Closes the oldest connection on which no request was let in so far. Returns whether there was one.
     fn close_unknown(&mut self) -> bool {
-        for place in 0..self.clients.len() {
-            if self.is_unknown_at(place) {
-                self.close(place);
-                return true;
-            }
-        }
-        false
-    }
-
-    /// Whether no request was let in so far on the connection at this place.
-    fn is_unknown_at(&self, place: usize) -> bool {
-        match self.clients.get(place) {
-            Some(client) => !client.is_known,
-            None => false,
-        }
+        let found = self.clients.iter().position(|client| !client.is_known);
+        self.close(found)
     }
 
     /// Closes the first connection that rests. Returns whether there was one.
     fn close_resting(&mut self, now: u64) -> bool {
-        for place in 0..self.clients.len() {
-            if self.rests_at(place, now) {
-                self.close(place);
-                return true;
+        let found = self.clients.iter().position(|client| client.rests(now));
+        self.close(found)
+    }
+
+    /// Closes the connection at this place. Returns whether there is one.
+    fn close(&mut self, found: Option<usize>) -> bool {
+        match found {
+            Some(place) if place < self.clients.len() => {
+                drop(self.clients.remove(place));
+                true
             }
-        }
-        false
-    }
-
-    /// Whether the connection at this place rests.
-    fn rests_at(&self, place: usize, now: u64) -> bool {
-        match self.clients.get(place) {
-            Some(client) => client.rests(now),
-            None => false,
-        }
-    }
-
-    /// Closes the connection at this place.
-    fn close(&mut self, place: usize) {
-        if place < self.clients.len() {
-            drop(self.clients.remove(place));
+            _ => false,
         }
     }
 
@@ -313,25 +259,18 @@ impl Clients {
             .clients
             .binary_search_by_key(&token.0, |client| client.token.0);
         if let Ok(place) = found {
-            self.note_ready_at(place);
-        }
-    }
-
-    /// Something can be read from or written to the connection at this place.
-    fn note_ready_at(&mut self, place: usize) {
-        if let Some(client) = self.clients.get_mut(place) {
-            client.ready = true;
+            if let Some(client) = self.clients.get_mut(place) {
+                client.ready = true;
+            }
         }
     }
 
     /// Notes that the program was suspended: requests that wait on the connections may have come meanwhile. Each
     /// connection counts as ready.
     pub fn doubt(&mut self) {
-        for place in 0..self.clients.len() {
-            if let Some(client) = self.clients.get_mut(place) {
-                client.doubts = true;
-                client.ready = true;
-            }
+        for client in self.clients.iter_mut() {
+            client.doubts = true;
+            client.ready = true;
         }
     }
 
@@ -339,37 +278,18 @@ impl Clients {
     /// the moment `now`, in milliseconds of the program's clock. A connection is late if nothing moved on it for more
     /// than 30,000 ms. It is also late if a request is not whole, or an answer is not taken, for more than 5,000 ms. The
     /// beginning of a request that was read together with the end of the request before does not count: 5,000 ms begin
-    /// with the next byte.
+    /// with the next byte. A new connection counts as one whose request is begun: it is late 5,000 ms after its
+    /// beginning even if no byte came.
     pub fn serve(&mut self, site: &mut Site, now: u64) {
-        self.more = false;
-        let mut place = 0usize;
-        for _ in 0..self.clients.len() {
-            let ends = self.serve_at(place, site, now);
-            if ends {
-                self.close(place);
-            } else {
-                place = place.saturating_add(1);
+        let mut more = false;
+        self.clients.retain_mut(|client| match client.serve(site, now) {
+            Ok(has_more) => {
+                more = more || has_more;
+                !client.is_late(now)
             }
-        }
-    }
-
-    /// Serves the connection at this place, where it is ready. Returns whether it is over, or late.
-    fn serve_at(&mut self, place: usize, site: &mut Site, now: u64) -> bool {
-        let Some(client) = self.clients.get_mut(place) else {
-            return true;
-        };
-        if !client.ready {
-            return client.is_late(now);
-        }
-        match client.serve(site, now) {
-            Stands::Waits => {
-                client.ready = false;
-                client.doubts = client.doubts && !client.has_read_all();
-            }
-            Stands::HasMore => self.more = true,
-            Stands::Ended => return true,
-        }
-        client.is_late(now)
+            Err(Over) => false,
+        });
+        self.more = more;
     }
 
     /// Whether a connection may have more to do at once: then the loop must not wait.

@@ -4,6 +4,7 @@ use oca_types::{Packet, Peer};
 use std::marker::Model;
 
 /// An end that never waits, and counts what it sends: for a loop that waits for other things too.
+#[derive(Drop)]
 pub struct Ready<E: End> {
     end: E,
     sent: u64,
@@ -16,17 +17,6 @@ impl<E: End> Model for Ready<E> {
     ghost Value = { EndState };
 
     ghost view = { λ r. E.state r.end };
-}
-
-impl<E: End + Drop> Drop for Ready<E> {
-    /// Lets the end go.
-    fn drop(self) {
-        let Ready {
-            end: _,
-            sent: _,
-            quiet: _,
-        } = self;
-    }
 }
 
 impl<E: End> Ready<E> {

@@ -34,14 +34,11 @@ fn served<R: Net + RandomSource + Files, N: Net + Clock, S: AsStr, W: Sink, F: S
     printer: &mut Printer<W>,
     faults: &mut Printer<F>,
 ) -> Result<u8, Failure> {
-    match asked_for(alloc, words) {
-        Ok(Asked::Serve(serving, paths)) => match serve(
-            alloc, rt, system, serving, &paths, faults,
-        ) {
-            Ok(()) => Ok(0),
-            Err(failure) => Err(failure),
-        },
-        Ok(Asked::Help(text)) => print_text(text.as_bytes(), printer),
-        Err(failure) => Err(failure),
+    match asked_for(alloc, words)? {
+        Asked::Serve(serving, paths) => {
+            serve(alloc, rt, system, serving, paths, faults)?;
+            Ok(0)
+        }
+        Asked::Help(text) => print_text(text.as_bytes(), printer),
     }
 }

@@ -29,54 +29,19 @@ pub fn wishes_of<R: RandomSource + Files>(
     alloc: Global,
     rt: &R,
     serving: Serving,
-    paths: &Paths,
+    paths: Paths<'_>,
 ) -> Result<Wishes, Failure> {
-    match token_wished(alloc, rt, serving, paths) {
-        Ok(token) => wishes_with(alloc, rt, serving, paths, token),
-        Err(failure) => Err(failure),
-    }
-}
-
-/// What the panel is asked for, with this token.
-fn wishes_with<F: Files>(
-    alloc: Global,
-    files: &F,
-    serving: Serving,
-    paths: &Paths,
-    token: Option<String>,
-) -> Result<Wishes, Failure> {
-    match units_of(alloc, files, named(&paths.units)) {
-        Ok(units) => Ok(Wishes {
-            token,
-            units,
-            read_only: serving.read_only,
-        }),
-        Err(failure) => Err(failure),
-    }
-}
-
-/// The token, where one is asked for.
-fn token_wished<R: RandomSource + Files>(
-    alloc: Global,
-    rt: &R,
-    serving: Serving,
-    paths: &Paths,
-) -> Result<Option<String>, Failure> {
-    if serving.no_token {
-        return Ok(None);
-    }
-    match token_of(alloc, rt, named(&paths.token)) {
-        Ok(token) => Ok(Some(token)),
-        Err(failure) => Err(failure),
-    }
-}
-
-/// The path of a file, where one is named.
-fn named(path: &Option<String>) -> Option<&str> {
-    match path {
-        Some(path) => Some(path.as_str()),
-        None => None,
-    }
+    let token = if serving.no_token {
+        None
+    } else {
+        Some(token_of(alloc, rt, paths.token)?)
+    };
+    let units = units_of(alloc, rt, paths.units)?;
+    Ok(Wishes {
+        token,
+        units,
+        read_only: serving.read_only,
+    })
 }
 
 /// The terms of a panel that listens at `local`, with what the command line asks (`wishes`). Its run gets a number of
@@ -88,13 +53,8 @@ pub fn terms_of<R: RandomSource>(
     local: Peer,
     wishes: Wishes,
 ) -> Result<Terms, Failure> {
-    match random_number(alloc, rt) {
-        Ok(run) => match terms_with(alloc, local, wishes, run) {
-            Ok(terms) => Ok(terms),
-            Err(_) => Err(Failure::from(RunFault::NoMemory)),
-        },
-        Err(failure) => Err(failure),
-    }
+    let run = random_number(alloc, rt)?;
+    terms_with(alloc, local, wishes, run).map_err(|_| Failure::from(RunFault::NoMemory))
 }
 
 /// The terms of a panel at this address in a run with this number.
@@ -116,57 +76,26 @@ fn terms_with(alloc: Global, local: Peer, wishes: Wishes, run: u64) -> Result<Te
 /// The names by which the panel may be asked: its address, and `localhost` for 127.0.0.1.
 fn names_of(alloc: Global, local: Peer) -> Result<Vec<Name>, AllocError> {
     let mut names = Vec::new(alloc);
-    match put_names(alloc, &mut names, local) {
-        Ok(()) => Ok(names),
-        Err(refused) => Err(refused),
+    let address = format!(in alloc; "{}", Ipv4Addr::from(local.ip))?;
+    put_host(alloc, &mut names, address.as_str(), local.port)?;
+    if local.ip == LOOPBACK {
+        put_host(alloc, &mut names, "localhost", local.port)?;
     }
+    Ok(names)
 }
 
-/// Adds the names by which the panel may be asked. At port 80 browsers leave the port out.
-fn put_names(alloc: Global, names: &mut Vec<Name>, local: Peer) -> Result<(), AllocError> {
-    let port = local.port;
-    put_name(alloc, names, format!(in alloc; "{local}"))?;
+/// Adds the names of a host. At port 80 browsers leave the port out.
+fn put_host(alloc: Global, names: &mut Vec<Name>, host: &str, port: u16) -> Result<(), AllocError> {
+    put_name(alloc, names, format!(in alloc; "{host}:{port}")?)?;
     if port == 80 {
-        put_name(
-            alloc,
-            names,
-            format!(in alloc; "{}", Ipv4Addr::from(local.ip)),
-        )?;
-    }
-    if local.ip != LOOPBACK {
-        return Ok(());
-    }
-    put_name(alloc, names, format!(in alloc; "localhost:{port}"))?;
-    if port == 80 {
-        put_name(alloc, names, format!(in alloc; "localhost"))?;
+        put_name(alloc, names, String::from_str(alloc, host)?)?;
     }
     Ok(())
 }
 
 /// Adds a name, and the origin of its pages.
-fn put_name(
-    alloc: Global,
-    names: &mut Vec<Name>,
-    host: Result<String, AllocError>,
-) -> Result<(), AllocError> {
-    match host {
-        Ok(host) => put_host(alloc, names, host),
-        Err(refused) => Err(refused),
-    }
-}
-
-/// Adds a name, and the origin of its pages.
-fn put_host(alloc: Global, names: &mut Vec<Name>, host: String) -> Result<(), AllocError> {
-    match format!(in alloc; "http://{host}") {
-        Ok(origin) => push_name(names, Name { host, origin }),
-        Err(refused) => Err(refused),
-    }
-}
-
-/// Adds a name.
-fn push_name(names: &mut Vec<Name>, name: Name) -> Result<(), AllocError> {
-    match names.push(name) {
-        Ok(()) => Ok(()),
-        Err(_) => Err(AllocError),
-    }
+fn put_name(alloc: Global, names: &mut Vec<Name>, host: String) -> Result<(), AllocError> {
+    let origin = format!(in alloc; "http://{host}")?;
+    names.push(Name { host, origin })?;
+    Ok(())
 }

@@ -1,6 +1,7 @@
 //! The token that browsers need.
 use crate::files::{bytes_of, refused};
 use oca_program::{Failure, RunFault};
+use oca_script::field::split_at_byte;
 use oca_web::Key;
 use std::alloc::{AllocError, Global};
 use std::random::RandomSource;
@@ -18,23 +19,18 @@ pub fn token_of<R: RandomSource + Files>(
     path: Option<&str>,
 ) -> Result<String, Failure> {
     match path {
-        Some(path) => token_in_file(alloc, rt, path),
+        Some(path) => {
+            let bytes = bytes_of(alloc, rt, path)?;
+            token_in(alloc, path, first_line(bytes.as_slice()))
+        }
         None => made(alloc, rt),
-    }
-}
-
-/// The token in the file at a path.
-fn token_in_file<F: Files>(alloc: Global, files: &F, path: &str) -> Result<String, Failure> {
-    match bytes_of(alloc, files, path) {
-        Ok(bytes) => token_in(alloc, path, first_line(bytes.as_slice())),
-        Err(failure) => Err(failure),
     }
 }
 
 /// The first line, without its end.
 fn first_line(bytes: &[u8]) -> &[u8] {
-    let line = match bytes.iter().position(|byte| *byte == b'\n') {
-        Some(end) => bytes.get(..end).unwrap_or(bytes),
+    let line = match split_at_byte(bytes, b'\n') {
+        Some((line, _)) => line,
         None => bytes,
     };
     line.strip_suffix(b"\r").unwrap_or(line)
@@ -48,11 +44,15 @@ fn token_in(alloc: Global, path: &str, line: &[u8]) -> Result<String, Failure> {
     if line.len() > MOST_BYTES {
         return Err(refused(alloc, path, 1, "the token has more than 128 characters"));
     }
-    if !line.iter().all(|byte| is_of_token(*byte)) {
-        let reason = "the token has other characters than letters, digits, - and _";
-        return Err(refused(alloc, path, 1, reason));
+    match str::from_utf8(line) {
+        Ok(text) if line.iter().all(|byte| is_of_token(*byte)) => kept(String::from_str(
+            alloc, text,
+        )),
+        _ => {
+            let reason = "the token has other characters than letters, digits, - and _";
+            Err(refused(alloc, path, 1, reason))
+        }
     }
-    text_of(alloc, line)
 }
 
 /// Whether a token may have this byte.
@@ -60,28 +60,15 @@ fn is_of_token(byte: u8) -> bool {
     byte.is_ascii_alphanumeric() || byte == b'-' || byte == b'_'
 }
 
-/// Bytes of ASCII as a text.
-fn text_of(alloc: Global, bytes: &[u8]) -> Result<String, Failure> {
-    match str::from_utf8(bytes) {
-        Ok(text) => kept(String::from_str(alloc, text)),
-        Err(_) => Err(Failure::from(RunFault::BadWords)),
-    }
-}
-
-/// A text, where there was memory for it.
-fn kept(text: Result<String, AllocError>) -> Result<String, Failure> {
-    match text {
-        Ok(text) => Ok(text),
-        Err(_) => Err(Failure::from(RunFault::NoMemory)),
-    }
-}
-
 /// A token of 128 bits of the system's random numbers.
 fn made<R: RandomSource>(alloc: Global, rt: &R) -> Result<String, Failure> {
-    match (random_number(alloc, rt), random_number(alloc, rt)) {
-        (Ok(front), Ok(back)) => kept(format!(in alloc; "{front:016x}{back:016x}")),
-        (Err(failure), _) | (_, Err(failure)) => Err(failure),
-    }
+    let (front, back) = (random_number(alloc, rt)?, random_number(alloc, rt)?);
+    kept(format!(in alloc; "{front:016x}{back:016x}"))
+}
+
+/// A token, where there was memory for it.
+fn kept(token: Result<String, AllocError>) -> Result<String, Failure> {
+    token.map_err(|_| Failure::from(RunFault::NoMemory))
 }
 
 /// A random number of 64 bits from the system. Failures: `Socket` if the system gave none, with the reason as its note.

@@ -2,18 +2,18 @@
 ghost use Rattle.std.specs.Prelude.{◌≡◌};
 ghost use Rattle.std.specs.Option.{option_map};
 ghost use Rattle.oca_types.specs.Sizes.{span_size};
-ghost use Rattle.ocapanel_cli.specs.Words.{at_own_machine, device_in, is_said, listen_in, listens_at};
-ghost use Rattle.ocapanel_cli.specs.Words.{local_port_in, names_token_in_vain, panel_fields, panel_in};
+ghost use Rattle.ocapanel_cli.specs.Words.{at_own_machine, is_said, listen_in, listens_at};
+ghost use Rattle.ocapanel_cli.specs.Words.{names_token_in_vain, panel_fields, panel_in};
 ghost use Rattle.ocapanel_cli.specs.Words.{panel_span_in, panel_span_of as span_in_text};
 
 use clap::{ArgMatches, Error};
-use oca_program::form::check;
+use oca_program::form::{NUMBER_16, check};
 use oca_program::options::{help_or_failure, host_in, number_or, own_or, text_of};
 use oca_program::table::program;
 use oca_program::{CommandRow, Failure, Form, Kind, OptionRow, RunFault};
 use oca_script::field::{number, peer};
 use oca_types::{LOOPBACK, Peer, Span};
-use std::alloc::{AllocError, Global};
+use std::alloc::Global;
 use std::convert::AsStr;
 
 /// Where browsers are listened to, unless it is given.
@@ -44,19 +44,19 @@ pub struct Serving {
 }
 
 /// The files that are read at the start.
-#[derive(Drop)]
-pub struct Paths {
+#[derive(Clone, Copy)]
+pub struct Paths<'a> {
     /// That of the token; none where one is made.
-    pub token: Option<String>,
+    pub token: Option<&'a str>,
     /// That of the units of values.
-    pub units: Option<String>,
+    pub units: Option<&'a str>,
 }
 
 /// What the words ask for.
 #[derive(Drop)]
-pub enum Asked {
+pub enum Asked<'a> {
     /// A panel.
-    Serve(Serving, Paths),
+    Serve(Serving, Paths<'a>),
     /// To print a help text.
     Help(String),
 }
@@ -125,11 +125,7 @@ const OPTIONS: [OptionRow; 10] = [
         value: "PORT",
         help: "The local port of the socket for the device [default: the system chooses one]",
         kind: Kind::Optional,
-        form: Form::Number {
-            digits: 5,
-            least: 0,
-            largest: 65_535,
-        },
+        form: NUMBER_16,
     },
     OptionRow {
         name: "no-token",
@@ -164,10 +160,7 @@ const PROGRAM: CommandRow = CommandRow {
 
 /// The words, matched with what the program takes.
 fn matches_of<'a, S: AsStr>(alloc: Global, words: &'a [S]) -> Result<ArgMatches<'a>, Error> {
-    match program(alloc, &PROGRAM) {
-        Ok(program) => program.try_get_matches_from(words),
-        Err(refused) => Err(Error::from(refused)),
-    }
+    program(alloc, &PROGRAM)?.try_get_matches_from(words)
 }
 
 /// The note where each option has its form, but a token is given and none is asked for.
@@ -196,16 +189,13 @@ fn elsewhere(words: &ArgMatches<'_>) -> &'static str {
 /// What the command line asks for, the program's name first: to serve, or the text of `--help` or `--version`.
 /// Failures: `BadWords` if the words do not have their form, with a note that says more, if there is memory for it.
 /// `NoMemory` if memory was refused.
-pub fn asked_for<S: AsStr>(alloc: Global, words: &[S]) -> Result<Asked, Failure> {
+pub fn asked_for<'a, S: AsStr>(alloc: Global, words: &'a [S]) -> Result<Asked<'a>, Failure> {
     match matches_of(alloc, words) {
         Ok(matches) => match serving_of(&matches) {
-            Some(serving) => with_paths(alloc, serving, &matches),
+            Some(serving) => Ok(Asked::Serve(serving, paths_of(&matches))),
             None => Err(unread(alloc, &matches)),
         },
-        Err(error) => match help_or_failure(alloc, &error) {
-            Ok(text) => Ok(Asked::Help(text)),
-            Err(failure) => Err(failure),
-        },
+        Err(error) => Ok(Asked::Help(help_or_failure(alloc, &error)?)),
     }
 }
 
@@ -217,26 +207,11 @@ fn unread(alloc: Global, words: &ArgMatches<'_>) -> Failure {
     }
 }
 
-/// A panel, with the files that are read at its start.
-fn with_paths(alloc: Global, serving: Serving, words: &ArgMatches<'_>) -> Result<Asked, Failure> {
-    match (
-        path_of(alloc, words, "token"),
-        path_of(alloc, words, "units"),
-    ) {
-        (Ok(token), Ok(units)) => Ok(Asked::Serve(serving, Paths { token, units })),
-        _ => Err(Failure::from(RunFault::NoMemory)),
-    }
-}
-
-/// The file that an option names.
-fn path_of(
-    alloc: Global,
-    words: &ArgMatches<'_>,
-    name: &str,
-) -> Result<Option<String>, AllocError> {
-    match text_of(words, name) {
-        Some(path) => Ok(Some(String::from_str(alloc, path)?)),
-        None => Ok(None),
+/// The files that are read at the start.
+fn paths_of<'a>(words: &ArgMatches<'a>) -> Paths<'a> {
+    Paths {
+        token: text_of(words, "token"),
+        units: text_of(words, "units"),
     }
 }
 
@@ -262,11 +237,11 @@ fn is_in_vain(words: &ArgMatches<'_>) -> bool
 fn serving_of(words: &ArgMatches<'_>) -> Option<Serving>
     ensures { option_map panel_fields result ≡ panel_in words.now }
 {
-    let device = device_of(words)?;
+    let device = host_in(words, "device")?;
     let listen = listen_of(words)?;
     let span = span_of(words)?;
     let ip = own_or(words, "ip", 0)?;
-    let port = port_of(words)?;
+    let port = number_or(words, "port", 5, 65535, 0)? as u16;
     if is_in_vain(words) {
         return None;
     }
@@ -280,13 +255,6 @@ fn serving_of(words: &ArgMatches<'_>) -> Option<Serving>
         no_token: flag(words, "no-token"),
         read_only: flag(words, "read-only"),
     })
-}
-
-/// Where the device is.
-fn device_of(words: &ArgMatches<'_>) -> Option<Peer>
-    ensures { result ≡ device_in words.now }
-{
-    host_in(words, "device")
 }
 
 /// Where browsers are listened to: at 127.0.0.1:8080 unless it is given.
@@ -345,15 +313,5 @@ fn span_of(words: &ArgMatches<'_>) -> Option<Span>
     match text_of(words, "span") {
         Some(text) => span_in_text(text.as_bytes()),
         None => Some(Span::default()),
-    }
-}
-
-/// The local port, one of the system's choice unless it is given.
-fn port_of(words: &ArgMatches<'_>) -> Option<u16>
-    ensures { result ≡ local_port_in words.now }
-{
-    match number_or(words, "port", 5, 65535, 0) {
-        Some(port) => Some(port as u16),
-        None => None,
     }
 }
