@@ -1,8 +1,11 @@
 -- Words that are matched with the program's command line.
-use Rattle.std.proofs.Common.{◌≡◌, ℕ, Bool, true, false, List, [], ◌∷◌, refl, sym, ap}
+use Rattle.std.proofs.Common.{◌≡◌, ℕ, Bool, true, false, List, [], ◌∷◌, Result, refl, sym, ap, subst}
 use Rattle.std.specs.Prelude.{◌==◌, ◌||◌, if◌then◌else◌}
 use Rattle.std.proofs.lemmas.Bool.{eqb-true}
+use Rattle.clap.specs.declared.error.Error.{Error}
+use Rattle.clap.specs.declared.parser.matches.ArgMatches.{ArgMatches}
 use Rattle.clap.specs.Faults.{is_simple_and_free}
+use Rattle.oca_program.specs.Commands.{MatchingGives}
 use Rattle.ocactl_cli.specs.CommandLine.{own_app}
 use Rattle.ocactl_cli.specs.Matching.{BlanksLoseNothing, takes_blank, without_blank}
 
@@ -12,6 +15,9 @@ use Rattle.ocactl_cli.specs.Matching.{BlanksLoseNothing, takes_blank, without_bl
 pub simple-own : is_simple_and_free own_app ≡ true
 unfolding own_app
 simple-own = refl
+
+pub matches-as : (ws vs : List (List ℕ)) (r : Result ArgMatches Error) → ws ≡ vs → MatchingGives own_app ws r → MatchingGives own_app vs r
+matches-as ws vs r same h = subst (λ (xs : List (List ℕ)). MatchingGives own_app xs r) same h
 
 -- ---- blanks
 

@@ -81,13 +81,10 @@ is_over s = (length s.in_flight == 0) && (not s.is_open || s.link.lost)
 
 -- How long input may be awaited before the next turn, in milliseconds: until this moment, an hour at most; and not at
 -- all where no descriptor is awaited beside it.
-abbrev pub time_until : Option ℕ → (now : ℕ) → ℕ
-time_until None now = 3600000
-time_until (Some due) now = min (due - now) 3600000
-
 abbrev pub time_beside : Option ℤ → Option ℕ → (now : ℕ) → ℕ
 time_beside None due now = 0
-time_beside (Some socket) due now = time_until due now
+time_beside (Some socket) None now = 3600000
+time_beside (Some socket) (Some due) now = min (due - now) 3600000
 
 -- the next moment at which the link has something to send is counted from the end's present one
 pub record IsWaitTime (s : SessionState) (time : ℕ) : Type 0 where

@@ -1,5 +1,5 @@
 -- For private contracts: objects and values as the program has them, and what is done for one of several.
-use Rattle.std.specs.Prelude.{◌≡◌, ◌⊎◌, ◌<◌, ◌≤◌, ℕ, Bool, true, false, List, [], ◌∷◌, ◌++◌, length, map, Some, Result}
+use Rattle.std.specs.Prelude.{◌≡◌, ◌⊎◌, ◌<◌, ◌≤◌, ℕ, Bool, true, false, List, [], ◌∷◌, ◌++◌, length, map, Result}
 use Rattle.std.specs.Prelude.{Ok, Err}
 use Rattle.oca_types.specs.declared.words.Ono.{Ono}
 use Rattle.oca_script.specs.declared.fault.WriteFailed.{WriteFailed}
@@ -20,12 +20,11 @@ use Rattle.ocactl_cli.specs.declared.objects.Search.{Search}
 use Rattle.ocactl_cli.specs.declared.setting.Assignment.{Assignment}
 use Rattle.ocactl_cli.specs.declared.object_line.ObjectLine.{ObjectLine}
 use Rattle.ocactl_cli.specs.declared.object_line.ObjectLine.TheVariants as shown
-use Rattle.ocactl_cli.specs.Matching.{without_blank}
-use Rattle.ocactl_cli.specs.Objects.{InTurn, KeepsHeld, StopsUnlocking, Locks, held_if, held_of}
+use Rattle.ocactl_cli.specs.Objects.{AsksAll, KeepsHeld, StopsUnlocking, Locks, held_if, held_of}
 use Rattle.ocactl_cli.specs.Objects.{LocksBehind}
 use Rattle.ocactl_cli.specs.Objects.{FindsValue, FindsAll, OnlyFinds, GivesUp, SetCommand, SetsUpTo, SetsEach}
 use Rattle.ocactl_cli.specs.Objects.{done_line, reported_line, reported_lines, most_severe, max_severity}
-use Rattle.ocactl_cli.specs.Objects.{last_refused, line_of_object, parsed_ono, object_status}
+use Rattle.ocactl_cli.specs.Objects.{last_refused, line_of_object, object_status}
 
 abbrev pub pair_of : Pair → ℕ × List ℕ
 pair_of p = (p.ono.0, p.word)
@@ -43,12 +42,6 @@ set_command w returned = record { target = w.ono.0; value = w.value; returned = 
 -- one that is in flight under this handle
 abbrev pub set_in_flight : ℕ × Assignment → SetCommand
 set_in_flight command = set_command command.1 (Ok (record { 0 = command.0 }))
-
--- one more pair was listed, as two words say it
-pub record AddsPair (first second : List ℕ) (old new : List Pair) : Type 0 where
-  pub ono : ℕ
-  pub parsed : parsed_ono first ≡ Some ono
-  pub adds : map pair_of new ≡ map pair_of old ++ (ono, without_blank second) ∷ []
 
 -- a line was written, and this is its status; or a write failed
 abbrev pub WritesLine : (status : ℕ) (line : List ℕ) → Result ℕ WriteFailed → Output → Output → Type 0
@@ -203,11 +196,8 @@ SetsFound ahead assignments search old new result was is =
 -- each of these objects was locked, and those that are locked are listed
 pub record LocksEach (targets : List ℕ) (old new : PanelState) (status : ℕ) (held : List Ono)
     (was is : Output) : Type 0 where
-  pub lines : List (ℕ × ObjectLine)
-  pub locks : InTurn (Locks true) targets lines old new
-  pub worst : status ≡ most_severe lines
-  pub writes : WritesWhole was is (reported_lines lines)
-  pub listed : map ono_number held ≡ held_of lines
+  pub asks : AsksAll (Locks true) targets old new status was is
+  pub listed : map ono_number held ≡ held_of asks.lines
 
 -- one more was listed where its status is 0
 pub record ListsHeld (target own status now : ℕ) (held more : List Ono) : Type 0 where

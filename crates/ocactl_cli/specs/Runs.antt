@@ -67,21 +67,17 @@ pub record ReplaysScript (linking : Linking) (ended : Result ℕ RunFault) (had 
 
 -- ---- one command
 
--- It was asked over a new link and this end, for as many turns as were given, and its outcome was written. Nothing else
--- was sent: the end is as that left it.
-pub record AsksOver (reach : Reach) (first : ℕ) (sending : Sending) (before behind : EndState)
-    (sent : Result ℕ WriteFailed) (was is : Output) : Type 0 where
-  pub after : LinkState
-  pub asks : AsksOnce (sending_fields sending).command sending.turns (link_for reach first 0) after before behind sent
-      was is
-
--- The status is that of its outcome, by a first handle of the clock's where none is given.
+-- It was asked over a new link and this end, for as many turns as were given, by a first handle of the clock's where
+-- none is given, and its outcome was written; the status is that of its outcome. Nothing else was sent: the end is as
+-- that left it.
 pub record SendsOne (reach : Reach) (sending : Sending) (before behind : EndState) (ended : Result ℕ RunFault)
     (was is : Output) : Type 0 where
   pub own : OwnPort
   pub by_clock : IsPortByClock own
+  pub after : LinkState
   pub sent : Result ℕ WriteFailed
-  pub asks : AsksOver reach own.first_handle.0 sending before behind sent was is
+  pub asks : AsksOnce (sending_fields sending).command sending.turns (link_for reach own.first_handle.0 0) after before
+      behind sent was is
   pub ends : ended ≡ ended_by_send sent
 
 -- over a socket that was bound at one address, the one that was given where one was, and at the port that was given or

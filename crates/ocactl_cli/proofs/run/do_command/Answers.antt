@@ -1,6 +1,6 @@
 use Rattle.std.proofs.Common.{Some}
 use Rattle.oca_program.proofs.CommandLemmas.{command-named}
-use Rattle.ocactl_cli.proofs.run.do_matched.Goals as goal
+use Rattle.ocactl_cli.proofs.run.do_command.Goals as goal
 
 pub returns-in-Some : goal.returns-in-Some
 returns-in-Some g c = record {
