@@ -47,8 +47,9 @@ goes-on (Ok u) (Err e) s a b c x y h k = subst (λ (o : Output). Prints s a o (x
 goes-on (Err e) (Ok v) s a b c x y h k = absurd (not-ok v e h.0)
 goes-on (Err e) (Err f) s a b c x y h k = (k.0 ∙ h.0, k.1 ∙ h.1)
 
-pub goes_ok : (w r : Result Unit WriteFailed) (u : Unit {0}) (a b : Output) (text : List ℕ) → w ≡ Ok u → Prints r a b text → PrintsUnlessFailed w r a b text
-goes_ok w r u a b text is h = subst (λ (z : Result Unit WriteFailed). PrintsUnlessFailed z r a b text) (sym is) h
+-- what was printed was flushed
+pub goes_flushed : (w v z : Result Unit WriteFailed) (a b c : Output) (text : List ℕ) → PrintsUnlessFailed w v a b text → PrintsUnlessFailed v z b c [] → PrintsUnlessFailed w z a c text
+goes_flushed w v z a b c text h k = subst (PrintsUnlessFailed w z a c) (append-nil text) (goes-on w v z a b c text [] h k)
 
 pub goes-err : (w r : Result Unit WriteFailed) (e : WriteFailed) (a : Output) (text : List ℕ) → w ≡ Err e → r ≡ Err e → PrintsUnlessFailed w r a a text
 goes-err w r e a text is same = subst (λ (z : Result Unit WriteFailed). PrintsUnlessFailed z r a a text) (sym is) (same, refl)
@@ -288,9 +289,9 @@ idles-handed r s v z a b c h k = record {
 pub idles-from : (r s t : SessionState) (v : Result Unit WriteFailed) (a b : Output) → t ≡ s → AndPrints (Idles r s) (Ok tt) v a b → AndPrints (Idles r t) (Ok tt) v a b
 idles-from r s t v a b e h = subst (λ (x : SessionState). AndPrints (Idles r x) (Ok tt) v a b) (sym e) h
 
-pub idles-rest : (left : ℕ) (r s : SessionState) (v z : Result Unit WriteFailed) (a b c : Output)
+pub idles_rest : (left : ℕ) (r s : SessionState) (v z : Result Unit WriteFailed) (a b c : Output)
     → AndPrints (AwaitsUntil left r s) (Ok tt) v a b → PrintsUnlessFailed v z b c [] → AndPrints (Idles r s) (Ok tt) z a c
-idles-rest left r s v z a b c h k = idles-handed r s v z a b c (h.text, idles-awaited left r s h.text h.does.0, h.prints) k
+idles_rest left r s v z a b c h k = idles-handed r s v z a b c (h.text, idles-awaited left r s h.text h.does.0, h.prints) k
 
 pub idles-more : (r s t : SessionState) (v z : Result Unit WriteFailed) (a b c : Output) (o : Outcome)
     → ((text : List ℕ) × Idles r s text × PrintsUnlessFailed (Ok tt) v a b text) → AwaitsFirst s t o → PrintsUnlessFailed v z b c (outcome_line o)

@@ -49,5 +49,5 @@ put-on : (t : Bool) (word : List ℕ) → takes_blank word ≡ t → without_bla
 put-on true word h = refl
 put-on false word h = kept word h
 
-pub blanks-lose-nothing : BlanksLoseNothing
-blanks-lose-nothing word = put-on (takes_blank word) word refl
+pub blanks_lose_nothing : BlanksLoseNothing
+blanks_lose_nothing word = put-on (takes_blank word) word refl

@@ -64,12 +64,9 @@ abbrev pub FindsBy : ℕ → List ℕ → Class → Option Value → PanelState 
 FindsBy target word of None old new result = FindsName target word of old new result
 FindsBy target word of (Some v) old new result = (new ≡ old) × (result ≡ Ok v)
 
-abbrev pub FindsOf : ℕ → List ℕ → Class → PanelState → PanelState → Result Value Trouble → Type 0
-FindsOf target word of old new result =
-    (found : Option Value) × IsRead of word found × FindsBy target word of found old new result
-
 abbrev pub FindsFor : ℕ → List ℕ → Result Class Trouble → PanelState → PanelState → Result Value Trouble → Type 0
-FindsFor target word (Ok of) old new result = FindsOf target word of old new result
+FindsFor target word (Ok of) old new result =
+    (found : Option Value) × IsRead of word found × FindsBy target word of found old new result
 FindsFor target word (Err t) old new result = (new ≡ old) × (result ≡ Err t)
 
 -- THE VALUE THAT A WORD NAMES of an object: its class was asked first, and of a switch maybe the names of its
@@ -366,19 +363,12 @@ abbrev pub named : ℕ → Result (List ℕ) Trouble → ObjectLine
 named n (Ok name) = shown.Position n name
 named n (Err why) = shown.Value (values.Switch n)
 
--- Of a position of a switch its name was asked, which is shown too.
-abbrev pub ShowsPosition : ℕ → ℕ → PanelState → PanelState → ObjectLine → Type 0
-ShowsPosition n target old new line =
+-- A value is shown; of a position of a switch its name was asked, which is shown too.
+abbrev pub ShowsRead : Result Value Trouble → ℕ → PanelState → PanelState → ObjectLine → Type 0
+ShowsRead (Ok (values.Switch n)) target old new line =
     (name : Result (List ℕ) Trouble) × Reads target class.Switch (requests.GetPositionName n) text_answered old new name
     × (line ≡ named n name)
-
--- A value is shown.
-abbrev pub ShowsValue : Value → ℕ → PanelState → PanelState → ObjectLine → Type 0
-ShowsValue (values.Switch n) target old new line = ShowsPosition n target old new line
-ShowsValue value target old new line = (new ≡ old) × (line ≡ shown.Value value)
-
-abbrev pub ShowsRead : Result Value Trouble → ℕ → PanelState → PanelState → ObjectLine → Type 0
-ShowsRead (Ok value) target old new line = ShowsValue value target old new line
+ShowsRead (Ok value) target old new line = (new ≡ old) × (line ≡ shown.Value value)
 ShowsRead (Err why) target old new line = (new ≡ old) × (line ≡ shown.Failed why)
 
 -- Of an object its value was read, and is shown.

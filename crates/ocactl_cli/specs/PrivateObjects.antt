@@ -86,23 +86,18 @@ pub record FindsAllTo (pairs : List (ℕ × List ℕ)) (assignments : List Assig
 abbrev pub GivesUpFinding : List (ℕ × List ℕ) → Failure → PanelState → PanelState → Output → Type 0
 GivesUpFinding pairs failure old new is = GivesUp failure is × OnlyFinds pairs old new
 
--- what was found is behind what was found before, or memory was refused
-abbrev pub AddsAssignment : ℕ × Value → List Assignment → Search → List Assignment → Result Search Failure → Type 0
-AddsAssignment assignment assignments search more (Ok now) =
-    (map assignment_of more ≡ map assignment_of assignments ++ assignment ∷ []) × (now ≡ search)
-AddsAssignment assignment assignments search more (Err failure) = failure.fault ≡ NoMemory
-
--- the line of what was not found is written, and there is not a value for each then; or the sink failed
-abbrev pub ReportsMissing : ℕ × ObjectLine → Search → Result Search Failure → Output → Output → Type 0
-ReportsMissing missed search (Ok now) was is = (now.all ≡ false) × ReportsNext missed search.status now.status was is
-ReportsMissing missed search (Err failure) was is = (failure.fault ≡ Write) × (is.failed ≡ true)
-
+-- what was found is behind what was found before, or memory was refused; the line of what was not found is written, and
+-- there is not a value for each then, or the sink failed
 abbrev pub AddsFound : Result Value Trouble → ℕ → List Assignment → Search → List Assignment → Result Search Failure
     → Output → Output → Type 0
-AddsFound (Ok v) target assignments search more result was is =
-    AddsAssignment (target, v) assignments search more result × (is ≡ was)
-AddsFound (Err why) target assignments search more result was is =
-    ReportsMissing (target, shown.Failed why) search result was is × (more ≡ assignments)
+AddsFound (Ok v) target assignments search more (Ok now) was is =
+    ((map assignment_of more ≡ map assignment_of assignments ++ (target, v) ∷ []) × (now ≡ search)) × (is ≡ was)
+AddsFound (Ok v) target assignments search more (Err failure) was is = (failure.fault ≡ NoMemory) × (is ≡ was)
+AddsFound (Err why) target assignments search more (Ok now) was is =
+    ((now.all ≡ false) × ReportsNext (target, shown.Failed why) search.status now.status was is)
+    × (more ≡ assignments)
+AddsFound (Err why) target assignments search more (Err failure) was is =
+    ((failure.fault ≡ Write) × (is.failed ≡ true)) × (more ≡ assignments)
 
 pub record FindsOneTo (pair : ℕ × List ℕ) (assignments : List Assignment) (search : Search) (old : PanelState)
     (more : List Assignment) (result : Result Search Failure) (new : PanelState) (was is : Output) : Type 0 where

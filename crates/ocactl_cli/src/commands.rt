@@ -168,7 +168,7 @@ fn await_until<E: End, W: Sink>(
 }
 
 /// Prints a command's outcome, and flushes it, unless a write has failed.
-#[tactic(auto, using(crate::proofs::ExchangeLemmas::goes_ok))]
+#[tactic(auto, using(crate::proofs::ExchangeLemmas::goes_flushed))]
 fn write_unless_failed<W: Sink>(
     outcome: &Outcome,
     written: Result<(), WriteFailed>,
@@ -176,20 +176,8 @@ fn write_unless_failed<W: Sink>(
 ) -> Result<(), WriteFailed>
     ensures { PrintsUnlessFailed written result printer.old printer.new (outcome_line outcome.now) }
 {
-    match written {
-        Ok(()) => write_outcome(outcome, printer),
-        Err(WriteFailed) => Err(WriteFailed),
-    }
-}
-
-/// Prints a command's outcome, and flushes it.
-#[tactic(auto, using(oca_script::proofs::PrintLemmas::printing))]
-fn write_outcome<W: Sink>(outcome: &Outcome, printer: &mut Printer<W>) -> Result<(), WriteFailed>
-    ensures prints { Prints result printer.old printer.new (outcome_line outcome.now) }
-    ensures empty { OnOk result (printer.new.held ≡ []) }
-{
-    print_outcome(outcome, printer)?;
-    printer.flush()
+    let printed = print_unless_failed(outcome, written, printer);
+    flush_unless_failed(printed, printer)
 }
 
 /// Takes turns while there is no input, and prints the outcomes of commands as soon as that is known: until a read does
@@ -261,6 +249,7 @@ fn print_settled<E: End, W: Sink>(
 }
 
 /// Waits for all commands in flight, and prints the outcome of each.
+#[tactic(auto, using(crate::proofs::ExchangeLemmas::idles_rest))]
 fn await_rest<E: End, W: Sink>(
     session: &mut Session<E>,
     printer: &mut Printer<W>,

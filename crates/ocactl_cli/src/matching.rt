@@ -108,6 +108,7 @@ pub fn without_blank(word: &str) -> &str
 
 /// Law: for each word, [`without_blank`] of what [`with_blanks`] makes of it is the word again. The function does
 /// nothing at run time.
+#[tactic(auto, using(crate::proofs::MatchLemmas::blanks_lose_nothing))]
 pub fn law_of_blanks()
     ensures { BlanksLoseNothing }
 {}

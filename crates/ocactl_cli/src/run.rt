@@ -4,7 +4,7 @@ ghost use Rattle.ocactl_cli.specs.Beside.{AsksIfThere};
 ghost use Rattle.oca_net.specs.EndStates.{EndState};
 ghost use Rattle.oca_types.specs.Sizes.{span_size};
 ghost use Rattle.oca_script.specs.Ends.{input};
-ghost use Rattle.oca_program.specs.Endings.{DoesMatched, Obeys};
+ghost use Rattle.oca_program.specs.Endings.{DoesMatched};
 ghost use Rattle.oca_program.specs.Faults.{fault_in};
 ghost use Rattle.oca_net.specs.Sockets.{IsBoundFrom, new_socket};
 ghost use Rattle.ocactl_cli.specs.Objects.{Gets, Locks};
@@ -31,7 +31,7 @@ use clap::{ArgMatches, Error};
 use oca_net::{End, UdpEnd};
 use oca_panel::{OwnPort, Panel, Watched};
 use oca_program::socket::bind_towards;
-use oca_program::{Failure, RunFault, helped, print_note, status_of};
+use oca_program::{Failure, RunFault, helped, print_made_note, status_of};
 use oca_script::{Printer, Sink, Source};
 use oca_types::{Ono, Span};
 use ocactl_replay::replay::replay;
@@ -90,27 +90,13 @@ fn do_matched<N: Net + Clock, R: Source, W: Sink, F: Sink>(
         (input (R.remaining reader.new) (R.failed reader.new)) printer.old printer.new faults.old faults.new }
 {
     match matched {
-        Ok(words) => do_command(alloc, system, words, reader, printer, faults),
+        Ok(words) => match words.subcommand() {
+            Some((name, options)) => do_named(
+                alloc, system, name, options, reader, printer, faults,
+            ),
+            None => Err(Failure::from(RunFault::BadWords)),
+        },
         Err(error) => helped(alloc, error, printer),
-    }
-}
-
-/// Does what the command asks for that the matched words name, and returns the exit status.
-fn do_command<N: Net + Clock, R: Source, W: Sink, F: Sink>(
-    alloc: Global,
-    system: &N,
-    words: &ArgMatches<'_>,
-    reader: &mut R,
-    printer: &mut Printer<W>,
-    faults: &mut Printer<F>,
-) -> Result<u8, Failure>
-    ensures { Obeys DoesByOptions words.now (fault_in result)
-        (input (R.remaining reader.old) (R.failed reader.old))
-        (input (R.remaining reader.new) (R.failed reader.new)) printer.old printer.new }
-{
-    match words.subcommand() {
-        Some((name, options)) => do_named(alloc, system, name, options, reader, printer, faults),
-        None => Err(Failure::from(RunFault::BadWords)),
     }
 }
 
@@ -169,9 +155,7 @@ fn note_span<F: Sink>(alloc: Global, span: Span, faults: &mut Printer<F>) {
         "--span {size}: the device needs a window of {window} commands or more; its default of 32 is enough for \
         a span of 16"
     );
-    if let Ok(note) = note {
-        print_note(note.as_str(), faults);
-    }
+    print_made_note(note, faults);
 }
 
 /// Sends a command over a socket, and prints its outcome.
