@@ -51,9 +51,6 @@ goes-on (Err e) (Err f) s a b c x y h k = (k.0 ∙ h.0, k.1 ∙ h.1)
 pub goes_flushed : (w v z : Result Unit WriteFailed) (a b c : Output) (text : List ℕ) → PrintsUnlessFailed w v a b text → PrintsUnlessFailed v z b c [] → PrintsUnlessFailed w z a c text
 goes_flushed w v z a b c text h k = subst (PrintsUnlessFailed w z a c) (append-nil text) (goes-on w v z a b c text [] h k)
 
-pub goes-err : (w r : Result Unit WriteFailed) (e : WriteFailed) (a : Output) (text : List ℕ) → w ≡ Err e → r ≡ Err e → PrintsUnlessFailed w r a a text
-goes-err w r e a text is same = subst (λ (z : Result Unit WriteFailed). PrintsUnlessFailed z r a a text) (sym is) (same, refl)
-
 -- a front of an outcome's line was written
 pub wrote-part : (o : Outcome) (r : Result ℕ WriteFailed) (e : WriteFailed) (a b : Output) → r ≡ Err e → PrintsPart a b (outcome_line o) → WritesOutcome o r a b
 wrote-part o r e a b is h = subst (λ (z : Result ℕ WriteFailed). WritesOutcome o z a b) (sym is) (front a b (outcome_line o) h)
@@ -381,8 +378,8 @@ status-done (outcomes.Refused fault) d is = sym (ap listed_status is)
 status-done outcomes.Lost d is = sym (ap listed_status is)
 status-done outcomes.Unanswered d is = sym (ap listed_status is)
 
-pub carried-out : (o : Outcome) (u : Unit {0}) → Ok u ≡ done_answered o → 0 ≡ outcome_status o
-carried-out o u is = sym (status-done o (Ok u) is)
+pub carried_out : (o : Outcome) (u : Unit {0}) → Ok u ≡ done_answered o → 0 ≡ outcome_status o
+carried_out o u is = sym (status-done o (Ok u) is)
 
-pub not-carried-out : (o : Outcome) (why : Trouble) → Err why ≡ done_answered o → trouble_status why ≡ outcome_status o
-not-carried-out o why is = sym (status-done o (Err why) is)
+pub not_carried_out : (o : Outcome) (why : Trouble) → Err why ≡ done_answered o → trouble_status why ≡ outcome_status o
+not_carried_out o why is = sym (status-done o (Err why) is)

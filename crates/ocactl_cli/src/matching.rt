@@ -31,20 +31,9 @@ pub fn matched<'a, S: AsStr>(
 ) -> Result<ArgMatches<'a>, Error>
     ensures { MatchingGives own_app (matched_words (map S.text words.entry.now)) result }
 {
-    if is_set(words) {
-        return matched_set(alloc, words, texts);
+    if !is_set(words) {
+        return matches_of(alloc, words);
     }
-    matches_of(alloc, words)
-}
-
-/// The same of words of `set`.
-fn matched_set<'a, S: AsStr>(
-    alloc: Global,
-    words: &'a [S],
-    texts: &'a mut Vec<String>,
-) -> Result<ArgMatches<'a>, Error>
-    ensures { MatchingGives own_app (map blank_before (map S.text words.entry.now)) result }
-{
     *texts = with_blanks(alloc, words)?;
     matches_of(alloc, texts.as_slice())
 }

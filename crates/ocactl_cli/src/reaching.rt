@@ -85,7 +85,7 @@ fn bound<'a, N: Net + Clock>(
 }
 
 /// A socket at the program's own port. Where that is in use, at one of the system's choice, unless no other may be
-/// taken.
+/// taken: then neither of the program's two ports may be in use.
 fn by_choice<'a, N: Net + Clock>(
     alloc: Global,
     system: &'a N,
@@ -98,28 +98,15 @@ fn by_choice<'a, N: Net + Clock>(
     ensures fault { IfErr result (λ failure. IsUnreached failure.fault) }
 {
     if own_alone {
-        return at_own_alone(alloc, system, reach, own);
-    }
-    match bind_at(alloc, system, reach, own.port) {
-        Ok(end) => Ok(end),
-        Err(_) => bind_at(alloc, system, reach, 0),
-    }
-}
-
-/// A socket at the program's own port, where neither of the program's two is in use.
-fn at_own_alone<'a, N: Net + Clock>(
-    alloc: Global,
-    system: &'a N,
-    reach: Reach,
-    own: OwnPort,
-) -> Result<UdpEnd<'a, N>, Failure>
-    ensures bound { IfOk result (λ end. IsBoundFrom reach.ip own.port end.local) }
-    ensures new { IfOk result (λ end. end ≡ new_socket end.local) }
-    ensures fault { IfErr result (λ failure. IsUnreached failure.fault) }
-{
-    match bind_at(alloc, system, reach, own.other) {
-        Ok(_) => bind_at(alloc, system, reach, own.port),
-        Err(failure) => Err(failure),
+        match bind_at(alloc, system, reach, own.other) {
+            Ok(_) => bind_at(alloc, system, reach, own.port),
+            Err(failure) => Err(failure),
+        }
+    } else {
+        match bind_at(alloc, system, reach, own.port) {
+            Ok(end) => Ok(end),
+            Err(_) => bind_at(alloc, system, reach, 0),
+        }
     }
 }
 

@@ -7,7 +7,7 @@ ghost use Rattle.ocactl_cli.specs.Objects.{GivesUp};
 ghost use Rattle.ocactl_cli.specs.Trees.{PrintsTree, described_text, found_status};
 ghost use Rattle.ocactl_cli.specs.Trees.{visit_status, visit_text};
 ghost use Rattle.ocactl_cli.specs.PrivateObjects.{WritesLine};
-ghost use Rattle.ocactl_cli.specs.PrivateTrees.{ReportsFound, ReportsLeft, VisitsOne};
+ghost use Rattle.ocactl_cli.specs.PrivateTrees.{ReportsLeft, VisitsOne};
 ghost use Rattle.std.specs.Prelude.{codes};
 
 use super::object_line::{ObjectLine, max_severity, put_object, put_place, status_of};
@@ -70,25 +70,12 @@ fn visit_one<E: End, W: Sink>(
     ensures { VisitsOne status result walk.old panel.old printer.old walk.new panel.new printer.new }
 {
     match walk.next_place(panel) {
-        Ok(found) => report_found(found, status, printer),
-        Err(NoMemory) => Err(Failure::from(RunFault::NoMemory)),
-    }
-}
-
-/// Prints the lines of a place, where one was visited. Returns the exit status so far.
-fn report_found<W: Sink>(
-    found: Option<Visit>,
-    status: u8,
-    printer: &mut Printer<W>,
-) -> Result<Option<u8>, Failure>
-    ensures { ReportsFound found status result printer.old printer.new }
-{
-    match found {
-        Some(visit) => {
+        Ok(Some(visit)) => {
             let own = report_visit(&visit, printer)?;
             Ok(Some(max_severity(status, own)))
         }
-        None => Ok(None),
+        Ok(None) => Ok(None),
+        Err(NoMemory) => Err(Failure::from(RunFault::NoMemory)),
     }
 }
 
