@@ -7,7 +7,6 @@ use Rattle.oca_types.specs.declared.words.Handle.{Handle}
 use Rattle.oca_types.specs.Peers.{RequestFields}
 use Rattle.oca_net.specs.EndStates.{EndState}
 use Rattle.oca_script.specs.declared.fault.ReplayFault.{ReplayFault}
-use Rattle.oca_script.specs.declared.fault.ReplayFault.TheVariants.{Line, Read, Write, TooMuch}
 use Rattle.oca_script.specs.declared.fault.WriteFailed.{WriteFailed}
 use Rattle.oca_script.specs.Ends.{Output}
 use Rattle.oca_script.specs.Printing.{Prints, PrintsAll, PrintsPart, WritesOut}
@@ -25,12 +24,13 @@ use Rattle.oca_control.proofs.Asks.{waits_asked}
 use Rattle.oca_control.proofs.Waits.{received_in_wait}
 use Rattle.ocactl_cli.specs.Objects.{trouble_status}
 use Rattle.ocactl_cli.specs.Trees.{listed_status}
+use Rattle.oca_control.specs.Limits.{longest_life}
 use Rattle.oca_control.specs.Links.{LinkState}
 use Rattle.oca_control.specs.Asking.{refused_by, Begins, Waits, ReceivesSoOften, IsPresent}
 use Rattle.oca_control.specs.Waiting.{ReceivesInAWait, WaitsWhile}
 use Rattle.ocactl_cli.specs.Requests.{LineAsked, Send}
-use Rattle.ocactl_cli.specs.Exchanges.{SessionState, FirstIsOpen, TakesOne, Idles, IdledNot, OneTurned, OnePrinted, AwaitsFirst, Awaits, NoneAwaited, OneAwaited, AwaitsUntil, DoesLine, DoesTakenUp, SubmitsCommand, Refuses, Concludes, FinishesLines, ended_by, line_wait, outcome_line, outcome_status, WritesOutcome, TakesUp, since, longest_at_hand}
-use Rattle.ocactl_cli.specs.PrivateExchanges.{PrintsUnlessFailed, AndPrints, Sends, Submitted, TakesFirst, is_write_failure}
+use Rattle.ocactl_cli.specs.Exchanges.{SessionState, FirstIsOpen, TakesOne, Idles, IdledNot, OneTurned, OnePrinted, AwaitsFirst, Awaits, NoneAwaited, OneAwaited, AwaitsUntil, DoesLine, DoesTakenUp, SubmitsCommand, Refuses, Concludes, FinishesUnless, is_write_failure, ended_by, line_wait, outcome_line, outcome_status, WritesOutcome, TakesUp, since}
+use Rattle.ocactl_cli.specs.PrivateExchanges.{PrintsUnlessFailed, AndPrints, Sends, Submitted, TakesFirst}
 
 -- ---- printing, unless a write has failed
 
@@ -94,7 +94,7 @@ same-panel old new l e t u =
 
 pub submits : (request : RequestFields) (returned : Result Handle ControlFault) (h : Handle) (queue more : List (ℕ × Unit {0})) (old new : PanelState) (ahead : ℕ) (refused : Bool) (socket : Option ℤ) (is_open : Bool) (at_hand : Option ℕ) (before : SessionState) (now : ℕ)
     → session_of old queue ahead refused socket is_open at_hand ≡ before → returned ≡ Ok h → length before.in_flight < 32 → BeginsBehind request tt returned queue more old new
-    → IsPresent now old.end_state → now ≤ since at_hand now + longest_at_hand
+    → IsPresent now old.end_state → now ≤ since at_hand now + longest_life
     → Submitted request (Ok h) before (session_of new more ahead refused socket true (Some now))
 submits request returned h queue more old new ahead refused socket is_open at_hand before now e is few begun present in_time =
     let b : BeginsIn request returned old new = begun-behind request returned queue more old new (few-of queue before.in_flight (ap (λ (x : SessionState). x.in_flight) e) few) begun in
@@ -141,7 +141,7 @@ took-up queue p ahead refused socket is_open at_hand before now from e present i
 
 -- what comes late changes nothing
 pub came-late : (request : RequestFields) (f : ControlFault) (queue : List (ℕ × Unit {0})) (p : PanelState) (ahead : ℕ) (refused : Bool) (socket : Option ℤ) (is_open : Bool) (at_hand : Option ℕ) (before : SessionState) (now : ℕ)
-    → session_of p queue ahead refused socket is_open at_hand ≡ before → IsPresent now p.end_state → since at_hand now + longest_at_hand < now → f ≡ Lost
+    → session_of p queue ahead refused socket is_open at_hand ≡ before → IsPresent now p.end_state → since at_hand now + longest_life < now → f ≡ Lost
     → Refuses request f before
 came-late request f queue p ahead refused socket is_open at_hand before now e present late counts =
     subst (Refuses request f) e
@@ -333,22 +333,13 @@ does-line old s new l z a c taken h = record { text = h.text; does = (s, taken, 
 
 -- ---- the end
 
-not-true : false ≡ true → ⊥
-not-true e = cc e
+pub finishes-unwritten : (ended : Result Unit ReplayFault) (s : SessionState) (a : Output) → is_write_failure ended ≡ true
+    → FinishesUnless (is_write_failure ended) ended s s a a ended
+finishes-unwritten ended s a h = rw h (refl, refl, refl)
 
-pub finishes-unwritten : (ended : Result Unit ReplayFault) (s : SessionState) (a : Output) → is_write_failure ended ≡ true → FinishesLines ended s s a a ended
-finishes-unwritten (Ok u) s a h = absurd (not-true h)
-finishes-unwritten (Err (Line n w)) s a h = absurd (not-true h)
-finishes-unwritten (Err Read) s a h = absurd (not-true h)
-finishes-unwritten (Err Write) s a h = (refl, refl, refl)
-finishes-unwritten (Err TooMuch) s a h = absurd (not-true h)
-
-pub finishes : (ended result : Result Unit ReplayFault) (old new : SessionState) (a b : Output) → is_write_failure ended ≡ false → Concludes ended old new a b result → FinishesLines ended old new a b result
-finishes (Ok u) result old new a b h k = k
-finishes (Err (Line n w)) result old new a b h k = k
-finishes (Err Read) result old new a b h k = k
-finishes (Err Write) result old new a b h k = absurd (not-true (sym h))
-finishes (Err TooMuch) result old new a b h k = k
+pub finishes : (ended result : Result Unit ReplayFault) (old new : SessionState) (a b : Output) → is_write_failure ended ≡ false → Concludes ended old new a b result
+    → FinishesUnless (is_write_failure ended) ended old new a b result
+finishes ended result old new a b h k = rw h k
 
 written-last : (v z : Result Unit WriteFailed) (a b c : Output) (text : List ℕ) → PrintsUnlessFailed (Ok tt) v a b text → PrintsUnlessFailed v z b c [] → OnOk z (c.held ≡ []) → WritesOut z a c text
 written-last (Ok u) z a b c text h k none = written-out z a b c text h k none

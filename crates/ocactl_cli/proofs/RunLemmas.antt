@@ -36,23 +36,11 @@ use Rattle.ocactl_cli.specs.declared.words.Linking.{Linking}
 use Rattle.ocactl_cli.specs.declared.words.Reach.{Reach}
 use Rattle.ocactl_cli.specs.declared.words.Sending.{Sending}
 
-abbrev failed : RunFault → Result ℕ RunFault
-failed why = Err why
-
-abbrev ended : ℕ → Result ℕ RunFault
-ended status = Ok status
-
--- a replay on this link
-abbrev Replayed : LinkState → LinkState → Result Unit ReplayFault → Input → Input → Output → Output → Type 0
-Replayed link after replayed had has was is = Outcome asked_call CallsLink NeverIdles link after was is had has replayed
-
-abbrev given_link : Linking → LinkState
-given_link linking = new_link linking.device linking.first_handle 0 (span_size linking.span)
-
 pub replays_so : (linking : Linking) (link after : LinkState) (how : Result ℕ RunFault) (r : Result Unit ReplayFault) (had has : Input) (was is : Output)
-    → how ≡ when_replayed r → link ≡ given_link linking → Replayed link after r had has was is → ReplaysScript linking how had has was is
+    → how ≡ when_replayed r → link ≡ new_link linking.device linking.first_handle 0 (span_size linking.span)
+    → Outcome asked_call CallsLink NeverIdles link after was is had has r → ReplaysScript linking how had has was is
 replays_so linking link after how r had has was is ends made h =
-    record { after = after; replayed = r; ends = ends; outcome = subst (λ (l : LinkState). Replayed l after r had has was is) made h }
+    record { after = after; replayed = r; ends = ends; outcome = subst (λ (l : LinkState). Outcome asked_call CallsLink NeverIdles l after was is had has r) made h }
 
 pub sends-so : (reach : Reach) (sending : Sending) (own : OwnPort) (link after : LinkState) (asked : RequestFields) (before behind : EndState) (r : Result ℕ WriteFailed) (was is : Output) → IsPortByClock own
     → link ≡ link_for reach own.first_handle.0 0 → asked ≡ (sending_fields sending).command → AsksOnce asked sending.turns link after before behind r was is
@@ -77,13 +65,13 @@ pub runs_all : (device : Peer) (session after : SessionState) (behind : EndState
     → status ≡ (if after.unanswered then 3 else 0) → AsksIfThere device after.end_state behind → SendsLines session after was is had has (Ok u)
     → RunsFrom device session behind (Ok status) had has was is
 runs_all device session after behind u status had has was is same asks h =
-    record { after = after; sent = Ok u; sends = h; ends = ap ended same; beside = asks }
+    record { after = after; sent = Ok u; sends = h; ends = ap (λ (n : ℕ). Ok n) same; beside = asks }
 
 pub runs_part : (device : Peer) (session after : SessionState) (behind : EndState) (e : ReplayFault) (why : RunFault) (had has : Input) (was is : Output)
     → why ≡ run_fault e → behind ≡ after.end_state → SendsLines session after was is had has (Err e)
     → RunsFrom device session behind (Err why) had has was is
 runs_part device session after behind e why had has was is same end_same h =
-    record { after = after; sent = Err e; sends = h; ends = ap failed same; beside = not_asked device after.end_state behind end_same }
+    record { after = after; sent = Err e; sends = h; ends = ap (λ (w : RunFault). Err w) same; beside = not_asked device after.end_state behind end_same }
 
 -- a task was done over this panel, and behind it the device was asked at most whether it is there
 pub notes_behind : (what : Task) (device : Peer) (old after : PanelState) (behind : EndState) (how : Result ℕ RunFault) (had has : Input) (was is : Output)

@@ -170,20 +170,16 @@ done_line line (Err why) = shown.Failed why
 
 -- ---- commands in time
 
--- How long after the command before it one may be submitted, in milliseconds: as long as a command may take to leave.
-abbrev pub longest_behind : ℕ
-longest_behind = longest_life
-
--- The present moment is at most so long after this one.
+-- The present moment is at most so long after this one, of the command before, as a command may take to leave.
 pub record IsSoonBehind (since now : ℕ) (s : PanelState) : Type 0 where
   pub present : IsPresent now s.end_state
-  pub in_time : now ≤ since + longest_behind
+  pub in_time : now ≤ since + longest_life
 
 -- The present moment is later than that.
 pub record IsLate (since : ℕ) (s : PanelState) : Type 0 where
   pub now : ℕ
   pub present : IsPresent now s.end_state
-  pub late : since + longest_behind < now
+  pub late : since + longest_life < now
 
 -- A command came late behind this moment: nothing was submitted.
 abbrev pub LeavesOut : (since : ℕ) → PanelState → PanelState → Type 0

@@ -1,10 +1,8 @@
 -- For private contracts: what is printed while commands are waited for, and what a line asks for as the program has it.
-use Rattle.std.specs.Prelude.{◌≡◌, ℕ, Bool, true, false, List, Option, Some, None, Result, Ok, Err}
+use Rattle.std.specs.Prelude.{◌≡◌, ℕ, List, Option, Some, None, Result, Ok, Err}
 use Rattle.oca_types.specs.declared.words.Handle.{Handle}
 use Rattle.oca_types.specs.Peers.{RequestFields, request_of}
 use Rattle.oca_script.specs.declared.fault.LineFault.{LineFault}
-use Rattle.oca_script.specs.declared.fault.ReplayFault.{ReplayFault}
-use Rattle.oca_script.specs.declared.fault.ReplayFault.TheVariants.{Line, Read, Write, TooMuch}
 use Rattle.oca_script.specs.declared.fault.WriteFailed.{WriteFailed}
 use Rattle.oca_script.specs.Ends.{Output}
 use Rattle.oca_script.specs.Printing.{Prints}
@@ -47,11 +45,3 @@ line_in asked.Wait = Wait
 abbrev pub line_asked : Result Asked LineFault → Result LineAsked LineFault
 line_asked (Ok a) = Ok (line_in a)
 line_asked (Err f) = Err f
-
--- a write failed
-abbrev pub is_write_failure : Result Unit ReplayFault → Bool
-is_write_failure (Ok u) = false
-is_write_failure (Err (Line number fault)) = false
-is_write_failure (Err Read) = false
-is_write_failure (Err Write) = true
-is_write_failure (Err TooMuch) = false

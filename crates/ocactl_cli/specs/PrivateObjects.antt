@@ -181,11 +181,6 @@ SetsOnlyIf true ahead assignments before old new (Ok status) was is = SetsEachTo
 SetsOnlyIf true ahead assignments before old new (Err failure) was is = (failure.fault ≡ Write) × (is.failed ≡ true)
 SetsOnlyIf false ahead assignments before old new result was is = (result ≡ Ok before) × (new ≡ old) × (is ≡ was)
 
-abbrev pub SetsFound : ℕ → List (ℕ × Value) → Search → PanelState → PanelState → Result ℕ Failure → Output → Output
-    → Type 0
-SetsFound ahead assignments search old new result was is =
-    SetsOnlyIf search.all ahead assignments search.status old new result was is
-
 -- ---- locks that are kept
 
 -- each of these objects was locked, and those that are locked are listed

@@ -7,8 +7,8 @@ ghost use Rattle.oca_script.specs.Printing.{Prints};
 ghost use Rattle.oca_types.specs.Peers.{request_of};
 ghost use Rattle.ocactl_cli.specs.Requests.{LineAsked, asked_line, is_wait as wait_line};
 ghost use Rattle.ocactl_cli.specs.Exchanges.{AwaitsLine, AwaitsUntil, FirstIsOpen, Idles, NoneInFlight, DoesLine};
-ghost use Rattle.ocactl_cli.specs.Exchanges.{SendsLines, outcome_line};
-ghost use Rattle.ocactl_cli.specs.PrivateExchanges.{AndPrints, PrintsUnlessFailed, Sends, is_write_failure};
+ghost use Rattle.ocactl_cli.specs.Exchanges.{SendsLines, is_write_failure, outcome_line};
+ghost use Rattle.ocactl_cli.specs.PrivateExchanges.{AndPrints, PrintsUnlessFailed, Sends};
 ghost use Rattle.ocactl_cli.specs.PrivateExchanges.{line_in, line_asked};
 
 use super::exchange::print_outcome;

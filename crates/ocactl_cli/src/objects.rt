@@ -5,7 +5,7 @@ ghost use Rattle.ocactl_cli.specs.Objects.{AsksAll, AsksLock, AsksPart, Gets, Lo
 ghost use Rattle.ocactl_cli.specs.Objects.{LocksInTime, SetsAll};
 ghost use Rattle.ocactl_cli.specs.Objects.{SetsNoneUnfound, GivesUp};
 ghost use Rattle.ocactl_cli.specs.PrivateObjects.{ono_number, pair_of, assignment_of, FindsAllTo, FindsOneTo};
-ghost use Rattle.ocactl_cli.specs.PrivateObjects.{GivesUpFinding, LocksOneBehind, ReportsOne, SetsFound};
+ghost use Rattle.ocactl_cli.specs.PrivateObjects.{GivesUpFinding, LocksOneBehind, ReportsOne, SetsOnlyIf};
 
 use super::in_time::{is_in_time, present};
 use super::object_line::{ObjectLine, done_line, max_severity, report_object};
@@ -115,8 +115,8 @@ fn set_found<E: End, W: Sink>(
     printer: &mut Printer<W>,
 ) -> Result<u8, Failure>
     requires { printer.old.held ≡ [] }
-    ensures { SetsFound (span_size ahead) (map assignment_of assignments.now) search panel.old panel.new result
-        printer.old printer.new }
+    ensures { SetsOnlyIf search.all (span_size ahead) (map assignment_of assignments.now) search.status panel.old
+        panel.new result printer.old printer.new }
 {
     if search.all {
         Ok(set_assignments(panel, assignments, ahead, printer)?)

@@ -1,8 +1,9 @@
 //! A panel, and the commands in flight on it.
 ghost use Rattle.std.specs.Prelude.{◌≡◌, ◌==◌, ◌||◌, ◌<◌, ◌≤◌, ◌+◌, length, true, false};
 ghost use Rattle.oca_types.specs.Peers.{request_of};
+ghost use Rattle.oca_control.specs.Limits.{longest_life};
 ghost use Rattle.ocactl_cli.specs.Exchanges.{AwaitsFirst, IsFoundLostNow, IsWaitTime, NoneInFlight, TakesOne, TakesUp};
-ghost use Rattle.ocactl_cli.specs.Exchanges.{is_over, longest_at_hand, since, time_beside};
+ghost use Rattle.ocactl_cli.specs.Exchanges.{is_over, since, time_beside};
 ghost use Rattle.ocactl_cli.specs.PrivateExchanges.{Submitted, TakesFirst};
 ghost use Rattle.ocactl_cli.specs.Beside.{AsksIfThere};
 
@@ -273,8 +274,8 @@ fn since(at_hand: Option<u64>, now: u64) -> u64
 /// Whether a line was at hand for longer than a command may take to leave: while the program is awake no answer is
 /// awaited for so long.
 fn comes_late(at_hand: Option<u64>, now: u64) -> bool
-    ensures late { result ≡ true → since at_hand now + longest_at_hand < now }
-    ensures in_time { result ≡ false → now ≤ since at_hand now + longest_at_hand }
+    ensures late { result ≡ true → since at_hand now + longest_life < now }
+    ensures in_time { result ≡ false → now ≤ since at_hand now + longest_life }
 {
     now.saturating_sub(since(at_hand, now)) > LONGEST_LIFE_MS
 }
