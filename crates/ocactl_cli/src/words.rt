@@ -6,7 +6,7 @@ ghost use Rattle.oca_control.specs.Links.{new_link};
 ghost use Rattle.oca_types.specs.Peers.{request_of};
 ghost use Rattle.oca_program.specs.declared.fault.RunFault.TheVariants.{BadWords};
 ghost use Rattle.ocactl_cli.specs.Reasons.{first_handle_for};
-ghost use Rattle.ocactl_cli.specs.Asked.{OptionsAsk, AsksHandling, IsRefusal};
+ghost use Rattle.ocactl_cli.specs.Asked.{OptionsAsk, IsRefusal};
 ghost use Rattle.ocactl_cli.specs.Words.{array_items, span_in as span_given, linking_fields};
 ghost use Rattle.ocactl_cli.specs.Words.{first_handle_in, linking_in, own_address, port_in, given_handle_in};
 ghost use Rattle.ocactl_cli.specs.Words.{reach_fields, reach_in, ahead_in};
@@ -167,23 +167,19 @@ fn task_asked(alloc: Global, name: &str, options: &ArgMatches<'_>) -> Result<Ask
     ensures asks { IfOk result (OptionsAsk name.now options.now) }
     ensures refused { IfErr result (λ failure. IsRefusal failure.fault) }
 {
-    let Some((reach, turns, ahead)) = handling_of(options) else {
+    let Some(reach) = reach_of(options) else {
+        return Err(unread(alloc, name, options));
+    };
+    let Some(turns) = turns_of(options) else {
+        return Err(unread(alloc, name, options));
+    };
+    let Some(ahead) = ahead_of(options, reach.span) else {
         return Err(unread(alloc, name, options));
     };
     match task_of(alloc, name, options, ahead) {
         Ok(task) => Ok(Asked::Do(reach, turns, task)),
         Err(failure) => Err(failure),
     }
-}
-
-/// How objects are handled, by the options: where the device is, how many times 50 ms a command waits for its answer,
-/// and how many set commands are in flight at once.
-fn handling_of(options: &ArgMatches<'_>) -> Option<(Reach, u32, Span)>
-    ensures { IfSome result (λ how. AsksHandling options.now how.0 how.1 (span_size how.2)) }
-{
-    let reach = reach_of(options)?;
-    let turns = turns_of(options)?;
-    Some((reach, turns, ahead_of(options, reach.span)?))
 }
 
 /// The span that the options ask for: 1 to 32 in 1 to 3 digits, 16 unless it is given.
