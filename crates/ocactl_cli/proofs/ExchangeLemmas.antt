@@ -30,7 +30,7 @@ use Rattle.oca_control.specs.Asking.{refused_by, Begins, Waits, ReceivesSoOften,
 use Rattle.oca_control.specs.Waiting.{ReceivesInAWait, WaitsWhile}
 use Rattle.ocactl_cli.specs.Requests.{LineAsked, Send}
 use Rattle.ocactl_cli.specs.Exchanges.{SessionState, FirstIsOpen, TakesOne, Idles, IdledNot, OneTurned, OnePrinted, AwaitsFirst, Awaits, NoneAwaited, OneAwaited, AwaitsUntil, DoesLine, DoesTakenUp, SubmitsCommand, Refuses, Concludes, FinishesUnless, is_write_failure, ended_by, line_wait, outcome_line, outcome_status, WritesOutcome, TakesUp, since}
-use Rattle.ocactl_cli.specs.PrivateExchanges.{PrintsUnlessFailed, AndPrints, Sends, Submitted, TakesFirst}
+use Rattle.ocactl_cli.specs.PrivateExchanges.{PrintsUnlessFailed, AndPrints, SendsOrRefuses, Submitted, TakesFirst}
 
 -- ---- printing, unless a write has failed
 
@@ -299,7 +299,7 @@ idles-more r s t v z a b c o h first k =
 -- ---- a line
 
 pub sends-one : (request : RequestFields) (answer : Result Handle ControlFault) (h : Handle) (left : ℕ) (w v : Result Unit WriteFailed) (old s new : SessionState) (a b : Output)
-    → answer ≡ Ok h → Submitted request answer old s → left ≡ s.ahead - 1 → AndPrints (AwaitsUntil left s new) w v a b → AndPrints (Sends request old new) w v a b
+    → answer ≡ Ok h → Submitted request answer old s → left ≡ s.ahead - 1 → AndPrints (AwaitsUntil left s new) w v a b → AndPrints (SendsOrRefuses request old new) w v a b
 sends-one request answer h left w v old s new a b is submits same k =
     let one : SubmitsCommand request h old s = subst (λ (z : Result Handle ControlFault). Submitted request z old s) is submits in
     let all_but_one : left ≡ old.ahead - 1 = same ∙ ap (λ (n : ℕ). n - 1) one.ahead in
@@ -307,7 +307,7 @@ sends-one request answer h left w v old s new a b is submits same k =
 
 pub sends-none : (request : RequestFields) (answer : Result Handle ControlFault) (fault : ControlFault) (o : Outcome) (w v z : Result Unit WriteFailed) (old s t new : SessionState) (a b c : Output)
     → answer ≡ Err fault → Submitted request answer old s → AndPrints (AwaitsUntil 0 s t) w v a b → new ≡ record t { unanswered = true } → o ≡ refused_by fault → PrintsUnlessFailed v z b c (outcome_line o)
-    → AndPrints (Sends request old new) w z a c
+    → AndPrints (SendsOrRefuses request old new) w z a c
 sends-none request answer fault o w v z old s t new a b c is submits k noted by p =
     let same : (s ≡ old) × Refuses request fault old = subst (λ (y : Result Handle ControlFault). Submitted request y old s) is submits in
     let awaits : AwaitsUntil 0 old t k.text = subst (λ (x : SessionState). AwaitsUntil 0 x t k.text) same.0 k.does in
@@ -318,7 +318,7 @@ sends-none request answer fault o w v z old s t new a b c is submits k noted by 
     }
 
 pub serves-command : (request : RequestFields) (left : ℕ) (v z : Result Unit WriteFailed) (old s new : SessionState) (a b c : Output)
-    → left ≡ old.ahead - 1 → AndPrints (AwaitsUntil left old s) (Ok tt) v a b → AndPrints (Sends request s new) v z b c → AndPrints (DoesTakenUp old (Send request) new) (Ok tt) z a c
+    → left ≡ old.ahead - 1 → AndPrints (AwaitsUntil left old s) (Ok tt) v a b → AndPrints (SendsOrRefuses request s new) v z b c → AndPrints (DoesTakenUp old (Send request) new) (Ok tt) z a c
 serves-command request left v z old s new a b c is h k = record {
   text = h.text ++ k.text;
   does = (s, h.text, k.text, k.does.0, subst (λ (n : ℕ). AwaitsUntil n old s h.text) is h.does, k.does.1, refl);

@@ -30,8 +30,8 @@ TakesFirst None old new = (new ≡ old) × FirstIsOpen old.link old.in_flight
 TakesFirst (Some outcome) old new = AwaitsFirst old new outcome
 
 -- a command was submitted or refused
-abbrev pub Sends : RequestFields → SessionState → SessionState → List ℕ → Type 0
-Sends request old new text = (returned : Result Handle ControlFault) × SendsCommand request returned old new text
+abbrev pub SendsOrRefuses : RequestFields → SessionState → SessionState → List ℕ → Type 0
+SendsOrRefuses request old new text = (returned : Result Handle ControlFault) × SendsCommand request returned old new text
 
 -- what a submission made of a session
 abbrev pub Submitted : RequestFields → Result Handle ControlFault → SessionState → SessionState → Type 0

@@ -8,7 +8,7 @@ ghost use Rattle.oca_types.specs.Peers.{request_of};
 ghost use Rattle.ocactl_cli.specs.Requests.{LineAsked, asked_line, is_wait as wait_line};
 ghost use Rattle.ocactl_cli.specs.Exchanges.{AwaitsLine, AwaitsUntil, FirstIsOpen, Idles, NoneInFlight, DoesLine};
 ghost use Rattle.ocactl_cli.specs.Exchanges.{SendsLines, is_write_failure, outcome_line};
-ghost use Rattle.ocactl_cli.specs.PrivateExchanges.{AndPrints, PrintsUnlessFailed, Sends};
+ghost use Rattle.ocactl_cli.specs.PrivateExchanges.{AndPrints, PrintsUnlessFailed, SendsOrRefuses};
 ghost use Rattle.ocactl_cli.specs.PrivateExchanges.{line_in, line_asked};
 
 use super::exchange::print_outcome;
@@ -134,7 +134,8 @@ fn send<E: End, W: Sink>(
     printer: &mut Printer<W>,
 ) -> Result<(), WriteFailed>
     requires { length session.old.in_flight < 32 }
-    ensures { AndPrints (Sends (request_of request.entry) session.old session.new) written result printer.old printer.new }
+    ensures { AndPrints (SendsOrRefuses (request_of request.entry) session.old session.new) written result printer.old
+        printer.new }
 {
     match session.submit(request) {
         Ok(_) => {
