@@ -7,7 +7,6 @@ use Rattle.oca_types.specs.declared.words.Handle.{Handle}
 use Rattle.oca_types.specs.Peers.{RequestFields}
 use Rattle.oca_net.specs.EndStates.{EndState}
 use Rattle.oca_script.specs.declared.fault.ReplayFault.{ReplayFault}
-use Rattle.oca_script.specs.declared.fault.ReplayFault.TheVariants.{Line, Read, Write, TooMuch}
 use Rattle.oca_script.specs.declared.fault.WriteFailed.{WriteFailed}
 use Rattle.oca_script.specs.Ends.{Output}
 use Rattle.oca_script.specs.Printing.{Prints, PrintsAll, PrintsPart, WritesOut}
@@ -25,12 +24,13 @@ use Rattle.oca_control.proofs.Asks.{waits_asked}
 use Rattle.oca_control.proofs.Waits.{received_in_wait}
 use Rattle.ocactl_cli.specs.Objects.{trouble_status}
 use Rattle.ocactl_cli.specs.Trees.{listed_status}
+use Rattle.oca_control.specs.Limits.{longest_life}
 use Rattle.oca_control.specs.Links.{LinkState}
 use Rattle.oca_control.specs.Asking.{refused_by, Begins, Waits, ReceivesSoOften, IsPresent}
 use Rattle.oca_control.specs.Waiting.{ReceivesInAWait, WaitsWhile}
 use Rattle.ocactl_cli.specs.Requests.{LineAsked, Send}
-use Rattle.ocactl_cli.specs.Exchanges.{SessionState, FirstIsOpen, TakesOne, Idles, IdledNot, OneTurned, OnePrinted, AwaitsFirst, Awaits, NoneAwaited, OneAwaited, AwaitsUntil, SubmitsCommand, Refuses, Concludes, FinishesLines, ended_by, line_wait, outcome_line, outcome_status, WritesOutcome, TakesUp, since, longest_at_hand}
-use Rattle.ocactl_cli.specs.PrivateExchanges.{PrintsUnlessFailed, AwaitsAndPrints, IdlesAndPrints, SendsAndPrints, DoesLineAndPrints, DoesTakenUpAndPrints, Submitted, TakesFirst, is_write_failure}
+use Rattle.ocactl_cli.specs.Exchanges.{SessionState, FirstIsOpen, TakesOne, Idles, IdledNot, OneTurned, OnePrinted, AwaitsFirst, Awaits, NoneAwaited, OneAwaited, AwaitsUntil, DoesLine, DoesTakenUp, SubmitsCommand, Refuses, Concludes, FinishesUnless, is_write_failure, ended_by, line_wait, outcome_line, outcome_status, WritesOutcome, TakesUp, since}
+use Rattle.ocactl_cli.specs.PrivateExchanges.{PrintsUnlessFailed, AndPrints, SendsOrRefuses, Submitted, TakesFirst}
 
 -- ---- printing, unless a write has failed
 
@@ -47,11 +47,9 @@ goes-on (Ok u) (Err e) s a b c x y h k = subst (λ (o : Output). Prints s a o (x
 goes-on (Err e) (Ok v) s a b c x y h k = absurd (not-ok v e h.0)
 goes-on (Err e) (Err f) s a b c x y h k = (k.0 ∙ h.0, k.1 ∙ h.1)
 
-pub goes-ok : (w r : Result Unit WriteFailed) (u : Unit {0}) (a b : Output) (text : List ℕ) → w ≡ Ok u → Prints r a b text → PrintsUnlessFailed w r a b text
-goes-ok w r u a b text is h = subst (λ (z : Result Unit WriteFailed). PrintsUnlessFailed z r a b text) (sym is) h
-
-pub goes-err : (w r : Result Unit WriteFailed) (e : WriteFailed) (a : Output) (text : List ℕ) → w ≡ Err e → r ≡ Err e → PrintsUnlessFailed w r a a text
-goes-err w r e a text is same = subst (λ (z : Result Unit WriteFailed). PrintsUnlessFailed z r a a text) (sym is) (same, refl)
+-- what was printed was flushed
+pub goes_flushed : (w v z : Result Unit WriteFailed) (a b c : Output) (text : List ℕ) → PrintsUnlessFailed w v a b text → PrintsUnlessFailed v z b c [] → PrintsUnlessFailed w z a c text
+goes_flushed w v z a b c text h k = subst (PrintsUnlessFailed w z a c) (append-nil text) (goes-on w v z a b c text [] h k)
 
 -- a front of an outcome's line was written
 pub wrote-part : (o : Outcome) (r : Result ℕ WriteFailed) (e : WriteFailed) (a b : Output) → r ≡ Err e → PrintsPart a b (outcome_line o) → WritesOutcome o r a b
@@ -96,7 +94,7 @@ same-panel old new l e t u =
 
 pub submits : (request : RequestFields) (returned : Result Handle ControlFault) (h : Handle) (queue more : List (ℕ × Unit {0})) (old new : PanelState) (ahead : ℕ) (refused : Bool) (socket : Option ℤ) (is_open : Bool) (at_hand : Option ℕ) (before : SessionState) (now : ℕ)
     → session_of old queue ahead refused socket is_open at_hand ≡ before → returned ≡ Ok h → length before.in_flight < 32 → BeginsBehind request tt returned queue more old new
-    → IsPresent now old.end_state → now ≤ since at_hand now + longest_at_hand
+    → IsPresent now old.end_state → now ≤ since at_hand now + longest_life
     → Submitted request (Ok h) before (session_of new more ahead refused socket true (Some now))
 submits request returned h queue more old new ahead refused socket is_open at_hand before now e is few begun present in_time =
     let b : BeginsIn request returned old new = begun-behind request returned queue more old new (few-of queue before.in_flight (ap (λ (x : SessionState). x.in_flight) e) few) begun in
@@ -143,30 +141,27 @@ took-up queue p ahead refused socket is_open at_hand before now from e present i
 
 -- what comes late changes nothing
 pub came-late : (request : RequestFields) (f : ControlFault) (queue : List (ℕ × Unit {0})) (p : PanelState) (ahead : ℕ) (refused : Bool) (socket : Option ℤ) (is_open : Bool) (at_hand : Option ℕ) (before : SessionState) (now : ℕ)
-    → session_of p queue ahead refused socket is_open at_hand ≡ before → IsPresent now p.end_state → since at_hand now + longest_at_hand < now → f ≡ Lost
+    → session_of p queue ahead refused socket is_open at_hand ≡ before → IsPresent now p.end_state → since at_hand now + longest_life < now → f ≡ Lost
     → Refuses request f before
 came-late request f queue p ahead refused socket is_open at_hand before now e present late counts =
     subst (Refuses request f) e
     (inl (record { now = now; present = present; late = late; counts = counts }))
 
+-- an answer came
+answer-came : (b : Bool) → false ≡ ((if b then 0 else 4) == 3)
+answer-came true = refl
+answer-came false = refl
+
 -- no answer came, where one was waited for
 none-came : (h n : ℕ) (l k : LinkState) (o : Outcome) (d e : EndState) → WaitsWhile h n l o k d e → is_lost_or_unanswered o ≡ (outcome_status o == 3)
-none-came h n l k (outcomes.Answered a) d e w = by (a.status == 0)
-  where
-    by : (b : Bool) → false ≡ ((if b then 0 else 4) == 3)
-    by true = refl
-    by false = refl
+none-came h n l k (outcomes.Answered a) d e w = answer-came (a.status == 0)
 none-came h n l k (outcomes.Refused fault) d e w = absurd w.waits
 none-came h n l k outcomes.Lost d e w = refl
 none-came h n l k outcomes.Unanswered d e w = refl
 
 -- nor where it was known
 none-known : (h : ℕ) (l k : LinkState) (o : Outcome) (d e : EndState) → Waits h 0 l o k d e → is_lost_or_unanswered o ≡ (outcome_status o == 3)
-none-known h l k (outcomes.Answered a) d e w = by (a.status == 0)
-  where
-    by : (b : Bool) → false ≡ ((if b then 0 else 4) == 3)
-    by true = refl
-    by false = refl
+none-known h l k (outcomes.Answered a) d e w = answer-came (a.status == 0)
 none-known h l k (outcomes.Refused fault) d e w = absurd w
 none-known h l k outcomes.Lost d e w = refl
 none-known h l k outcomes.Unanswered d e w = refl
@@ -244,8 +239,8 @@ pub fewer : (s t : SessionState) (o : Outcome) → AwaitsFirst s t o → length 
 fewer s t o h = ap length h.first ∙ omega arith
 
 pub awaited : (left : ℕ) (r s : SessionState) (w v : Result Unit WriteFailed) (a b : Output)
-    → ((text : List ℕ) × Awaits left r s text × PrintsUnlessFailed w v a b text) → length s.in_flight ≤ left → AwaitsAndPrints left w r s v a b
-awaited left r s w v a b h few = record { text = h.0; awaits = (h.1, few); prints = h.2 }
+    → ((text : List ℕ) × Awaits left r s text × PrintsUnlessFailed w v a b text) → length s.in_flight ≤ left → AndPrints (AwaitsUntil left r s) w v a b
+awaited left r s w v a b h few = record { text = h.0; does = (h.1, few); prints = h.2 }
 
 -- ---- idling
 
@@ -260,40 +255,40 @@ idles-awaited left r s x NoneAwaited = IdledNot
 idles-awaited left r s x (OneAwaited {s = m} {text = z} o h more first) = OnePrinted o (idles-awaited left r m z h) first
 
 -- idled twice, and printed
-pub idles-and : (r s t : SessionState) (o : Unit {0}) (w : Result Unit WriteFailed) (a b c : Output) → IdlesAndPrints r s (Ok o) a b → IdlesAndPrints s t w b c → IdlesAndPrints r t w a c
+pub idles-and : (r s t : SessionState) (o : Unit {0}) (w : Result Unit WriteFailed) (a b c : Output) → AndPrints (Idles r s) (Ok tt) (Ok o) a b → AndPrints (Idles s t) (Ok tt) w b c → AndPrints (Idles r t) (Ok tt) w a c
 idles-and r s t o w a b c h k = record {
   text = h.text ++ k.text;
-  idles = idles-then r s t h.text k.text h.idles k.idles;
+  does = idles-then r s t h.text k.text h.does k.does;
   prints = prints-then w a b c h.text k.text h.prints k.prints;
 }
 
-pub idles-not : (s : SessionState) (o : Unit {0}) (a : Output) → IdlesAndPrints s s (Ok o) a a
-idles-not s o a = record { text = []; idles = IdledNot; prints = PrintsAll-nil a }
+pub idles-not : (s : SessionState) (o : Unit {0}) (a : Output) → AndPrints (Idles s s) (Ok tt) (Ok o) a a
+idles-not s o a = record { text = []; does = IdledNot; prints = PrintsAll-nil a }
 
-pub idles-as : (r s : SessionState) (w v : Result Unit WriteFailed) (a b : Output) → w ≡ v → IdlesAndPrints r s w a b → IdlesAndPrints r s v a b
-idles-as r s w v a b e h = subst (λ (z : Result Unit WriteFailed). IdlesAndPrints r s z a b) e h
+pub idles-as : (r s : SessionState) (w v : Result Unit WriteFailed) (a b : Output) → w ≡ v → AndPrints (Idles r s) (Ok tt) w a b → AndPrints (Idles r s) (Ok tt) v a b
+idles-as r s w v a b e h = subst (λ (z : Result Unit WriteFailed). AndPrints (Idles r s) (Ok tt) z a b) e h
 
-pub idles-turned : (r s t : SessionState) (o u : Unit {0}) (a b : Output) → IdlesAndPrints r s (Ok o) a b → FirstIsOpen s.link s.in_flight → TakesOne s t → IdlesAndPrints r t (Ok u) a b
-idles-turned r s t o u a b h waits one = record { text = h.text; idles = OneTurned h.idles waits one; prints = h.prints }
+pub idles-turned : (r s t : SessionState) (o u : Unit {0}) (a b : Output) → AndPrints (Idles r s) (Ok tt) (Ok o) a b → FirstIsOpen s.link s.in_flight → TakesOne s t → AndPrints (Idles r t) (Ok tt) (Ok u) a b
+idles-turned r s t o u a b h waits one = record { text = h.text; does = OneTurned h.does waits one; prints = h.prints }
 
 pub first-from : (s t : SessionState) → t ≡ s → FirstIsOpen s.link s.in_flight → FirstIsOpen t.link t.in_flight
 first-from s t e h = subst (λ (x : SessionState). FirstIsOpen x.link x.in_flight) (sym e) h
 
 -- what was printed so far was flushed
 pub idles-handed : (r s : SessionState) (v z : Result Unit WriteFailed) (a b c : Output)
-    → ((text : List ℕ) × Idles r s text × PrintsUnlessFailed (Ok tt) v a b text) → PrintsUnlessFailed v z b c [] → IdlesAndPrints r s z a c
+    → ((text : List ℕ) × Idles r s text × PrintsUnlessFailed (Ok tt) v a b text) → PrintsUnlessFailed v z b c [] → AndPrints (Idles r s) (Ok tt) z a c
 idles-handed r s v z a b c h k = record {
   text = h.0;
-  idles = h.1;
+  does = h.1;
   prints = subst (Prints z a c) (append-nil h.0) (goes-on (Ok tt) v z a b c h.0 [] h.2 k);
 }
 
-pub idles-from : (r s t : SessionState) (v : Result Unit WriteFailed) (a b : Output) → t ≡ s → IdlesAndPrints r s v a b → IdlesAndPrints r t v a b
-idles-from r s t v a b e h = subst (λ (x : SessionState). IdlesAndPrints r x v a b) (sym e) h
+pub idles-from : (r s t : SessionState) (v : Result Unit WriteFailed) (a b : Output) → t ≡ s → AndPrints (Idles r s) (Ok tt) v a b → AndPrints (Idles r t) (Ok tt) v a b
+idles-from r s t v a b e h = subst (λ (x : SessionState). AndPrints (Idles r x) (Ok tt) v a b) (sym e) h
 
-pub idles-rest : (left : ℕ) (r s : SessionState) (v z : Result Unit WriteFailed) (a b c : Output)
-    → AwaitsAndPrints left (Ok tt) r s v a b → PrintsUnlessFailed v z b c [] → IdlesAndPrints r s z a c
-idles-rest left r s v z a b c h k = idles-handed r s v z a b c (h.text, idles-awaited left r s h.text h.awaits.0, h.prints) k
+pub idles_rest : (left : ℕ) (r s : SessionState) (v z : Result Unit WriteFailed) (a b c : Output)
+    → AndPrints (AwaitsUntil left r s) (Ok tt) v a b → PrintsUnlessFailed v z b c [] → AndPrints (Idles r s) (Ok tt) z a c
+idles_rest left r s v z a b c h k = idles-handed r s v z a b c (h.text, idles-awaited left r s h.text h.does.0, h.prints) k
 
 pub idles-more : (r s t : SessionState) (v z : Result Unit WriteFailed) (a b c : Output) (o : Outcome)
     → ((text : List ℕ) × Idles r s text × PrintsUnlessFailed (Ok tt) v a b text) → AwaitsFirst s t o → PrintsUnlessFailed v z b c (outcome_line o)
@@ -304,69 +299,47 @@ idles-more r s t v z a b c o h first k =
 -- ---- a line
 
 pub sends-one : (request : RequestFields) (answer : Result Handle ControlFault) (h : Handle) (left : ℕ) (w v : Result Unit WriteFailed) (old s new : SessionState) (a b : Output)
-    → answer ≡ Ok h → Submitted request answer old s → left ≡ s.ahead - 1 → AwaitsAndPrints left w s new v a b → SendsAndPrints request w old new v a b
+    → answer ≡ Ok h → Submitted request answer old s → left ≡ s.ahead - 1 → AndPrints (AwaitsUntil left s new) w v a b → AndPrints (SendsOrRefuses request old new) w v a b
 sends-one request answer h left w v old s new a b is submits same k =
     let one : SubmitsCommand request h old s = subst (λ (z : Result Handle ControlFault). Submitted request z old s) is submits in
     let all_but_one : left ≡ old.ahead - 1 = same ∙ ap (λ (n : ℕ). n - 1) one.ahead in
-    record { returned = Ok h; text = k.text; sends = (s, one, subst (λ (n : ℕ). AwaitsUntil n s new k.text) all_but_one k.awaits); prints = k.prints }
+    record { text = k.text; does = (Ok h, (s, one, subst (λ (n : ℕ). AwaitsUntil n s new k.text) all_but_one k.does)); prints = k.prints }
 
 pub sends-none : (request : RequestFields) (answer : Result Handle ControlFault) (fault : ControlFault) (o : Outcome) (w v z : Result Unit WriteFailed) (old s t new : SessionState) (a b c : Output)
-    → answer ≡ Err fault → Submitted request answer old s → AwaitsAndPrints 0 w s t v a b → new ≡ record t { unanswered = true } → o ≡ refused_by fault → PrintsUnlessFailed v z b c (outcome_line o)
-    → SendsAndPrints request w old new z a c
+    → answer ≡ Err fault → Submitted request answer old s → AndPrints (AwaitsUntil 0 s t) w v a b → new ≡ record t { unanswered = true } → o ≡ refused_by fault → PrintsUnlessFailed v z b c (outcome_line o)
+    → AndPrints (SendsOrRefuses request old new) w z a c
 sends-none request answer fault o w v z old s t new a b c is submits k noted by p =
     let same : (s ≡ old) × Refuses request fault old = subst (λ (y : Result Handle ControlFault). Submitted request y old s) is submits in
-    let awaits : AwaitsUntil 0 old t k.text = subst (λ (x : SessionState). AwaitsUntil 0 x t k.text) same.0 k.awaits in
+    let awaits : AwaitsUntil 0 old t k.text = subst (λ (x : SessionState). AwaitsUntil 0 x t k.text) same.0 k.does in
     record {
-      returned = Err fault;
       text = k.text ++ outcome_line o;
-      sends = (t, k.text, same.1, awaits, noted, ap (λ (x : Outcome). k.text ++ outcome_line x) by);
+      does = (Err fault, (t, k.text, same.1, awaits, noted, ap (λ (x : Outcome). k.text ++ outcome_line x) by));
       prints = goes-on w v z a b c k.text (outcome_line o) k.prints p;
     }
 
 pub serves-command : (request : RequestFields) (left : ℕ) (v z : Result Unit WriteFailed) (old s new : SessionState) (a b c : Output)
-    → left ≡ old.ahead - 1 → AwaitsAndPrints left (Ok tt) old s v a b → SendsAndPrints request v s new z b c → DoesTakenUpAndPrints old (Send request) new z a c
+    → left ≡ old.ahead - 1 → AndPrints (AwaitsUntil left old s) (Ok tt) v a b → AndPrints (SendsOrRefuses request s new) v z b c → AndPrints (DoesTakenUp old (Send request) new) (Ok tt) z a c
 serves-command request left v z old s new a b c is h k = record {
   text = h.text ++ k.text;
-  serves = (s, h.text, k.text, k.returned, subst (λ (n : ℕ). AwaitsUntil n old s h.text) is h.awaits, k.sends, refl);
+  does = (s, h.text, k.text, k.does.0, subst (λ (n : ℕ). AwaitsUntil n old s h.text) is h.does, k.does.1, refl);
   prints = goes-on (Ok tt) v z a b c h.text k.text h.prints k.prints;
 }
 
-pub as-line : (old new : SessionState) (l m : LineAsked) (z : Result Unit WriteFailed) (a c : Output) → m ≡ l → DoesTakenUpAndPrints old l new z a c → DoesTakenUpAndPrints old m new z a c
-as-line old new l m z a c e h = subst (λ (x : LineAsked). DoesTakenUpAndPrints old x new z a c) (sym e) h
+pub as-line : (old new : SessionState) (l m : LineAsked) (z : Result Unit WriteFailed) (a c : Output) → m ≡ l → AndPrints (DoesTakenUp old l new) (Ok tt) z a c → AndPrints (DoesTakenUp old m new) (Ok tt) z a c
+as-line old new l m z a c e h = subst (λ (x : LineAsked). AndPrints (DoesTakenUp old x new) (Ok tt) z a c) (sym e) h
 
-pub does-line : (old s new : SessionState) (l : LineAsked) (z : Result Unit WriteFailed) (a c : Output) → TakesUp old s → DoesTakenUpAndPrints s l new z a c → DoesLineAndPrints old l new z a c
-does-line old s new l z a c taken h = record { text = h.text; serves = (s, taken, h.serves); prints = h.prints }
+pub does-line : (old s new : SessionState) (l : LineAsked) (z : Result Unit WriteFailed) (a c : Output) → TakesUp old s → AndPrints (DoesTakenUp s l new) (Ok tt) z a c → AndPrints (DoesLine old l new) (Ok tt) z a c
+does-line old s new l z a c taken h = record { text = h.text; does = (s, taken, h.does); prints = h.prints }
 
 -- ---- the end
 
-pub finishes-unwritten : (ended : Result Unit ReplayFault) (s : SessionState) (a : Output) → is_write_failure ended ≡ true → FinishesLines ended s s a a ended
-finishes-unwritten (Ok u) s a h = absurd (not-true h)
-  where
-    not-true : false ≡ true → ⊥
-    not-true e = cc e
-finishes-unwritten (Err (Line n w)) s a h = absurd (not-true h)
-  where
-    not-true : false ≡ true → ⊥
-    not-true e = cc e
-finishes-unwritten (Err Read) s a h = absurd (not-true h)
-  where
-    not-true : false ≡ true → ⊥
-    not-true e = cc e
-finishes-unwritten (Err Write) s a h = (refl, refl, refl)
-finishes-unwritten (Err TooMuch) s a h = absurd (not-true h)
-  where
-    not-true : false ≡ true → ⊥
-    not-true e = cc e
+pub finishes-unwritten : (ended : Result Unit ReplayFault) (s : SessionState) (a : Output) → is_write_failure ended ≡ true
+    → FinishesUnless (is_write_failure ended) ended s s a a ended
+finishes-unwritten ended s a h = rw h (refl, refl, refl)
 
-pub finishes : (ended result : Result Unit ReplayFault) (old new : SessionState) (a b : Output) → is_write_failure ended ≡ false → Concludes ended old new a b result → FinishesLines ended old new a b result
-finishes (Ok u) result old new a b h k = k
-finishes (Err (Line n w)) result old new a b h k = k
-finishes (Err Read) result old new a b h k = k
-finishes (Err Write) result old new a b h k = absurd (not-false h)
-  where
-    not-false : true ≡ false → ⊥
-    not-false e = cc e
-finishes (Err TooMuch) result old new a b h k = k
+pub finishes : (ended result : Result Unit ReplayFault) (old new : SessionState) (a b : Output) → is_write_failure ended ≡ false → Concludes ended old new a b result
+    → FinishesUnless (is_write_failure ended) ended old new a b result
+finishes ended result old new a b h k = rw h k
 
 written-last : (v z : Result Unit WriteFailed) (a b c : Output) (text : List ℕ) → PrintsUnlessFailed (Ok tt) v a b text → PrintsUnlessFailed v z b c [] → OnOk z (c.held ≡ []) → WritesOut z a c text
 written-last (Ok u) z a b c text h k none = written-out z a b c text h k none
@@ -374,11 +347,11 @@ written-last (Err e) z a b c text h k none =
     subst (λ (r : Result Unit WriteFailed). WritesOut r a c text) (sym k.0) (subst (λ (o : Output). WritesOut (Err e) a o text) (sym k.1) (front a b text h))
 
 pub concludes : (ended result : Result Unit ReplayFault) (old new : SessionState) (v z : Result Unit WriteFailed) (a b c : Output)
-    → AwaitsAndPrints 0 (Ok tt) old new v a b → PrintsUnlessFailed v z b c [] → OnOk z (c.held ≡ []) → result ≡ ended_by z ended → Concludes ended old new a c result
+    → AndPrints (AwaitsUntil 0 old new) (Ok tt) v a b → PrintsUnlessFailed v z b c [] → OnOk z (c.held ≡ []) → result ≡ ended_by z ended → Concludes ended old new a c result
 concludes ended result old new v z a b c h k none is = record {
   text = h.text;
   written = z;
-  awaits = h.awaits;
+  awaits = h.does;
   writes = written-last v z a b c h.text h.prints k none;
   ends = is;
 }
@@ -396,8 +369,8 @@ status-done (outcomes.Refused fault) d is = sym (ap listed_status is)
 status-done outcomes.Lost d is = sym (ap listed_status is)
 status-done outcomes.Unanswered d is = sym (ap listed_status is)
 
-pub carried-out : (o : Outcome) (u : Unit {0}) → Ok u ≡ done_answered o → 0 ≡ outcome_status o
-carried-out o u is = sym (status-done o (Ok u) is)
+pub carried_out : (o : Outcome) (u : Unit {0}) → Ok u ≡ done_answered o → 0 ≡ outcome_status o
+carried_out o u is = sym (status-done o (Ok u) is)
 
-pub not-carried-out : (o : Outcome) (why : Trouble) → Err why ≡ done_answered o → trouble_status why ≡ outcome_status o
-not-carried-out o why is = sym (status-done o (Err why) is)
+pub not_carried_out : (o : Outcome) (why : Trouble) → Err why ≡ done_answered o → trouble_status why ≡ outcome_status o
+not_carried_out o why is = sym (status-done o (Err why) is)

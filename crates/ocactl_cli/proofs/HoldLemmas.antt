@@ -1,7 +1,7 @@
 -- Locks that are kept.
-use Rattle.std.proofs.Common.{◌≡◌, ◌⊎◌, Bool, true, inl, inr, drop, Result, Ok, Err, ℕ, ◌+◌, ◌<◌, List, [], ◌∷◌, ◌++◌, length, take, get_or, refl, sym, ap, ◌∙◌, subst, false, arith}
+use Rattle.std.proofs.Common.{◌≡◌, ◌⊎◌, Bool, true, inl, inr, drop, Result, Ok, Err, ℕ, ◌+◌, ◌<◌, ◌≤◌, List, [], ◌∷◌, ◌++◌, length, take, get_or, refl, sym, ap, ◌∙◌, subst, false, arith}
 use Rattle.std.specs.Prelude.{map, IfErr, IfOk, OnOk, ◌==◌}
-use Rattle.std.proofs.lemmas.List.{flat_map_more}
+use Rattle.std.proofs.lemmas.List.{flat_map_more, take_all}
 use Rattle.oca_types.specs.declared.words.Ono.{Ono}
 use Rattle.oca_script.specs.Ends.{Input, Output}
 use Rattle.oca_script.specs.Printing.{PrintsAll, WritesWhole}
@@ -13,7 +13,7 @@ use Rattle.oca_panel.specs.Panels.{PanelState}
 use Rattle.ocactl_cli.specs.declared.object_line.ObjectLine.{ObjectLine}
 use Rattle.ocactl_cli.specs.Objects.{LocksInTime, HoldsInTime, AsksAll, HoldsAll, HoldsPart, StopsHolding, StopsLocking, StopsUnlocking, reported_line, reported_lines, KeepsHeld, KeepsUntilEnd, LooksAlways, LooksWhileHeld, Locks, NoneAsked, OneAsked, max_severity, held_if, held_of, held_one}
 use Rattle.ocactl_cli.specs.PrivateObjects.{KeepsOrFails, ListsHeld, LocksEach, LocksNext, LocksNextOr, ReportsAll, ReportsOne, ReportsNext, ono_number}
-use Rattle.ocactl_cli.proofs.ObjectLemmas.{line-reported, map-split, map-take, reports-next, writes-none, writes-then}
+use Rattle.ocactl_cli.proofs.ObjectLemmas.{asked-until, line-reported, map-split, map-take, reports-next, writes-none, writes-then}
 
 -- one more was locked, and listed or not
 pub listed-or : (target : ℕ) (s t : PanelState) (status own : ℕ) (r : Result ℕ Failure) (held more : List Ono) (a b : Output)
@@ -25,24 +25,21 @@ listed-or target s t status own (Err failure) held more a b reports lists fails 
 
 pub locked-none : (held : List Ono) (s : PanelState) (a b : Output) → held ≡ [] → PrintsAll a b [] → b.held ≡ [] → LocksEach [] s s 0 held a b
 locked-none held s a b none h empty =
-    record { lines = []; locks = NoneAsked; worst = refl; writes = writes-none a b h empty; listed = ap (map ono_number) none }
+    record { asks = record { lines = []; turns = NoneAsked; worst = refl; writes = writes-none a b h empty }; listed = ap (map ono_number) none }
 
 locked-more : (targets : List ℕ) (target status now : ℕ) (held more : List Ono) (r s t : PanelState) (a b c : Output)
     → LocksEach targets r s status held a b → LocksNext target s t status now held more b c → LocksEach (targets ++ target ∷ []) r t now more a c
 locked-more targets target status now held more r s t a b c h k =
     let line : ObjectLine = k.reports.line in
     let next : ReportsNext (target, line) status now b c = line-reported target line status k.own now b c k.reports.writes k.lists.worst in
-    let all : ReportsAll (h.lines ++ (target, line) ∷ []) now a c =
-    reports-next h.lines (target, line) status now a b c (record { worst = h.worst; writes = h.writes }) next in
+    let all : ReportsAll (h.asks.lines ++ (target, line) ∷ []) now a c =
+    reports-next h.asks.lines (target, line) status now a b c (record { worst = h.asks.worst; writes = h.asks.writes }) next in
     record {
-      lines = h.lines ++ (target, line) ∷ [];
-      locks = OneAsked target line h.locks k.reports.asks;
-      worst = all.worst;
-      writes = all.writes;
+      asks = record { lines = h.asks.lines ++ (target, line) ∷ []; turns = OneAsked target line h.asks.turns k.reports.asks; worst = all.worst; writes = all.writes };
       listed =
           k.lists.listed ∙ ap (λ (ns : List ℕ). ns ++ held_if target k.own) h.listed
-          ∙ ap (λ (n : ℕ). held_of h.lines ++ held_if target n) k.reports.writes.0
-          ∙ flat_map_more held_one [] h.lines (target, line);
+          ∙ ap (λ (n : ℕ). held_of h.asks.lines ++ held_if target n) k.reports.writes.0
+          ∙ flat_map_more held_one [] h.asks.lines (target, line);
     }
 
 -- the first objects and the next one
@@ -52,6 +49,11 @@ pub locked-next : (onos : List Ono) (i : ℕ) (d : Ono) (status now : ℕ) (held
 locked-next onos i d status now held more r s t a b c h x y =
     subst (λ (ns : List ℕ). LocksEach ns r t now more a c) (sym (map-take ono_number onos i d h))
     (locked-more (map ono_number (take i onos)) (ono_number (get_or onos i d)) status now held more r s t a b c x y)
+
+-- all of them
+pub all-locked : (onos : List Ono) (i status : ℕ) (held : List Ono) (r s : PanelState) (a b : Output) → length onos ≤ i
+    → LocksEach (map ono_number (take i onos)) r s status held a b → LocksEach (map ono_number onos) r s status held a b
+all-locked onos i status held r s a b end x = subst (λ (os : List Ono). LocksEach (map ono_number os) r s status held a b) (take_all i onos end) x
 
 -- some locks were kept, and taken off
 pub kept-some : (held : List Ono) (before after status : ℕ) (r s t : PanelState) (i j : Input) (a b : Output) → 0 < length held → KeepsUntilEnd r s i j
@@ -76,13 +78,13 @@ looked-while (o ∷ held) ready input_of s t i j some looks = (t, looks)
 pub held-all : (targets : List ℕ) (held : List Ono) (before status : ℕ) (r s t : PanelState) (i j : Input) (a b c : Output)
     → LocksEach targets r s before held a b → KeepsHeld (map ono_number held) before s t status i j b c → HoldsAll targets r t status i j a c
 held-all targets held before status r s t i j a b c h k = record {
-  lines = h.lines;
+  lines = h.asks.lines;
   locked = s;
   between = b;
-  locks = h.locks;
-  writes = h.writes;
+  locks = h.asks.turns;
+  writes = h.asks.writes;
   keeps =
-      subst (λ (n : ℕ). KeepsHeld (held_of h.lines) n s t status i j b c) h.worst
+      subst (λ (n : ℕ). KeepsHeld (held_of h.asks.lines) n s t status i j b c) h.asks.worst
       (subst (λ (ns : List ℕ). KeepsHeld ns before s t status i j b c) h.listed k);
 }
 
@@ -93,20 +95,8 @@ pub locking-stopped : (onos : List Ono) (i : ℕ) (d : Ono) (status : ℕ) (why 
     → ((why ≡ Write) × (e : WriteFailed) × ReportsOne (Locks true) (ono_number (get_or onos i d)) s t (Err e) b c)
     ⊎ ((why ≡ NoMemory) × ReportsOne (Locks true) (ono_number (get_or onos i d)) s t (Ok 0) b c)
     → StopsLocking (map ono_number onos) why r t a c
-locking-stopped onos i d status why held r s t a b c h x (inl k) = inl (
-  k.0,
-  inr (record {
-    asked = map ono_number (take i onos);
-    rest = ono_number (get_or onos i d) ∷ map ono_number (drop (i + 1) onos);
-    lines = x.lines;
-    before = s;
-    between = b;
-    whole = map-split ono_number onos i d h;
-    turns = x.locks;
-    writes = x.writes;
-    stops = (k.2.line, k.2.asks, k.2.writes);
-  }),
-)
+locking-stopped onos i d status why held r s t a b c h x (inl k) =
+    inl (k.0, asked-until (Locks true) onos i d status k.1 (Err k.1) r s t a b c h x.asks k.2)
 locking-stopped onos i d status why held r s t a b c h x (inr k) =
     let one : ℕ = ono_number (get_or onos i d) in
     inr (
@@ -116,23 +106,23 @@ locking-stopped onos i d status why held r s t a b c h x (inr k) =
         last = one;
         line = k.1.line;
         rest = map ono_number (drop (i + 1) onos);
-        lines = x.lines;
+        lines = x.asks.lines;
         whole = map-split ono_number onos i d h;
-        locks = OneAsked one k.1.line x.locks k.1.asks;
+        locks = OneAsked one k.1.line x.asks.turns k.1.asks;
         locked = sym k.1.writes.0;
-        writes = subst (WritesWhole a c) (flat_map_more reported_line [] x.lines (one, k.1.line))
-            (writes-then a b c (reported_lines x.lines) (reported_line (one, k.1.line)) x.writes k.1.writes.1);
+        writes = subst (WritesWhole a c) (flat_map_more reported_line [] x.asks.lines (one, k.1.line))
+            (writes-then a b c (reported_lines x.asks.lines) (reported_line (one, k.1.line)) x.asks.writes k.1.writes.1);
       },
     )
 
 held-part : (targets : List ℕ) (held : List Ono) (before : ℕ) (r s t : PanelState) (i j : Input) (a b c : Output)
     → LocksEach targets r s before held a b → StopsUnlocking (map ono_number held) s t i j b c → HoldsPart targets r t i j a c
 held-part targets held before r s t i j a b c h k = record {
-  lines = h.lines;
+  lines = h.asks.lines;
   locked = s;
   between = b;
-  locks = h.locks;
-  writes = h.writes;
+  locks = h.asks.turns;
+  writes = h.asks.writes;
   stops = subst (λ (ns : List ℕ). StopsUnlocking ns s t i j b c) h.listed k;
 }
 

@@ -1,10 +1,13 @@
 -- Words that are matched with the program's command line.
-use Rattle.std.proofs.Common.{◌≡◌, ℕ, Bool, true, false, List, [], ◌∷◌, refl, sym, ap}
-use Rattle.std.specs.Prelude.{◌==◌, ◌||◌, if◌then◌else◌}
+use Rattle.std.proofs.Common.{◌≡◌, ℕ, Bool, true, false, List, [], ◌∷◌, Result, refl, sym, ap, subst}
+use Rattle.std.specs.Prelude.{◌==◌, ◌||◌, if◌then◌else◌, map}
 use Rattle.std.proofs.lemmas.Bool.{eqb-true}
+use Rattle.clap.specs.declared.error.Error.{Error}
+use Rattle.clap.specs.declared.parser.matches.ArgMatches.{ArgMatches}
 use Rattle.clap.specs.Faults.{is_simple_and_free}
+use Rattle.oca_program.specs.Commands.{MatchingGives}
 use Rattle.ocactl_cli.specs.CommandLine.{own_app}
-use Rattle.ocactl_cli.specs.Matching.{BlanksLoseNothing, takes_blank, without_blank}
+use Rattle.ocactl_cli.specs.Matching.{BlanksLoseNothing, is_set, matched_words, takes_blank, with_blank, without_blank}
 
 -- ---- the command line
 
@@ -12,6 +15,10 @@ use Rattle.ocactl_cli.specs.Matching.{BlanksLoseNothing, takes_blank, without_bl
 pub simple-own : is_simple_and_free own_app ≡ true
 unfolding own_app
 simple-own = refl
+
+pub matches-set : (words texts : List (List ℕ)) (r : Result ArgMatches Error) → is_set words ≡ true → texts ≡ map with_blank words → MatchingGives own_app texts r
+    → MatchingGives own_app (matched_words words) r
+matches-set words texts r set same h = rw set (subst (λ (ws : List (List ℕ)). MatchingGives own_app ws r) same h)
 
 -- ---- blanks
 
@@ -43,5 +50,5 @@ put-on : (t : Bool) (word : List ℕ) → takes_blank word ≡ t → without_bla
 put-on true word h = refl
 put-on false word h = kept word h
 
-pub blanks-lose-nothing : BlanksLoseNothing
-blanks-lose-nothing word = put-on (takes_blank word) word refl
+pub blanks_lose_nothing : BlanksLoseNothing
+blanks_lose_nothing word = put-on (takes_blank word) word refl

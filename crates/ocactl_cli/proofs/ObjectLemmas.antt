@@ -25,7 +25,7 @@ use Rattle.ocactl_cli.specs.declared.setting.Assignment.{Assignment}
 use Rattle.ocactl_cli.specs.declared.object_line.ObjectLine.{ObjectLine}
 use Rattle.ocactl_cli.specs.declared.object_line.ObjectLine.TheVariants as shown
 use Rattle.ocactl_cli.specs.Objects.{LocksInTime, OneLocked, FindsValue, FindsAll, NoneSought, OneFound, OneMissed, OnlyFinds, GivesUp, SetsNoneUnfound, SetCommand, BeginsSet, IsAwaited, NoneBegun, OneBegun, OneEnded, SetsAll, OneAsked, NoneAsked, AsksAll, AsksPart, assignment_in, reported_by, reported_line, reported_lines, max_severity, is_refused, last_refused, line_of_object, object_status}
-use Rattle.ocactl_cli.specs.PrivateObjects.{LocksOneBehind, ono_number, pair_of, assignment_of, set_command, set_in_flight, is_none, AddsFound, AllAwaited, EndsRefused, FindsAllTo, FindsOneTo, GivesUpFinding, MakesPlace, SetsEachTo, SetsFound, SetsOn, SetsOnlyIf, SoFar, ReportsAll, ReportsNext, ReportsOne, WaitsForFirst, WaitsOn, WritesLine}
+use Rattle.ocactl_cli.specs.PrivateObjects.{LocksOneBehind, ono_number, pair_of, assignment_of, set_command, set_in_flight, is_none, AddsFound, AllAwaited, EndsRefused, FindsAllTo, FindsOneTo, GivesUpFinding, MakesPlace, SetsEachTo, SetsOn, SetsOnlyIf, SoFar, ReportsAll, ReportsNext, ReportsOne, WaitsForFirst, WaitsOn, WritesLine}
 use Rattle.ocactl_cli.proofs.TurnLemmas.{in-turn}
 
 module _ {A B : Type 0} (f : A → B) where
@@ -391,23 +391,23 @@ gave-up-setting ahead pairs assignments [] before failure r s t b c finds e = (i
 gave-up-setting ahead pairs assignments (m ∷ missed) before failure r s t b c finds e = absurd (not-ok failure before e.0)
 
 as-found : (ahead : ℕ) (pairs : List (ℕ × List ℕ)) (assignments : List Assignment) (search : Search) (r s t : PanelState) (q : Result ℕ Failure) (a b c : Output)
-    → (h : FindsAllTo pairs assignments search r s a b) → SetsFound ahead (map assignment_of assignments) search s t q b c → SetsOnlyIf (is_none h.missed) ahead (map assignment_of assignments) search.status s t q b c
+    → (h : FindsAllTo pairs assignments search r s a b) → SetsOnlyIf search.all ahead (map assignment_of assignments) search.status s t q b c → SetsOnlyIf (is_none h.missed) ahead (map assignment_of assignments) search.status s t q b c
 as-found ahead pairs assignments search r s t q a b c h e = subst (λ (all : Bool). SetsOnlyIf all ahead (map assignment_of assignments) search.status s t q b c) h.all e
 
 pub sets-found : (ahead : ℕ) (pairs : List (ℕ × List ℕ)) (assignments : List Assignment) (search : Search) (r s t : PanelState) (q : Result ℕ Failure) (a b c : Output)
-    → FindsAllTo pairs assignments search r s a b → SetsFound ahead (map assignment_of assignments) search s t q b c → IfOk q (λ status. SetsAll ahead pairs r t status a c)
+    → FindsAllTo pairs assignments search r s a b → SetsOnlyIf search.all ahead (map assignment_of assignments) search.status s t q b c → IfOk q (λ status. SetsAll ahead pairs r t status a c)
 sets-found ahead pairs assignments search r s t (Ok status) a b c h e =
     found-all ahead pairs assignments h.missed search.status status r s t a b c h.finds h.reports (as-found ahead pairs assignments search r s t (Ok status) a b c h e)
 sets-found ahead pairs assignments search r s t (Err failure) a b c h e = tt
 
 pub sets-failed : (ahead : ℕ) (pairs : List (ℕ × List ℕ)) (assignments : List Assignment) (search : Search) (r s t : PanelState) (q : Result ℕ Failure) (a b c : Output)
-    → FindsAllTo pairs assignments search r s a b → SetsFound ahead (map assignment_of assignments) search s t q b c → IfErr q (λ failure. GivesUp failure c)
+    → FindsAllTo pairs assignments search r s a b → SetsOnlyIf search.all ahead (map assignment_of assignments) search.status s t q b c → IfErr q (λ failure. GivesUp failure c)
 sets-failed ahead pairs assignments search r s t (Ok status) a b c h e = tt
 sets-failed ahead pairs assignments search r s t (Err failure) a b c h e =
     (gave-up-setting ahead pairs assignments h.missed search.status failure r s t b c h.finds (as-found ahead pairs assignments search r s t (Err failure) a b c h e)).0
 
 pub sets-unset : (ahead : ℕ) (pairs : List (ℕ × List ℕ)) (assignments : List Assignment) (search : Search) (r s t : PanelState) (q : Result ℕ Failure) (a b c : Output)
-    → FindsAllTo pairs assignments search r s a b → SetsFound ahead (map assignment_of assignments) search s t q b c → OnErr q (SetsNoneUnfound pairs r t)
+    → FindsAllTo pairs assignments search r s a b → SetsOnlyIf search.all ahead (map assignment_of assignments) search.status s t q b c → OnErr q (SetsNoneUnfound pairs r t)
 sets-unset ahead pairs assignments search r s t (Ok status) a b c h e = tt
 sets-unset ahead pairs assignments search r s t (Err failure) a b c h e =
     (gave-up-setting ahead pairs assignments h.missed search.status failure r s t b c h.finds (as-found ahead pairs assignments search r s t (Err failure) a b c h e)).1

@@ -81,13 +81,10 @@ is_over s = (length s.in_flight == 0) && (not s.is_open || s.link.lost)
 
 -- How long input may be awaited before the next turn, in milliseconds: until this moment, an hour at most; and not at
 -- all where no descriptor is awaited beside it.
-abbrev pub time_until : Option ℕ → (now : ℕ) → ℕ
-time_until None now = 3600000
-time_until (Some due) now = min (due - now) 3600000
-
 abbrev pub time_beside : Option ℤ → Option ℕ → (now : ℕ) → ℕ
 time_beside None due now = 0
-time_beside (Some socket) due now = time_until due now
+time_beside (Some socket) None now = 3600000
+time_beside (Some socket) (Some due) now = min (due - now) 3600000
 
 -- the next moment at which the link has something to send is counted from the end's present one
 pub record IsWaitTime (s : SessionState) (time : ℕ) : Type 0 where
@@ -170,13 +167,8 @@ pub record TakesUp (old new : SessionState) : Type 0 where
   pub present : IsPresent now old.end_state
   pub at_hand : new ≡ record old { at_hand = Some (since old.at_hand now) }
 
--- How long a line may be at hand before its command is submitted, in milliseconds: as long as a command may take to
--- leave.
-abbrev pub longest_at_hand : ℕ
-longest_at_hand = longest_life
-
 -- The command got this handle and was sent at once, and is in flight behind the others. Its line was not at hand for
--- longer than it may be.
+-- longer than a command may take to leave.
 pub record SubmitsCommand (request : RequestFields) (handle : Handle) (old new : SessionState) : Type 0 where
   pub begins : Begins request (Ok handle) old.link new.link old.end_state new.end_state
   pub in_flight : new.in_flight ≡ old.in_flight ++ handle.0 ∷ []
@@ -186,14 +178,14 @@ pub record SubmitsCommand (request : RequestFields) (handle : Handle) (old new :
   pub is_open : new.is_open ≡ true
   pub now : ℕ
   pub present : IsPresent now old.end_state
-  pub in_time : now ≤ since old.at_hand now + longest_at_hand
+  pub in_time : now ≤ since old.at_hand now + longest_life
   pub at_hand : new.at_hand ≡ Some now
 
--- The line was at hand for longer than it may be: its command counts as one of a link that is lost.
+-- The line was at hand for longer than that: its command counts as one of a link that is lost.
 pub record ComesLate (fault : ControlFault) (s : SessionState) : Type 0 where
   pub now : ℕ
   pub present : IsPresent now s.end_state
-  pub late : since s.at_hand now + longest_at_hand < now
+  pub late : since s.at_hand now + longest_life < now
   pub counts : fault ≡ faults.Lost
 
 -- The command was refused, which changes nothing: its line came late, or the link took none.
@@ -236,15 +228,19 @@ pub record Concludes (ended : Result Unit ReplayFault) (old new : SessionState) 
   pub writes : WritesOut written was is text
   pub ends : result ≡ ended_by written ended
 
+-- a write failed
+abbrev pub is_write_failure : Result Unit ReplayFault → Bool
+is_write_failure (Ok u) = false
+is_write_failure (Err (Line number fault)) = false
+is_write_failure (Err Read) = false
+is_write_failure (Err Write) = true
+is_write_failure (Err TooMuch) = false
+
 -- the same, unless a write had failed
-abbrev pub FinishesLines : Result Unit ReplayFault → SessionState → SessionState → Output → Output
+abbrev pub FinishesUnless : (unwritten : Bool) → Result Unit ReplayFault → SessionState → SessionState → Output → Output
     → Result Unit ReplayFault → Type 0
-FinishesLines (Ok u) old new was is result = Concludes (Ok u) old new was is result
-FinishesLines (Err (Line number fault)) old new was is result =
-    Concludes (Err (Line number fault)) old new was is result
-FinishesLines (Err Read) old new was is result = Concludes (Err Read) old new was is result
-FinishesLines (Err Write) old new was is result = (result ≡ Err Write) × (new ≡ old) × (is ≡ was)
-FinishesLines (Err TooMuch) old new was is result = Concludes (Err TooMuch) old new was is result
+FinishesUnless true ended old new was is result = (result ≡ ended) × (new ≡ old) × (is ≡ was)
+FinishesUnless false ended old new was is result = Concludes ended old new was is result
 
 -- THE LINES of a source were served one after another, between them it was idled while input was awaited, and then all
 -- commands in flight were waited for. Where the bytes that the source had are known, these were its lines; whatever
@@ -256,4 +252,4 @@ pub record SendsLines (old new : SessionState) (was is : Output) (had has : Inpu
   pub ended : Result Unit ReplayFault
   pub known : IfSome had.remaining (λ given. Replays asked_line DoesLine AwaitsLine old middle was between ended given)
   pub reads : ReadsLines asked_line DoesLine AwaitsLine old middle was between had has ended
-  pub finishes : FinishesLines ended middle new between is result
+  pub finishes : FinishesUnless (is_write_failure ended) ended middle new between is result

@@ -64,12 +64,9 @@ abbrev pub FindsBy : ℕ → List ℕ → Class → Option Value → PanelState 
 FindsBy target word of None old new result = FindsName target word of old new result
 FindsBy target word of (Some v) old new result = (new ≡ old) × (result ≡ Ok v)
 
-abbrev pub FindsOf : ℕ → List ℕ → Class → PanelState → PanelState → Result Value Trouble → Type 0
-FindsOf target word of old new result =
-    (found : Option Value) × IsRead of word found × FindsBy target word of found old new result
-
 abbrev pub FindsFor : ℕ → List ℕ → Result Class Trouble → PanelState → PanelState → Result Value Trouble → Type 0
-FindsFor target word (Ok of) old new result = FindsOf target word of old new result
+FindsFor target word (Ok of) old new result =
+    (found : Option Value) × IsRead of word found × FindsBy target word of found old new result
 FindsFor target word (Err t) old new result = (new ≡ old) × (result ≡ Err t)
 
 -- THE VALUE THAT A WORD NAMES of an object: its class was asked first, and of a switch maybe the names of its
@@ -173,20 +170,16 @@ done_line line (Err why) = shown.Failed why
 
 -- ---- commands in time
 
--- How long after the command before it one may be submitted, in milliseconds: as long as a command may take to leave.
-abbrev pub longest_behind : ℕ
-longest_behind = longest_life
-
--- The present moment is at most so long after this one.
+-- The present moment is at most so long after this one, of the command before, as a command may take to leave.
 pub record IsSoonBehind (since now : ℕ) (s : PanelState) : Type 0 where
   pub present : IsPresent now s.end_state
-  pub in_time : now ≤ since + longest_behind
+  pub in_time : now ≤ since + longest_life
 
 -- The present moment is later than that.
 pub record IsLate (since : ℕ) (s : PanelState) : Type 0 where
   pub now : ℕ
   pub present : IsPresent now s.end_state
-  pub late : since + longest_behind < now
+  pub late : since + longest_life < now
 
 -- A command came late behind this moment: nothing was submitted.
 abbrev pub LeavesOut : (since : ℕ) → PanelState → PanelState → Type 0
@@ -366,19 +359,12 @@ abbrev pub named : ℕ → Result (List ℕ) Trouble → ObjectLine
 named n (Ok name) = shown.Position n name
 named n (Err why) = shown.Value (values.Switch n)
 
--- Of a position of a switch its name was asked, which is shown too.
-abbrev pub ShowsPosition : ℕ → ℕ → PanelState → PanelState → ObjectLine → Type 0
-ShowsPosition n target old new line =
+-- A value is shown; of a position of a switch its name was asked, which is shown too.
+abbrev pub ShowsRead : Result Value Trouble → ℕ → PanelState → PanelState → ObjectLine → Type 0
+ShowsRead (Ok (values.Switch n)) target old new line =
     (name : Result (List ℕ) Trouble) × Reads target class.Switch (requests.GetPositionName n) text_answered old new name
     × (line ≡ named n name)
-
--- A value is shown.
-abbrev pub ShowsValue : Value → ℕ → PanelState → PanelState → ObjectLine → Type 0
-ShowsValue (values.Switch n) target old new line = ShowsPosition n target old new line
-ShowsValue value target old new line = (new ≡ old) × (line ≡ shown.Value value)
-
-abbrev pub ShowsRead : Result Value Trouble → ℕ → PanelState → PanelState → ObjectLine → Type 0
-ShowsRead (Ok value) target old new line = ShowsValue value target old new line
+ShowsRead (Ok value) target old new line = (new ≡ old) × (line ≡ shown.Value value)
 ShowsRead (Err why) target old new line = (new ≡ old) × (line ≡ shown.Failed why)
 
 -- Of an object its value was read, and is shown.
@@ -462,58 +448,46 @@ LooksAtInput ended had has =
     ((ended ≡ false) × (has ≡ had))
     ⊎ ((read : Result ℕ ReadFailed) × ReadsOnce read had has × (ended ≡ ends_input read))
 
--- So many turns were taken, each of which the link went on from, and before each the input had not ended.
-pub data KeepsOn : (turns : ℕ) (old new : PanelState) (had has : Input) → Type 0 where
-  KeptNoTurn : {s : PanelState} {i : Input} → KeepsOn 0 s s i i
-  KeptOneTurn : {n : ℕ} {r s t : PanelState} {i j k : Input} → KeepsOn n r s i j → LooksAtInput false j k
+-- So many turns were taken, each of which the link went on from, and before each there was a look at the input, which had
+-- not ended.
+pub data KeepsOn {I : Type 0} (Looks : (ended : Bool) → I → I → Type 0) : (turns : ℕ) (old new : PanelState) (had has : I)
+    → Type 0 where
+  KeptNoTurn : {s : PanelState} {i : I} → KeepsOn Looks 0 s s i i
+  KeptOneTurn : {n : ℕ} {r s t : PanelState} {i j k : I} → KeepsOn Looks n r s i j → Looks false j k
       → TurnsOnce s t true
-      → KeepsOn (n + 1) r t i k
+      → KeepsOn Looks (n + 1) r t i k
 
 -- no more turns were taken: the input had ended, or the link did not go on from a turn, or there were as many turns as
 -- a number of 64 bits counts
-abbrev pub StopsKeeping : (turns : ℕ) → PanelState → PanelState → Input → Input → Type 0
-StopsKeeping n s t i j =
-    ((t ≡ s) × LooksAtInput true i j)
-    ⊎ ((LooksAtInput false i j × TurnsOnce s t false) ⊎ ((n ≡ last_u64) × (t ≡ s) × (j ≡ i)))
+abbrev pub StopsKeeping : {I : Type 0} → (Bool → I → I → Type 0) → (turns : ℕ) → PanelState → PanelState → I → I → Type 0
+StopsKeeping Looks n s t i j =
+    ((t ≡ s) × Looks true i j)
+    ⊎ ((Looks false i j × TurnsOnce s t false) ⊎ ((n ≡ last_u64) × (t ≡ s) × (j ≡ i)))
 
--- THE LINK WAS DRIVEN until the input ended.
-pub record KeepsUntilEnd (old new : PanelState) (had has : Input) : Type 0 where
+-- the link was driven until the input, which was looked at before each turn, ended
+pub record KeepsLooking {I : Type 0} (Looks : Bool → I → I → Type 0) (old new : PanelState) (had has : I) : Type 0 where
   pub turns : ℕ
   pub last : PanelState
-  pub left : Input
-  pub keeps : KeepsOn turns old last had left
-  pub stops : StopsKeeping turns last new left has
+  pub left : I
+  pub keeps : KeepsOn Looks turns old last had left
+  pub stops : StopsKeeping Looks turns last new left has
+
+-- THE LINK WAS DRIVEN until the input ended.
+abbrev pub KeepsUntilEnd : PanelState → PanelState → Input → Input → Type 0
+KeepsUntilEnd old new had has = KeepsLooking LooksAtInput old new had has
 
 -- the input was read, unless it was not ready
 abbrev pub ReadsWhereReady : (ready ended : Bool) → Input → Input → Type 0
 ReadsWhereReady ready ended had has =
     (ready ≡ false) ⊎ ((read : Result ℕ ReadFailed) × ReadsOnce read had has × (ended ≡ ends_input read))
 
--- So many turns were taken, and before each a reader looked at the input: where a read does not wait it was read, and
--- it had not ended.
-pub data LooksOn {R : Type 0} (ready : R → Bool) (input_of : R → Input)
-    : (turns : ℕ) (old new : PanelState) (had has : R) → Type 0 where
-  LookedNever : {s : PanelState} {i : R} → LooksOn ready input_of 0 s s i i
-  LookedBefore : {n : ℕ} {r s t : PanelState} {i j k : R} → LooksOn ready input_of n r s i j
-      → ReadsWhereReady (ready k) false (input_of j) (input_of k) → TurnsOnce s t true
-      → LooksOn ready input_of (n + 1) r t i k
+-- A reader looked at the input: where a read does not wait it was read; and whether it has ended.
+abbrev pub LooksWhereReady : {R : Type 0} → (R → Bool) → (R → Input) → (ended : Bool) → R → R → Type 0
+LooksWhereReady ready input_of ended had has = ReadsWhereReady (ready has) ended (input_of had) (input_of has)
 
--- there was one more look at the input, with which it was over or behind which the link did not go on from a turn; or
--- there were as many turns as a number of 64 bits counts
-abbrev pub StopsLooking : {R : Type 0} → (R → Bool) → (R → Input) → (turns : ℕ) → PanelState → PanelState → R → R → Type 0
-StopsLooking ready input_of n s t i j =
-    ((t ≡ s) × ReadsWhereReady (ready j) true (input_of i) (input_of j))
-    ⊎ ((ReadsWhereReady (ready j) false (input_of i) (input_of j) × TurnsOnce s t false)
-    ⊎ ((n ≡ last_u64) × (t ≡ s) × (j ≡ i)))
-
--- THE INPUT WAS LOOKED AT before each turn in which the link was driven.
-pub record LooksAlways {R : Type 0} (ready : R → Bool) (input_of : R → Input) (old new : PanelState)
-    (had has : R) : Type 0 where
-  pub turns : ℕ
-  pub last : PanelState
-  pub left : R
-  pub looks : LooksOn ready input_of turns old last had left
-  pub stops : StopsLooking ready input_of turns last new left has
+-- THE INPUT WAS LOOKED AT by a reader before each turn in which the link was driven.
+abbrev pub LooksAlways : {R : Type 0} → (R → Bool) → (R → Input) → PanelState → PanelState → R → R → Type 0
+LooksAlways ready input_of old new had has = KeepsLooking (LooksWhereReady ready input_of) old new had has
 
 -- while any were held
 abbrev pub LooksWhileHeld : {R : Type 0} → List ℕ → (R → Bool) → (R → Input) → PanelState → R → R → Type 0

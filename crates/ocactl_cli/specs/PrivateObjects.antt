@@ -1,5 +1,5 @@
 -- For private contracts: objects and values as the program has them, and what is done for one of several.
-use Rattle.std.specs.Prelude.{◌≡◌, ◌⊎◌, ◌<◌, ◌≤◌, ℕ, Bool, true, false, List, [], ◌∷◌, ◌++◌, length, map, Some, Result}
+use Rattle.std.specs.Prelude.{◌≡◌, ◌⊎◌, ◌<◌, ◌≤◌, ℕ, Bool, true, false, List, [], ◌∷◌, ◌++◌, length, map, Result}
 use Rattle.std.specs.Prelude.{Ok, Err}
 use Rattle.oca_types.specs.declared.words.Ono.{Ono}
 use Rattle.oca_script.specs.declared.fault.WriteFailed.{WriteFailed}
@@ -20,12 +20,11 @@ use Rattle.ocactl_cli.specs.declared.objects.Search.{Search}
 use Rattle.ocactl_cli.specs.declared.setting.Assignment.{Assignment}
 use Rattle.ocactl_cli.specs.declared.object_line.ObjectLine.{ObjectLine}
 use Rattle.ocactl_cli.specs.declared.object_line.ObjectLine.TheVariants as shown
-use Rattle.ocactl_cli.specs.Matching.{without_blank}
-use Rattle.ocactl_cli.specs.Objects.{InTurn, KeepsHeld, StopsUnlocking, Locks, held_if, held_of}
+use Rattle.ocactl_cli.specs.Objects.{AsksAll, KeepsHeld, StopsUnlocking, Locks, held_if, held_of}
 use Rattle.ocactl_cli.specs.Objects.{LocksBehind}
 use Rattle.ocactl_cli.specs.Objects.{FindsValue, FindsAll, OnlyFinds, GivesUp, SetCommand, SetsUpTo, SetsEach}
 use Rattle.ocactl_cli.specs.Objects.{done_line, reported_line, reported_lines, most_severe, max_severity}
-use Rattle.ocactl_cli.specs.Objects.{last_refused, line_of_object, parsed_ono, object_status}
+use Rattle.ocactl_cli.specs.Objects.{last_refused, line_of_object, object_status}
 
 abbrev pub pair_of : Pair → ℕ × List ℕ
 pair_of p = (p.ono.0, p.word)
@@ -43,12 +42,6 @@ set_command w returned = record { target = w.ono.0; value = w.value; returned = 
 -- one that is in flight under this handle
 abbrev pub set_in_flight : ℕ × Assignment → SetCommand
 set_in_flight command = set_command command.1 (Ok (record { 0 = command.0 }))
-
--- one more pair was listed, as two words say it
-pub record AddsPair (first second : List ℕ) (old new : List Pair) : Type 0 where
-  pub ono : ℕ
-  pub parsed : parsed_ono first ≡ Some ono
-  pub adds : map pair_of new ≡ map pair_of old ++ (ono, without_blank second) ∷ []
 
 -- a line was written, and this is its status; or a write failed
 abbrev pub WritesLine : (status : ℕ) (line : List ℕ) → Result ℕ WriteFailed → Output → Output → Type 0
@@ -93,23 +86,18 @@ pub record FindsAllTo (pairs : List (ℕ × List ℕ)) (assignments : List Assig
 abbrev pub GivesUpFinding : List (ℕ × List ℕ) → Failure → PanelState → PanelState → Output → Type 0
 GivesUpFinding pairs failure old new is = GivesUp failure is × OnlyFinds pairs old new
 
--- what was found is behind what was found before, or memory was refused
-abbrev pub AddsAssignment : ℕ × Value → List Assignment → Search → List Assignment → Result Search Failure → Type 0
-AddsAssignment assignment assignments search more (Ok now) =
-    (map assignment_of more ≡ map assignment_of assignments ++ assignment ∷ []) × (now ≡ search)
-AddsAssignment assignment assignments search more (Err failure) = failure.fault ≡ NoMemory
-
--- the line of what was not found is written, and there is not a value for each then; or the sink failed
-abbrev pub ReportsMissing : ℕ × ObjectLine → Search → Result Search Failure → Output → Output → Type 0
-ReportsMissing missed search (Ok now) was is = (now.all ≡ false) × ReportsNext missed search.status now.status was is
-ReportsMissing missed search (Err failure) was is = (failure.fault ≡ Write) × (is.failed ≡ true)
-
+-- what was found is behind what was found before, or memory was refused; the line of what was not found is written, and
+-- there is not a value for each then, or the sink failed
 abbrev pub AddsFound : Result Value Trouble → ℕ → List Assignment → Search → List Assignment → Result Search Failure
     → Output → Output → Type 0
-AddsFound (Ok v) target assignments search more result was is =
-    AddsAssignment (target, v) assignments search more result × (is ≡ was)
-AddsFound (Err why) target assignments search more result was is =
-    ReportsMissing (target, shown.Failed why) search result was is × (more ≡ assignments)
+AddsFound (Ok v) target assignments search more (Ok now) was is =
+    ((map assignment_of more ≡ map assignment_of assignments ++ (target, v) ∷ []) × (now ≡ search)) × (is ≡ was)
+AddsFound (Ok v) target assignments search more (Err failure) was is = (failure.fault ≡ NoMemory) × (is ≡ was)
+AddsFound (Err why) target assignments search more (Ok now) was is =
+    ((now.all ≡ false) × ReportsNext (target, shown.Failed why) search.status now.status was is)
+    × (more ≡ assignments)
+AddsFound (Err why) target assignments search more (Err failure) was is =
+    ((failure.fault ≡ Write) × (is.failed ≡ true)) × (more ≡ assignments)
 
 pub record FindsOneTo (pair : ℕ × List ℕ) (assignments : List Assignment) (search : Search) (old : PanelState)
     (more : List Assignment) (result : Result Search Failure) (new : PanelState) (was is : Output) : Type 0 where
@@ -193,21 +181,13 @@ SetsOnlyIf true ahead assignments before old new (Ok status) was is = SetsEachTo
 SetsOnlyIf true ahead assignments before old new (Err failure) was is = (failure.fault ≡ Write) × (is.failed ≡ true)
 SetsOnlyIf false ahead assignments before old new result was is = (result ≡ Ok before) × (new ≡ old) × (is ≡ was)
 
-abbrev pub SetsFound : ℕ → List (ℕ × Value) → Search → PanelState → PanelState → Result ℕ Failure → Output → Output
-    → Type 0
-SetsFound ahead assignments search old new result was is =
-    SetsOnlyIf search.all ahead assignments search.status old new result was is
-
 -- ---- locks that are kept
 
 -- each of these objects was locked, and those that are locked are listed
 pub record LocksEach (targets : List ℕ) (old new : PanelState) (status : ℕ) (held : List Ono)
     (was is : Output) : Type 0 where
-  pub lines : List (ℕ × ObjectLine)
-  pub locks : InTurn (Locks true) targets lines old new
-  pub worst : status ≡ most_severe lines
-  pub writes : WritesWhole was is (reported_lines lines)
-  pub listed : map ono_number held ≡ held_of lines
+  pub asks : AsksAll (Locks true) targets old new status was is
+  pub listed : map ono_number held ≡ held_of asks.lines
 
 -- one more was listed where its status is 0
 pub record ListsHeld (target own status now : ℕ) (held more : List Ono) : Type 0 where

@@ -67,21 +67,17 @@ pub record ReplaysScript (linking : Linking) (ended : Result ℕ RunFault) (had 
 
 -- ---- one command
 
--- It was asked over a new link and this end, for as many turns as were given, and its outcome was written. Nothing else
--- was sent: the end is as that left it.
-pub record AsksOver (reach : Reach) (first : ℕ) (sending : Sending) (before behind : EndState)
-    (sent : Result ℕ WriteFailed) (was is : Output) : Type 0 where
-  pub after : LinkState
-  pub asks : AsksOnce (sending_fields sending).command sending.turns (link_for reach first 0) after before behind sent
-      was is
-
--- The status is that of its outcome, by a first handle of the clock's where none is given.
+-- It was asked over a new link and this end, for as many turns as were given, by a first handle of the clock's where
+-- none is given, and its outcome was written; the status is that of its outcome. Nothing else was sent: the end is as
+-- that left it.
 pub record SendsOne (reach : Reach) (sending : Sending) (before behind : EndState) (ended : Result ℕ RunFault)
     (was is : Output) : Type 0 where
   pub own : OwnPort
   pub by_clock : IsPortByClock own
+  pub after : LinkState
   pub sent : Result ℕ WriteFailed
-  pub asks : AsksOver reach own.first_handle.0 sending before behind sent was is
+  pub asks : AsksOnce (sending_fields sending).command sending.turns (link_for reach own.first_handle.0 0) after before
+      behind sent was is
   pub ends : ended ≡ ended_by_send sent
 
 -- over a socket that was bound at one address, the one that was given where one was, and at the port that was given or
@@ -171,10 +167,6 @@ abbrev pub HoldsObjects : List ℕ → PanelState → PanelState → Result ℕ 
 HoldsObjects targets old new (Ok status) had has was is = HoldsAll targets old new status had has was is
 HoldsObjects targets old new (Err why) had has was is = StopsHolding targets why old new had has was is
 
--- all were printed as a tree
-abbrev pub PrintsObjects : PanelState → PanelState → Result ℕ RunFault → Output → Output → Type 0
-PrintsObjects old new ended was is = IsDone (λ status. PrintsTree old new status was is) ended is
-
 -- A TASK was done over a panel. All but the keeping of locks leaves standard input as it is.
 abbrev pub DoesTask : Task → PanelState → PanelState → Result ℕ RunFault → Input → Input → Output → Output → Type 0
 DoesTask (task.Get onos) old new ended had has was is =
@@ -187,7 +179,8 @@ DoesTask (task.Hold onos) old new ended had has was is =
     HoldsObjects (map ono_number onos.items) old new ended had has was is
 DoesTask (task.Unlock onos) old new ended had has was is =
     AsksEach (Locks false) (map ono_number onos.items) old new ended was is × (has ≡ had)
-DoesTask task.Tree old new ended had has was is = PrintsObjects old new ended was is × (has ≡ had)
+DoesTask task.Tree old new ended had has was is =
+    IsDone (λ status. PrintsTree old new status was is) ended is × (has ≡ had)
 
 -- The same, and behind it the device was asked at most whether it is there; then the end was so.
 pub record DoesThenNotes (what : Task) (device : Peer) (old : PanelState) (behind : EndState) (ended : Result ℕ RunFault)
@@ -237,20 +230,13 @@ pub record DoesAsAsked (name : List ℕ) (options : ArgMatches) (ended : Result 
   pub asks : OptionsAsk name options asked
   pub does : DoesRequest asked ended had has was is
 
--- nothing was read or written, since the words ask for nothing, or there was no memory
-abbrev pub Refused : Result ℕ RunFault → Input → Input → Output → Output → Type 0
-Refused ended had has was is = (why : RunFault) × IsRefusal why × Stops why ended had has was is
-
+-- or nothing was read or written, since the words ask for nothing, or there was no memory
 abbrev pub DoesByOptions : List ℕ → ArgMatches → Result ℕ RunFault → Input → Input → Output → Output → Type 0
 DoesByOptions name options ended had has was is =
-    DoesAsAsked name options ended had has was is ⊎ Refused ended had has was is
+    DoesAsAsked name options ended had has was is ⊎ ((why : RunFault) × IsRefusal why × Stops why ended had has was is)
 
--- These words were matched with the program's own command line, and what that gave decides what was done.
-abbrev pub RunsWords : List (List ℕ) → (status : ℕ) → (had has : Input) → (was is before after : Output) → Type 0
-RunsWords words status had has was is before after =
-    RunsOn own_app DoesByOptions words status had has was is before after
-
--- THE PROGRAM'S RUN on these words. A negative number among those of `set` is matched behind a blank.
+-- THE PROGRAM'S RUN on these words: they were matched with the program's own command line, and what that gave decides
+-- what was done. A negative number among the words of `set` is matched behind a blank.
 abbrev pub RunsProgram : List (List ℕ) → (status : ℕ) → (had has : Input) → (was is before after : Output) → Type 0
 RunsProgram words status had has was is before after =
-    RunsWords (matched_words words) status had has was is before after
+    RunsOn own_app DoesByOptions (matched_words words) status had has was is before after

@@ -14,18 +14,14 @@ use Rattle.oca_program.specs.Options.{given, read_as, read_or, read_if, sized, h
 use Rattle.ocactl_cli.specs.declared.words.Linking.{Linking}
 use Rattle.ocactl_cli.specs.declared.words.Reach.{Reach}
 use Rattle.ocactl_cli.specs.declared.words.Sending.{Sending}
-use Rattle.ocactl_cli.specs.declared.words.Handling.{Handling}
 use Rattle.ocactl_cli.specs.Objects.{parsed_ono}
 use Rattle.ocactl_cli.specs.Matching.{without_blank}
 
 -- ---- the link
 
 -- a span: 1 to 32 in at most 3 digits, 16 unless given
-abbrev pub span_of : List ℕ → Option ℕ
-span_of text = then_in (number_of 3 255 text) (sized 32)
-
 abbrev pub span_in : ArgMatches → Option ℕ
-span_in words = read_or 16 span_of (given words (codes "span"))
+span_in words = then_in (read_or 16 (number_of 3 255) (given words (codes "span"))) (sized 32)
 
 pub record LinkingFields : Type 0 where
   pub device : Peer
@@ -52,9 +48,6 @@ linking_in words =
 abbrev pub own_address : Peer → ℕ
 own_address device = if device.ip / 16777216 == 127 then 2130706433 else 0
 
-abbrev pub host_in : ArgMatches → Option Peer
-host_in words = read_as host_of (given words (codes "device"))
-
 -- the local port and the first handle, where they are given
 abbrev pub port_in : ArgMatches → Option (Option ℕ)
 port_in words = read_if (number_of 5 65535) (given words (codes "port"))
@@ -75,7 +68,7 @@ reach_fields r =
 
 unfoldable pub reach_in : ArgMatches → Option ReachFields
 reach_in words =
-    then_in (host_in words) (λ device.
+    then_in (read_as host_of (given words (codes "device"))) (λ device.
     then_in (read_or (own_address device) own_of (given words (codes "ip"))) (λ ip.
     then_in (port_in words) (λ port.
     then_in (given_handle_in words) (λ first_handle.
@@ -130,26 +123,9 @@ sending_in words =
 
 -- ---- several commands, and objects
 
--- how many set commands may be in flight, how many times 50 ms a command waits for its answer, and how the device is
--- reached
-pub record HandlingFields : Type 0 where
-  pub reach : ReachFields
-  pub turns : ℕ
-  pub ahead : ℕ
-
-abbrev pub handling_fields : Handling → HandlingFields
-handling_fields h = record { reach = reach_fields h.reach; turns = h.turns; ahead = span_size h.ahead }
-
 -- 200 turns unless given
 abbrev pub given_turns : ArgMatches → Option ℕ
 given_turns words = read_or 200 (number_of 10 4294967295) (given words (codes "turns"))
-
-unfoldable pub handling_in : ArgMatches → Option HandlingFields
-handling_in words =
-    then_in (reach_in words) (λ reach.
-    then_in (given_turns words) (λ turns.
-    then_in (ahead_in reach.span words) (λ ahead.
-    Some (record { reach = reach; turns = turns; ahead = ahead }))))
 
 -- the words behind the options, none where there are none
 abbrev pub or_none : Option (List (List ℕ)) → List (List ℕ)

@@ -1,8 +1,7 @@
 //! The commands of the program and their options, as `clap` has them.
-ghost use Rattle.std.specs.Prelude.{◌≡◌, [], ◌∷◌, ◌++◌, IfOk, map};
-ghost use Rattle.oca_program.specs.Commands.{TakesApp, command_fields, row_fields};
-ghost use Rattle.ocactl_cli.specs.CommandLine.{hold_row, objects_rows, own_app, own_commands, replay_rows, run_rows};
-ghost use Rattle.ocactl_cli.specs.CommandLine.{send_rows, set_rows, words_row};
+ghost use Rattle.std.specs.Prelude.{◌≡◌, IfOk, map};
+ghost use Rattle.oca_program.specs.Commands.{TakesApp, command_fields};
+ghost use Rattle.ocactl_cli.specs.CommandLine.{own_app, own_commands};
 
 use clap::Command;
 use oca_program::form::{NUMBER_8, NUMBER_16, NUMBER_32};
@@ -268,116 +267,66 @@ pub fn options_of(name: &str) -> &'static [OptionRow] {
 fn rows() -> [CommandRow; 8]
     ensures { map command_fields result ≡ own_commands }
 {
-    let of_objects = objects_options();
     [
         CommandRow {
             name: "tree",
             about: "Prints the objects of a device",
             example: TREE_EXAMPLE,
-            options: tree_options(),
+            options: &[DEVICE, SPAN, FIRST_HANDLE, IP, TURNS, PORT],
         },
         CommandRow {
             name: "get",
             about: "Prints the values of objects of a device",
             example: GET_EXAMPLE,
-            options: of_objects,
+            options: &[DEVICE, SPAN, FIRST_HANDLE, IP, TURNS, PORT, OBJECTS],
         },
         CommandRow {
             name: "set",
             about: "Sets objects of a device",
             example: SET_EXAMPLE,
-            options: set_options(),
+            options: &[DEVICE, SPAN, FIRST_HANDLE, IP, TURNS, PORT, AHEAD, VALUES],
         },
         CommandRow {
             name: "lock",
             about: "Locks objects of a device",
             example: LOCK_EXAMPLE,
-            options: lock_options(),
+            options: &[DEVICE, SPAN, FIRST_HANDLE, IP, TURNS, PORT, HOLD, OBJECTS],
         },
         CommandRow {
             name: "unlock",
             about: "Releases the locks of objects of a device",
             example: UNLOCK_EXAMPLE,
-            options: of_objects,
+            options: &[DEVICE, SPAN, FIRST_HANDLE, IP, TURNS, PORT, OBJECTS],
         },
         CommandRow {
             name: "replay",
             about: "Runs a controller's link over a script on standard input, without a network",
             example: REPLAY_EXAMPLE,
-            options: replay_options(),
+            options: &[REPLAY_DEVICE, SPAN, OWN_FIRST_HANDLE],
         },
         CommandRow {
             name: "send",
             about: "Sends a command to a device and prints its answer: status, ParamCount, parameters",
             example: SEND_EXAMPLE,
-            options: send_options(),
+            options: &[
+                DEVICE,
+                SPAN,
+                FIRST_HANDLE,
+                IP,
+                TARGET,
+                LEVEL,
+                INDEX,
+                COUNT,
+                PARAMS,
+                SEND_TURNS,
+                SEND_PORT,
+            ],
         },
         CommandRow {
             name: "run",
             about: "Sends the commands on standard input, and prints the answer to each in the order of their lines",
             example: RUN_EXAMPLE,
-            options: run_options(),
+            options: &[DEVICE, SPAN, FIRST_HANDLE, IP, AHEAD, RUN_PORT],
         },
     ]
-}
-
-/// The options of `tree`.
-fn tree_options() -> &'static [OptionRow]
-    ensures { map row_fields result.now ≡ objects_rows }
-{
-    &[DEVICE, SPAN, FIRST_HANDLE, IP, TURNS, PORT]
-}
-
-/// The options of `get` and `unlock`.
-fn objects_options() -> &'static [OptionRow]
-    ensures { map row_fields result.now ≡ objects_rows ++ words_row ∷ [] }
-{
-    &[DEVICE, SPAN, FIRST_HANDLE, IP, TURNS, PORT, OBJECTS]
-}
-
-/// The options of `set`.
-fn set_options() -> &'static [OptionRow]
-    ensures { map row_fields result.now ≡ set_rows ++ words_row ∷ [] }
-{
-    &[DEVICE, SPAN, FIRST_HANDLE, IP, TURNS, PORT, AHEAD, VALUES]
-}
-
-/// The options of `lock`.
-fn lock_options() -> &'static [OptionRow]
-    ensures { map row_fields result.now ≡ objects_rows ++ hold_row ∷ words_row ∷ [] }
-{
-    &[DEVICE, SPAN, FIRST_HANDLE, IP, TURNS, PORT, HOLD, OBJECTS]
-}
-
-/// The options of `replay`.
-fn replay_options() -> &'static [OptionRow]
-    ensures { map row_fields result.now ≡ replay_rows }
-{
-    &[REPLAY_DEVICE, SPAN, OWN_FIRST_HANDLE]
-}
-
-/// The options of `send`.
-fn send_options() -> &'static [OptionRow]
-    ensures { map row_fields result.now ≡ send_rows }
-{
-    &[
-        DEVICE,
-        SPAN,
-        FIRST_HANDLE,
-        IP,
-        TARGET,
-        LEVEL,
-        INDEX,
-        COUNT,
-        PARAMS,
-        SEND_TURNS,
-        SEND_PORT,
-    ]
-}
-
-/// The options of `run`.
-fn run_options() -> &'static [OptionRow]
-    ensures { map row_fields result.now ≡ run_rows }
-{
-    &[DEVICE, SPAN, FIRST_HANDLE, IP, AHEAD, RUN_PORT]
 }

@@ -6,9 +6,9 @@ ghost use Rattle.oca_script.specs.Fields.{fields};
 ghost use Rattle.oca_script.specs.Printing.{Prints};
 ghost use Rattle.oca_types.specs.Peers.{request_of};
 ghost use Rattle.ocactl_cli.specs.Requests.{LineAsked, asked_line, is_wait as wait_line};
-ghost use Rattle.ocactl_cli.specs.Exchanges.{AwaitsLine, FirstIsOpen, NoneInFlight, DoesLine, SendsLines, outcome_line};
-ghost use Rattle.ocactl_cli.specs.PrivateExchanges.{AwaitsAndPrints, IdlesAndPrints, SendsAndPrints, DoesLineAndPrints};
-ghost use Rattle.ocactl_cli.specs.PrivateExchanges.{DoesTakenUpAndPrints, PrintsUnlessFailed, is_write_failure};
+ghost use Rattle.ocactl_cli.specs.Exchanges.{AwaitsLine, AwaitsUntil, FirstIsOpen, Idles, NoneInFlight, DoesLine};
+ghost use Rattle.ocactl_cli.specs.Exchanges.{SendsLines, is_write_failure, outcome_line};
+ghost use Rattle.ocactl_cli.specs.PrivateExchanges.{AndPrints, PrintsUnlessFailed, SendsOrRefuses};
 ghost use Rattle.ocactl_cli.specs.PrivateExchanges.{line_in, line_asked};
 
 use super::exchange::print_outcome;
@@ -113,20 +113,9 @@ fn serve<E: End, W: Sink>(
     asked: Asked<'_>,
     printer: &mut Printer<W>,
 ) -> Result<(), WriteFailed>
-    ensures { DoesLineAndPrints session.old (line_in asked.entry) session.new result printer.old printer.new }
+    ensures { AndPrints (DoesLine session.old (line_in asked.entry) session.new) (ok tt) result printer.old printer.new }
 {
     session.take_up();
-    serve_taken_up(session, asked, printer)
-}
-
-/// Does what a line asks for that was taken up.
-fn serve_taken_up<E: End, W: Sink>(
-    session: &mut Session<E>,
-    asked: Asked<'_>,
-    printer: &mut Printer<W>,
-) -> Result<(), WriteFailed>
-    ensures { DoesTakenUpAndPrints session.old (line_in asked.entry) session.new result printer.old printer.new }
-{
     match asked {
         Asked::Send(request) => {
             let left = session.left();
@@ -145,7 +134,8 @@ fn send<E: End, W: Sink>(
     printer: &mut Printer<W>,
 ) -> Result<(), WriteFailed>
     requires { length session.old.in_flight < 32 }
-    ensures { SendsAndPrints (request_of request.entry) written session.old session.new result printer.old printer.new }
+    ensures { AndPrints (SendsOrRefuses (request_of request.entry) session.old session.new) written result printer.old
+        printer.new }
 {
     match session.submit(request) {
         Ok(_) => {
@@ -168,7 +158,7 @@ fn await_until<E: End, W: Sink>(
     written: Result<(), WriteFailed>,
     printer: &mut Printer<W>,
 ) -> Result<(), WriteFailed>
-    ensures { AwaitsAndPrints left written session.old session.new result printer.old printer.new }
+    ensures { AndPrints (AwaitsUntil left session.old session.new) written result printer.old printer.new }
 {
     let mut so_far = written;
     while session.in_flight() > left {
@@ -179,6 +169,7 @@ fn await_until<E: End, W: Sink>(
 }
 
 /// Prints a command's outcome, and flushes it, unless a write has failed.
+#[tactic(auto, using(crate::proofs::ExchangeLemmas::goes_flushed))]
 fn write_unless_failed<W: Sink>(
     outcome: &Outcome,
     written: Result<(), WriteFailed>,
@@ -186,19 +177,8 @@ fn write_unless_failed<W: Sink>(
 ) -> Result<(), WriteFailed>
     ensures { PrintsUnlessFailed written result printer.old printer.new (outcome_line outcome.now) }
 {
-    match written {
-        Ok(()) => write_outcome(outcome, printer),
-        Err(WriteFailed) => Err(WriteFailed),
-    }
-}
-
-/// Prints a command's outcome, and flushes it.
-fn write_outcome<W: Sink>(outcome: &Outcome, printer: &mut Printer<W>) -> Result<(), WriteFailed>
-    ensures prints { Prints result printer.old printer.new (outcome_line outcome.now) }
-    ensures empty { OnOk result (printer.new.held ≡ []) }
-{
-    print_outcome(outcome, printer)?;
-    printer.flush()
+    let printed = print_unless_failed(outcome, written, printer);
+    flush_unless_failed(printed, printer)
 }
 
 /// Takes turns while there is no input, and prints the outcomes of commands as soon as that is known: until a read does
@@ -209,7 +189,7 @@ fn idle<E: End, R: Source, W: Sink>(
     printer: &mut Printer<W>,
 ) -> Result<(), WriteFailed>
     requires { printer.old.held ≡ [] }
-    ensures idles { IdlesAndPrints session.old session.new result printer.old printer.new }
+    ensures idles { AndPrints (Idles session.old session.new) (ok tt) result printer.old printer.new }
     ensures empty { OnOk result (printer.new.held ≡ []) }
     ensures source { input (R.remaining reader.new) (R.failed reader.new)
         ≡ input (R.remaining reader.old) (R.failed reader.old) }
@@ -231,7 +211,7 @@ fn idle_once<E: End, R: Source, W: Sink>(
     reader: &mut R,
     printer: &mut Printer<W>,
 ) -> (bool, Result<(), WriteFailed>)
-    ensures idles { IdlesAndPrints session.old session.new result.1 printer.old printer.new }
+    ensures idles { AndPrints (Idles session.old session.new) (ok tt) result.1 printer.old printer.new }
     ensures empty { OnOk result.1 (printer.new.held ≡ []) }
     ensures source { input (R.remaining reader.new) (R.failed reader.new)
         ≡ input (R.remaining reader.old) (R.failed reader.old) }
@@ -258,7 +238,7 @@ fn print_settled<E: End, W: Sink>(
     session: &mut Session<E>,
     printer: &mut Printer<W>,
 ) -> Result<(), WriteFailed>
-    ensures idles { IdlesAndPrints session.old session.new result printer.old printer.new }
+    ensures idles { AndPrints (Idles session.old session.new) (ok tt) result printer.old printer.new }
     ensures empty { OnOk result (printer.new.held ≡ []) }
     ensures first { FirstIsOpen session.new.link session.new.in_flight }
 {
@@ -270,11 +250,12 @@ fn print_settled<E: End, W: Sink>(
 }
 
 /// Waits for all commands in flight, and prints the outcome of each.
+#[tactic(auto, using(crate::proofs::ExchangeLemmas::idles_rest))]
 fn await_rest<E: End, W: Sink>(
     session: &mut Session<E>,
     printer: &mut Printer<W>,
 ) -> Result<(), WriteFailed>
-    ensures idles { IdlesAndPrints session.old session.new result printer.old printer.new }
+    ensures idles { AndPrints (Idles session.old session.new) (ok tt) result printer.old printer.new }
     ensures empty { OnOk result (printer.new.held ≡ []) }
     ensures none { NoneInFlight session.new }
 {

@@ -14,6 +14,7 @@ use ocactl_replay::line::{Line, print_line};
 
 /// The exit status for the outcome of a command. 0 if it was answered with OK, 4 if it was answered with another
 /// status. 3 if no answer came, or the link is lost or refuses the command.
+#[tactic(auto, using(crate::proofs::ExchangeLemmas::carried_out, crate::proofs::ExchangeLemmas::not_carried_out))]
 pub fn outcome_status(outcome: &Outcome) -> u8
     ensures { result ≡ outcome_status outcome.now }
 {

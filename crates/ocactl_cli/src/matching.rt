@@ -2,10 +2,11 @@
 //!
 //! A value of `set` may be a negative number, which is an option for `clap`, as each word that begins with `-`. So the
 //! words of `set` are matched with a blank in front of each negative number, which is then taken off the value.
-ghost use Rattle.std.specs.Prelude.{◌≡◌, ◌++◌, ◌∷◌, [], IfOk, OnOk, map, string_bytes};
+ghost use Rattle.std.specs.Prelude.{◌≡◌, IfOk, map, string_bytes};
 ghost use Rattle.oca_program.specs.Commands.{MatchingGives};
 ghost use Rattle.ocactl_cli.specs.CommandLine.{own_app};
 ghost use Rattle.ocactl_cli.specs.Matching.{BlanksLoseNothing, is_set as is_for_set, takes_blank as may_take_blank};
+ghost use Rattle.ocactl_cli.specs.Matching.{matched_words};
 ghost use Rattle.ocactl_cli.specs.Matching.{with_blank as blank_before, without_blank as blank_taken};
 
 use super::command_line::program;
@@ -20,6 +21,21 @@ pub fn matches_of<'a, S: AsStr>(alloc: Global, words: &'a [S]) -> Result<ArgMatc
     ensures { MatchingGives own_app (map S.text words.entry.now) result }
 {
     program(alloc)?.try_get_matches_from(words)
+}
+
+/// Matches the words as they stand; those of the command `set` with their blanks, in copies that are put into `texts`.
+pub fn matched<'a, S: AsStr>(
+    alloc: Global,
+    words: &'a [S],
+    texts: &'a mut Vec<String>,
+) -> Result<ArgMatches<'a>, Error>
+    ensures { MatchingGives own_app (matched_words (map S.text words.entry.now)) result }
+{
+    if !is_set(words) {
+        return matches_of(alloc, words);
+    }
+    *texts = with_blanks(alloc, words)?;
+    matches_of(alloc, texts.as_slice())
 }
 
 /// Whether the words, the program's name first, are those of the command `set`.
@@ -39,21 +55,9 @@ pub fn with_blanks<S: AsStr>(alloc: Global, words: &[S]) -> Result<Vec<String>, 
 {
     let mut texts = Vec::new(alloc);
     for word in words {
-        add_word(alloc, word.as_str(), &mut texts)?;
+        texts.push(with_blank(alloc, word.as_str())?)?;
     }
     Ok(texts)
-}
-
-/// Adds a word to a list, with a blank in front of it where it takes one.
-fn add_word(alloc: Global, word: &str, texts: &mut Vec<String>) -> Result<(), AllocError>
-    ensures { OnOk result (map string_bytes texts.new.items
-        ≡ map string_bytes texts.old.items ++ blank_before word.now ∷ []) }
-{
-    let text = with_blank(alloc, word)?;
-    match texts.push(text) {
-        Ok(()) => Ok(()),
-        Err(_) => Err(AllocError),
-    }
 }
 
 /// A word, with a blank in front of it where it takes one.
@@ -61,18 +65,11 @@ fn with_blank(alloc: Global, word: &str) -> Result<String, AllocError>
     ensures { IfOk result (λ text. string_bytes text ≡ blank_before word.now) }
 {
     if takes_blank(word) {
-        return behind_blank(alloc, word);
+        let mut text = String::from_str(alloc, " ")?;
+        text.push_str(word)?;
+        return Ok(text);
     }
     String::from_str(alloc, word)
-}
-
-/// A word behind a blank.
-fn behind_blank(alloc: Global, word: &str) -> Result<String, AllocError>
-    ensures { IfOk result (λ text. string_bytes text ≡ 32 ∷ word.now) }
-{
-    let mut text = String::from_str(alloc, " ")?;
-    text.push_str(word)?;
-    Ok(text)
 }
 
 /// Whether a word begins with a blank, or with `-` and a digit.
@@ -100,6 +97,7 @@ pub fn without_blank(word: &str) -> &str
 
 /// Law: for each word, [`without_blank`] of what [`with_blanks`] makes of it is the word again. The function does
 /// nothing at run time.
+#[tactic(auto, using(crate::proofs::MatchLemmas::blanks_lose_nothing))]
 pub fn law_of_blanks()
     ensures { BlanksLoseNothing }
 {}

@@ -8,7 +8,7 @@ ghost use Rattle.oca_model.specs.Statuses.{status_name_of};
 ghost use Rattle.oca_model.specs.Words.{word_of};
 ghost use Rattle.ocactl_cli.specs.Objects.{or_number, refused_text, trouble_text, shown_text, line_of_object};
 ghost use Rattle.ocactl_cli.specs.Objects.{dotted_fields, class_text, place_text, trouble_status, object_status};
-ghost use Rattle.ocactl_cli.specs.Objects.{max_severity};
+ghost use Rattle.ocactl_cli.specs.Objects.{done_line, max_severity};
 ghost use Rattle.ocactl_cli.specs.PrivateObjects.{WritesLine};
 
 use oca_control::ControlFault;
@@ -259,5 +259,15 @@ pub fn max_severity(a: u8, b: u8) -> u8
         4
     } else {
         0
+    }
+}
+
+/// This line where it was done, else why it was not.
+pub fn done_line(done: Result<(), Trouble>, line: ObjectLine) -> ObjectLine
+    ensures { result ≡ done_line line done }
+{
+    match done {
+        Ok(()) => line,
+        Err(trouble) => ObjectLine::Failed(trouble),
     }
 }

@@ -1,16 +1,14 @@
 //! Several objects: read, set, locked, unlocked. Each has its line.
 ghost use Rattle.std.specs.Prelude.{◌≡◌, ℕ, [], map, IfOk, IfErr, OnOk, OnErr};
 ghost use Rattle.oca_types.specs.Sizes.{span_size};
-ghost use Rattle.ocactl_cli.specs.declared.object_line.ObjectLine.TheVariants.{Failed};
 ghost use Rattle.ocactl_cli.specs.Objects.{AsksAll, AsksLock, AsksPart, Gets, Locks, LocksBehind};
 ghost use Rattle.ocactl_cli.specs.Objects.{LocksInTime, SetsAll};
-ghost use Rattle.ocactl_cli.specs.Objects.{SetsNoneUnfound, GivesUp, ShowsValue, ShowsPosition, done_line};
-ghost use Rattle.ocactl_cli.specs.PrivateObjects.{ono_number, pair_of, assignment_of, AddsAssignment, FindsAllTo};
-ghost use Rattle.ocactl_cli.specs.PrivateObjects.{FindsOneTo, GivesUpFinding, LocksOneBehind, SetsFound};
-ghost use Rattle.ocactl_cli.specs.PrivateObjects.{ReportsMissing, ReportsOne};
+ghost use Rattle.ocactl_cli.specs.Objects.{SetsNoneUnfound, GivesUp};
+ghost use Rattle.ocactl_cli.specs.PrivateObjects.{ono_number, pair_of, assignment_of, FindsAllTo, FindsOneTo};
+ghost use Rattle.ocactl_cli.specs.PrivateObjects.{GivesUpFinding, LocksOneBehind, ReportsOne, SetsOnlyIf};
 
 use super::in_time::{is_in_time, present};
-use super::object_line::{ObjectLine, max_severity, report_object};
+use super::object_line::{ObjectLine, done_line, max_severity, report_object};
 use super::setting::{Assignment, set_assignments};
 use super::wanted::wanted;
 use oca_control::ControlFault;
@@ -61,33 +59,17 @@ fn get_one<E: End, W: Sink>(
     report_object(ono, &line, printer)
 }
 
-/// Reads an object: its value, or why there is none.
+/// Reads an object: its value, or why there is none; of a switch the position's name too, where the switch gives it.
 fn read<E: End>(panel: &mut Panel<E>, ono: Ono) -> ObjectLine
     ensures { Gets ono.0 panel.old panel.new result }
 {
     match panel.get(ono) {
-        Ok(value) => line_of_value(panel, ono, value),
+        Ok(Value::Switch(position)) => match panel.position_name(ono, position) {
+            Ok(name) => ObjectLine::Position(position, name),
+            Err(_) => ObjectLine::Value(Value::Switch(position)),
+        },
+        Ok(value) => ObjectLine::Value(value),
         Err(trouble) => ObjectLine::Failed(trouble),
-    }
-}
-
-/// What the line of an object with this value shows: of a switch the position's name too.
-fn line_of_value<E: End>(panel: &mut Panel<E>, ono: Ono, value: Value) -> ObjectLine
-    ensures { ShowsValue value ono.0 panel.old panel.new result }
-{
-    match value {
-        Value::Switch(position) => position_of(panel, ono, position),
-        other => ObjectLine::Value(other),
-    }
-}
-
-/// The position of a switch, with its name where the switch gives it.
-fn position_of<E: End>(panel: &mut Panel<E>, ono: Ono, position: u16) -> ObjectLine
-    ensures { ShowsPosition position ono.0 panel.old panel.new result }
-{
-    match panel.position_name(ono, position) {
-        Ok(name) => ObjectLine::Position(position, name),
-        Err(_) => ObjectLine::Value(Value::Switch(position)),
     }
 }
 
@@ -133,8 +115,8 @@ fn set_found<E: End, W: Sink>(
     printer: &mut Printer<W>,
 ) -> Result<u8, Failure>
     requires { printer.old.held ≡ [] }
-    ensures { SetsFound (span_size ahead) (map assignment_of assignments.now) search panel.old panel.new result
-        printer.old printer.new }
+    ensures { SetsOnlyIf search.all (span_size ahead) (map assignment_of assignments.now) search.status panel.old
+        panel.new result printer.old printer.new }
 {
     if search.all {
         Ok(set_assignments(panel, assignments, ahead, printer)?)
@@ -178,42 +160,22 @@ fn find_one<E: End, W: Sink>(
     ensures { FindsOneTo (pair_of pair.now) assignments.old.items search panel.old assignments.new.items result
         panel.new printer.old printer.new }
 {
-    let found = wanted(panel, pair.ono, pair.word.as_str());
-    match found {
-        Ok(value) => add_assignment(pair.ono, value, assignments, search),
-        Err(trouble) => report_missing(pair.ono, trouble, search, printer),
+    match wanted(panel, pair.ono, pair.word.as_str()) {
+        Ok(value) => match assignments.push(Assignment {
+            ono: pair.ono,
+            value,
+        }) {
+            Ok(()) => Ok(search),
+            Err(_) => Err(Failure::from(RunFault::NoMemory)),
+        },
+        Err(trouble) => {
+            let status = report_object(pair.ono, &ObjectLine::Failed(trouble), printer)?;
+            Ok(Search {
+                status: max_severity(search.status, status),
+                all: false,
+            })
+        }
     }
-}
-
-/// Lists a value that was found.
-fn add_assignment(
-    ono: Ono,
-    value: Value,
-    assignments: &mut Vec<Assignment>,
-    search: Search,
-) -> Result<Search, Failure>
-    ensures { AddsAssignment (ono.0, value) assignments.old.items search assignments.new.items result }
-{
-    match assignments.push(Assignment { ono, value }) {
-        Ok(()) => Ok(search),
-        Err(_) => Err(Failure::from(RunFault::NoMemory)),
-    }
-}
-
-/// Prints why there is no value for an object.
-fn report_missing<W: Sink>(
-    ono: Ono,
-    trouble: Trouble,
-    search: Search,
-    printer: &mut Printer<W>,
-) -> Result<Search, Failure>
-    ensures { ReportsMissing (ono.0, Failed trouble) search result printer.old printer.new }
-{
-    let status = report_object(ono, &ObjectLine::Failed(trouble), printer)?;
-    Ok(Search {
-        status: max_severity(search.status, status),
-        all: false,
-    })
 }
 
 /// Locks the objects `onos` one after another if `locks` is true, otherwise releases their locks, and prints the
@@ -288,15 +250,5 @@ fn lock<E: End>(panel: &mut Panel<E>, ono: Ono, locks: bool) -> ObjectLine
     } else {
         let done = panel.unlock(ono);
         done_line(done, ObjectLine::Unlocked)
-    }
-}
-
-/// This line where it was done, else why it was not.
-fn done_line(done: Result<(), Trouble>, line: ObjectLine) -> ObjectLine
-    ensures { result ≡ done_line line done }
-{
-    match done {
-        Ok(()) => line,
-        Err(trouble) => ObjectLine::Failed(trouble),
     }
 }

@@ -1,7 +1,7 @@
 //! Why no answer came, as far as it is known.
 ghost use Rattle.std.specs.Prelude.{◌≡◌, false};
 ghost use Rattle.ocactl_cli.specs.Beside.{AsksIfThere, IsSameBeside, TakesKeepAlives};
-ghost use Rattle.ocactl_cli.specs.Reasons.{reason_by, reason_unheard};
+ghost use Rattle.ocactl_cli.specs.Reasons.{reason_by};
 
 use super::bound_end::BoundEnd;
 use super::probe::is_there_where;
@@ -38,20 +38,11 @@ fn why(is_gone: bool, now: u64, heard: Option<u64>, is_there: bool, is_refused: 
     if is_gone {
         return Reason::AddressGone;
     }
-    match heard {
-        Some(moment) => Reason::HeardBefore(now.saturating_sub(moment)),
-        None => unheard(is_there, is_refused),
-    }
-}
-
-/// Why a device that was not heard gave no answer.
-fn unheard(is_there: bool, is_refused: bool) -> Reason
-    ensures { result ≡ reason_unheard is_there is_refused }
-{
-    match (is_there, is_refused) {
-        (true, _) => Reason::AnswersNone,
-        (false, true) => Reason::Refused,
-        (false, false) => Reason::NeverHeard,
+    match (heard, is_there, is_refused) {
+        (Some(moment), _, _) => Reason::HeardBefore(now.saturating_sub(moment)),
+        (None, true, _) => Reason::AnswersNone,
+        (None, false, true) => Reason::Refused,
+        (None, false, false) => Reason::NeverHeard,
     }
 }
 

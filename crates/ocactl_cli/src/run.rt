@@ -4,15 +4,13 @@ ghost use Rattle.ocactl_cli.specs.Beside.{AsksIfThere};
 ghost use Rattle.oca_net.specs.EndStates.{EndState};
 ghost use Rattle.oca_types.specs.Sizes.{span_size};
 ghost use Rattle.oca_script.specs.Ends.{input};
-ghost use Rattle.oca_program.specs.Endings.{DoesMatched, Obeys};
+ghost use Rattle.oca_program.specs.Endings.{DoesMatched};
 ghost use Rattle.oca_program.specs.Faults.{fault_in};
 ghost use Rattle.oca_net.specs.Sockets.{IsBoundFrom, new_socket};
-ghost use Rattle.oca_panel.specs.Panels.{PanelState};
 ghost use Rattle.ocactl_cli.specs.Objects.{Gets, Locks};
 ghost use Rattle.ocactl_cli.specs.PrivateObjects.{ono_number, pair_of};
-ghost use Rattle.ocactl_cli.specs.Matching.{with_blank};
-ghost use Rattle.ocactl_cli.specs.Runs.{RunsProgram, RunsWords, DoesByOptions, DoesRequest};
-ghost use Rattle.ocactl_cli.specs.Runs.{ReplaysScript, SendsAt, SendsOne, AsksOver, RunsAt, RunsFrom, DoesAt, DoesTask};
+ghost use Rattle.ocactl_cli.specs.Runs.{RunsProgram, DoesByOptions};
+ghost use Rattle.ocactl_cli.specs.Runs.{ReplaysScript, SendsAt, SendsOne, RunsAt, RunsFrom, DoesAt, DoesTask};
 ghost use Rattle.ocactl_cli.specs.Runs.{DoesThenNotes};
 ghost use Rattle.ocactl_cli.specs.Runs.{AsksEach, new_panel, new_session, time_of_turns};
 ghost use Rattle.ocactl_cli.specs.Sockets.{IsUnreached, link_begun, port_or_any};
@@ -21,7 +19,7 @@ use super::bound_end::BoundEnd;
 use super::commands::send_all;
 use super::exchange::ask_once;
 use super::holding::hold;
-use super::matching::{is_set, matches_of, with_blanks};
+use super::matching::matched;
 use super::objects::{get_all, lock_all, set_all};
 use super::reaching::{LinkStart, reached};
 use super::reason::{note_no_answer, note_unanswered};
@@ -33,11 +31,11 @@ use clap::{ArgMatches, Error};
 use oca_net::{End, UdpEnd};
 use oca_panel::{OwnPort, Panel, Watched};
 use oca_program::socket::bind_towards;
-use oca_program::{Failure, RunFault, helped, print_note, status_of};
-use oca_script::{Printer, Sink, Source, WriteFailed};
-use oca_types::{Handle, Ono, Span};
+use oca_program::{Failure, RunFault, helped, print_made_note, status_of};
+use oca_script::{Printer, Sink, Source};
+use oca_types::{Ono, Span};
 use ocactl_replay::replay::replay;
-use std::alloc::{AllocError, Global};
+use std::alloc::Global;
 use std::convert::AsStr;
 use std::net::Net;
 use std::os::fd::AsRawFd;
@@ -72,70 +70,14 @@ pub fn run<N: Net + Clock, S: AsStr, R: Source, W: Sink, F: Sink>(
         (input (R.remaining reader.old) (R.failed reader.old))
         (input (R.remaining reader.new) (R.failed reader.new)) printer.old printer.new faults.old faults.new }
 {
-    if is_set(words) {
-        return run_set(alloc, system, words, reader, printer, faults);
-    }
-    run_words(alloc, system, words, reader, printer, faults)
-}
-
-/// The same of words of `set`, in which a negative number is matched behind a blank.
-fn run_set<N: Net + Clock, S: AsStr, R: Source, W: Sink, F: Sink>(
-    alloc: Global,
-    system: &N,
-    words: &[S],
-    reader: &mut R,
-    printer: &mut Printer<W>,
-    faults: &mut Printer<F>,
-) -> u8
-    ensures { RunsWords (map with_blank (map S.text words.now)) result
-        (input (R.remaining reader.old) (R.failed reader.old))
-        (input (R.remaining reader.new) (R.failed reader.new)) printer.old printer.new faults.old faults.new }
-{
-    match with_blanks(alloc, words) {
-        Ok(texts) => run_words(alloc, system, texts.as_slice(), reader, printer, faults),
-        Err(refused) => run_refused(alloc, system, words, refused, reader, printer, faults),
-    }
-}
-
-/// The same where memory was refused for the words.
-fn run_refused<N: Net + Clock, S: AsStr, R: Source, W: Sink, F: Sink>(
-    alloc: Global,
-    system: &N,
-    words: &[S],
-    refused: AllocError,
-    reader: &mut R,
-    printer: &mut Printer<W>,
-    faults: &mut Printer<F>,
-) -> u8
-    ensures { RunsWords (map with_blank (map S.text words.now)) result
-        (input (R.remaining reader.old) (R.failed reader.old))
-        (input (R.remaining reader.new) (R.failed reader.new)) printer.old printer.new faults.old faults.new }
-{
-    let matched: Result<ArgMatches<'_>, Error> = Err(Error::from(refused));
-    let ended = matched_run(alloc, system, &matched, reader, printer, faults);
-    status_of(ended, faults)
-}
-
-/// Runs the program on words that are matched as they stand.
-fn run_words<N: Net + Clock, S: AsStr, R: Source, W: Sink, F: Sink>(
-    alloc: Global,
-    system: &N,
-    words: &[S],
-    reader: &mut R,
-    printer: &mut Printer<W>,
-    faults: &mut Printer<F>,
-) -> u8
-    ensures { RunsWords (map S.text words.now) result
-        (input (R.remaining reader.old) (R.failed reader.old))
-        (input (R.remaining reader.new) (R.failed reader.new)) printer.old printer.new faults.old faults.new }
-{
-    let matched = matches_of(alloc, words);
-    let ended = matched_run(alloc, system, &matched, reader, printer, faults);
+    let mut texts = Vec::new(alloc);
+    let matched = matched(alloc, words, &mut texts);
+    let ended = do_matched(alloc, system, &matched, reader, printer, faults);
     status_of(ended, faults)
 }
 
 /// Does what the words ask for, by what matching them gave.
-fn matched_run<N: Net + Clock, R: Source, W: Sink, F: Sink>(
+fn do_matched<N: Net + Clock, R: Source, W: Sink, F: Sink>(
     alloc: Global,
     system: &N,
     matched: &Result<ArgMatches<'_>, Error>,
@@ -148,27 +90,13 @@ fn matched_run<N: Net + Clock, R: Source, W: Sink, F: Sink>(
         (input (R.remaining reader.new) (R.failed reader.new)) printer.old printer.new faults.old faults.new }
 {
     match matched {
-        Ok(matches) => do_matched(alloc, system, matches, reader, printer, faults),
+        Ok(words) => match words.subcommand() {
+            Some((name, options)) => do_named(
+                alloc, system, name, options, reader, printer, faults,
+            ),
+            None => Err(Failure::from(RunFault::BadWords)),
+        },
         Err(error) => helped(alloc, error, printer),
-    }
-}
-
-/// Does what the command asks for that the matched words name, and returns the exit status.
-fn do_matched<N: Net + Clock, R: Source, W: Sink, F: Sink>(
-    alloc: Global,
-    system: &N,
-    words: &ArgMatches<'_>,
-    reader: &mut R,
-    printer: &mut Printer<W>,
-    faults: &mut Printer<F>,
-) -> Result<u8, Failure>
-    ensures { Obeys DoesByOptions words.now (fault_in result)
-        (input (R.remaining reader.old) (R.failed reader.old))
-        (input (R.remaining reader.new) (R.failed reader.new)) printer.old printer.new }
-{
-    match words.subcommand() {
-        Some((name, options)) => do_named(alloc, system, name, options, reader, printer, faults),
-        None => Err(Failure::from(RunFault::BadWords)),
     }
 }
 
@@ -187,36 +115,19 @@ fn do_named<N: Net + Clock, R: Source, W: Sink, F: Sink>(
         (input (R.remaining reader.new) (R.failed reader.new)) printer.old printer.new }
 {
     match asked_for(alloc, name, options) {
-        Ok(asked) => do_request(alloc, system, &asked, reader, printer, faults),
-        Err(failure) => Err(failure),
-    }
-}
-
-/// Does what is asked for, and returns the exit status.
-fn do_request<N: Net + Clock, R: Source, W: Sink, F: Sink>(
-    alloc: Global,
-    system: &N,
-    asked: &Asked,
-    reader: &mut R,
-    printer: &mut Printer<W>,
-    faults: &mut Printer<F>,
-) -> Result<u8, Failure>
-    ensures { DoesRequest asked.now (fault_in result)
-        (input (R.remaining reader.old) (R.failed reader.old))
-        (input (R.remaining reader.new) (R.failed reader.new)) printer.old printer.new }
-{
-    match asked {
-        Asked::Replay(linking) => replayed(*linking, reader, printer),
-        Asked::Send(reach, sending) => sent(alloc, system, *reach, sending, printer, faults),
-        Asked::Run(reach, ahead) => ran(alloc, system, *reach, *ahead, reader, printer, faults),
-        Asked::Do(reach, turns, task) => {
-            done(alloc, system, *reach, *turns, task, reader, printer, faults)
+        Ok(Asked::Replay(linking)) => replayed(linking, reader, printer),
+        Ok(Asked::Send(reach, sending)) => sent(alloc, system, reach, &sending, printer, faults),
+        Ok(Asked::Run(reach, ahead)) => ran(alloc, system, reach, ahead, reader, printer, faults),
+        Ok(Asked::Do(reach, turns, task)) => {
+            done(alloc, system, reach, turns, &task, reader, printer, faults)
         }
+        Err(failure) => Err(failure),
     }
 }
 
 /// Replays a script on a link.
 #[inline(never)]
+#[tactic(auto, using(crate::proofs::RunLemmas::replays_so))]
 fn replayed<R: Source, W: Sink>(
     linking: Linking,
     reader: &mut R,
@@ -244,9 +155,7 @@ fn note_span<F: Sink>(alloc: Global, span: Span, faults: &mut Printer<F>) {
         "--span {size}: the device needs a window of {window} commands or more; its default of 32 is enough for \
         a span of 16"
     );
-    if let Ok(note) = note {
-        print_note(note.as_str(), faults);
-    }
+    print_made_note(note, faults);
 }
 
 /// Sends a command over a socket, and prints its outcome.
@@ -286,7 +195,8 @@ fn bound_to_send<N: Net + Clock>(
     }
 }
 
-/// The same over an end.
+/// The same over an end, by a new link, whose first handle is one of the clock's unless the words give one.
+#[inline(never)]
 fn sent_over<N: Net + Clock, E: BoundEnd, W: Sink, F: Sink>(
     alloc: Global,
     system: &N,
@@ -300,7 +210,8 @@ fn sent_over<N: Net + Clock, E: BoundEnd, W: Sink, F: Sink>(
         (fault_in result) printer.old printer.new }
 {
     let own = OwnPort::now(system);
-    match send_one(reach, own.first_handle, end, sending, printer) {
+    let mut link = reach.link(own.first_handle.0, 0);
+    match ask_once(&mut link, end, sending.command(), sending.turns, printer) {
         Ok(status) => {
             note_unanswered(alloc, system, end, reach.device, status == 3, faults);
             Ok(status)
@@ -351,25 +262,14 @@ fn ran_from<N: Net + Clock, R: Source, W: Sink, F: Sink>(
         (fault_in result) (input (R.remaining reader.old) (R.failed reader.old))
         (input (R.remaining reader.new) (R.failed reader.new)) printer.old printer.new }
 {
-    let mut session = session_over(reach, start, end, ahead);
+    let socket = Some(end.end().as_raw_fd());
+    let link = reach.link(start.first.0, start.now);
+    let mut session = Session::new(link, end, ahead, socket);
     ran_over(alloc, system, &mut session, reach, reader, printer, faults)
 }
 
-/// A session over a socket, for which is waited beside input, with a new link that begins so.
-fn session_over<'a, N: Net + Clock>(
-    reach: Reach,
-    start: LinkStart,
-    end: Watched<UdpEnd<'a, N>>,
-    ahead: Span,
-) -> Session<Watched<UdpEnd<'a, N>>>
-    ensures { (socket : ℤ) ×
-        (result ≡ new_session (link_begun reach start) end.entry.end_state (span_size ahead) (Some socket)) }
-{
-    let socket = Some(end.end().as_raw_fd());
-    Session::new(reach.link(start.first.0, start.now), end, ahead, socket)
-}
-
 /// The same over a session.
+#[tactic(auto, using(crate::proofs::RunLemmas::runs_all, crate::proofs::RunLemmas::runs_part))]
 fn ran_over<N: Net, E: BoundEnd, R: Source, W: Sink, F: Sink>(
     alloc: Global,
     system: &N,
@@ -400,15 +300,8 @@ fn concluded<N: Net, E: BoundEnd, F: Sink>(
     ensures status { result ≡ if session.old.unanswered then 3 else 0 }
     ensures beside { AsksIfThere reach.device session.old.end_state session.new.end_state }
 {
-    let status = session_status(session.unanswered());
+    let unanswered = session.unanswered();
     session.note_silence(alloc, system, reach, faults);
-    status
-}
-
-/// The exit status of a session, by whether a command got no answer.
-fn session_status(unanswered: bool) -> u8
-    ensures { result ≡ if unanswered then 3 else 0 }
-{
     if unanswered { 3 } else { 0 }
 }
 
@@ -456,17 +349,11 @@ fn done_from<N: Net + Clock, R: Source, W: Sink, F: Sink>(
         (input (R.remaining reader.old) (R.failed reader.old))
         (input (R.remaining reader.new) (R.failed reader.new)) printer.old printer.new }
 {
-    let mut panel = panel_over(reach, start, end, turns);
+    let link = reach.link(start.first.0, start.now);
+    let mut panel = Panel::new(link, end, time_of(turns));
     done_over(
         alloc, system, &mut panel, reach, task, reader, printer, faults,
     )
-}
-
-/// A panel over an end with a new link that begins so, whose commands wait for so many times 50 ms.
-fn panel_over<E: End>(reach: Reach, start: LinkStart, end: E, turns: u32) -> Panel<E>
-    ensures { result ≡ new_panel (link_begun reach start) (E.state end) turns }
-{
-    Panel::new(reach.link(start.first.0, start.now), end, time_of(turns))
 }
 
 /// The time of so many waits of 50 ms, in milliseconds.
@@ -477,6 +364,7 @@ fn time_of(turns: u32) -> u32
 }
 
 /// The same over a panel.
+#[tactic(auto, using(crate::proofs::RunLemmas::notes_behind))]
 fn done_over<N: Net, E: BoundEnd, R: Source, W: Sink, F: Sink>(
     alloc: Global,
     system: &N,
@@ -492,17 +380,9 @@ fn done_over<N: Net, E: BoundEnd, R: Source, W: Sink, F: Sink>(
         (input (R.remaining reader.new) (R.failed reader.new)) printer.old printer.new }
 {
     let ended = do_task(alloc, panel, task, reader, printer);
-    let silent = panel.unanswered() && is_unanswered(&ended);
+    let silent = panel.unanswered() && matches!(ended, Ok(3));
     note_no_answer(alloc, system, panel, reach, silent, faults);
     ended
-}
-
-/// Whether a task ended since an answer did not come.
-fn is_unanswered(ended: &Result<u8, Failure>) -> bool {
-    match ended {
-        Ok(status) => *status == 3,
-        Err(_) => false,
-    }
 }
 
 /// Does something with the objects of a device, and prints it. Returns the exit status.
@@ -555,19 +435,4 @@ fn lock_each<E: End, W: Sink>(
         Ok(status) => Ok(status),
         Err(failed) => Err(Failure::from(failed)),
     }
-}
-
-/// Sends a command over a new link with this first handle unless the words give one, and prints its outcome.
-#[inline(never)]
-fn send_one<E: End, W: Sink>(
-    reach: Reach,
-    first: Handle,
-    end: &mut E,
-    sending: &Sending,
-    printer: &mut Printer<W>,
-) -> Result<u8, WriteFailed>
-    ensures { AsksOver reach first.0 sending.now (E.state end.old) (E.state end.new) result printer.old printer.new }
-{
-    let mut link = reach.link(first.0, 0);
-    ask_once(&mut link, end, sending.command(), sending.turns, printer)
 }

@@ -1,9 +1,9 @@
 //! A panel, and the commands in flight on it.
 ghost use Rattle.std.specs.Prelude.{◌≡◌, ◌==◌, ◌||◌, ◌<◌, ◌≤◌, ◌+◌, length, true, false};
 ghost use Rattle.oca_types.specs.Peers.{request_of};
+ghost use Rattle.oca_control.specs.Limits.{longest_life};
 ghost use Rattle.ocactl_cli.specs.Exchanges.{AwaitsFirst, IsFoundLostNow, IsWaitTime, NoneInFlight, TakesOne, TakesUp};
-ghost use Rattle.ocactl_cli.specs.Exchanges.{is_over, longest_at_hand, since};
-ghost use Rattle.ocactl_cli.specs.Exchanges.{time_beside, time_until};
+ghost use Rattle.ocactl_cli.specs.Exchanges.{is_over, since, time_beside};
 ghost use Rattle.ocactl_cli.specs.PrivateExchanges.{Submitted, TakesFirst};
 ghost use Rattle.ocactl_cli.specs.Beside.{AsksIfThere};
 
@@ -274,28 +274,20 @@ fn since(at_hand: Option<u64>, now: u64) -> u64
 /// Whether a line was at hand for longer than a command may take to leave: while the program is awake no answer is
 /// awaited for so long.
 fn comes_late(at_hand: Option<u64>, now: u64) -> bool
-    ensures late { result ≡ true → since at_hand now + longest_at_hand < now }
-    ensures in_time { result ≡ false → now ≤ since at_hand now + longest_at_hand }
+    ensures late { result ≡ true → since at_hand now + longest_life < now }
+    ensures in_time { result ≡ false → now ≤ since at_hand now + longest_life }
 {
     now.saturating_sub(since(at_hand, now)) > LONGEST_LIFE_MS
 }
 
-/// How long input may be awaited beside a descriptor, where there is one, until this moment.
+/// How many milliseconds input may be awaited beside a descriptor, where there is one, until the moment `due`: an hour at
+/// most.
 fn time_beside(socket: Option<RawFd>, due: Option<u64>, now: u64) -> u64
     ensures { result ≡ time_beside socket due now }
 {
-    match socket {
-        Some(_) => time_until(due, now),
-        None => 0,
-    }
-}
-
-/// How many milliseconds it is from now until the moment, an hour at most.
-fn time_until(moment: Option<u64>, now: u64) -> u64
-    ensures { result ≡ time_until moment now }
-{
-    match moment {
-        Some(due) => due.saturating_sub(now).min(LONGEST_WAIT_MS),
-        None => LONGEST_WAIT_MS,
+    match (socket, due) {
+        (None, _) => 0,
+        (Some(_), Some(due)) => due.saturating_sub(now).min(LONGEST_WAIT_MS),
+        (Some(_), None) => LONGEST_WAIT_MS,
     }
 }

@@ -1,15 +1,13 @@
 //! Set commands, as many in flight at once as may be.
 ghost use Rattle.std.specs.Prelude.{◌≡◌, ◌≤◌, ◌<◌, [], map, length, true, IfOk, OnOk, OnErr, Err};
 ghost use Rattle.oca_types.specs.Sizes.{span_size};
-ghost use Rattle.oca_panel.specs.Outcomes.{done_answered};
-ghost use Rattle.ocactl_cli.specs.declared.object_line.ObjectLine.TheVariants as shown;
-ghost use Rattle.ocactl_cli.specs.Objects.{BeginsSet, done_line};
+ghost use Rattle.ocactl_cli.specs.Objects.{BeginsSet};
 ghost use Rattle.ocactl_cli.specs.PrivateObjects.{assignment_of, reported_set, set_command, set_in_flight};
 ghost use Rattle.ocactl_cli.specs.PrivateObjects.{EndsRefused, MakesPlace};
 ghost use Rattle.ocactl_cli.specs.PrivateObjects.{ReportsNext, SetsEachTo, SetsOn, WaitsForFirst, WaitsOn};
 
 use super::in_time::{is_in_time, present};
-use super::object_line::{ObjectLine, max_severity, report_object};
+use super::object_line::{ObjectLine, done_line, max_severity, report_object};
 use oca_control::{ControlFault, Outcome};
 use oca_model::Value;
 use oca_net::End;
@@ -200,17 +198,7 @@ fn report_set<W: Sink>(
         printer.old printer.new) }
     ensures fails { OnErr result (printer.new.failed ≡ true) }
 {
-    let line = line_of_set(assignment.value, outcome);
+    let line = done_line(done_in(outcome), ObjectLine::Value(assignment.value));
     let own = report_object(assignment.ono, &line, printer)?;
     Ok(max_severity(status, own))
-}
-
-/// What the line of an object that was to be set shows: its value, or why it has not got it.
-fn line_of_set(value: Value, outcome: &Outcome) -> ObjectLine
-    ensures { result ≡ done_line (shown.Value value) (done_answered outcome.now) }
-{
-    match done_in(outcome) {
-        Ok(()) => ObjectLine::Value(value),
-        Err(trouble) => ObjectLine::Failed(trouble),
-    }
 }

@@ -1,14 +1,13 @@
 //! The commands for objects: what they take, and what their words say.
-ghost use Rattle.std.specs.Prelude.{◌≡◌, IfErr, IfOk, OnOk, Some, map};
+ghost use Rattle.std.specs.Prelude.{◌≡◌, IfErr, IfOk, Some, map};
 ghost use Rattle.std.specs.Option.{option_map};
 ghost use Rattle.oca_types.specs.Sizes.{span_size};
 ghost use Rattle.oca_program.specs.declared.fault.RunFault.TheVariants.{BadWords};
 ghost use Rattle.ocactl_cli.specs.Objects.{parsed_ono, is_locking};
 ghost use Rattle.ocactl_cli.specs.Matching.{without_blank as blank_taken};
-ghost use Rattle.ocactl_cli.specs.PrivateObjects.{AddsPair, pair_of as pair_fields};
+ghost use Rattle.ocactl_cli.specs.PrivateObjects.{pair_of as pair_fields};
 ghost use Rattle.ocactl_cli.specs.Words.{given_turns, hold_flag, parsed_pairs, AreNumbers};
-ghost use Rattle.ocactl_cli.specs.Asked.{is_object_command, AsksTask, IsRefusal, IsTaskWith, IsSetTask, IsOnosTask};
-ghost use Rattle.ocactl_cli.specs.Asked.{IsTaskOf};
+ghost use Rattle.ocactl_cli.specs.Asked.{is_object_command, AsksTask, IsRefusal, IsTask};
 
 use super::matching::without_blank;
 use super::objects::Pair;
@@ -57,10 +56,7 @@ pub fn is_task(name: &str) -> bool
 pub fn turns_of(words: &ArgMatches<'_>) -> Option<u32>
     ensures { result ≡ given_turns words.now }
 {
-    match number_or(words, "turns", 10, 4294967295, 200) {
-        Some(turns) => Some(turns as u32),
-        None => None,
-    }
+    Some(number_or(words, "turns", 10, 4294967295, 200)? as u32)
 }
 
 /// The task of the command `name`, which is `tree`, `get`, `set`, `lock` or `unlock`, with these matched words. `set`
@@ -79,14 +75,13 @@ pub fn task_of(
     if name == "tree" {
         return Ok(Task::Tree);
     }
-    let holds = holds(words);
     match words.get_strs("ONO") {
-        Some(given) => task_with(alloc, name, holds, given, ahead),
-        None => task_with(alloc, name, holds, &[], ahead),
+        Some(given) => task_with(alloc, name, holds(words), given, ahead),
+        None => task_with(alloc, name, holds(words), &[], ahead),
     }
 }
 
-/// What a command with these words behind its options asks for.
+/// The task of a command that is about objects, by the words behind its options.
 fn task_with(
     alloc: Global,
     name: &str,
@@ -94,42 +89,13 @@ fn task_with(
     given: &[&str],
     ahead: Span,
 ) -> Result<Task, Failure>
-    ensures asks { IfOk result (IsTaskWith name.now holds (map (λ w. w.now) given.now) (span_size ahead)) }
+    ensures asks { IfOk result (IsTask name.now holds (map (λ w. w.now) given.now) (span_size ahead)) }
     ensures refused { IfErr result (λ failure. IsRefusal failure.fault) }
 {
     if name == "set" {
-        return set_task(alloc, given, ahead);
+        return Ok(Task::Set(ahead, pairs_of(alloc, given)?));
     }
-    onos_task(alloc, name, holds, given)
-}
-
-/// To set objects, so many at once.
-fn set_task(alloc: Global, given: &[&str], ahead: Span) -> Result<Task, Failure>
-    ensures asks { IfOk result (IsSetTask (map (λ w. w.now) given.now) (span_size ahead)) }
-    ensures refused { IfErr result (λ failure. IsRefusal failure.fault) }
-{
-    match pairs_of(alloc, given) {
-        Ok(pairs) => Ok(Task::Set(ahead, pairs)),
-        Err(failure) => Err(failure),
-    }
-}
-
-/// To do something with each of some objects.
-fn onos_task(alloc: Global, name: &str, holds: bool, given: &[&str]) -> Result<Task, Failure>
-    ensures asks { IfOk result (IsOnosTask name.now holds (map (λ w. w.now) given.now)) }
-    ensures refused { IfErr result (λ failure. IsRefusal failure.fault) }
-{
-    match onos_of(alloc, given) {
-        Ok(onos) => onos_task_of(name, holds, onos),
-        Err(failure) => Err(failure),
-    }
-}
-
-/// What a command with this name does with these objects. Refusal: `BadWords` where there is none.
-fn onos_task_of(name: &str, holds: bool, onos: Vec<Ono>) -> Result<Task, Failure>
-    ensures asks { IfOk result (IsTaskOf name.now holds (map (λ o. o.0) onos.items)) }
-    ensures refused { IfErr result (λ failure. IsRefusal failure.fault) }
-{
+    let onos = onos_of(alloc, given)?;
     if name == "get" {
         return Ok(Task::Get(onos));
     }
@@ -159,10 +125,7 @@ fn holds(words: &ArgMatches<'_>) -> bool
 fn ono_of(word: &str) -> Option<Ono>
     ensures { option_map (λ ono. ono.0) result ≡ parsed_ono word.now }
 {
-    match number(word.as_bytes(), 10, 4294967295) {
-        Some(ono) => Some(Ono(ono as u32)),
-        None => None,
-    }
+    Some(Ono(number(word.as_bytes(), 10, 4294967295)? as u32))
 }
 
 /// The numbers of objects that words say: one a word, all of them. Refusals: `BadWords`, and `NoMemory`.
@@ -199,22 +162,12 @@ fn pairs_of(alloc: Global, words: &[&str]) -> Result<Vec<Pair>, Failure>
     let mut pairs = Vec::new(alloc);
     let mut rest = words;
     'pairs: while let [first, second, more @ ..] = rest {
-        add_pair(alloc, first, second, &mut pairs)?;
+        if pairs.push(pair_of(alloc, first, second)?).is_err() {
+            return Err(Failure::from(RunFault::NoMemory));
+        }
         rest = more;
     }
     Ok(pairs)
-}
-
-/// Lists the object and the word for its value that two words say.
-fn add_pair(alloc: Global, first: &str, second: &str, pairs: &mut Vec<Pair>) -> Result<(), Failure>
-    ensures adds { OnOk result (AddsPair first.now second.now pairs.old.items pairs.new.items) }
-    ensures refused { IfErr result (λ failure. IsRefusal failure.fault) }
-{
-    let pair = pair_of(alloc, first, second)?;
-    match pairs.push(pair) {
-        Ok(()) => Ok(()),
-        Err(_) => Err(Failure::from(RunFault::NoMemory)),
-    }
 }
 
 /// The object and the word for its value that two words say.

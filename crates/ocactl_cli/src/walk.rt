@@ -4,18 +4,18 @@ ghost use Rattle.oca_script.specs.Ends.{output};
 ghost use Rattle.oca_script.specs.Printing.{WritesOut};
 ghost use Rattle.oca_panel.specs.Walks.{begun_walk};
 ghost use Rattle.ocactl_cli.specs.Objects.{GivesUp};
-ghost use Rattle.ocactl_cli.specs.Trees.{PrintsTree, described_text, found_status, listed_status, unlisted_text};
+ghost use Rattle.ocactl_cli.specs.Trees.{PrintsTree, described_text, found_status};
 ghost use Rattle.ocactl_cli.specs.Trees.{visit_status, visit_text};
 ghost use Rattle.ocactl_cli.specs.PrivateObjects.{WritesLine};
-ghost use Rattle.ocactl_cli.specs.PrivateTrees.{ReportsFound, ReportsLeft, VisitsOne};
+ghost use Rattle.ocactl_cli.specs.PrivateTrees.{ReportsLeft, VisitsOne};
 ghost use Rattle.std.specs.Prelude.{codes};
 
 use super::object_line::{ObjectLine, max_severity, put_object, put_place, status_of};
 use oca_net::End;
-use oca_panel::{Description, Found, MOST_PLACES, Panel, Place, Trouble, Visit, Walk};
+use oca_panel::{Description, Found, MOST_PLACES, Panel, Place, Visit, Walk};
 use oca_program::{Failure, RunFault};
 use oca_script::{Printer, Sink, WriteFailed};
-use oca_types::{NoMemory, Ono};
+use oca_types::NoMemory;
 use std::alloc::Global;
 
 /// Room for the lines of a place.
@@ -70,25 +70,12 @@ fn visit_one<E: End, W: Sink>(
     ensures { VisitsOne status result walk.old panel.old printer.old walk.new panel.new printer.new }
 {
     match walk.next_place(panel) {
-        Ok(found) => report_found(found, status, printer),
-        Err(NoMemory) => Err(Failure::from(RunFault::NoMemory)),
-    }
-}
-
-/// Prints the lines of a place, where one was visited. Returns the exit status so far.
-fn report_found<W: Sink>(
-    found: Option<Visit>,
-    status: u8,
-    printer: &mut Printer<W>,
-) -> Result<Option<u8>, Failure>
-    ensures { ReportsFound found status result printer.old printer.new }
-{
-    match found {
-        Some(visit) => {
+        Ok(Some(visit)) => {
             let own = report_visit(&visit, printer)?;
             Ok(Some(max_severity(status, own)))
         }
-        None => Ok(None),
+        Ok(None) => Ok(None),
+        Err(NoMemory) => Err(Failure::from(RunFault::NoMemory)),
     }
 }
 
@@ -101,6 +88,7 @@ fn report_visit<W: Sink>(visit: &Visit, printer: &mut Printer<W>) -> Result<u8, 
 }
 
 /// Prints the lines of a place, and flushes them.
+#[tactic(auto, using(oca_script::proofs::PrintLemmas::writing))]
 fn write_visit<W: Sink>(visit: &Visit, printer: &mut Printer<W>) -> Result<(), WriteFailed>
     ensures { WritesOut result printer.old printer.new (visit_text visit.now) }
 {
@@ -115,10 +103,12 @@ fn put_visit<W: Sink>(visit: &Visit, printer: &mut Printer<W>)
     ensures { printer.new ≡ output printer.old.contents (printer.old.held ++ visit_text visit.now) printer.old.failed }
 {
     match &visit.found {
-        Found::Object(description) => put_description(visit.place, description, printer),
-        Found::Block(description, listed) => {
+        Found::Object(description) | Found::Block(description, Ok(())) => {
             put_description(visit.place, description, printer);
-            put_unlisted(visit.place.ono, listed, printer);
+        }
+        Found::Block(description, Err(trouble)) => {
+            put_description(visit.place, description, printer);
+            put_object(visit.place.ono, &ObjectLine::Failed(*trouble), printer);
         }
         Found::Undescribed(trouble) => {
             put_object(visit.place.ono, &ObjectLine::Failed(*trouble), printer);
@@ -143,36 +133,13 @@ fn put_description<W: Sink>(place: Place, description: &Description, printer: &m
     );
 }
 
-/// Holds why the members of a block are not listed, where they are not.
-fn put_unlisted<W: Sink>(ono: Ono, listed: &Result<(), Trouble>, printer: &mut Printer<W>)
-    requires { length printer.old.held + 700 ≤ 8192 }
-    ensures { printer.new ≡ output printer.old.contents (printer.old.held ++ unlisted_text ono.0 listed.now)
-        printer.old.failed }
-{
-    match listed {
-        Ok(()) => {}
-        Err(trouble) => put_object(ono, &ObjectLine::Failed(*trouble), printer),
-    }
-}
-
 /// The exit status for what was found.
 fn found_status(found: &Found) -> u8
     ensures { result ≡ found_status found.now }
 {
     match found {
-        Found::Object(_) | Found::Again => 0,
-        Found::Block(_, listed) => listed_status(listed),
-        Found::Undescribed(trouble) => status_of(*trouble),
-    }
-}
-
-/// The exit status for a block.
-fn listed_status(listed: &Result<(), Trouble>) -> u8
-    ensures { result ≡ listed_status listed.now }
-{
-    match listed {
-        Ok(()) => 0,
-        Err(trouble) => status_of(*trouble),
+        Found::Object(_) | Found::Again | Found::Block(_, Ok(())) => 0,
+        Found::Block(_, Err(trouble)) | Found::Undescribed(trouble) => status_of(*trouble),
     }
 }
 

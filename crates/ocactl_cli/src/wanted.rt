@@ -3,7 +3,7 @@ ghost use Rattle.std.specs.Prelude.{◌≡◌, ◌<◌, IfSome, length};
 ghost use Rattle.std.specs.List.{position};
 ghost use Rattle.std.specs.Str.{bytes_eq};
 ghost use Rattle.oca_script.specs.Escapes.{escaped};
-ghost use Rattle.ocactl_cli.specs.Objects.{FindsValue, FindsOf, FindsName, FindsPosition, found_position};
+ghost use Rattle.ocactl_cli.specs.Objects.{FindsValue, FindsName, FindsPosition, found_position};
 
 use oca_model::{Names, Value, value_from_word};
 use oca_net::End;
@@ -20,23 +20,11 @@ pub fn wanted<E: End>(panel: &mut Panel<E>, ono: Ono, word: &str) -> Result<Valu
     ensures { FindsValue ono.0 word.now panel.old panel.new result }
 {
     match panel.class(ono) {
-        Ok(class) => find_by(panel, ono, class, word),
+        Ok(class) => match value_from_word(class, word) {
+            Some(value) => Ok(value),
+            None => find_name(panel, ono, class, word),
+        },
         Err(trouble) => Err(trouble),
-    }
-}
-
-/// The value of an object of a class that a word names.
-fn find_by<E: End>(
-    panel: &mut Panel<E>,
-    ono: Ono,
-    class: Class,
-    word: &str,
-) -> Result<Value, Trouble>
-    ensures { FindsOf ono.0 word.now class panel.old panel.new result }
-{
-    match value_from_word(class, word) {
-        Some(value) => Ok(value),
-        None => find_name(panel, ono, class, word),
     }
 }
 

@@ -1,15 +1,15 @@
 //! The words of the command line.
-ghost use Rattle.std.specs.Prelude.{◌≡◌, ◌≤◌, IfErr, IfOk, IfSome};
+ghost use Rattle.std.specs.Prelude.{◌≡◌, IfErr, IfOk, IfSome};
 ghost use Rattle.std.specs.Option.{option_map};
 ghost use Rattle.oca_types.specs.Sizes.{span_size};
 ghost use Rattle.oca_control.specs.Links.{new_link};
 ghost use Rattle.oca_types.specs.Peers.{request_of};
 ghost use Rattle.oca_program.specs.declared.fault.RunFault.TheVariants.{BadWords};
 ghost use Rattle.ocactl_cli.specs.Reasons.{first_handle_for};
-ghost use Rattle.ocactl_cli.specs.Asked.{OptionsAsk, AsksSend, AsksRun, IsRefusal};
-ghost use Rattle.ocactl_cli.specs.Words.{array_items, span_of as parsed_span, span_in as span_given, linking_fields};
-ghost use Rattle.ocactl_cli.specs.Words.{first_handle_in, linking_in, host_in, own_address, port_in, given_handle_in};
-ghost use Rattle.ocactl_cli.specs.Words.{reach_fields, reach_in, ahead_in, handling_fields, handling_in};
+ghost use Rattle.ocactl_cli.specs.Asked.{OptionsAsk, IsRefusal};
+ghost use Rattle.ocactl_cli.specs.Words.{array_items, span_in as span_given, linking_fields};
+ghost use Rattle.ocactl_cli.specs.Words.{first_handle_in, linking_in, own_address, port_in, given_handle_in};
+ghost use Rattle.ocactl_cli.specs.Words.{reach_fields, reach_in, ahead_in};
 ghost use Rattle.ocactl_cli.specs.Words.{sending_fields, sending_in, params_of as parsed_params};
 ghost use Rattle.ocactl_cli.specs.Words.{params_in as params_given};
 
@@ -22,7 +22,7 @@ use oca_control::Link;
 use oca_program::form::check;
 use oca_program::options::{host_in, number_if, number_in, number_or, own_or, peer_in, text_of};
 use oca_program::{Failure, RunFault};
-use oca_script::field::{hex_bytes, number};
+use oca_script::field::hex_bytes;
 use oca_types::{
     Handle, LOOPBACK, MOST_COMMAND_PARAMETER_BYTES, MethodId, Ono, Peer, Request, Span,
 };
@@ -139,34 +139,14 @@ fn asked_in(name: &str, options: &ArgMatches<'_>) -> Option<Asked>
         return Some(Asked::Replay(linking_of(options)?));
     }
     if name == "send" {
-        let (reach, sending) = send_of(options)?;
-        return Some(Asked::Send(reach, sending));
+        let reach = reach_of(options)?;
+        return Some(Asked::Send(reach, sending_of(options)?));
     }
     if name == "run" {
-        let (reach, ahead) = run_of(options)?;
-        return Some(Asked::Run(reach, ahead));
+        let reach = reach_of(options)?;
+        return Some(Asked::Run(reach, ahead_of(options, reach.span)?));
     }
     None
-}
-
-/// What the options of `send` say.
-fn send_of(options: &ArgMatches<'_>) -> Option<(Reach, Sending)>
-    ensures { IfSome result (λ asked. AsksSend options.now asked.0 asked.1) }
-{
-    let reach = reach_of(options)?;
-    match sending_of(options) {
-        Some(sending) => Some((reach, sending)),
-        None => None,
-    }
-}
-
-/// What the options of `run` say.
-fn run_of(options: &ArgMatches<'_>) -> Option<(Reach, Span)>
-    ensures { IfSome result (λ asked. AsksRun options.now asked.0 (span_size asked.1)) }
-{
-    let reach = reach_of(options)?;
-    let ahead = ahead_of(options, reach.span)?;
-    Some((reach, ahead))
 }
 
 /// The note where each option has its form.
@@ -187,80 +167,35 @@ fn task_asked(alloc: Global, name: &str, options: &ArgMatches<'_>) -> Result<Ask
     ensures asks { IfOk result (OptionsAsk name.now options.now) }
     ensures refused { IfErr result (λ failure. IsRefusal failure.fault) }
 {
-    match handling_of(options) {
-        Some(handling) => task_by(alloc, name, options, handling),
-        None => Err(unread(alloc, name, options)),
-    }
-}
-
-/// What is to be done with objects, by a device that is reached so.
-fn task_by(
-    alloc: Global,
-    name: &str,
-    options: &ArgMatches<'_>,
-    handling: Handling,
-) -> Result<Asked, Failure>
-    requires { handling_in options.now ≡ Some (handling_fields handling) }
-    ensures asks { IfOk result (OptionsAsk name.now options.now) }
-    ensures refused { IfErr result (λ failure. IsRefusal failure.fault) }
-{
-    match task_of(alloc, name, options, handling.ahead) {
-        Ok(task) => Ok(Asked::Do(handling.reach, handling.turns, task)),
+    let Some(reach) = reach_of(options) else {
+        return Err(unread(alloc, name, options));
+    };
+    let Some(turns) = turns_of(options) else {
+        return Err(unread(alloc, name, options));
+    };
+    let Some(ahead) = ahead_of(options, reach.span) else {
+        return Err(unread(alloc, name, options));
+    };
+    match task_of(alloc, name, options, ahead) {
+        Ok(task) => Ok(Asked::Do(reach, turns, task)),
         Err(failure) => Err(failure),
     }
 }
 
-/// How objects are handled: where the device is, how many times 50 ms a command waits for its answer, and how many set
-/// commands are in flight at once.
-#[derive(Clone, Copy)]
-pub struct Handling {
-    pub reach: Reach,
-    pub turns: u32,
-    pub ahead: Span,
-}
-
-/// How objects are handled, by the options.
-#[tactic(auto, unfolding(crate::specs::Words::handling_in))]
-fn handling_of(options: &ArgMatches<'_>) -> Option<Handling>
-    ensures { option_map handling_fields result ≡ handling_in options.now }
-{
-    let reach = reach_of(options)?;
-    let turns = turns_of(options)?;
-    let ahead = ahead_of(options, reach.span)?;
-    Some(Handling {
-        reach,
-        turns,
-        ahead,
-    })
-}
-
-/// The span that a text says: 1 to 3 digits, 1 to 32.
+/// The span that the options ask for: 1 to 32 in 1 to 3 digits, 16 unless it is given.
 #[tactic(auto, using(oca_program::proofs::OptionLemmas::size_rules))]
-fn span_of(text: &[u8]) -> Option<Span>
-    ensures { option_map span_size result ≡ parsed_span text.now }
-{
-    let size = number(text, 3, 255)? as u8;
-    Span::new(size)
-}
-
-/// The span that the options ask for: of 16 commands unless it is given.
 fn span_in(words: &ArgMatches<'_>) -> Option<Span>
     ensures { option_map span_size result ≡ span_given words.now }
 {
-    match text_of(words, "span") {
-        Some(text) => span_of(text.as_bytes()),
-        None => Some(Span::default()),
-    }
+    let size = number_or(words, "span", 3, 255, 16)? as u8;
+    Span::new(size)
 }
 
 /// The first handle, which is to be given.
 fn first_handle_of(words: &ArgMatches<'_>) -> Option<u32>
     ensures { result ≡ first_handle_in words.now }
 {
-    match number_in(words, "first-handle", 10, 4294967295) {
-        Some(handle) => Some(handle as u32),
-        None => None,
-    }
+    Some(number_in(words, "first-handle", 10, 4294967295)? as u32)
 }
 
 /// The link that the options ask for.
@@ -276,13 +211,6 @@ fn linking_of(words: &ArgMatches<'_>) -> Option<Linking>
         first_handle,
         span,
     })
-}
-
-/// Where the device is that the options name.
-fn host_of(words: &ArgMatches<'_>) -> Option<Peer>
-    ensures { result ≡ host_in words.now }
-{
-    host_in(words, "device")
 }
 
 /// The address that a socket is bound to unless it is given; 0 stands for the one from which the system reaches the
@@ -324,7 +252,7 @@ fn handle_of(words: &ArgMatches<'_>) -> Option<Option<u32>>
 fn reach_of(words: &ArgMatches<'_>) -> Option<Reach>
     ensures { option_map reach_fields result ≡ reach_in words.now }
 {
-    let device = host_of(words)?;
+    let device = host_in(words, "device")?;
     let ip = own_or(words, "ip", address_for(device))?;
     let port = port_of(words)?;
     let first_handle = handle_of(words)?;
@@ -339,22 +267,15 @@ fn reach_of(words: &ArgMatches<'_>) -> Option<Reach>
 }
 
 /// How many commands may be in flight at once.
+#[tactic(auto, using(oca_program::proofs::OptionLemmas::size_rules))]
 fn ahead_of(words: &ArgMatches<'_>, span: Span) -> Option<Span>
     ensures { option_map span_size result ≡ ahead_in (span_size span) words.now }
 {
-    Span::new(ahead_within(words, span)? as u8)
-}
-
-/// How many commands may be in flight at once, as a number.
-fn ahead_within(words: &ArgMatches<'_>, span: Span) -> Option<usize>
-    ensures value { result ≡ ahead_in (span_size span) words.now }
-    ensures within { IfSome result (λ n. (1 ≤ n) × (n ≤ 32)) }
-{
     let ahead = number_or(words, "ahead", 3, 255, 1)?;
-    if 1 <= ahead && ahead <= u64::from(span.get()) {
-        return Some(ahead as usize);
+    if ahead > u64::from(span.get()) {
+        return None;
     }
-    None
+    Span::new(ahead as u8)
 }
 
 /// The command that the options ask to send.

@@ -3,8 +3,8 @@ use Rattle.oca_program.proofs.CommandLemmas.{command-named}
 use Rattle.ocactl_cli.proofs.run.do_matched.Goals as goal
 
 pub returns-in-Some : goal.returns-in-Some
-returns-in-Some g c = record {
+returns-in-Some g c = rw c.in-Ok.is (record {
   command = Some (c.in-Some.name.now, c.in-Some.options.now);
-  names = command-named c.args.words.now c.subcommand.result c.in-Some.name c.in-Some.options c.in-Some.is c.subcommand.ensures.name c.subcommand.ensures.rows;
+  names = command-named _ c.subcommand.result c.in-Some.name c.in-Some.options c.in-Some.is c.subcommand.ensures.name c.subcommand.ensures.rows;
   does = c.do_named.ensures;
-}
+})

@@ -3,7 +3,7 @@ use Rattle.ocactl_cli.proofs.run.ran_from.Goals as goal
 
 pub returns : goal.returns
 returns g c = (
-  c.session_over-session.ensures.0,
+  _,
   c.ran_over.new.session.end_state,
-  runs-from c.args.reach.device _ _ _ _ _ _ _ _ c.session_over-session.ensures.1 c.ran_over.ensures,
+  runs-from c.args.reach c.args.start c.link-link.result _ _ _ _ _ _ _ _ _ _ c.new-session.ensures c.link-link.ensures c.ran_over.ensures,
 )
