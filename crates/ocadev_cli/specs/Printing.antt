@@ -29,12 +29,8 @@ tree_text tree = flat_map (λ o. info_text (info_of o)) tree
 -- ---- a report
 
 -- words, each with its number behind it
-abbrev pub counted : {C : Type 0} → (C → List ℕ) → (C → ℕ) → List C → List ℕ
-counted word number counts = flat_map (λ c. word c ++ decimal (number c)) counts
-
--- the same of pairs
 abbrev pub pairs_text : List (List ℕ × ℕ) → List ℕ
-pairs_text pairs = counted (λ c. c.0) (λ c. c.1) pairs
+pairs_text pairs = flat_map (λ c. c.0 ++ decimal c.1) pairs
 
 -- a word and a number, where the number is not 0
 abbrev pub some_text : List ℕ → ℕ → List ℕ

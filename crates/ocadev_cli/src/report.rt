@@ -1,10 +1,11 @@
 //! What is printed of a run of `serve`.
 ghost use Rattle.std.specs.Prelude.{◌≡◌, ◌+◌, ◌++◌, ◌≤◌, decimal, length};
+ghost use Rattle.std.specs.List.{flat_map};
 ghost use Rattle.oca_types.specs.Addresses.{peer_text};
 ghost use Rattle.oca_script.specs.Ends.{output};
 ghost use Rattle.oca_script.specs.Printing.{Prints, WritesOut};
 ghost use Rattle.ocadev_cli.specs.Traces.{listening_text};
-ghost use Rattle.ocadev_cli.specs.Printing.{counted, counts_text, held_text, report_text, stats_text};
+ghost use Rattle.ocadev_cli.specs.Printing.{counts_text, held_text, report_text, stats_text};
 
 use oca_device::Report;
 use oca_script::{Printer, Sink, WriteFailed};
@@ -90,7 +91,7 @@ pub fn print_counts<W: Sink>(
     counts: &[(&'static str, u64)],
     printer: &mut Printer<W>,
 ) -> Result<(), WriteFailed>
-    ensures { Prints result printer.old printer.new (counted (λ c. c.0.now) (λ c. c.1) counts.now) }
+    ensures { Prints result printer.old printer.new (flat_map (λ c. c.0.now ++ decimal c.1) counts.now) }
 {
     for count in counts {
         print_count(count.0.as_bytes(), count.1, printer)?;
