@@ -8,7 +8,7 @@ ghost use Rattle.oca_device.specs.Devices.{Represents};
 ghost use Rattle.oca_script.specs.Ends.{input};
 ghost use Rattle.ocadev_cli.specs.Words.{keep_in, objects_in, sizes_in, turns_in};
 ghost use Rattle.oca_textree.specs.Written.{text_of};
-ghost use Rattle.oca_program.specs.Endings.{DoesMatched, Obeys};
+ghost use Rattle.oca_program.specs.Endings.{DoesMatched};
 ghost use Rattle.oca_program.specs.Faults.{fault_in};
 ghost use Rattle.ocadev_cli.specs.Printing.{tree_text};
 ghost use Rattle.ocadev_cli.specs.Runs.{DoesCommand, DoesReplay, DoesServe, DoesShow, ReplaysMade, ReportsOf};
@@ -71,7 +71,7 @@ pub fn run<N: Net + Clock + Files<File = File>, S: AsStr, R: Source, W: Sink, F:
     status_of(ended, faults)
 }
 
-/// Does what the words ask for, by how matching them ended.
+/// Does what the words ask for, by how matching them ended: what the command asks for that they name, or a help text.
 fn match_done<N: Net + Clock + Files<File = File>, R: Source, W: Sink, F: Sink>(
     alloc: Global,
     system: &N,
@@ -85,26 +85,13 @@ fn match_done<N: Net + Clock + Files<File = File>, R: Source, W: Sink, F: Sink>(
         printer.old printer.new faults.old faults.new }
 {
     match matched {
-        Ok(matches) => obeyed(alloc, system, &matches, reader, printer, faults),
+        Ok(matches) => match matches.subcommand() {
+            Some((name, options)) => commanded(
+                alloc, system, name, options, reader, printer, faults,
+            ),
+            None => Err(Failure::from(RunFault::BadWords)),
+        },
         Err(error) => helped(alloc, &error, printer),
-    }
-}
-
-/// Does what the command asks for that the matched words name.
-fn obeyed<N: Net + Clock + Files<File = File>, R: Source, W: Sink, F: Sink>(
-    alloc: Global,
-    system: &N,
-    words: &ArgMatches<'_>,
-    reader: &mut R,
-    printer: &mut Printer<W>,
-    faults: &mut Printer<F>,
-) -> Result<u8, Failure>
-    ensures { Obeys DoesCommand words.now (fault_in result) (input (R.remaining reader.old) (R.failed reader.old))
-        (input (R.remaining reader.new) (R.failed reader.new)) printer.old printer.new }
-{
-    match words.subcommand() {
-        Some((name, options)) => commanded(alloc, system, name, options, reader, printer, faults),
-        None => Err(Failure::from(RunFault::BadWords)),
     }
 }
 
