@@ -1,11 +1,16 @@
 -- The steps of a store, one after another, and what a store by them says.
-use Rattle.std.proofs.Common.{◌≡◌, ℕ, Bool, true, false, List, [], ◌∷◌, ◌++◌, map, refl, sym, ap, ◌∙◌, append_assoc}
-use Rattle.std.specs.Prelude.{IsTrue}
+use Rattle.std.proofs.Common.{◌≡◌, ℕ, Bool, true, false, List, [], ◌∷◌, ◌++◌, map, refl, sym, ap, ◌∙◌, append_assoc, Result, Ok, Err}
+use Rattle.std.specs.Prelude.{IsErr, IsTrue, is_ok}
 use Rattle.std.proofs.lemmas.List.{map-append}
 use Rattle.oca_tree.specs.declared.object.Object.{Object}
 use Rattle.oca_device.specs.Keeping.{Storing, Stores}
-use Rattle.ocadev_cli.specs.PrivateStoring.{DoneSo, Reaches}
 use Rattle.ocadev_cli.specs.Storing.{AreTried, DiskState, Replaces, StoreStep, StoresBy, SyncsFolder, SyncsNew, Tried, Tries, WritesNew, done_with, refused_with, row_behind, said_at, said_by, steps_before, store_of, written_behind}
+
+-- These steps were done, in order, with these objects, which were written last.
+record DoneSo (steps : List StoreStep) (tree : List Object) (old new : DiskState) : Type 0 where
+  pub telling : new.tells ≡ old.tells
+  pub written : IsTrue old.tells → new.tree ≡ tree
+  pub tried : IsTrue old.tells → new.tried ≡ old.tried ++ map (done_with tree) steps
 
 -- one more was tried, with the objects that were written
 tried-more : (step : StoreStep) (done : Bool) (front : List StoreStep) (tree : List Object) (a b c : DiskState) → DoneSo front tree a b → Tries step done b.tree b c → IsTrue a.tells
@@ -30,24 +35,42 @@ then_refused step tree a b c h k = record {
   steps = λ told. (map (done_with tree) (steps_before step) ++ refused_with tree step ∷ [], (step, refl), tried-more step false (steps_before step) tree a b c h k told);
 }
 
-pub first_tried : (done : Bool) (tree : List Object) (a b : DiskState) → Tries WritesNew done tree a b → Reaches SyncsNew done tree a b
-first_tried true tree a b h = record { telling = h.telling; written = h.written; tried = h.tried }
-first_tried false tree a b h = record { telling = h.telling; steps = λ told. (refused_with tree WritesNew ∷ [], (WritesNew, refl), h.tried told) }
+first_done : (tree : List Object) (a b : DiskState) → Tries WritesNew true tree a b → DoneSo (steps_before SyncsNew) tree a b
+first_done tree a b h = record { telling = h.telling; written = h.written; tried = h.tried }
 
-pub second_tried : (done : Bool) (tree : List Object) (a b c : DiskState) → Reaches SyncsNew true tree a b → Tries SyncsNew done b.tree b c → Reaches Replaces done tree a c
-second_tried true tree a b c h k = more_done SyncsNew (steps_before SyncsNew) tree a b c h k
-second_tried false tree a b c h k = then_refused SyncsNew tree a b c h k
+second_done : (tree : List Object) (a b c : DiskState) → Tries WritesNew true tree a b → Tries SyncsNew true b.tree b c → DoneSo (steps_before Replaces) tree a c
+second_done tree a b c h k = more_done SyncsNew (steps_before SyncsNew) tree a b c (first_done tree a b h) k
 
-pub third_tried : (done : Bool) (tree : List Object) (a b c : DiskState) → Reaches Replaces true tree a b → Tries Replaces done b.tree b c → Reaches SyncsFolder done tree a c
-third_tried true tree a b c h k = more_done Replaces (steps_before Replaces) tree a b c h k
-third_tried false tree a b c h k = then_refused Replaces tree a b c h k
+third_done : (tree : List Object) (a b c d : DiskState) → Tries WritesNew true tree a b → Tries SyncsNew true b.tree b c → Tries Replaces true c.tree c d → DoneSo (steps_before SyncsFolder) tree a d
+third_done tree a b c d h k l = more_done Replaces (steps_before Replaces) tree a c d (second_done tree a b c h k) l
 
-pub all_tried : (done : Bool) (tree : List Object) (a b c : DiskState) → Reaches SyncsFolder true tree a b → Tries SyncsFolder done b.tree b c → StoresBy done tree a c
-all_tried true tree a b c h k = record {
+-- the `?` of a step hands its refusal up
+refused : {E : Type 0} (r : Result Unit E) (tree : List Object) (a b : DiskState) → IsErr r → StoresBy false tree a b → StoresBy (is_ok r) tree a b
+refused (Ok u) tree a b is h = absurd (cc is)
+refused (Err e) tree a b is h = h
+
+pub first_refused : {E : Type 0} (r : Result Unit E) (tree : List Object) (a b : DiskState) → IsErr r → Tries WritesNew false tree a b → StoresBy (is_ok r) tree a b
+first_refused r tree a b is h = refused r tree a b is (record { telling = h.telling; steps = λ told. (refused_with tree WritesNew ∷ [], (WritesNew, refl), h.tried told) })
+
+pub second_refused : {E : Type 0} (r : Result Unit E) (tree : List Object) (a b c : DiskState) → IsErr r → Tries WritesNew true tree a b → Tries SyncsNew false b.tree b c → StoresBy (is_ok r) tree a c
+second_refused r tree a b c is h k = refused r tree a c is (then_refused SyncsNew tree a b c (first_done tree a b h) k)
+
+pub third_refused : {E : Type 0} (r : Result Unit E) (tree : List Object) (a b c d : DiskState) → IsErr r → Tries WritesNew true tree a b → Tries SyncsNew true b.tree b c → Tries Replaces false c.tree c d
+    → StoresBy (is_ok r) tree a d
+third_refused r tree a b c d is h k l = refused r tree a d is (then_refused Replaces tree a c d (second_done tree a b c h k) l)
+
+last_tried : (done : Bool) (tree : List Object) (a b c : DiskState) → DoneSo (steps_before SyncsFolder) tree a b → Tries SyncsFolder done b.tree b c → StoresBy done tree a c
+last_tried true tree a b c h k = record {
   telling = k.telling ∙ h.telling;
   steps = λ told. (map (done_with tree) (steps_before SyncsFolder) ++ done_with tree SyncsFolder ∷ [], refl, tried-more SyncsFolder true (steps_before SyncsFolder) tree a b c h k told);
 }
-all_tried false tree a b c h k = then_refused SyncsFolder tree a b c h k
+last_tried false tree a b c h k = then_refused SyncsFolder tree a b c h k
+
+pub all_tried : (done : Bool) (tree : List Object) (a b c d e : DiskState) → Tries WritesNew true tree a b → Tries SyncsNew true b.tree b c → Tries Replaces true c.tree c d → Tries SyncsFolder done d.tree d e
+    → StoresBy done tree a e
+all_tried done tree a b c d e h k l m = last_tried done tree a d e (third_done tree a b c d h k l) m
+
+pub ruleset steps = (first_refused, second_refused, third_refused, all_tried)
 
 -- ---- what the store says
 

@@ -18,11 +18,8 @@ lock_text index ono =
     if (index == 3) || (index == 6) then codes " locked " ++ decimal ono
     else if index == 4 then codes " unlocked " ++ decimal ono else []
 
-abbrev pub status_text : Status → List ℕ
-status_text status = codes " " ++ status_name status
-
 abbrev pub refused_command_text : ℕ → Status → List ℕ
-refused_command_text ono status = codes " refused " ++ decimal ono ++ status_text status
+refused_command_text ono status = (codes " refused " ++ decimal ono) ++ (codes " " ++ status_name status)
 
 -- EVERY STATUS BUT OK IS A REFUSAL; a command that was executed with the status OK may have locked or unlocked.
 abbrev pub executed_text : MethodId → ℕ → Status → List ℕ

@@ -4,7 +4,6 @@ pub mod Totals
 pub mod Makings
 pub mod Keeping
 pub mod Storing
-pub mod PrivateStoring
 pub mod Effects
 pub mod Traces
 pub mod Runs

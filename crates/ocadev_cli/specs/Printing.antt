@@ -1,5 +1,5 @@
 -- What the program prints of its objects and of its serving (profile).
-use Rattle.std.specs.Prelude.{ℕ, List, [], ◌∷◌, ◌++◌, codes, decimal}
+use Rattle.std.specs.Prelude.{ℕ, ◌==◌, if◌then◌else◌, List, [], ◌∷◌, ◌++◌, codes, decimal}
 use Rattle.std.specs.List.{flat_map}
 use Rattle.oca_types.specs.Classes.{class_fields_of}
 use Rattle.oca_tree.specs.declared.tree.ObjectInfo.{ObjectInfo}
@@ -28,34 +28,32 @@ tree_text tree = flat_map (λ o. info_text (info_of o)) tree
 
 -- ---- a report
 
--- what became of commands and datagrams, and how many calls of the end failed
-abbrev pub commands_text : Report → List ℕ
-commands_text r =
-    codes "turns " ++ decimal r.turns ++ codes " executed " ++ decimal r.executed ++ codes " kept " ++ decimal r.kept
-    ++ codes " old " ++ decimal r.old ++ codes " reused " ++ decimal r.reused
+-- words, each with its number behind it
+abbrev pub pairs_text : List (List ℕ × ℕ) → List ℕ
+pairs_text pairs = flat_map (λ c. c.0 ++ decimal c.1) pairs
 
-abbrev pub datagrams_text : Report → List ℕ
-datagrams_text r =
-    codes " malformed " ++ decimal r.malformed ++ codes " no-room " ++ decimal r.no_room ++ codes " oversize "
-    ++ decimal r.oversize
-    ++ codes " quiet " ++ decimal r.quiet
+-- a word and a number, where the number is not 0
+abbrev pub some_text : List ℕ → ℕ → List ℕ
+some_text word count = if count == 0 then [] else word ++ decimal count
 
-abbrev pub calls_text : Report → List ℕ
-calls_text r = codes " failed-receives " ++ decimal r.failed_receives ++ codes " failed-sends "
-    ++ decimal r.failed_sends
-
-unfoldable pub counts_text : Report → List ℕ
-counts_text r = commands_text r ++ datagrams_text r ++ calls_text r
+-- what became of commands and datagrams, and how many calls of the end failed, with a word before the first count
+unfoldable pub counts_text : List ℕ → Report → List ℕ
+counts_text front r =
+    pairs_text
+    ((front, r.turns) ∷ (codes " executed ", r.executed) ∷ (codes " kept ", r.kept) ∷ (codes " old ", r.old)
+    ∷ (codes " reused ", r.reused) ∷ (codes " malformed ", r.malformed) ∷ (codes " no-room ", r.no_room)
+    ∷ (codes " oversize ", r.oversize) ∷ (codes " quiet ", r.quiet) ∷ (codes " failed-receives ", r.failed_receives)
+    ∷ (codes " failed-sends ", r.failed_sends) ∷ [])
 
 -- how many sessions there are, and how many locks are held
 unfoldable pub held_text : ℕ → ℕ → List ℕ
-held_text sessions locks = codes " sessions " ++ decimal sessions ++ codes " locks " ++ decimal locks
+held_text sessions locks = pairs_text ((codes " sessions ", sessions) ∷ (codes " locks ", locks) ∷ [])
 
 -- the line of a report so far, with how many sessions there are and how many locks are held
 abbrev pub stats_text : Report → ℕ → ℕ → List ℕ
 stats_text r sessions locks =
-    codes "note: " ++ counts_text r ++ held_text sessions locks ++ codes "\n"
+    counts_text (codes "note: turns ") r ++ (held_text sessions locks ++ codes "\n")
 
 -- the line of a report
 abbrev pub report_text : Report → List ℕ
-report_text r = counts_text r ++ codes "\n"
+report_text r = counts_text (codes "turns ") r ++ codes "\n"

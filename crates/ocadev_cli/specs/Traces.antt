@@ -17,6 +17,7 @@ use Rattle.oca_script.specs.Printing.{WritesOut}
 use Rattle.oca_device.specs.declared.report.Report.{Report}
 use Rattle.oca_device.specs.declared.effect.Effect.{Effect}
 use Rattle.ocadev_cli.specs.Effects.{effects_text}
+use Rattle.ocadev_cli.specs.Printing.{pairs_text, some_text}
 
 -- where a device listens
 abbrev pub listening_text : Peer → List ℕ
@@ -25,16 +26,13 @@ listening_text p = codes "listening " ++ peer_text p ++ codes "\n"
 -- a datagram that is not well-formed, with its first fault
 abbrev pub malformed_text : Result (List Msg) PduFault → List ℕ
 malformed_text (Ok ms) = codes " malformed"
-malformed_text (Err f) = codes " malformed " ++ decimal (fault_number f.kind) ++ codes " at " ++ decimal f.at
+malformed_text (Err f) = pairs_text ((codes " malformed ", fault_number f.kind) ∷ (codes " at ", f.at) ∷ [])
 
 -- one that was served: how many of its commands were executed, duplicates and old, and reused a handle
-abbrev pub reused_count_text : ℕ → List ℕ
-reused_count_text count = if count == 0 then [] else codes " reused " ++ decimal count
-
 abbrev pub served_text : Report → List ℕ
 served_text turn =
-    codes " served " ++ decimal turn.executed ++ codes " " ++ decimal turn.kept ++ codes " " ++ decimal turn.old
-    ++ reused_count_text turn.reused
+    pairs_text ((codes " served ", turn.executed) ∷ (codes " ", turn.kept) ∷ (codes " ", turn.old) ∷ [])
+    ++ some_text (codes " reused ") turn.reused
 
 -- what became of the datagram of a turn
 abbrev pub outcome_text : Report → List ℕ → List ℕ
@@ -47,16 +45,14 @@ abbrev pub written_text : List Ono → List ℕ
 written_text [] = []
 written_text (o ∷ os) = (codes " wrote " ++ decimal o.0) ++ flat_map (λ n. codes " " ++ decimal n.0) os
 
-abbrev pub failed_sends_text : ℕ → List ℕ
-failed_sends_text count = if count == 0 then [] else codes " failed-sends " ++ decimal count
-
 -- THE LINE OF A DATAGRAM: its sender, what became of it, the objects that it wrote to, how many answers could not be
 -- sent, and what its commands did.
 abbrev pub datagram_line : Peer → Report → List ℕ → List Effect → List Ono → List ℕ
 datagram_line from turn bytes effects written =
-    (peer_text from ++ outcome_text turn bytes)
+    peer_text from
+    ++ (outcome_text turn bytes
     ++ (written_text written
-    ++ (failed_sends_text turn.failed_sends ++ (effects_text effects ++ codes "\n")))
+    ++ (some_text (codes " failed-sends ") turn.failed_sends ++ (effects_text effects ++ codes "\n"))))
 
 -- what is printed of what was heard in a turn: a line where that is a datagram, as far as the writes went; else nothing
 abbrev pub PrintsTurn : Heard → Report → List ℕ → List Effect → List Ono → Result Unit WriteFailed → Output → Output

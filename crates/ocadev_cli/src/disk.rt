@@ -1,6 +1,5 @@
 //! How the objects of a device are written over a file: a new file takes the place of the old one.
 ghost use Rattle.std.specs.Prelude.{◌≡◌, ◌++◌, IfSome, codes, decimal, is_ok, string_bytes};
-ghost use Rattle.ocadev_cli.specs.PrivateStoring.{Reaches};
 ghost use Rattle.ocadev_cli.specs.Storing.{DiskState, Replaces, StoresBy, SyncsFolder, SyncsNew, Tries, WritesNew};
 
 use super::show::show_text;
@@ -45,44 +44,14 @@ pub trait Disk {
 /// error at the first step that fails; the steps after it are not tried. If one of the first three steps fails, the old
 /// file is still in its place, and a new file, perhaps not whole, may remain beside it. If the last step fails, the new
 /// file is in its place, but a power cut may undo this.
-#[tactic(auto, using(crate::proofs::StoringLemmas::all_tried))]
+#[tactic(auto, using(crate::proofs::StoringLemmas::steps))]
 pub fn write_over<D: Disk>(disk: &mut D, tree: &Tree) -> io::Result<()>
     ensures { StoresBy (is_ok result) tree.now (D.state disk.old) (D.state disk.new) }
 {
-    match write_and_replace(disk, tree) {
-        Ok(()) => disk.sync_folder(),
-        Err(reason) => Err(reason),
-    }
-}
-
-/// Writes the objects to a new file, which is then on the disk, and puts it in the place of the old one.
-#[tactic(auto, using(crate::proofs::StoringLemmas::third_tried))]
-fn write_and_replace<D: Disk>(disk: &mut D, tree: &Tree) -> io::Result<()>
-    ensures { Reaches SyncsFolder (is_ok result) tree.now (D.state disk.old) (D.state disk.new) }
-{
-    match write_and_sync(disk, tree) {
-        Ok(()) => disk.replace(),
-        Err(reason) => Err(reason),
-    }
-}
-
-/// Writes the objects to a new file, which is then on the disk.
-#[tactic(auto, using(crate::proofs::StoringLemmas::second_tried))]
-fn write_and_sync<D: Disk>(disk: &mut D, tree: &Tree) -> io::Result<()>
-    ensures { Reaches Replaces (is_ok result) tree.now (D.state disk.old) (D.state disk.new) }
-{
-    match write_first(disk, tree) {
-        Ok(()) => disk.sync_new(),
-        Err(reason) => Err(reason),
-    }
-}
-
-/// Writes the objects to a new file.
-#[tactic(auto, using(crate::proofs::StoringLemmas::first_tried))]
-fn write_first<D: Disk>(disk: &mut D, tree: &Tree) -> io::Result<()>
-    ensures { Reaches SyncsNew (is_ok result) tree.now (D.state disk.old) (D.state disk.new) }
-{
-    disk.write_new(tree)
+    disk.write_new(tree)?;
+    disk.sync_new()?;
+    disk.replace()?;
+    disk.sync_folder()
 }
 
 /// The mode and the owner of a file.

@@ -1,18 +1,14 @@
 //! What is printed of the commands of a datagram: what they locked and unlocked, and which were refused.
-ghost use Rattle.std.specs.Prelude.{◌≡◌, ◌+◌, ◌++◌, ◌≤◌, length};
+ghost use Rattle.std.specs.Prelude.{◌≡◌};
 ghost use Rattle.std.specs.List.{flat_map};
-ghost use Rattle.oca_script.specs.Ends.{output};
 ghost use Rattle.oca_script.specs.Printing.{Prints};
 ghost use Rattle.ocadev_cli.specs.Effects.{are_mixed, effect_text, effects_text, executed_text, is_executed};
-ghost use Rattle.ocadev_cli.specs.Effects.{lock_text, refused_command_text, status_text};
+ghost use Rattle.ocadev_cli.specs.Effects.{lock_text, refused_command_text};
 
-use super::report::put_count;
+use super::report::print_count;
 use oca_device::{CommandOutcome, Effect};
 use oca_script::{Printer, Sink, WriteFailed};
 use oca_types::{MethodId, Ono, Status};
-
-/// Room for what a command did.
-const EFFECT_ROOM: usize = 100;
 
 /// Prints to `faults`, for each command of a datagram in order, which object the command locked or unlocked, or that the
 /// command was refused and with which status. `effects` are the effects of these commands. A command that asks for no
@@ -27,7 +23,7 @@ pub fn print_effects<F: Sink>(
     if are_mixed(effects) {
         return Ok(());
     }
-    print_all(effects, faults)
+    print_each(effects, faults)
 }
 
 /// Whether some command was not executed.
@@ -41,101 +37,75 @@ fn are_mixed(effects: &[Effect]) -> bool
 fn is_executed(outcome: CommandOutcome) -> bool
     ensures { result ≡ is_executed outcome }
 {
-    match outcome {
-        CommandOutcome::Executed(_) => true,
-        CommandOutcome::Duplicate => false,
-        CommandOutcome::Reused => false,
-        CommandOutcome::Old => false,
-    }
+    matches!(outcome, CommandOutcome::Executed(_))
 }
 
 /// Prints what the commands did, in their order.
-fn print_all<F: Sink>(effects: &[Effect], faults: &mut Printer<F>) -> Result<(), WriteFailed>
+fn print_each<F: Sink>(effects: &[Effect], faults: &mut Printer<F>) -> Result<(), WriteFailed>
     ensures { Prints result faults.old faults.new (flat_map effect_text effects.now) }
 {
-    for i in 0..effects.len() {
-        let Some(effect) = effects.get(i) else {
-            return Ok(());
-        };
+    for effect in effects {
         print_effect(effect, faults)?;
     }
     Ok(())
 }
 
-/// Prints what a command did to its object.
+/// Prints what a command did to its object, where the command asks for a response.
 fn print_effect<F: Sink>(effect: &Effect, faults: &mut Printer<F>) -> Result<(), WriteFailed>
     ensures { Prints result faults.old faults.new (effect_text effect.now) }
 {
-    faults.make_room(EFFECT_ROOM)?;
-    put_effect(effect, faults);
-    Ok(())
-}
-
-/// Holds what a command did to its object, where the command asks for a response.
-fn put_effect<F: Sink>(effect: &Effect, faults: &mut Printer<F>)
-    requires { length faults.old.held + 100 ≤ 8192 }
-    ensures { faults.new ≡ output faults.old.contents (faults.old.held ++ effect_text effect.now) faults.old.failed }
-{
     if !effect.respond {
-        return;
+        return Ok(());
     }
     match effect.outcome {
         CommandOutcome::Executed(status) => {
-            put_executed(effect.method, effect.target, status, faults);
+            print_executed(effect.method, effect.target, status, faults)
         }
-        CommandOutcome::Duplicate => {}
-        CommandOutcome::Reused => {}
-        CommandOutcome::Old => {}
+        CommandOutcome::Duplicate | CommandOutcome::Reused | CommandOutcome::Old => Ok(()),
     }
 }
 
-/// Holds what a command that was executed with this status did to its object.
-fn put_executed<F: Sink>(method: MethodId, target: Ono, status: Status, faults: &mut Printer<F>)
-    requires { length faults.old.held + 100 ≤ 8192 }
-    ensures { faults.new ≡ output faults.old.contents (faults.old.held ++ executed_text method target.0 status)
-        faults.old.failed }
+/// Prints what a command that was executed with this status did to its object.
+fn print_executed<F: Sink>(
+    method: MethodId,
+    target: Ono,
+    status: Status,
+    faults: &mut Printer<F>,
+) -> Result<(), WriteFailed>
+    ensures { Prints result faults.old faults.new (executed_text method target.0 status) }
 {
     if status.number() != 0 {
-        put_refused(target, status, faults);
-        return;
+        return print_refused(target, status, faults);
     }
     if method.level == 1 {
-        put_lock(method.index, target, faults);
+        return print_lock(method.index, target, faults);
     }
+    Ok(())
 }
 
-/// Holds what a method of OcaRoot with this index locked or unlocked.
-fn put_lock<F: Sink>(index: u16, target: Ono, faults: &mut Printer<F>)
-    requires { length faults.old.held + 100 ≤ 8192 }
-    ensures { faults.new ≡ output faults.old.contents (faults.old.held ++ lock_text index target.0)
-        faults.old.failed }
+/// Prints what a method of OcaRoot with this index locked or unlocked.
+fn print_lock<F: Sink>(index: u16, target: Ono, faults: &mut Printer<F>) -> Result<(), WriteFailed>
+    ensures { Prints result faults.old faults.new (lock_text index target.0) }
 {
     let number = u64::from(target.0);
     if index == 3 || index == 6 {
-        put_count(b" locked ", number, faults);
-        return;
+        return print_count(b" locked ", number, faults);
     }
     if index == 4 {
-        put_count(b" unlocked ", number, faults);
+        return print_count(b" unlocked ", number, faults);
     }
+    Ok(())
 }
 
-/// Holds that a command to an object was refused, with its status.
-fn put_refused<F: Sink>(target: Ono, status: Status, faults: &mut Printer<F>)
-    requires { length faults.old.held + 100 ≤ 8192 }
-    ensures { faults.new ≡ output faults.old.contents (faults.old.held ++ refused_command_text target.0 status)
-        faults.old.failed }
+/// Prints that a command to an object was refused, with its status.
+fn print_refused<F: Sink>(
+    target: Ono,
+    status: Status,
+    faults: &mut Printer<F>,
+) -> Result<(), WriteFailed>
+    ensures { Prints result faults.old faults.new (refused_command_text target.0 status) }
 {
-    put_count(b" refused ", u64::from(target.0), faults);
-    put_status(status, faults);
-}
-
-/// Holds the name of a status behind a space.
-#[tactic(auto, using(crate::proofs::EffectLemmas::name_rules))]
-fn put_status<F: Sink>(status: Status, faults: &mut Printer<F>)
-    requires { length faults.old.held + 60 ≤ 8192 }
-    ensures { faults.new ≡ output faults.old.contents (faults.old.held ++ status_text status) faults.old.failed }
-{
-    faults.put(b" ");
-    faults.put(status.name().as_bytes());
+    print_count(b" refused ", u64::from(target.0), faults)?;
+    faults.print(b" ")?;
+    faults.print(status.name().as_bytes())
 }

@@ -6,19 +6,10 @@ use std::io::{self, Read};
 use std::os::fd::RawFd;
 
 /// A reader as a source, and why a read of it failed.
+#[derive(Drop)]
 pub struct TextFile<R> {
     reader: R,
     reason: Option<io::Error>,
-}
-
-impl<R: Drop> Drop for TextFile<R> {
-    /// Lets the reader go.
-    fn drop(self) {
-        let TextFile {
-            reader: _,
-            reason: _,
-        } = self;
-    }
 }
 
 impl<R: Read> TextFile<R> {

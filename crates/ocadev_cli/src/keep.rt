@@ -1,27 +1,24 @@
 //! The state of a device, kept in a file: it is read when the device starts, and written before what wrote something is
 //! answered. Reply windows and sessions are not kept.
-ghost use Rattle.std.specs.Prelude.{◌≡◌, ◌≤◌, ◌<◌, false, IfErr, IfOk, IfSome, IsTrue, is_some};
+ghost use Rattle.std.specs.Prelude.{◌≡◌, false, IfErr, IfOk, IfSome, IsTrue, Some as some, is_some};
 ghost use Rattle.std.specs.Option.{option_copied};
 ghost use Rattle.oca_program.specs.declared.fault.RunFault.TheVariants.{NoMemory as no_memory, Read as read_failed};
 ghost use Rattle.ocadev_cli.specs.Words.{object_source};
 ghost use Rattle.oca_program.specs.Faults.{fault_in};
 ghost use Rattle.ocadev_cli.specs.Keeping.{moment_heard, starting_objects};
 ghost use Rattle.ocadev_cli.specs.Makings.{MakesObjects};
-ghost use Rattle.ocadev_cli.specs.Runs.{turns_until};
-ghost use Rattle.ocadev_cli.specs.Storing.{store_of};
-ghost use Rattle.ocadev_cli.specs.Totals.{StoresOn};
 
 use super::disk::{Attributes, Disk, end_line, plain_attributes, write_over};
-use super::making::objects;
-use super::serving::{Tracing, print_progress_report, serve_kept, sum};
-use super::trace::print_heard;
+use super::making::{noted, objects};
+use super::serving::Tracing;
 use super::words::Objects;
 use oca_device::{Device, Keeping as Waiting, Outbox, Report, Store};
-use oca_net::{End, Heard};
-use oca_program::{Failure, RunFault, print_note};
+use oca_net::Heard;
+use oca_program::{Failure, RunFault, print_made_note};
 use oca_script::{Printer, Sink};
 use oca_tree::Tree;
 use std::alloc::Global;
+use std::fmt::Display;
 use std::fs::{File, Metadata, OpenFile, OpenOptions, TryLockError};
 use std::io::{ErrorKind, Read, Seek, SeekFrom};
 use std::rt::Files;
@@ -110,7 +107,7 @@ fn check_end<F: Files>(alloc: Global, files: &F, path: &str, count: usize) -> Re
             path,
             "its last line does not say how many objects it has: it is cut off, or not of this program",
         )),
-        Err(reason) => Err(unreadable(alloc, path, reason)),
+        Err(reason) => Err(refused(alloc, path, reason)),
     }
 }
 
@@ -128,24 +125,11 @@ fn ends_with<F: Files>(files: &F, path: &str, line: &[u8]) -> io::Result<bool> {
     Ok(*end == *line)
 }
 
-/// What refuses a file: that it can't be read, and why.
-fn refused(alloc: Global, path: &str, why: &str) -> Failure
+/// Why a file is refused.
+fn refused<D: Display + Drop>(alloc: Global, path: &str, why: D) -> Failure
     ensures { result.fault ≡ read_failed }
 {
-    match format!(in alloc; "{path}: {why}") {
-        Ok(note) => Failure::noted(RunFault::Read, note),
-        Err(_) => Failure::from(RunFault::Read),
-    }
-}
-
-/// The same with the system's reason.
-fn unreadable(alloc: Global, path: &str, reason: io::Error) -> Failure
-    ensures { result.fault ≡ read_failed }
-{
-    match format!(in alloc; "{path}: {reason}") {
-        Ok(note) => Failure::noted(RunFault::Read, note),
-        Err(_) => Failure::from(RunFault::Read),
-    }
+    noted(alloc, RunFault::Read, path, why)
 }
 
 /// Locks the file FILE, in which the state is to be kept, for this device alone. `keep` is its path, or `None` if no
@@ -181,25 +165,10 @@ fn claim<F: Files<File = File>>(alloc: Global, files: &F, path: &str) -> Result<
     let Ok(lock) = format!(in alloc; "{path}.lock") else {
         return Err(Failure::from(RunFault::Read));
     };
-    match check_plain_all(alloc, files, path, fresh.as_str(), lock.as_str()) {
-        Ok(()) => locked(alloc, files, lock.as_str()),
-        Err(failure) => Err(failure),
-    }
-}
-
-/// Refuses what is there at one of these paths and is no plain file.
-fn check_plain_all<F: Files>(
-    alloc: Global,
-    files: &F,
-    path: &str,
-    fresh: &str,
-    lock: &str,
-) -> Result<(), Failure>
-    ensures { IfErr result (λ failure. failure.fault ≡ read_failed) }
-{
     check_plain(alloc, files, path)?;
-    check_plain(alloc, files, fresh)?;
-    check_plain(alloc, files, lock)
+    check_plain(alloc, files, fresh.as_str())?;
+    check_plain(alloc, files, lock.as_str())?;
+    locked(alloc, files, lock.as_str())
 }
 
 /// Refuses what is there and is no plain file.
@@ -212,7 +181,7 @@ fn check_plain<F: Files>(alloc: Global, files: &F, path: &str) -> Result<(), Fai
             None => Ok(()),
         },
         Err(reason) if reason.kind() == ErrorKind::NotFound => Ok(()),
-        Err(reason) => Err(unreadable(alloc, path, reason)),
+        Err(reason) => Err(refused(alloc, path, reason)),
     }
 }
 
@@ -239,9 +208,9 @@ fn locked<F: Files<File = File>>(alloc: Global, files: &F, path: &str) -> Result
         Ok(file) => match file.try_lock() {
             Ok(()) => Ok(file),
             Err(TryLockError::WouldBlock) => Err(refused(alloc, path, "another device has it")),
-            Err(TryLockError::Error(reason)) => Err(unreadable(alloc, path, reason)),
+            Err(TryLockError::Error(reason)) => Err(refused(alloc, path, reason)),
         },
-        Err(reason) => Err(unreadable(alloc, path, reason)),
+        Err(reason) => Err(refused(alloc, path, reason)),
     }
 }
 
@@ -255,65 +224,38 @@ pub struct Kept<'a> {
     pub attributes: Option<Attributes>,
 }
 
-impl<'a> Kept<'a> {
-    /// The file at this path. Refusal: `NoMemory`.
-    fn new<F: Files>(alloc: Global, files: &F, path: &'a str) -> Result<Kept<'a>, RunFault>
-        ensures path { IfOk result (λ kept. kept.path ≡ path.entry) }
-        ensures behind { IfOk result (λ kept. kept.waiting.is_behind ≡ false) }
-        ensures refused { IfErr result (λ why. why ≡ no_memory) }
-    {
-        let Ok(waiting) = Waiting::new(alloc) else {
-            return Err(RunFault::NoMemory);
-        };
-        match format!(in alloc; "{path}.new") {
-            Ok(fresh) => Ok(Kept {
-                path,
-                fresh,
-                waiting,
-                attributes: plain_attributes(files, path),
-            }),
-            Err(_) => Err(RunFault::NoMemory),
-        }
-    }
-}
-
-/// In which file a state is kept, where it is kept.
-#[derive(Drop)]
-pub struct Keeping<'a> {
-    pub kept: Option<Kept<'a>>,
-}
-
-impl<'a> Keeping<'a> {
-    /// The state of keeping objects in the file at the path `keep`, or of keeping them nowhere if it is `None`. The
-    /// call takes the memory for the answers that will wait. Refusal: `NoMemory`, if memory was refused.
-    pub fn new<F: Files>(
-        alloc: Global,
-        files: &F,
-        keep: Option<&'a str>,
-    ) -> Result<Keeping<'a>, RunFault>
-        ensures kept { IfOk result (λ keeping. is_some keeping.kept ≡ is_some (option_copied keep.entry)) }
-        ensures behind { IfOk result (λ keeping. IfSome keeping.kept (λ kept. kept.waiting.is_behind ≡ false)) }
-        ensures refused { IfErr result (λ why. why ≡ no_memory) }
-    {
-        let Some(path) = keep else {
-            return Ok(Keeping { kept: None });
-        };
-        match Kept::new(alloc, files, path) {
-            Ok(kept) => Ok(Keeping { kept: Some(kept) }),
-            Err(fault) => Err(fault),
-        }
-    }
-
-    /// Whether the state is kept in a file.
-    pub fn keeps(&self) -> bool
-        ensures { result ≡ is_some self.now.kept }
-    {
-        self.kept.is_some()
+/// The state of keeping objects in the file at the path `keep`, or `None` if no file is named. The call takes the memory
+/// for the answers that will wait. Refusal: `NoMemory`, if memory was refused.
+pub fn kept_at<'a, F: Files>(
+    alloc: Global,
+    files: &F,
+    keep: Option<&'a str>,
+) -> Result<Option<Kept<'a>>, RunFault>
+    ensures kept { IfOk result (λ kept. is_some kept ≡ is_some (option_copied keep.entry)) }
+    ensures path { IfOk result (λ kept. IfSome kept (λ k. some k.path ≡ keep.entry)) }
+    ensures behind { IfOk result (λ kept. IfSome kept (λ k. k.waiting.is_behind ≡ false)) }
+    ensures refused { IfErr result (λ why. why ≡ no_memory) }
+{
+    let Some(path) = keep else {
+        return Ok(None);
+    };
+    let Ok(waiting) = Waiting::new(alloc) else {
+        return Err(RunFault::NoMemory);
+    };
+    match format!(in alloc; "{path}.new") {
+        Ok(fresh) => Ok(Some(Kept {
+            path,
+            fresh,
+            waiting,
+            attributes: plain_attributes(files, path),
+        })),
+        Err(_) => Err(RunFault::NoMemory),
     }
 }
 
 /// A file on a disk as a store; and what is printed while an end is served: a line for each datagram and the report so far,
 /// as far as they are asked for, that the file can't be written, and that it is again.
+#[derive(Drop)]
 pub struct FileStore<'d, 'p, 'f, D, F: Sink> {
     alloc: Global,
     path: &'p str,
@@ -323,21 +265,6 @@ pub struct FileStore<'d, 'p, 'f, D, F: Sink> {
     tracing: Tracing,
     report: Report,
     pub faults: &'f mut Printer<F>,
-}
-
-impl<'d, 'p, 'f, D, F: Sink> Drop for FileStore<'d, 'p, 'f, D, F> {
-    /// Lets the disk and the printer go.
-    fn drop(self) {
-        let FileStore {
-            alloc: _,
-            path: _,
-            disk: _,
-            failed: _,
-            tracing: _,
-            report: _,
-            faults: _,
-        } = self;
-    }
 }
 
 impl<'d, 'p, 'f, D: Disk, F: Sink> FileStore<'d, 'p, 'f, D, F> {
@@ -375,9 +302,8 @@ impl<'d, 'p, 'f, D: Disk, F: Sink> FileStore<'d, 'p, 'f, D, F> {
         }
         self.failed = true;
         let path = self.path;
-        if let Ok(note) = format!(in self.alloc; "the state is not kept: {path}: {reason}") {
-            print_note(note.as_str(), self.faults);
-        }
+        let note = format!(in self.alloc; "the state is not kept: {path}: {reason}");
+        print_made_note(note, self.faults);
     }
 
     /// Prints that the file is written again, where the store before failed.
@@ -391,9 +317,8 @@ impl<'d, 'p, 'f, D: Disk, F: Sink> FileStore<'d, 'p, 'f, D, F> {
         }
         self.failed = false;
         let path = self.path;
-        if let Ok(note) = format!(in self.alloc; "the state is kept again: {path}") {
-            print_note(note.as_str(), self.faults);
-        }
+        let note = format!(in self.alloc; "the state is kept again: {path}");
+        print_made_note(note, self.faults);
     }
 }
 
@@ -434,45 +359,18 @@ impl<'d, 'p, 'f, D: Disk, F: Sink> Store for FileStore<'d, 'p, 'f, D, F> {
         turn: &Report,
         device: &Device,
     ) {
-        self.report = sum(self.report, *turn);
-        if self.tracing.verbose {
-            let _ = print_heard(
-                heard,
-                bytes,
-                turn,
-                device.effects(),
-                device.written(),
-                self.faults,
-            );
-        }
-        if let Some(now) = moment_of(heard)
-            && self.tracing.next <= now
-        {
-            self.tracing.next = now.saturating_add(self.tracing.every);
-            let _ = print_progress_report(&self.report, device, self.faults);
-        }
+        self.report = self.report + *turn;
+        let report = self.report;
+        self.tracing.print_turn(
+            heard,
+            bytes,
+            turn,
+            &report,
+            moment_of(heard),
+            device,
+            self.faults,
+        );
     }
-}
-
-/// Serves an end for `turns` turns (`None`: for 2^64 - 1), or until it is closed, and keeps the objects in a file on a
-/// disk. Returns how often each thing was done. `outbox` is memory for the answers to one datagram, and `waiting` holds
-/// the answers that wait. The answers to a datagram that wrote to an object wait until all steps of
-/// [`write_over`](crate::disk::write_over) were done. If a step fails, these answers are dropped, as if the network had
-/// lost them.
-pub fn serve_stored<E: End, D: Disk, F: Sink>(
-    device: &mut Device,
-    end: &mut E,
-    outbox: &mut Outbox,
-    waiting: &mut Waiting,
-    store: &mut FileStore<'_, '_, '_, D, F>,
-    turns: Option<u32>,
-) -> Report
-    ensures served { StoresOn waiting.old.is_behind waiting.new.is_behind device.old device.new (E.state end.old)
-        (E.state end.new) (store_of (D.state store.old.disk.now)) (store_of (D.state store.new.disk.now)) result }
-    ensures turns { result.turns ≤ turns_until turns }
-    ensures closed { result.turns < turns_until turns → IsTrue (E.state end.new).closed }
-{
-    serve_kept(device, end, outbox, waiting, store, turns)
 }
 
 /// The moment of what was heard, where it has one.

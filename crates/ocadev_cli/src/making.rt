@@ -19,6 +19,7 @@ use oca_textree::{TreeFault, tree_from_text};
 use oca_tree::{Tree, bench_with_channels};
 use oca_types::Sizes;
 use std::alloc::Global;
+use std::fmt::Display;
 use std::fs;
 use std::io::{self, Read};
 use std::rt::Files;
@@ -34,19 +35,10 @@ pub fn made(alloc: Global, tree: Tree, sizes: Sizes) -> Result<(Device, Outbox),
     ensures refused { IfErr result (λ why. why ≡ no_memory) }
 {
     match Device::with_sizes(alloc, tree, sizes) {
-        Ok(device) => with_outbox(alloc, device),
-        Err(_) => Err(RunFault::NoMemory),
-    }
-}
-
-/// A device and an outbox. Refusal: `NoMemory`.
-fn with_outbox(alloc: Global, device: Device) -> Result<(Device, Outbox), RunFault>
-    ensures device { IfOk result (λ made. made.0 ≡ device) }
-    ensures outbox { IfOk result (λ made. made.1 ≡ []) }
-    ensures refused { IfErr result (λ why. why ≡ no_memory) }
-{
-    match Outbox::new(alloc) {
-        Ok(outbox) => Ok((device, outbox)),
+        Ok(device) => match Outbox::new(alloc) {
+            Ok(outbox) => Ok((device, outbox)),
+            Err(_) => Err(RunFault::NoMemory),
+        },
         Err(_) => Err(RunFault::NoMemory),
     }
 }
@@ -58,28 +50,14 @@ pub fn objects<F: Files>(alloc: Global, files: &F, objects: Objects<'_>) -> Resu
     ensures { MakesObjects (object_source objects.entry) (fault_in result) }
 {
     match objects {
-        Objects::Bench(channels) => bench_of(alloc, channels),
-        Objects::Listed(path) => listed(alloc, files, path),
-    }
-}
-
-/// The objects of the bench device with so many channel strips, at most 1,022. Refusal: `NoMemory`.
-fn bench_of(alloc: Global, channels: u16) -> Result<Tree, Failure>
-    ensures { MakesObjects (object_source (Objects.Bench channels)) (fault_in result) }
-{
-    match bench_with_channels(alloc, channels) {
-        Ok(tree) => Ok(tree),
-        Err(_) => Err(Failure::from(RunFault::NoMemory)),
-    }
-}
-
-/// The objects that the file at a path lists.
-fn listed<F: Files>(alloc: Global, files: &F, path: &str) -> Result<Tree, Failure>
-    ensures { MakesObjects (object_source (Objects.Listed path.entry)) (fault_in result) }
-{
-    match fs::open(files, path) {
-        Ok(file) => listed_in_file(alloc, path, &mut TextFile::new(file)),
-        Err(reason) => Err(noted(alloc, RunFault::Read, path, reason)),
+        Objects::Bench(channels) => match bench_with_channels(alloc, channels) {
+            Ok(tree) => Ok(tree),
+            Err(_) => Err(Failure::from(RunFault::NoMemory)),
+        },
+        Objects::Listed(path) => match fs::open(files, path) {
+            Ok(file) => listed_in_file(alloc, path, &mut TextFile::new(file)),
+            Err(reason) => Err(noted(alloc, RunFault::Read, path, reason)),
+        },
     }
 }
 
@@ -107,14 +85,11 @@ fn explained(alloc: Global, fault: RunFault, path: &str, reason: Option<io::Erro
     }
 }
 
-/// The fault, and the system's reason for it where there is memory for that.
-fn noted(alloc: Global, fault: RunFault, path: &str, reason: io::Error) -> Failure
+/// The fault, and the reason for it where there is memory for that.
+pub fn noted<D: Display + Drop>(alloc: Global, fault: RunFault, path: &str, reason: D) -> Failure
     ensures { result.fault ≡ fault }
 {
-    match format!(in alloc; "{path}: {reason}") {
-        Ok(note) => Failure::noted(fault, note),
-        Err(_) => Failure::from(fault),
-    }
+    Failure::noted_if(fault, format!(in alloc; "{path}: {reason}"))
 }
 
 /// Reads a source to its end, and returns the objects that its text lists. Refusals: `Read` if a read failed, `TooMuch`

@@ -1,5 +1,5 @@
 //! A run of the program.
-ghost use Rattle.std.specs.Prelude.{◌≡◌, ◌<◌, ◌≤◌, List, [], IsTrue, Ok as ok, map, IfSome, false, is_some};
+ghost use Rattle.std.specs.Prelude.{◌≡◌, ◌<◌, ◌≤◌, List, [], IsTrue, Ok as ok, map, IfSome, false, if◌then◌else◌, is_some};
 ghost use Rattle.oca_types.specs.Sizes.{sizes_of};
 ghost use Rattle.oca_tree.specs.declared.object.Object.{Object};
 ghost use Rattle.oca_net.specs.EndStates.{EndState};
@@ -8,7 +8,7 @@ ghost use Rattle.oca_device.specs.Devices.{Represents};
 ghost use Rattle.oca_script.specs.Ends.{input};
 ghost use Rattle.ocadev_cli.specs.Words.{keep_in, objects_in, sizes_in, turns_in};
 ghost use Rattle.oca_textree.specs.Written.{text_of};
-ghost use Rattle.oca_program.specs.Endings.{DoesMatched, Obeys};
+ghost use Rattle.oca_program.specs.Endings.{DoesMatched};
 ghost use Rattle.oca_program.specs.Faults.{fault_in};
 ghost use Rattle.ocadev_cli.specs.Printing.{tree_text};
 ghost use Rattle.ocadev_cli.specs.Runs.{DoesCommand, DoesReplay, DoesServe, DoesShow, ReplaysMade, ReportsOf};
@@ -17,10 +17,10 @@ ghost use Rattle.ocadev_cli.specs.Totals.{KeepsServing, StoresOn, ServesOn, sile
 ghost use Rattle.oca_device.specs.Keeping.{StoreState};
 
 use super::disk::FileDisk;
-use super::keep::{FileStore, Keeping, Kept, claimed, is_there, serve_stored, start_objects};
+use super::keep::{FileStore, Kept, claimed, is_there, kept_at, start_objects};
 use super::making::{made, objects};
 use super::report::{print_listening, print_report};
-use super::serving::{Tracing, serve_on, serve_traced, serve_turns};
+use super::serving::{Tracing, serve_kept, serve_on, serve_traced, serve_turns};
 use super::show::{show, show_text};
 use super::trace::Watched;
 use super::words::{
@@ -30,7 +30,9 @@ use clap::{ArgMatches, Error};
 use oca_device::{Device, Outbox, Report};
 use oca_net::{CountsSleep, End, UdpEnd};
 use oca_program::socket::{bind, note_failed_sends};
-use oca_program::{Failure, RunFault, helped, print_note, replayed, status_of, written};
+use oca_program::{
+    Failure, RunFault, helped, print_made_note, print_note, replayed, status_of, written,
+};
 use oca_script::{Printer, Sink, Source};
 use oca_tree::Tree;
 use oca_types::Sizes;
@@ -69,7 +71,7 @@ pub fn run<N: Net + Clock + Files<File = File>, S: AsStr, R: Source, W: Sink, F:
     status_of(ended, faults)
 }
 
-/// Does what the words ask for, by how matching them ended.
+/// Does what the words ask for, by how matching them ended: what the command asks for that they name, or a help text.
 fn match_done<N: Net + Clock + Files<File = File>, R: Source, W: Sink, F: Sink>(
     alloc: Global,
     system: &N,
@@ -83,26 +85,13 @@ fn match_done<N: Net + Clock + Files<File = File>, R: Source, W: Sink, F: Sink>(
         printer.old printer.new faults.old faults.new }
 {
     match matched {
-        Ok(matches) => obeyed(alloc, system, &matches, reader, printer, faults),
+        Ok(matches) => match matches.subcommand() {
+            Some((name, options)) => commanded(
+                alloc, system, name, options, reader, printer, faults,
+            ),
+            None => Err(Failure::from(RunFault::BadWords)),
+        },
         Err(error) => helped(alloc, &error, printer),
-    }
-}
-
-/// Does what the command asks for that the matched words name.
-fn obeyed<N: Net + Clock + Files<File = File>, R: Source, W: Sink, F: Sink>(
-    alloc: Global,
-    system: &N,
-    words: &ArgMatches<'_>,
-    reader: &mut R,
-    printer: &mut Printer<W>,
-    faults: &mut Printer<F>,
-) -> Result<u8, Failure>
-    ensures { Obeys DoesCommand words.now (fault_in result) (input (R.remaining reader.old) (R.failed reader.old))
-        (input (R.remaining reader.new) (R.failed reader.new)) printer.old printer.new }
-{
-    match words.subcommand() {
-        Some((name, options)) => commanded(alloc, system, name, options, reader, printer, faults),
-        None => Err(Failure::from(RunFault::BadWords)),
     }
 }
 
@@ -122,8 +111,8 @@ fn commanded<N: Net + Clock + Files<File = File>, R: Source, W: Sink, F: Sink>(
     match asked_for(alloc, name, options) {
         Ok(Asked::Replay) => replays(alloc, system, options, reader, printer),
         Ok(Asked::Serve) => serves(alloc, system, options, printer, faults),
-        Ok(Asked::Show) => shows(alloc, system, options, printer),
-        Ok(Asked::ShowText) => shows_text(alloc, system, options, printer),
+        Ok(Asked::Show) => shows(alloc, system, options, false, printer),
+        Ok(Asked::ShowText) => shows(alloc, system, options, true, printer),
         Err(failure) => Err(failure),
     }
 }
@@ -163,34 +152,21 @@ fn replays_on<R: Source, W: Sink>(
     }
 }
 
-/// Prints the objects of the device that the options ask for, a line each.
+/// Prints the objects of the device that the options ask for: as a text that `--tree` reads, or a line each.
 #[tactic(auto, using(oca_program::proofs::EndingLemmas::printing))]
 fn shows<N: Files, W: Sink>(
     alloc: Global,
     system: &N,
     options: &ArgMatches<'_>,
+    as_text: bool,
     printer: &mut Printer<W>,
 ) -> Result<u8, Failure>
-    ensures { DoesShow tree_text (objects_in options.now) (fault_in result) printer.old printer.new }
+    ensures { DoesShow (if as_text then text_of else tree_text) (objects_in options.now) (fault_in result) printer.old
+        printer.new }
 {
     match objects(alloc, system, objects_of(options)) {
+        Ok(tree) if as_text => written(show_text(&tree, printer)),
         Ok(tree) => written(show(&tree, printer)),
-        Err(failure) => Err(failure),
-    }
-}
-
-/// Prints the objects of the device that the options ask for as a text that `--tree` reads.
-#[tactic(auto, using(oca_program::proofs::EndingLemmas::printing))]
-fn shows_text<N: Files, W: Sink>(
-    alloc: Global,
-    system: &N,
-    options: &ArgMatches<'_>,
-    printer: &mut Printer<W>,
-) -> Result<u8, Failure>
-    ensures { DoesShow text_of (objects_in options.now) (fault_in result) printer.old printer.new }
-{
-    match objects(alloc, system, objects_of(options)) {
-        Ok(tree) => written(show_text(&tree, printer)),
         Err(failure) => Err(failure),
     }
 }
@@ -264,43 +240,17 @@ fn served_at<N: Net + Clock + Files<File = File>, F: Sink>(
     ensures { (tree : List Object) → Represents (sizes_in options.now) device.old tree []
         → ServesOrFails options.now tree (fault_in result) }
 {
-    match Keeping::new(alloc, system, keep(options)) {
-        Ok(mut keeping) => {
+    match kept_at(alloc, system, keep(options)) {
+        Ok(mut kept) => {
             let clock = CountsSleep(system);
-            served_keeping(
-                alloc,
-                &clock,
-                system,
-                options,
-                device,
-                outbox,
-                &mut keeping,
-                faults,
-            )
+            match bind(alloc, &clock, ip(options), port(options)) {
+                Ok(end) => Ok(served_over(
+                    alloc, end, system, options, device, outbox, &mut kept, faults,
+                )),
+                Err(failure) => Err(failure),
+            }
         }
         Err(fault) => Err(Failure::from(fault)),
-    }
-}
-
-/// Serves a device at a socket, and keeps its state so: nothing waits to be stored yet.
-fn served_keeping<N: Net + Clock, L: Files, F: Sink>(
-    alloc: Global,
-    system: &N,
-    files: &L,
-    options: &ArgMatches<'_>,
-    device: &mut Device,
-    outbox: &mut Outbox,
-    keeping: &mut Keeping<'_>,
-    faults: &mut Printer<F>,
-) -> Result<Report, Failure>
-    requires kept { is_some keeping.old.kept ≡ is_some (keep_in options.now) }
-    requires behind { IfSome keeping.old.kept (λ kept. kept.waiting.is_behind ≡ false) }
-    ensures { (tree : List Object) → Represents (sizes_in options.now) device.old tree []
-        → ServesOrFails options.now tree (fault_in result) }
-{
-    match bind(alloc, system, ip(options), port(options)) {
-        Ok(end) => Ok(served_over(alloc, end, files, options, device, outbox, keeping, faults)),
-        Err(failure) => Err(failure),
     }
 }
 
@@ -312,22 +262,56 @@ fn served_over<N: Clock, L: Files, F: Sink>(
     options: &ArgMatches<'_>,
     device: &mut Device,
     outbox: &mut Outbox,
-    keeping: &mut Keeping<'_>,
+    kept: &mut Option<Kept<'_>>,
     faults: &mut Printer<F>,
 ) -> Report
-    requires behind { IfSome keeping.old.kept (λ kept. kept.waiting.is_behind ≡ false) }
+    requires behind { IfSome kept.old (λ kept. kept.waiting.is_behind ≡ false) }
     ensures served { (after : EndState)
-        × KeepsServing (is_some keeping.old.kept) device.old device.new (state_of_socket end.entry) after result }
+        × KeepsServing (is_some kept.old) device.old device.new (state_of_socket end.entry) after result }
     ensures turns { result.turns ≡ turns_until (turns_in options.now) }
 {
     print_bound(alloc, &end, faults);
+    let mut watched = Watched::new(end);
+    let report = served_watched(
+        alloc,
+        &mut watched,
+        files,
+        options,
+        device,
+        outbox,
+        kept,
+        faults,
+    );
+    let last = watched.end.last_failed_send();
+    note_failed_sends(alloc, report.failed_sends, last, faults);
+    report
+}
+
+/// Serves a device over an end as the options ask for it: the state is kept, or each datagram is printed, or neither.
+fn served_watched<E: End, L: Files, F: Sink>(
+    alloc: Global,
+    watched: &mut Watched<E>,
+    files: &L,
+    options: &ArgMatches<'_>,
+    device: &mut Device,
+    outbox: &mut Outbox,
+    kept: &mut Option<Kept<'_>>,
+    faults: &mut Printer<F>,
+) -> Report
+    requires behind { IfSome kept.old (λ kept. kept.waiting.is_behind ≡ false) }
+    ensures served { KeepsServing (is_some kept.old) device.old device.new (E.state watched.old.end)
+        (E.state watched.new.end) result }
+    ensures turns { result.turns ≤ turns_until (turns_in options.now) }
+    ensures closed { result.turns < turns_until (turns_in options.now) → IsTrue (E.state watched.new.end).closed }
+{
     let tracing = Tracing::new(VERBOSE.is_set(options), stats(options));
-    if let Some(kept) = &mut keeping.kept {
-        kept_over(
+    let turns = turns(options);
+    if let Some(kept) = kept {
+        filed_over(
             alloc,
-            end,
+            &mut watched.end,
             files,
-            turns(options),
+            turns,
             tracing,
             device,
             outbox,
@@ -335,9 +319,19 @@ fn served_over<N: Clock, L: Files, F: Sink>(
             faults,
         )
     } else if tracing.prints() {
-        traced_over(alloc, end, turns(options), tracing, device, outbox, faults)
+        serve_traced(device, watched, outbox, most(turns), tracing, faults)
     } else {
-        untraced_over(alloc, end, turns(options), device, outbox, faults)
+        served_for(device, &mut watched.end, outbox, turns)
+    }
+}
+
+/// How many turns are served at most.
+fn most(turns: Option<u32>) -> u64
+    ensures { result ≡ turns_until turns }
+{
+    match turns {
+        Some(turns) => u64::from(turns),
+        None => u64::MAX,
     }
 }
 
@@ -360,32 +354,7 @@ fn note_granted<F: Sink>(alloc: Global, granted: u32, faults: &mut Printer<F>) {
         "the system grants a send buffer of {granted} bytes: datagrams to a host that does not answer may fill it, and \
         replies to other hosts are then lost"
     );
-    if let Ok(note) = note {
-        print_note(note.as_str(), faults);
-    }
-}
-
-/// Serves a device over this end and keeps its state, and prints what it does as far as that is asked for.
-fn kept_over<N: Clock, L: Files, F: Sink>(
-    alloc: Global,
-    mut end: UdpEnd<'_, N>,
-    files: &L,
-    turns: Option<u32>,
-    tracing: Tracing,
-    device: &mut Device,
-    outbox: &mut Outbox,
-    kept: &mut Kept<'_>,
-    faults: &mut Printer<F>,
-) -> Report
-    ensures served { (after : EndState) × (has : StoreState) × StoresOn kept.old.waiting.is_behind
-        kept.new.waiting.is_behind device.old device.new (state_of_socket end.entry) after silent_store has result }
-    ensures turns { result.turns ≡ turns_until turns }
-{
-    let report = filed_over(
-        alloc, &mut end, files, turns, tracing, device, outbox, kept, faults,
-    );
-    note_failed_sends(alloc, report.failed_sends, end.last_failed_send(), faults);
-    report
+    print_made_note(note, faults);
 }
 
 /// Serves a device over an end, with a store in the file.
@@ -408,52 +377,7 @@ fn filed_over<E: End, L: Files, F: Sink>(
     let path = kept.path;
     let mut disk = FileDisk::new(alloc, files, path, kept.fresh.as_str(), kept.attributes);
     let mut store = FileStore::new(alloc, path, &mut disk, tracing, faults);
-    serve_stored(device, end, outbox, &mut kept.waiting, &mut store, turns)
-}
-
-/// Serves a device over this end, and prints what it does.
-fn traced_over<N: Clock, F: Sink>(
-    alloc: Global,
-    end: UdpEnd<'_, N>,
-    turns: Option<u32>,
-    tracing: Tracing,
-    device: &mut Device,
-    outbox: &mut Outbox,
-    faults: &mut Printer<F>,
-) -> Report
-    ensures served { (after : EndState) × ServesOn device.old device.new (state_of_socket end.entry) after result }
-    ensures turns { result.turns ≡ turns_until turns }
-{
-    let most = match turns {
-        Some(turns) => u64::from(turns),
-        None => u64::MAX,
-    };
-    let mut watched = Watched::new(end);
-    let report = serve_traced(device, &mut watched, outbox, most, tracing, faults);
-    note_failed_sends(
-        alloc,
-        report.failed_sends,
-        watched.end.last_failed_send(),
-        faults,
-    );
-    report
-}
-
-/// Serves a device over this end.
-fn untraced_over<N: Clock, F: Sink>(
-    alloc: Global,
-    mut end: UdpEnd<'_, N>,
-    turns: Option<u32>,
-    device: &mut Device,
-    outbox: &mut Outbox,
-    faults: &mut Printer<F>,
-) -> Report
-    ensures served { (after : EndState) × ServesOn device.old device.new (state_of_socket end.entry) after result }
-    ensures turns { result.turns ≡ turns_until turns }
-{
-    let report = served_for(device, &mut end, outbox, turns);
-    note_failed_sends(alloc, report.failed_sends, end.last_failed_send(), faults);
-    report
+    serve_kept(device, end, outbox, &mut kept.waiting, &mut store, turns)
 }
 
 /// Serves an end for so many turns, or until it is closed.

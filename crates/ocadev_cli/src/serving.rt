@@ -9,11 +9,11 @@ ghost use Rattle.ocadev_cli.specs.Runs.{turns_until};
 ghost use Rattle.ocadev_cli.specs.Totals.{StoresOn, ServesOn, stats_interval, first_stats};
 
 use super::report::print_stats;
-use super::trace::{Watched, print_turn};
+use super::trace::{Watched, print_heard};
 use oca_device::{
     Device, Keeping, NoElectronics, Outbox, Report, Store, serve, serve_keeping, serve_with,
 };
-use oca_net::End;
+use oca_net::{End, Heard};
 use oca_script::{Printer, Sink, WriteFailed};
 
 /// How many rounds of 2^32 - 1 turns are 2^64 - 1 turns.
@@ -72,28 +72,11 @@ pub fn serve_kept<E: End, S: Store>(
     ensures turns { result.turns ≤ turns_until turns }
     ensures closed { result.turns < turns_until turns → IsTrue (E.state end.new).closed }
 {
+    let mut none = NoElectronics;
     match turns {
-        Some(turns) => keep_turns(device, end, outbox, keeping, store, turns),
+        Some(turns) => serve_keeping(device, end, outbox, keeping, store, &mut none, turns),
         None => keep_on(device, end, outbox, keeping, store),
     }
-}
-
-/// Serves and keeps for so many turns, or until the end is closed.
-fn keep_turns<E: End, S: Store>(
-    device: &mut Device,
-    end: &mut E,
-    outbox: &mut Outbox,
-    keeping: &mut Keeping,
-    store: &mut S,
-    turns: u32,
-) -> Report
-    ensures served { StoresOn keeping.old.is_behind keeping.new.is_behind device.old device.new (E.state end.old)
-        (E.state end.new) (S.state store.old) (S.state store.new) result }
-    ensures turns { result.turns ≤ turns }
-    ensures closed { result.turns < turns → IsTrue (E.state end.new).closed }
-{
-    let mut none = NoElectronics;
-    serve_keeping(device, end, outbox, keeping, store, &mut none, turns)
 }
 
 /// Serves and keeps for 2^64 - 1 turns, which no run comes to, or until the end is closed.
@@ -111,7 +94,8 @@ fn keep_on<E: End, S: Store>(
 {
     let mut report = nothing();
     for _times in 0..ROUNDS {
-        let round = keep_turns(device, end, outbox, keeping, store, u32::MAX);
+        let mut none = NoElectronics;
+        let round = serve_keeping(device, end, outbox, keeping, store, &mut none, u32::MAX);
         report = sum(report, round);
         if round.turns < u64::from(u32::MAX) {
             return report;
@@ -162,6 +146,35 @@ impl Tracing {
     {
         self.verbose || self.every != 0
     }
+
+    /// Prints behind a turn the line of what was heard, and the report so far if it is time for it at the moment `now`.
+    pub fn print_turn<F: Sink>(
+        &mut self,
+        heard: Heard,
+        bytes: &[u8],
+        turn: &Report,
+        so_far: &Report,
+        now: Option<u64>,
+        device: &Device,
+        faults: &mut Printer<F>,
+    ) {
+        if self.verbose {
+            let _ = print_heard(
+                heard,
+                bytes,
+                turn,
+                device.effects(),
+                device.written(),
+                faults,
+            );
+        }
+        if let Some(now) = now
+            && self.next <= now
+        {
+            self.next = now.saturating_add(self.every);
+            let _ = print_progress_report(so_far, device, faults);
+        }
+    }
 }
 
 /// Serves an end for `turns` turns, or until it is closed, and prints to `faults` a line for each datagram and the
@@ -188,28 +201,18 @@ pub fn serve_traced<E: End, F: Sink>(
         if turn.turns < 1 {
             return report;
         }
-        print_progress(end, &turn, &report, device, &mut tracing, faults);
+        let now = Some(end.now());
+        tracing.print_turn(
+            end.heard,
+            end.packet.as_slice(),
+            &turn,
+            &report,
+            now,
+            device,
+            faults,
+        );
     }
     report
-}
-
-/// Prints what is to be printed behind a turn.
-fn print_progress<E: End, F: Sink>(
-    end: &Watched<E>,
-    turn: &Report,
-    report: &Report,
-    device: &Device,
-    tracing: &mut Tracing,
-    faults: &mut Printer<F>,
-) {
-    if tracing.verbose {
-        let _ = print_turn(end, turn, device.effects(), device.written(), faults);
-    }
-    let now = end.now();
-    if tracing.next <= now {
-        tracing.next = now.saturating_add(tracing.every);
-        let _ = print_progress_report(report, device, faults);
-    }
 }
 
 /// Prints to `faults` the report so far as one line that begins with `note: `, and writes all that the printer holds.
@@ -232,36 +235,12 @@ pub fn print_progress_report<F: Sink>(
 pub fn sum(a: Report, b: Report) -> Report
     ensures { result ≡ capped (added a b) }
 {
-    Report {
-        turns: a.turns.saturating_add(b.turns),
-        executed: a.executed.saturating_add(b.executed),
-        kept: a.kept.saturating_add(b.kept),
-        old: a.old.saturating_add(b.old),
-        reused: a.reused.saturating_add(b.reused),
-        malformed: a.malformed.saturating_add(b.malformed),
-        no_room: a.no_room.saturating_add(b.no_room),
-        oversize: a.oversize.saturating_add(b.oversize),
-        quiet: a.quiet.saturating_add(b.quiet),
-        failed_receives: a.failed_receives.saturating_add(b.failed_receives),
-        failed_sends: a.failed_sends.saturating_add(b.failed_sends),
-    }
+    a + b
 }
 
 /// No turns.
 fn nothing() -> Report
     ensures { result ≡ no_turns }
 {
-    Report {
-        turns: 0,
-        executed: 0,
-        kept: 0,
-        old: 0,
-        reused: 0,
-        malformed: 0,
-        no_room: 0,
-        oversize: 0,
-        quiet: 0,
-        failed_receives: 0,
-        failed_sends: 0,
-    }
+    Report::default()
 }

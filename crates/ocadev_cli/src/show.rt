@@ -16,6 +16,7 @@ const OBJECT_ROOM: usize = 600;
 /// Prints a line for each object, in order of adding: its ONo, its class identifier, the ONo of its container (0 for
 /// the root), and its role. Writes all that the printer holds. `WriteFailed` if a write failed: then only the beginning
 /// of the text may have been written.
+#[tactic(auto, using(oca_script::proofs::PrintLemmas::writing))]
 pub fn show<W: Sink>(tree: &Tree, printer: &mut Printer<W>) -> Result<(), WriteFailed>
     ensures { WritesOut result printer.old printer.new (tree_text tree.now) }
 {
@@ -25,6 +26,7 @@ pub fn show<W: Sink>(tree: &Tree, printer: &mut Printer<W>) -> Result<(), WriteF
 
 /// Prints the objects as a text that `--tree` reads, and writes all that the printer holds. `WriteFailed` if a write
 /// failed: then only the beginning of the text may have been written.
+#[tactic(auto, using(oca_script::proofs::PrintLemmas::writing))]
 pub fn show_text<W: Sink>(tree: &Tree, printer: &mut Printer<W>) -> Result<(), WriteFailed>
     ensures { WritesOut result printer.old printer.new (text_of tree.now) }
 {
@@ -46,6 +48,7 @@ fn print_objects<W: Sink>(tree: &Tree, printer: &mut Printer<W>) -> Result<(), W
 }
 
 /// Prints the line of an object.
+#[tactic(auto, using(oca_script::proofs::PrintLemmas::printing))]
 fn print_object<W: Sink>(object: &ObjectInfo, printer: &mut Printer<W>) -> Result<(), WriteFailed>
     ensures { Prints result printer.old printer.new (info_text object.now) }
 {

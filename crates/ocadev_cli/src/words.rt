@@ -11,7 +11,7 @@ ghost use Rattle.ocadev_cli.specs.Words.{show_rows, shown_by as shown, sizes_in,
 ghost use Rattle.ocadev_cli.specs.Words.{keep_in, window_row};
 
 use clap::{ArgMatches, Command, Error};
-use oca_program::form::check;
+use oca_program::form::{NUMBER_16, NUMBER_32, check};
 use oca_program::table::program_with_commands;
 use oca_program::{CommandRow, Failure, Form, Kind, OptionRow, RunFault};
 use oca_types::{LOOPBACK, Peers, Sizes, Window};
@@ -58,12 +58,7 @@ const PEERS: OptionRow = OptionRow {
     name: "peers",
     value: "N",
     help: "How many peers can have a session at once, 1 to 64 [default: 16]",
-    kind: Kind::Optional,
-    form: Form::Number {
-        digits: 3,
-        least: 1,
-        largest: 64,
-    },
+    ..WINDOW
 };
 
 /// How many channel strips there are.
@@ -96,11 +91,7 @@ const PORT: OptionRow = OptionRow {
     value: "PORT",
     help: "The UDP port, 0 to 65535; at 0 the system chooses one",
     kind: Kind::Required,
-    form: Form::Number {
-        digits: 5,
-        least: 0,
-        largest: 65_535,
-    },
+    form: NUMBER_16,
 };
 
 /// How many turns are served.
@@ -109,11 +100,7 @@ const TURNS: OptionRow = OptionRow {
     value: "T",
     help: "Stops after this many turns, 0 to 4294967295; without this option it runs until you stop it",
     kind: Kind::Optional,
-    form: Form::Number {
-        digits: 10,
-        least: 0,
-        largest: 4_294_967_295,
-    },
+    form: NUMBER_32,
 };
 
 /// The address.
@@ -154,21 +141,17 @@ const STATS: OptionRow = OptionRow {
 /// The file in which the state is kept.
 const KEEP: OptionRow = OptionRow {
     name: "keep",
-    value: "FILE",
     help: "The file in which the device's state is stored. If it exists at the start, the device has its objects, \
         whatever --tree and --channels say. It is written after each datagram that wrote to an object. Locks, reply \
         windows and sessions are not stored: after a restart, a duplicate of a command from before is executed as new",
-    kind: Kind::Optional,
-    form: Form::Text,
+    ..TREE
 };
 
 /// Whether the objects are shown as a text.
 const TEXT: OptionRow = OptionRow {
     name: "text",
-    value: "",
     help: "Prints the objects in the form that --tree reads, with labels and everything else that a device stores",
-    kind: Kind::Flag,
-    form: Form::Text,
+    ..VERBOSE
 };
 
 /// The options of `replay`.
@@ -350,10 +333,7 @@ pub fn sizes(options: &ArgMatches<'_>) -> Sizes
 fn channels(options: &ArgMatches<'_>) -> u16
     ensures { result ≡ channels_in options.now }
 {
-    match CHANNELS.number(options) {
-        Some(channels) => channels as u16,
-        None => 0,
-    }
+    CHANNELS.number(options).unwrap_or(0) as u16
 }
 
 /// The source of the device's objects: a file if the options name one. Otherwise it is the bench device with the number
@@ -371,10 +351,7 @@ pub fn objects_of<'a>(options: &ArgMatches<'a>) -> Objects<'a>
 pub fn port(options: &ArgMatches<'_>) -> u16
     ensures { result ≡ serve_port options.now }
 {
-    match PORT.number(options) {
-        Some(port) => port as u16,
-        None => 0,
-    }
+    PORT.number(options).unwrap_or(0) as u16
 }
 
 /// The address at which the device is served, as a number with the first byte highest. It is 127.0.0.1, unless the
@@ -382,30 +359,21 @@ pub fn port(options: &ArgMatches<'_>) -> u16
 pub fn ip(options: &ArgMatches<'_>) -> u32
     ensures { result ≡ ip_in options.now }
 {
-    match IP.own(options) {
-        Some(ip) => ip,
-        None => LOOPBACK,
-    }
+    IP.own(options).unwrap_or(LOOPBACK)
 }
 
 /// For how many turns the device is served. `None` if the options give no number: then without end.
 pub fn turns(options: &ArgMatches<'_>) -> Option<u32>
     ensures { result ≡ turns_in options.now }
 {
-    match TURNS.number(options) {
-        Some(turns) => Some(turns as u32),
-        None => None,
-    }
+    Some(TURNS.number(options)? as u32)
 }
 
 /// Every how many seconds the report so far is printed. `None` if the options give no number: then never.
 pub fn stats(options: &ArgMatches<'_>) -> Option<u32>
     ensures { result ≡ number_said options.now stats_row }
 {
-    match STATS.number(options) {
-        Some(seconds) => Some(seconds as u32),
-        None => None,
-    }
+    Some(STATS.number(options)? as u32)
 }
 
 /// The path of the file in which the state is kept. `None` if none is named.

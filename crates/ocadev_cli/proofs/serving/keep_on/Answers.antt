@@ -11,12 +11,12 @@ loop-times-init g c = record {
 
 pub loop-times-preserved : goal.loop-times-preserved
 loop-times-preserved g c =
-    let more : c.sum-report.result.turns ≡ c.loop-times._times * 4294967295 + 4294967295 = turns-more _ 4294967295 c.loop-times.report c.keep_turns-round.result c.sum-report.result c.sum-report.ensures c.loop-times.invariant.turns (omega (arith, c.keep_turns-round.ensures.turns, c.if-round-from.false, c.from.ensures)) (omega (arith, c.loop-times-test.true)) in
+    let more : c.sum-report.result.turns ≡ c.loop-times._times * 4294967295 + 4294967295 = turns-more _ 4294967295 c.loop-times.report c.serve_keeping-round.result c.sum-report.result c.sum-report.ensures c.loop-times.invariant.turns (omega (arith, c.serve_keeping-round.ensures.turns, c.if-round-from.false, c.from.ensures)) (omega (arith, c.loop-times-test.true)) in
     record {
-      served = kept-more _ _ _ _ _ _ _ _ _ _ _ _ c.loop-times.report c.keep_turns-round.result c.sum-report.result c.loop-times.invariant.served c.keep_turns-round.ensures.served c.sum-report.ensures;
+      served = kept-more _ _ _ _ _ _ _ _ _ _ _ _ c.loop-times.report c.serve_keeping-round.result c.sum-report.result c.loop-times.invariant.served c.serve_keeping-round.ensures.served c.sum-report.ensures;
       turns = omega (arith, more);
     }
 
 pub returns-then-round-from-clause-served : goal.returns-then-round-from-clause-served
 returns-then-round-from-clause-served g c =
-    kept-more _ _ _ _ _ _ _ _ _ _ _ _ c.loop-times.report c.keep_turns-round.result c.sum-report.result c.loop-times.invariant.served c.keep_turns-round.ensures.served c.sum-report.ensures
+    kept-more _ _ _ _ _ _ _ _ _ _ _ _ c.loop-times.report c.serve_keeping-round.result c.sum-report.result c.loop-times.invariant.served c.serve_keeping-round.ensures.served c.sum-report.ensures

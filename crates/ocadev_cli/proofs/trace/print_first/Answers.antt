@@ -2,10 +2,10 @@ use Rattle.std.proofs.lemmas.Result.{err_from_is_err_and}
 use Rattle.oca_script.proofs.PrintLemmas.{prints-less, prints-then}
 use Rattle.ocadev_cli.proofs.trace.print_first.Goals as goal
 
-pub returns-in_err-print_ono : goal.returns-in_err-print_ono
-returns-in_err-print_ono g c =
+pub returns-in_err-print_count : goal.returns-in_err-print_count
+returns-in_err-print_count g c =
     let p = err_from_is_err_and c.from_residual.result c.from_residual.ensures.1 in
-    prints-less _ p.0 _ _ _ _ p.1 c.in_err-print_ono.ensures
+    prints-less _ p.0 _ _ _ _ p.1 (rw c.from.ensures at c.in_err-print_count.ensures)
 
 pub returns : goal.returns
-returns g c = prints-then _ _ _ _ _ _ c.in_ok-print_ono.ensures c.print_numbers.ensures
+returns g c = prints-then _ _ _ _ _ _ (rw c.from.ensures at c.in_ok-print_count.ensures) c.print_numbers.ensures

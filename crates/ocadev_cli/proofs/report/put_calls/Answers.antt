@@ -1,5 +1,0 @@
-use Rattle.ocadev_cli.proofs.HeldLemmas.{held-both}
-use Rattle.ocadev_cli.proofs.report.put_calls.Goals as goal
-
-pub returns-clause-value : goal.returns-clause-value
-returns-clause-value g c = held-both _ _ _ _ _ _ _ c.put_count.ensures.value c.put_count-2.ensures.value
