@@ -63,7 +63,7 @@ AreUnique p xs = (c d : CommandFields) → IsSubmitted p c xs → IsSubmitted p 
 
 -- its handles rise, up to the next one
 abbrev pub AreRising : Peer → Option ℕ → List SubmittedCommand → Type 0
-AreRising p next xs = laws.AreRising (handles_of p xs ++ end_of next ∷ [])
+AreRising p next xs = laws.AreIncreasing (handles_of p xs ++ end_of next ∷ [])
 
 abbrev pub AreOwn : Peer → Past → List Note → Type 0
 AreOwn p g ns = AllByRecursion (λ n. n.peer ≡ p → IsOwn p g n.what) ns

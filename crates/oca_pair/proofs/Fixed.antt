@@ -8,7 +8,7 @@ use Rattle.oca_device.specs.Events.{Datagram}
 use Rattle.oca_control.specs.Links.{Request}
 use Rattle.oca_pair.specs.Networks.{Network, PeerLink, SentDatagram}
 use Rattle.oca_pair.specs.Steps as steps
-use Rattle.oca_pair.specs.Steps.{Step, Submit, Due, ToDevice, ToLink, Other, Take, has_link, after_submit, after_due_step, after_delivery, after_reception, after_take, Renew, renewed_link, is_above, with_link, after_renewal, after_step, after_steps}
+use Rattle.oca_pair.specs.Steps.{Step, Submit, Due, ToDevice, ToLink, Other, Take, has_link, after_submit, after_due_step, after_delivery, after_reception, after_take, Renew, renewed_link, is_no_lower, with_link, after_renewal, after_step, after_steps}
 
 abbrev fixed : Network → DeviceSizes × List Object
 fixed n = (n.sizes, n.tree)
@@ -43,7 +43,7 @@ fixed_kept (step ∷ es) n = fixed_kept es (after_step step n) ∙ one step
 
     by_renewal : (i first span now origin : ℕ) (o : Option PeerLink) → fixed (after_renewal i first span now origin o n) ≡ fixed n
     by_renewal i first span now origin None = refl
-    by_renewal i first span now origin (Some l) = by_test (is_above first l.link.next)
+    by_renewal i first span now origin (Some l) = by_test (is_no_lower first l.link.next)
       where
         by_test : (b : Bool) → fixed (cond b (record n { links = with_link i l (renewed_link first span now l.link) n.links; renewed = (record { peer = l.peer; zero = origin }) ∷ n.renewed }) n) ≡ fixed n
         by_test true = refl

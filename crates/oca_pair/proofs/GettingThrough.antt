@@ -27,7 +27,7 @@ use Rattle.oca_control.proofs.InTime.{clock_from, sent_from, in_time_made}
 use Rattle.oca_pair.specs.declared.outcome.Outcome.TheVariants as outcomes
 use Rattle.oca_pair.specs.declared.start.Start.{Start}
 use Rattle.oca_pair.specs.Networks.{Network, PeerLink, SentDatagram, SubmittedCommand, TakenAnswer, Setup, started, opening, is_renewed}
-use Rattle.oca_pair.specs.Steps.{Step, Submit, Due, ToDevice, ToLink, Other, Take, has_link, with_link, submitted_by, after_submit, submit_outcome, given_by, after_due_step, after_delivery, content_read, hears_datagram, after_reception, after_take, Renew, is_above, renewed_link, after_renewal, after_step, after_steps, on_link, outcome_of_step}
+use Rattle.oca_pair.specs.Steps.{Step, Submit, Due, ToDevice, ToLink, Other, Take, has_link, with_link, submitted_by, after_submit, submit_outcome, given_by, after_due_step, after_delivery, content_read, hears_datagram, after_reception, after_take, Renew, is_no_lower, renewed_link, after_renewal, after_step, after_steps, on_link, outcome_of_step}
 use Rattle.oca_pair.specs.Steps as steps
 use Rattle.oca_pair.specs.Premises.{are_apart, Fit}
 use Rattle.oca_pair.specs.RoundTrip.{IsAnswerTo, GotItsAnswer, ComesBack, RoundTrips}
@@ -202,7 +202,7 @@ runs_step first born s i p calls step n never g = one step never
 
     by_renewal : (k f span now origin : ℕ) (o : Option PeerLink) → slice_get n.links k ≡ o → is_renewed p (after_renewal k f span now origin o n) ≡ false → Runs first born s i p calls (after_renewal k f span now origin o n)
     by_renewal k f span now origin None e never = g
-    by_renewal k f span now origin (Some l) e never = by_test (is_above f l.link.next) never
+    by_renewal k f span now origin (Some l) e never = by_test (is_no_lower f l.link.next) never
       where
         m : Network
         m = record n { links = with_link k l (renewed_link f span now l.link) n.links; renewed = (record { peer = l.peer; zero = origin }) ∷ n.renewed }

@@ -32,7 +32,7 @@ use Rattle.oca_control.specs.Untaken.{Untaken, new_untaken, is_due, is_late, fir
 use Rattle.oca_control.specs.Links.{LinkState, Request, command_under, submission, handle_after, after_submission, Decision, GivesCommand, GivesKeepAlive, GivesNothing, IsLost, decision_among, decision, after_due, gone_on, hears_content, received, taken, present_moment, late_at}
 use Rattle.oca_pair.specs.declared.start.Start.{Start}
 use Rattle.oca_pair.specs.Networks.{Network, PeerLink, SentDatagram, SubmittedCommand, TakenAnswer, Setup, started, opening, zero_of}
-use Rattle.oca_pair.specs.Steps.{Step, Submit, Due, ToDevice, ToLink, Other, Take, has_link, sendings_in, after_submit, given_by, after_due_step, after_delivery, content_read, hears_datagram, after_reception, after_take, after_step, after_steps, Renew, with_link, is_above, renewed_link, after_renewal}
+use Rattle.oca_pair.specs.Steps.{Step, Submit, Due, ToDevice, ToLink, Other, Take, has_link, sendings_in, after_submit, given_by, after_due_step, after_delivery, content_read, hears_datagram, after_reception, after_take, after_step, after_steps, Renew, with_link, is_no_lower, renewed_link, after_renewal}
 use Rattle.oca_pair.specs.Steps as steps
 use Rattle.oca_pair.specs.Happenings.{happenings}
 use Rattle.oca_pair.specs.Premises.{are_apart, StepFits, Fit}
@@ -609,7 +609,7 @@ timed_step_take s i k h left n g (Some x) e =
 timed_step_renewal : (s : Setup) (i k first span now origin : ℕ) (left : List Departure) (n : Network) → Sound s.span n → TimedAt s i left n → (o : Option PeerLink) → slice_get n.links k ≡ o →
     TimedAt s i left (after_renewal k first span now origin o n)
 timed_step_renewal s i k first span now origin left n sound g None e = g
-timed_step_renewal s i k first span now origin left n sound g (Some x) e = by_test (is_above first x.link.next) refl
+timed_step_renewal s i k first span now origin left n sound g (Some x) e = by_test (is_no_lower first x.link.next) refl
   where
     y : PeerLink
     y = record { peer = x.peer; link = renewed_link first span now x.link }
@@ -630,7 +630,7 @@ timed_step_renewal s i k first span now origin left n sound g (Some x) e = by_te
         subst (λ (z : ℕ). Timed (record { link = z; device = s.device_zero }) l.peer (end_of l.link.next) l.link.moment l.link.untaken left n.to_device (state_of (past n)).notes)
         (sym (zero_by l.peer false (other_is x.peer l.peer (apart_at n.links k i x l sound.apart e own other)))) (g l own)
 
-    by_test : (b : Bool) → is_above first x.link.next ≡ b → TimedAt s i left (cond b m n)
+    by_test : (b : Bool) → is_no_lower first x.link.next ≡ b → TimedAt s i left (cond b m n)
     by_test true q = timed_put s i k x y left n m e refl (λ is own. mine (above_next first x.link.next q) own) others
     by_test false q = g
 

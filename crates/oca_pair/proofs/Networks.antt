@@ -22,7 +22,7 @@ use Rattle.oca_control.specs.Links.{Request, submission, after_submission, Decis
 use Rattle.oca_pair.specs.declared.start.Start.{Start}
 use Rattle.oca_pair.specs.Networks.{Network, PeerLink, SentDatagram, SubmittedCommand, TakenAnswer, Setup, started, opening, is_renewed}
 use Rattle.oca_pair.specs.Laws.{handles_of, AreConsecutive}
-use Rattle.oca_pair.specs.Steps.{Step, Submit, Due, ToDevice, ToLink, Other, Take, Renew, with_link, is_above, renewed_link, after_renewal, has_link, sendings_in, submitted_by, after_submit, given_by, after_due_step, after_delivery, content_read, hears_datagram, after_reception, after_take, after_step, after_steps}
+use Rattle.oca_pair.specs.Steps.{Step, Submit, Due, ToDevice, ToLink, Other, Take, Renew, with_link, is_no_lower, renewed_link, after_renewal, has_link, sendings_in, submitted_by, after_submit, given_by, after_due_step, after_delivery, content_read, hears_datagram, after_reception, after_take, after_step, after_steps}
 use Rattle.oca_pair.specs.Steps as steps
 use Rattle.oca_pair.specs.Premises.{is_of_another_peer, are_apart, RequestFits, StepFits, StartFits, Fit}
 use Rattle.oca_pair.proofs.Core.{each_map, none_passes, has}
@@ -248,7 +248,7 @@ sound_take s i h n g (Some l) e = record {
 
 sound_renewal : (s : Peer → ℕ) (i first span now origin : ℕ) (n : Network) → first < 2 ^ 32 → Sound s n → (o : Option PeerLink) → slice_get n.links i ≡ o → Sound s (after_renewal i first span now origin o n)
 sound_renewal s i first span now origin n low g None e = g
-sound_renewal s i first span now origin n low g (Some l) e = by_test (is_above first l.link.next) refl
+sound_renewal s i first span now origin n low g (Some l) e = by_test (is_no_lower first l.link.next) refl
   where
     y : PeerLink
     y = record { peer = l.peer; link = renewed_link first span now l.link }
@@ -277,7 +277,7 @@ sound_renewal s i first span now origin n low g (Some l) e = by_test (is_above f
       good = λ never. absurd (now_renewed l.peer l.peer (is_renewed l.peer n) refl never);
     }
 
-    by_test : (b : Bool) → is_above first l.link.next ≡ b → Sound s (cond b n' n)
+    by_test : (b : Bool) → is_no_lower first l.link.next ≡ b → Sound s (cond b n' n)
     by_test true q = record {
       apart = apart_put n.links i l y e refl g.apart;
       each = each_put (LinkSound s n) (LinkSound s n') n.links i l y e g.apart others (mine (above_next first l.link.next q)) g.each;

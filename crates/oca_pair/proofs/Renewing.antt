@@ -10,8 +10,8 @@ use Rattle.oca_control.specs.Untaken.{Untaken}
 use Rattle.oca_control.specs.Links.{Request}
 use Rattle.oca_pair.specs.Networks.{Network, PeerLink, SentDatagram, TakenAnswer, is_renewed, opening}
 use Rattle.oca_pair.specs.Steps as steps
-use Rattle.oca_pair.specs.Steps.{Step, Submit, Due, ToDevice, ToLink, Other, Take, Renew, has_link, with_link, after_submit, after_due_step, after_delivery, after_reception, after_take, is_above, renewed_link, after_renewal, after_step, after_steps}
-use Rattle.oca_pair.specs.Laws.{AreRising, IsNoRenewal, OnlyRenewalsRenew}
+use Rattle.oca_pair.specs.Steps.{Step, Submit, Due, ToDevice, ToLink, Other, Take, Renew, has_link, with_link, after_submit, after_due_step, after_delivery, after_reception, after_take, is_no_lower, renewed_link, after_renewal, after_step, after_steps}
+use Rattle.oca_pair.specs.Laws.{AreIncreasing, IsNoRenewal, OnlyRenewalsRenew}
 use Rattle.oca_pair.proofs.Core.{each_map, either_false}
 use Rattle.oca_pair.proofs.Lists.{same_of, differs}
 use Rattle.oca_pair.proofs.Truths.{Past}
@@ -19,7 +19,7 @@ use Rattle.oca_pair.proofs.Fair.{end_of, Fair}
 
 -- ---- handles
 
-pub above_next : (first : ℕ) (next : Option ℕ) → is_above first next ≡ true → end_of next ≤ first
+pub above_next : (first : ℕ) (next : Option ℕ) → is_no_lower first next ≡ true → end_of next ≤ first
 above_next first None e = cc
 above_next first (Some h) e = lower h first e
   where
@@ -29,7 +29,7 @@ above_next first (Some h) e = lower h first e
 below_more : (x a b : ℕ) → a ≤ b → x < a → x < b
 below_more x a b q k = omega arith
 
-rising_up : (xs : List ℕ) (h k : ℕ) → h ≤ k → AreRising (xs ++ h ∷ []) → AreRising (xs ++ k ∷ [])
+rising_up : (xs : List ℕ) (h k : ℕ) → h ≤ k → AreIncreasing (xs ++ h ∷ []) → AreIncreasing (xs ++ k ∷ [])
 rising_up [] h k le a = tt
 rising_up (x ∷ []) h k le a = (below_more x h k le a.0, tt)
 rising_up (x ∷ y ∷ xs) h k le a = (a.0, rising_up (y ∷ xs) h k le a.1)
@@ -90,7 +90,7 @@ not_before_step p step n = one step
 
     by_renewal : (k first span now origin : ℕ) (o : Option PeerLink) → Stays (after_renewal k first span now origin o n)
     by_renewal k first span now origin None e = e
-    by_renewal k first span now origin (Some l) e = by_test (is_above first l.link.next) e
+    by_renewal k first span now origin (Some l) e = by_test (is_no_lower first l.link.next) e
       where
         by_test : (b : Bool) → Stays (cond b (record n { links = with_link k l (renewed_link first span now l.link) n.links; renewed = (record { peer = l.peer; zero = origin }) ∷ n.renewed }) n)
         by_test true e = other_renewed p l.peer (is_renewed p n) e

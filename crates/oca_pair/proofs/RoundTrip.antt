@@ -24,7 +24,7 @@ use Rattle.oca_control.specs.Untaken.{Untaken, new_untaken, answered, hears_all,
 use Rattle.oca_control.specs.Links.{LinkState, Request, command_under, submission, after_submission, Decision, GivesCommand, GivesKeepAlive, GivesNothing, IsLost, decision, after_due, gone_on, hears_content, received, taken, present_moment}
 use Rattle.oca_pair.specs.declared.start.Start.{Start}
 use Rattle.oca_pair.specs.Networks.{Network, PeerLink, SentDatagram, SubmittedCommand, TakenAnswer, Setup, started, opening, is_renewed}
-use Rattle.oca_pair.specs.Steps.{Step, Submit, Due, ToDevice, ToLink, Other, Take, has_link, sendings_in, with_link, submitted_by, after_submit, after_due_step, after_delivery, messages_read, content_read, hears_datagram, after_reception, taken_by, after_take, Renew, is_above, renewed_link, after_renewal, after_step, after_steps}
+use Rattle.oca_pair.specs.Steps.{Step, Submit, Due, ToDevice, ToLink, Other, Take, has_link, sendings_in, with_link, submitted_by, after_submit, after_due_step, after_delivery, messages_read, content_read, hears_datagram, after_reception, taken_by, after_take, Renew, is_no_lower, renewed_link, after_renewal, after_step, after_steps}
 use Rattle.oca_pair.specs.Steps as steps
 use Rattle.oca_pair.specs.Premises.{are_apart, StepFits, Fit}
 use Rattle.oca_pair.specs.Laws.{Execution, executions_under, executions_for, answer_of, IsExecutedNow, WasExecuted, CarriesUntaken, IsAnswered}
@@ -87,7 +87,7 @@ grown_step step n = one step
 
     by_renewal : (i first span now origin : ℕ) (o : Option PeerLink) → Grown n (after_renewal i first span now origin o n)
     by_renewal i first span now origin None = grown_not n
-    by_renewal i first span now origin (Some l) = by_test (is_above first l.link.next)
+    by_renewal i first span now origin (Some l) = by_test (is_no_lower first l.link.next)
       where
         by_test : (b : Bool) → Grown n (cond b (record n { links = with_link i l (renewed_link first span now l.link) n.links; renewed = (record { peer = l.peer; zero = origin }) ∷ n.renewed }) n)
         by_test true = record { sent = []; to_links = none_sent; more = []; submitted = none_more }
@@ -186,7 +186,7 @@ to_device_step step n a = one step
 
     by_renewal : (i first span now origin : ℕ) (o : Option PeerLink) → slice_get n.links i ≡ o → AreToDevice (after_renewal i first span now origin o n)
     by_renewal i first span now origin None e = a
-    by_renewal i first span now origin (Some l) e = by_test (is_above first l.link.next)
+    by_renewal i first span now origin (Some l) e = by_test (is_no_lower first l.link.next)
       where
         by_test : (b : Bool) → AreToDevice (cond b (record n { links = with_link i l (renewed_link first span now l.link) n.links; renewed = (record { peer = l.peer; zero = origin }) ∷ n.renewed }) n)
         by_test true = put i l (renewed_link first span now l.link) e refl
@@ -352,7 +352,7 @@ stands_step i h p step n never g = one step never
     by_renewal : (k first span now origin : ℕ) (o : Option PeerLink) → slice_get n.links k ≡ o → is_renewed p (after_renewal k first span now origin o n) ≡ false →
         Stands i p h (after_renewal k first span now origin o n).links (after_renewal k first span now origin o n).taken
     by_renewal k first span now origin None e never = g
-    by_renewal k first span now origin (Some l) e never = by_test (is_above first l.link.next) never
+    by_renewal k first span now origin (Some l) e never = by_test (is_no_lower first l.link.next) never
       where
         m : Network
         m = record n { links = with_link k l (renewed_link first span now l.link) n.links; renewed = (record { peer = l.peer; zero = origin }) ∷ n.renewed }
@@ -514,7 +514,7 @@ executed_steps p x (e ∷ es) n i = executed_steps p x es (after_step e n) (one 
 
     by_renewal : (k first span now origin : ℕ) (o : Option PeerLink) → Has (after_renewal k first span now origin o n)
     by_renewal k first span now origin None = i
-    by_renewal k first span now origin (Some l) = by_test (is_above first l.link.next)
+    by_renewal k first span now origin (Some l) = by_test (is_no_lower first l.link.next)
       where
         by_test : (b : Bool) → Has (cond b (record n { links = with_link k l (renewed_link first span now l.link) n.links; renewed = (record { peer = l.peer; zero = origin }) ∷ n.renewed }) n)
         by_test true = i

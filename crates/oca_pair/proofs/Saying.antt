@@ -30,7 +30,7 @@ use Rattle.oca_control.specs.Links.{Request, command_under, submission}
 use Rattle.oca_pair.specs.declared.outcome.Outcome.TheVariants as outcomes
 use Rattle.oca_pair.specs.declared.start.Start.{Start}
 use Rattle.oca_pair.specs.Networks.{Network, PeerLink, SentDatagram, SubmittedCommand, Setup, opening}
-use Rattle.oca_pair.specs.Steps.{Step, Submit, Due, ToDevice, ToLink, Other, Take, has_link, submitted_by, submit_outcome, after_submit, after_due_step, after_delivery, hears_datagram, after_reception, after_take, after_step, after_steps, on_link, delivery_outcome, outcome_of_step, Renew, with_link, is_above, renewed_link, after_renewal}
+use Rattle.oca_pair.specs.Steps.{Step, Submit, Due, ToDevice, ToLink, Other, Take, has_link, submitted_by, submit_outcome, after_submit, after_due_step, after_delivery, hears_datagram, after_reception, after_take, after_step, after_steps, on_link, delivery_outcome, outcome_of_step, Renew, with_link, is_no_lower, renewed_link, after_renewal}
 use Rattle.oca_pair.specs.Steps as steps
 use Rattle.oca_pair.specs.Happenings.{happenings}
 use Rattle.oca_pair.specs.Premises.{are_apart, StepFits, Fit}
@@ -101,7 +101,7 @@ peers_step step n = one step
 
     by_renewal : (k first span now origin : ℕ) (o : Option PeerLink) → slice_get n.links k ≡ o → peers_of (after_renewal k first span now origin o n).links ≡ peers_of n.links
     by_renewal k first span now origin None e = refl
-    by_renewal k first span now origin (Some l) e = by_test (is_above first l.link.next)
+    by_renewal k first span now origin (Some l) e = by_test (is_no_lower first l.link.next)
       where
         by_test : (b : Bool) → peers_of (let m : Network = cond b (record n { links = with_link k l (renewed_link first span now l.link) n.links; renewed = (record { peer = l.peer; zero = origin }) ∷ n.renewed }) n in m).links ≡ peers_of n.links
         by_test true = peers_put n.links k l _ e refl
@@ -288,7 +288,7 @@ does_step law s i l step n sound own = one step
 
     by_renewal : (k first span now origin : ℕ) (o : Option PeerLink) → Does p (Renew k first span now origin) n (after_renewal k first span now origin o n)
     by_renewal k first span now origin None = inl refl
-    by_renewal k first span now origin (Some z) = by_test (is_above first z.link.next)
+    by_renewal k first span now origin (Some z) = by_test (is_no_lower first z.link.next)
       where
         by_test : (b : Bool) → Does p (Renew k first span now origin) n (cond b (record n { links = with_link k z (renewed_link first span now z.link) n.links; renewed = (record { peer = z.peer; zero = origin }) ∷ n.renewed }) n)
         by_test true = inl refl

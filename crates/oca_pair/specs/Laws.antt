@@ -105,8 +105,8 @@ EachToNext Is (h ∷ []) = Unit {0}
 EachToNext Is (h ∷ k ∷ more) = Is h k × EachToNext Is (k ∷ more)
 
 -- each is above the one before it, so that no two are equal
-abbrev pub AreRising : List ℕ → Type 0
-AreRising handles = EachToNext (λ h k. h < k) handles
+abbrev pub AreIncreasing : List ℕ → Type 0
+AreIncreasing handles = EachToNext (λ h k. h < k) handles
 
 -- each is the one before it plus one
 abbrev pub AreConsecutive : List ℕ → Type 0
@@ -121,7 +121,7 @@ pub record AnswersItsCommands (n : Network) : Type 0 where
   pub was_taken : (i : ℕ) (l : PeerLink) (h : ℕ) (answer : AnswerFields) → slice_get n.links i ≡ Some l →
       WasTaken l.peer h answer n.taken →
       IsAnswerOfItsCommand l.peer h answer n
-  pub rising : (i : ℕ) (l : PeerLink) → slice_get n.links i ≡ Some l → AreRising (handles_of l.peer n.submitted)
+  pub rising : (i : ℕ) (l : PeerLink) → slice_get n.links i ≡ Some l → AreIncreasing (handles_of l.peer n.submitted)
   pub handles : (i : ℕ) (l : PeerLink) → slice_get n.links i ≡ Some l → is_renewed l.peer n ≡ false →
       AreConsecutive (handles_of l.peer n.submitted)
 

@@ -163,9 +163,9 @@ take_outcome None = outcomes.NoAnswer
 
 -- ---- RENEW: where the first handle is no lower than the one that the link's next command would get, there is a new link in
 -- its place, which holds nothing; what was sent for the old one may still arrive. Else nothing is done.
-abbrev pub is_above : ℕ → Option ℕ → Bool
-is_above first None = false
-is_above first (Some next) = nat_le next first
+abbrev pub is_no_lower : ℕ → Option ℕ → Bool
+is_no_lower first None = false
+is_no_lower first (Some next) = nat_le next first
 
 abbrev pub renewed_link : ℕ → ℕ → ℕ → LinkState → LinkState
 renewed_link first span now l = new_link l.device first now span
@@ -173,7 +173,7 @@ renewed_link first span now l = new_link l.device first now span
 abbrev pub after_renewal : ℕ → ℕ → ℕ → ℕ → ℕ → Option PeerLink → Network → Network
 after_renewal i first span now origin None n = n
 after_renewal i first span now origin (Some l) n =
-    if is_above first l.link.next then record n {
+    if is_no_lower first l.link.next then record n {
       links = with_link i l (renewed_link first span now l.link) n.links;
       renewed = (record { peer = l.peer; zero = origin }) ∷ n.renewed;
     } else n
