@@ -13,3 +13,4 @@ pub mod Sockets
 pub mod Runs
 pub mod CommandLine
 pub mod Matching
+pub mod PrivateSockets

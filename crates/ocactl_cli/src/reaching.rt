@@ -2,6 +2,7 @@
 ghost use Rattle.std.specs.Prelude.{◌≡◌, ◌<◌, IfErr, IfOk};
 ghost use Rattle.oca_net.specs.Sockets.{IsBoundFrom, new_socket};
 ghost use Rattle.oca_panel.specs.declared.answering.Probed.TheVariants.{NotAnswering};
+ghost use Rattle.ocactl_cli.specs.PrivateSockets.{IsLinkedIfBound, IsMarked, IsSameButNoted};
 ghost use Rattle.ocactl_cli.specs.Sockets.{IsBoundByChoice, IsLinkedBehind, IsLinkedBy, IsLinkedFurther, IsLinkedOver};
 ghost use Rattle.ocactl_cli.specs.Sockets.{IsReached, IsSocketFor, IsUnreached, asks_first};
 
@@ -50,10 +51,8 @@ pub fn reached<'a, N: Net + Clock, F: Sink>(
     ensures fault { IfErr result (λ failure. IsUnreached failure.fault) }
 {
     let own = OwnPort::now(system);
-    match bound(alloc, system, reach, own, own_alone) {
-        Ok((end, is_own)) => Ok(linked(alloc, system, reach, own, is_own, end, faults)),
-        Err(failure) => Err(failure),
-    }
+    let bound = bound(alloc, system, reach, own, own_alone);
+    linked_over(alloc, system, reach, own, bound, faults)
 }
 
 /// A socket at the port that the words give, else at the program's own or another one; and whether none was given and
@@ -70,22 +69,32 @@ fn bound<'a, N: Net + Clock>(
     ensures fault { IfErr result (λ failure. IsUnreached failure.fault) }
 {
     match reach.port {
-        Some(port) => match bind_at(alloc, system, reach, port) {
-            Ok(end) => Ok((end, false)),
-            Err(failure) => Err(failure),
-        },
-        None => match by_choice(alloc, system, reach, own, own_alone) {
-            Ok(end) => {
-                let is_own = end.local().port == own.port;
-                Ok((end, is_own))
-            }
-            Err(failure) => Err(failure),
-        },
+        Some(port) => marked(bind_at(alloc, system, reach, port), None),
+        None => marked(
+            by_choice(alloc, system, reach, own, own_alone),
+            Some(own.port),
+        ),
+    }
+}
+
+/// The socket and whether it is at this port, where there is one; or the fault of binding it.
+fn marked<'a, N: Net + Clock>(
+    bound: Result<UdpEnd<'a, N>, Failure>,
+    own: Option<u16>,
+) -> Result<(UdpEnd<'a, N>, bool), Failure>
+    ensures { IsMarked own bound.entry result }
+{
+    match bound {
+        Ok(end) => {
+            let is_own = own == Some(end.local().port);
+            Ok((end, is_own))
+        }
+        Err(failure) => Err(failure),
     }
 }
 
 /// A socket at the program's own port. Where that is in use, at one of the system's choice, unless no other may be
-/// taken: then neither of the program's two ports may be in use.
+/// taken.
 fn by_choice<'a, N: Net + Clock>(
     alloc: Global,
     system: &'a N,
@@ -98,15 +107,47 @@ fn by_choice<'a, N: Net + Clock>(
     ensures fault { IfErr result (λ failure. IsUnreached failure.fault) }
 {
     if own_alone {
-        match bind_at(alloc, system, reach, own.other) {
-            Ok(_) => bind_at(alloc, system, reach, own.port),
-            Err(failure) => Err(failure),
-        }
-    } else {
-        match bind_at(alloc, system, reach, own.port) {
-            Ok(end) => Ok(end),
-            Err(_) => bind_at(alloc, system, reach, 0),
-        }
+        return at_own_alone(alloc, system, reach, own);
+    }
+    match bind_at(alloc, system, reach, own.port) {
+        Ok(end) => Ok(end),
+        Err(_) => bind_at(alloc, system, reach, 0),
+    }
+}
+
+/// A socket at the program's own port, where neither of the program's two is in use.
+fn at_own_alone<'a, N: Net + Clock>(
+    alloc: Global,
+    system: &'a N,
+    reach: Reach,
+    own: OwnPort,
+) -> Result<UdpEnd<'a, N>, Failure>
+    ensures bound { IfOk result (λ end. IsBoundFrom reach.ip own.port end.local) }
+    ensures new { IfOk result (λ end. end ≡ new_socket end.local) }
+    ensures fault { IfErr result (λ failure. IsUnreached failure.fault) }
+{
+    match bind_at(alloc, system, reach, own.other) {
+        Ok(_) => bind_at(alloc, system, reach, own.port),
+        Err(failure) => Err(failure),
+    }
+}
+
+/// A link over a socket, where one was bound; else the fault of binding it.
+fn linked_over<'a, N: Net + Clock, F: Sink>(
+    alloc: Global,
+    system: &'a N,
+    reach: Reach,
+    own: OwnPort,
+    bound: Result<(UdpEnd<'a, N>, bool), Failure>,
+    faults: &mut Printer<F>,
+) -> Result<(LinkStart, DeviceEnd<'a, N>), Failure>
+    requires below { own.first_handle.0 < 2147483648 }
+    requires new { IfOk bound (λ b. b.0 ≡ new_socket b.0.local) }
+    ensures { IsLinkedIfBound reach own bound.entry result }
+{
+    match bound {
+        Ok((end, is_own)) => Ok(linked(alloc, system, reach, own, is_own, end, faults)),
+        Err(failure) => Err(failure),
     }
 }
 
@@ -210,7 +251,19 @@ fn bind_at<'a, N: Net + Clock>(
     ensures new { IfOk result (λ end. end ≡ new_socket end.local) }
     ensures fault { IfErr result (λ failure. IsUnreached failure.fault) }
 {
-    match bind_towards(alloc, system, reach.ip, reach.device, port) {
+    let bound = bind_towards(alloc, system, reach.ip, reach.device, port);
+    named(alloc, bound, port)
+}
+
+/// The socket; or the fault of binding it, with the port in its note.
+fn named<'a, N: Net + Clock>(
+    alloc: Global,
+    bound: Result<UdpEnd<'a, N>, Failure>,
+    port: u16,
+) -> Result<UdpEnd<'a, N>, Failure>
+    ensures { IsSameButNoted bound.entry result }
+{
+    match bound {
         Ok(end) => Ok(end),
         Err(failure) => Err(naming(alloc, failure, port)),
     }
