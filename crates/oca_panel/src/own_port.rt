@@ -37,8 +37,8 @@ impl OwnPort {
     ///
     /// The handle rises by 100,000 a second, faster than commands are answered, so a session that is used again goes on
     /// with higher handles. It starts again from 0 when it reaches 2,147,483,648, about every six hours. The port is
-    /// then the other one. The session of that port is forgotten by then, unless a link was opened there about six hours
-    /// ago and is still open.
+    /// then the other one. The session of that port is forgotten by then, unless a link is open there since then, or a
+    /// program used that port as the other one.
     pub fn now<C: Clock>(clock: &C) -> OwnPort
         ensures clock { IsPortByClock result }
         ensures below { result.first_handle.0 < 2147483648 }
