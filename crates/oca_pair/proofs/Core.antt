@@ -10,6 +10,7 @@ use Rattle.std.proofs.lemmas.Bool.Decides.{nat_tests}
 use Rattle.std.proofs.lemmas.Map.Steps.{length-le_from_distinct_below}
 use Rattle.oca_session.specs.Accepted.{Entry, window, outside, has_handle, entry_under, Judgement, Fresh, Duplicate, Reused, Old, asks_the_same, duplicate_or_reused, judge_unaccepted, judgement}
 use Rattle.oca_types.specs.Peers.{CommandFields}
+use Rattle.oca_pair.proofs.Lists.{IsIn}
 
 pub each_map : {X : Type 0} {P Q : X → Type 0} → ((x : X) → P x → Q x) → (xs : List X) → AllByRecursion P xs → AllByRecursion Q xs
 each_map f [] e = tt
@@ -104,25 +105,100 @@ distinct f s before (e ∷ es) o = (
 pub lt_or_le : (a b : ℕ) → (a < b) ⊎ (b ≤ a)
 lt_or_le a b = grind arith
 
--- A handle at or above h has few after it.
-few_after : (f s w n h : ℕ) → 2 * s ≤ w + 1 → h < n → n ≤ h + s → (before : List Entry) (e : Entry) (es : List Entry) →
-    AllByRecursion (λ e. (f ≤ e.command.handle) × (e.command.handle < n)) (e ∷ es) → Ordered f s before (e ∷ es) → h ≤ e.command.handle → length es < w
-few_after f s w n h wide small near before e es own o above =
-    let near_all : AllByRecursion (λ z. ((suc h - s) ≤ z) × (z < (suc h - s) + (2 * s - 1))) (handles_of (e ∷ es)) =
-    each_handle (λ z. ((suc h - s) ≤ z) × (z < (suc h - s) + (2 * s - 1))) (e ∷ es) (
-      at e.command.handle above own.0.1,
-      each_both (λ z q r. at_later z.command.handle q.0 q.1 r) es own.1 (later_new_now es (later_new f s (before ++ e ∷ []) es o.2)),
-    ) in
-    let few : length (handles_of (e ∷ es)) ≤ 2 * s - 1 = crowd (2 * s - 1) (suc h - s) (handles_of (e ∷ es)) (distinct f s before (e ∷ es) o) near_all in
-    let few' : length (e ∷ es) ≤ 2 * s - 1 = rw length-map at few in
+-- the list without this number
+abbrev without : ℕ → List ℕ → List ℕ
+without y [] = []
+without y (x ∷ xs) = cond (eqb x y) (without y xs) (x ∷ without y xs)
+
+each_without : (P : ℕ → Type 0) (y : ℕ) (xs : List ℕ) → AllByRecursion P xs → AllByRecursion P (without y xs)
+each_without P y [] p = tt
+each_without P y (x ∷ xs) p = by_test (eqb x y) (each_without P y xs p.1)
+  where
+    by_test : (b : Bool) → AllByRecursion P (without y xs) → AllByRecursion P (cond b (without y xs) (x ∷ without y xs))
+    by_test true rest = rest
+    by_test false rest = (p.0, rest)
+
+not_in_without : (y : ℕ) (xs : List ℕ) → AllByRecursion (λ z. eqb z y ≡ false) (without y xs)
+not_in_without y [] = tt
+not_in_without y (x ∷ xs) = by_test (eqb x y) refl (not_in_without y xs)
+  where
+    by_test : (b : Bool) → eqb x y ≡ b → AllByRecursion (λ z. eqb z y ≡ false) (without y xs) → AllByRecursion (λ z. eqb z y ≡ false) (cond b (without y xs) (x ∷ without y xs))
+    by_test true e rest = rest
+    by_test false e rest = (e, rest)
+
+distinct_without : (y : ℕ) (xs : List ℕ) → IsDistinct eqb xs → IsDistinct eqb (without y xs)
+unfolding IsDistinct
+distinct_without y [] d = tt
+distinct_without y (x ∷ xs) d = by_test (eqb x y) (distinct_without y xs d.1)
+  where
+    by_test : (b : Bool) → IsDistinct eqb (without y xs) → IsDistinct eqb (cond b (without y xs) (x ∷ without y xs))
+    by_test true rest = rest
+    by_test false rest = (each_without (λ z. eqb x z ≡ false) y xs d.0, rest)
+
+-- where no two are equal, it is at most one shorter
+one_fewer : (y : ℕ) (xs : List ℕ) → IsDistinct eqb xs → length xs ≤ suc (length (without y xs))
+unfolding IsDistinct
+one_fewer y [] d = omega arith
+one_fewer y (x ∷ xs) d = by_test (eqb x y) refl (one_fewer y xs d.1)
+  where
+    unequal : (z : ℕ) → eqb x y ≡ true → eqb x z ≡ false → eqb z y ≡ false
+    unequal z p q = grind (arith, nat_tests)
+
+    all_left : (zs : List ℕ) → eqb x y ≡ true → AllByRecursion (λ z. eqb x z ≡ false) zs → length (without y zs) ≡ length zs
+    all_left [] e a = refl
+    all_left (z ∷ zs) e a = ap (λ b. length (cond b (without y zs) (z ∷ without y zs))) (unequal z e a.0) ∙ ap suc (all_left zs e a.1)
+
+    by_test : (b : Bool) → eqb x y ≡ b → length xs ≤ suc (length (without y xs)) → suc (length xs) ≤ suc (length (cond b (without y xs) (x ∷ without y xs)))
+    by_test true e rest = let same : length (without y xs) ≡ length xs = all_left xs e d.0 in omega arith
+    by_test false e rest = omega arith
+
+-- numbers that differ, each in an interval of k numbers or one of these, are at most k and as many as these
+crowd_and : (k lo : ℕ) (late xs : List ℕ) → IsDistinct eqb xs → AllByRecursion (λ z. ((lo ≤ z) × (z < lo + k)) ⊎ IsIn z late) xs → length xs ≤ k + length late
+crowd_and k lo [] xs d b =
+    let few : length xs ≤ k = crowd k lo xs d (each_map (λ z q. elim q [ inl near ↦ near | inr none ↦ absurd none ]) xs b) in
+    omega arith
+crowd_and k lo (y ∷ late) xs d b =
+    let few : length (without y xs) ≤ k + length late =
+    crowd_and k lo late (without y xs) (distinct_without y xs d)
+    (each_both (λ z q r. other z q r) (without y xs) (each_without (λ z. ((lo ≤ z) × (z < lo + k)) ⊎ IsIn z (y ∷ late)) y xs b) (not_in_without y xs)) in
+    let one : length xs ≤ suc (length (without y xs)) = one_fewer y xs d in
     omega arith
   where
+    differ : (z : ℕ) → y ≡ z → eqb z y ≡ false → ⊥
+    differ z p q = grind (arith, nat_tests)
+
+    other : (z : ℕ) → ((lo ≤ z) × (z < lo + k)) ⊎ IsIn z (y ∷ late) → eqb z y ≡ false → ((lo ≤ z) × (z < lo + k)) ⊎ IsIn z late
+    other z (inl near) apart = inl near
+    other z (inr (inl same)) apart = absurd (differ z same apart)
+    other z (inr (inr more)) apart = inr more
+
+-- The handle is below the next one; and it is from f on, or one of those that earlier links left behind.
+abbrev pub IsOfLink : ℕ → ℕ → List ℕ → Entry → Type 0
+IsOfLink f n late e = (e.command.handle < n) × ((f ≤ e.command.handle) ⊎ IsIn e.command.handle late)
+
+-- A handle at or above h has few after it.
+few_after : (f s w n h : ℕ) (late : List ℕ) → 2 * s + length late ≤ w + 1 → h < n → n ≤ h + s → (before : List Entry) (e : Entry) (es : List Entry) →
+    AllByRecursion (IsOfLink f n late) (e ∷ es) → Ordered f s before (e ∷ es) → h ≤ e.command.handle → length es < w
+few_after f s w n h late wide small near before e es own o above =
+    let near_all : AllByRecursion (IsNear (suc h - s)) (handles_of (e ∷ es)) =
+    each_handle (IsNear (suc h - s)) (e ∷ es) (
+      inl (at e.command.handle above own.0.0),
+      each_both (λ z q r. at_later z.command.handle q.0 q.1 r) es own.1 (later_new_now es (later_new f s (before ++ e ∷ []) es o.2)),
+    ) in
+    let few : length (handles_of (e ∷ es)) ≤ (2 * s - 1) + length late = crowd_and (2 * s - 1) (suc h - s) late (handles_of (e ∷ es)) (distinct f s before (e ∷ es) o) near_all in
+    let few' : length (e ∷ es) ≤ (2 * s - 1) + length late = rw length-map at few in
+    omega arith
+  where
+    IsNear : ℕ → ℕ → Type 0
+    IsNear lo z = ((lo ≤ z) × (z < lo + (2 * s - 1))) ⊎ IsIn z late
+
     at : (z : ℕ) → h ≤ z → z < n → ((suc h - s) ≤ z) × (z < (suc h - s) + (2 * s - 1))
     at z p q = (omega arith, omega arith)
 
-    at_later : (z : ℕ) → f ≤ z → z < n → has z before ≡ false → ((suc h - s) ≤ z) × (z < (suc h - s) + (2 * s - 1))
-    at_later z p q r = elim (lt_or_le e.command.handle (z + s)) [
-      | inl later ↦ (omega arith, omega arith)
+    at_later : (z : ℕ) → z < n → (f ≤ z) ⊎ IsIn z late → has z before ≡ false → IsNear (suc h - s) z
+    at_later z q (inr left) r = inr left
+    at_later z q (inl p) r = elim (lt_or_le e.command.handle (z + s)) [
+      | inl later ↦ inl (omega arith, omega arith)
       | inr earlier ↦ let wrong : has z before ≡ true = o.1 z p earlier in let no : true ≡ false = sym wrong ∙ r in absurd (differs no)
     ]
       where
@@ -132,37 +208,52 @@ few_after f s w n h wide small near before e es own o above =
     later_new_now : (es : List Entry) → AllByRecursion (λ z. has z.command.handle (before ++ e ∷ []) ≡ false) es → AllByRecursion (λ z. has z.command.handle before ≡ false) es
     later_new_now es p = each_map (λ z q. (one_more z.command.handle before e q).0) es p
 
--- Where h lies less than s below the next handle n, whatever is at or above h is among the last w.
-pub below_all : (f s w n h : ℕ) → 2 * s ≤ w + 1 → h < n → n ≤ h + s → (before es : List Entry) →
-    AllByRecursion (λ e. (f ≤ e.command.handle) × (e.command.handle < n)) es → Ordered f s before es →
-    list_all (λ (e : Entry). nat_lt e.command.handle h) (take (length es - w) es) ≡ true
-below_all f s w n h wide small near before [] own o = none (0 - w)
-  where
-    none : (k : ℕ) → list_all (λ (e : Entry). nat_lt e.command.handle h) (take k []) ≡ true
-    none zero = refl
-    none (suc k) = refl
-below_all f s w n h wide small near before (e ∷ es) own o = elim (lt_or_le (length es) w) [
+-- all of these lie below h
+abbrev pub AllBelow : ℕ → List Entry → Type 0
+AllBelow h es = list_all (λ (e : Entry). nat_lt e.command.handle h) es ≡ true
+
+both_below : (a b : Bool) → a ≡ true → b ≡ true → (a && b) ≡ true
+both_below a b p q = cc
+
+lower : (a b : ℕ) → a < b → nat_lt a b ≡ true
+lower a b p = grind (arith, nat_tests)
+
+none_below : (k h : ℕ) → AllBelow h (take k [])
+none_below zero h = refl
+none_below (suc k) h = refl
+
+-- the first of a list is outside the window where the others fill it
+below_first : (h w : ℕ) (e : Entry) (es : List Entry) → (w ≤ length es → nat_lt e.command.handle h ≡ true) → AllBelow h (take (length es - w) es) → AllBelow h (take (length (e ∷ es) - w) (e ∷ es))
+below_first h w e es head rest = elim (lt_or_le (length es) w) [
   | inl short ↦ let all : length (e ∷ es) - w ≡ 0 = omega arith in ap (λ k. list_all (λ (e : Entry). nat_lt e.command.handle h) (take k (e ∷ es))) all
   | inr long ↦
       let one : length (e ∷ es) - w ≡ suc (length es - w) = omega arith in
       ap (λ k. list_all (λ (e : Entry). nat_lt e.command.handle h) (take k (e ∷ es))) one
-      ∙ both (nat_lt e.command.handle h) _ (head long) (below_all f s w n h wide small near (before ++ e ∷ []) es own.1 o.2)
+      ∙ both_below (nat_lt e.command.handle h) _ (head long) rest
 ]
-  where
-    both : (a b : Bool) → a ≡ true → b ≡ true → (a && b) ≡ true
-    both a b p q = cc
 
+-- Where h lies less than s below the next handle n, whatever is at or above h is among the last w.
+pub below_all : (f s w n h : ℕ) (late : List ℕ) → 2 * s + length late ≤ w + 1 → h < n → n ≤ h + s → (before es : List Entry) →
+    AllByRecursion (IsOfLink f n late) es → Ordered f s before es → AllBelow h (take (length es - w) es)
+below_all f s w n h late wide small near before [] own o = none_below (0 - w) h
+below_all f s w n h late wide small near before (e ∷ es) own o =
+    below_first h w e es head (below_all f s w n h late wide small near (before ++ e ∷ []) es own.1 o.2)
+  where
     head : w ≤ length es → nat_lt e.command.handle h ≡ true
     head long = elim (lt_or_le e.command.handle h) [
       | inl low ↦ lower e.command.handle h low
-      | inr high ↦ absurd (contra (few_after f s w n h wide small near before e es own o high) long)
+      | inr high ↦ absurd (contra (few_after f s w n h late wide small near before e es own o high) long)
     ]
       where
-        lower : (a b : ℕ) → a < b → nat_lt a b ≡ true
-        lower a b p = grind (arith, nat_tests)
-
         contra : {a b : ℕ} → a < b → b ≤ a → ⊥
         contra p q = omega arith
+
+-- the same with others before that lie below h
+pub below_whole : (h w : ℕ) (earlier es : List Entry) → AllByRecursion (λ e. e.command.handle < h) earlier → AllBelow h (take (length es - w) es) →
+    AllBelow h (take (length (earlier ++ es) - w) (earlier ++ es))
+below_whole h w [] es low rest = rest
+below_whole h w (e ∷ earlier) es low rest =
+    below_first h w e (earlier ++ es) (λ long. lower e.command.handle h low.0) (below_whole h w earlier es low.1 rest)
 
 -- what is under a handle that an entry has
 pub found : (h : ℕ) (es : List Entry) → has h es ≡ true → (e : Entry) × (entry_under h es ≡ Some e)

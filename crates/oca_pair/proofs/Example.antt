@@ -116,8 +116,8 @@ finds_room law =
 -- so the third command, delivered once more, is answered
 pub repeated_is_answered : WrittenIsReadBack → (tree : List Object) → IsAnswered 2 400 (the_network tree) sent_third third
 repeated_is_answered law tree =
-    never_old_law law the_sizes the_setup tree the_starts the_steps controller (lit< tt) (lit≤ tt) refl meets refl 2 400 0 sent_third the_link third
-    refl refl refl carries_third (finds_room law) (keeps law)
+    never_old_law law the_sizes the_setup tree the_starts the_steps 0 the_link refl (record { some = lit< tt; wide = lit≤ tt }) refl meets 2 400 sent_third third
+    refl carries_third (finds_room law) (keeps law)
 
 -- Before the device's datagram, the fourth that it sent, comes to the link, the first command is sent again, the third is asked
 -- for in vain, and the second comes to the device at last.
@@ -126,8 +126,8 @@ between = Due 0 410 ∷ Take 0 3 ∷ ToDevice 1 420 ∷ []
 
 pub repeated_comes_back : WrittenIsReadBack → (tree : List Object) → ComesBack 2 400 between 500 0 third controller (the_network tree)
 repeated_comes_back law tree =
-    round_trip_law law the_sizes the_setup tree the_starts the_steps controller (lit< tt) (lit≤ tt) refl meets 2 400 0 sent_third the_link third between 500
-    refl refl refl carries_third (finds_room law) (keeps law) (tt, (tt, (tt, tt))) refl
+    round_trip_law law the_sizes the_setup tree the_starts the_steps 0 the_link refl (record { some = lit< tt; wide = lit≤ tt }) refl meets 2 400 sent_third third between 500
+    refl carries_third (finds_room law) (keeps law) (tt, (tt, (tt, tt))) refl
 
 abbrev again : Untaken
 again = record { command = command_under 1 get_state; submitted = 0; times = 2; last = 410; answer = None }
@@ -199,8 +199,8 @@ room_in_the_crowd law =
 
 pub crowded_is_answered : WrittenIsReadBack → (tree : List Object) → IsAnswered 0 200000 (after_steps before_room (opening the_sizes the_setup tree the_starts)) sent_first first
 crowded_is_answered law tree =
-    never_old_law law the_sizes the_setup tree the_starts before_room controller (lit< tt) (lit≤ tt) refl ((lit< tt, tt), (tt, (fits, (tt, (tt, tt))))) refl
-    0 200000 0 sent_first the_only_link first refl refl refl
+    never_old_law law the_sizes the_setup tree the_starts before_room 0 the_only_link refl (record { some = lit< tt; wide = lit≤ tt }) refl ((lit< tt, tt), (tt, (fits, (tt, (tt, tt)))))
+    0 200000 sent_first first refl
     (record { peer = refl; untaken = held 1; held = (0, lit< tt, refl); command = refl; bytes = refl })
     (room_in_the_crowd law) (crowded_keeps law tree)
 
@@ -216,3 +216,57 @@ renewed_goes_on_with_the_next tree = refl
 
 renewed_below_does_nothing : (tree : List Object) → after_step (Renew 0 3 2 16000 0) (the_network tree) ≡ the_network tree
 renewed_below_does_nothing tree = refl
+
+-- It left three commands behind. Renewed with the first handle 4 and the span 1 it fits the window of 5, since 2 * 1 + 3 is at
+-- most 5 + 1: its first command is answered, whatever becomes of those three.
+abbrev renewing : List Step
+renewing = the_steps ++ Renew 0 4 1 500 0 ∷ Submit 0 get_state 500 ∷ Due 0 500 ∷ []
+
+abbrev the_renewed : PeerLink
+the_renewed =
+    record {
+      peer = controller;
+      link = record {
+        device = device_address;
+        moment = 500;
+        next = Some 5;
+        sent = 500;
+        heard = 500;
+        lost = false;
+        span = 1;
+        untaken = (record { command = command_under 4 get_state; submitted = 500; times = 1; last = 500; answer = None }) ∷ [];
+      };
+    }
+
+abbrev sent_fourth : SentDatagram
+sent_fourth = record { peer = controller; bytes = bytes_of 4 }
+
+abbrev after_it : Result (List Msg) PduFault → Result (List Msg) PduFault → List Happening
+after_it first third =
+    Passes 600 ∷ (sayings controller first ++ Passes 300 ∷ (sayings controller third ++ Passes 200 ∷ (sayings controller third ++ Passes 100 ∷ [])))
+
+abbrev KeepsThrough : Result (List Msg) PduFault → Result (List Msg) PduFault → Result (List Msg) PduFault → Type 0
+KeepsThrough first third fourth = HasOneSession controller (admitted the_sizes (sayings controller fourth ++ after_it first third))
+
+abbrev RoomThrough : Result (List Msg) PduFault → Result (List Msg) PduFault → Type 0
+RoomThrough first third = has_room the_sizes (clock (after_it first third)) controller (admitted the_sizes (after_it first third)) ≡ true
+
+keeps_through : WrittenIsReadBack → KeepsThrough (read_datagram (bytes_of 1)) (read_datagram (bytes_of 3)) (read_datagram (bytes_of 4))
+keeps_through law =
+    subst (λ (r : Result (List Msg) PduFault). KeepsThrough r (read_datagram (bytes_of 3)) (read_datagram (bytes_of 4))) (sym (read_of law 1 (lit< tt)))
+    (subst (λ (r : Result (List Msg) PduFault). KeepsThrough (command_read 1) r (read_datagram (bytes_of 4))) (sym (read_of law 3 (lit< tt)))
+    (subst (λ (r : Result (List Msg) PduFault). KeepsThrough (command_read 1) (command_read 3) r) (sym (read_of law 4 (lit< tt))) refl))
+
+room_through : WrittenIsReadBack → RoomThrough (read_datagram (bytes_of 1)) (read_datagram (bytes_of 3))
+room_through law =
+    subst (λ (r : Result (List Msg) PduFault). RoomThrough r (read_datagram (bytes_of 3))) (sym (read_of law 1 (lit< tt)))
+    (subst (λ (r : Result (List Msg) PduFault). RoomThrough (command_read 1) r) (sym (read_of law 3 (lit< tt))) refl)
+
+pub renewed_is_answered : WrittenIsReadBack → (tree : List Object) →
+    IsAnswered 3 600 (after_steps renewing (opening the_sizes the_setup tree the_starts)) sent_fourth (command_under 4 get_state)
+renewed_is_answered law tree =
+    never_old_law law the_sizes the_setup tree the_starts renewing 0 the_renewed refl (record { some = lit< tt; wide = lit≤ tt }) refl
+    ((lit< tt, tt), (fits, (fits, (fits, (tt, (tt, (tt, (tt, (tt, (tt, (lit< tt, (fits, (tt, tt)))))))))))))
+    3 600 sent_fourth (command_under 4 get_state) refl
+    (record { peer = refl; untaken = record { command = command_under 4 get_state; submitted = 500; times = 1; last = 500; answer = None }; held = (0, lit< tt, refl); command = refl; bytes = refl })
+    (room_through law) (keeps_through law)

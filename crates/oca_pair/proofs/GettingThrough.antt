@@ -1,6 +1,6 @@
 -- Each link of a network has a history; and each command of a link that is asked often enough gets through.
 use Rattle.std.proofs.Common.{arith, append-nil, append_assoc, ◌≡◌, ℕ, ◌+◌, ◌*◌, ◌<◌, ◌≤◌, Bool, true, false, cond, max, List, [], ◌∷◌, ◌++◌, length, Option, Some, None, refl, sym, ap, ◌∙◌, subst, zero, suc, ◌⊎◌, inl, inr}
-use Rattle.std.specs.Prelude.{nat_eq, ◌||◌, map, Result, Ok, Err}
+use Rattle.std.specs.Prelude.{nat_eq, ◌||◌, map, filter, Result, Ok, Err}
 use Rattle.std.specs.List.{AllByRecursion, slice_get, slice_set}
 use Rattle.std.proofs.lemmas.Option.{slice_get-map, same_Some}
 use Rattle.std.specs.Option.{option_map}
@@ -17,7 +17,7 @@ use Rattle.oca_device.specs.Events.{Datagram}
 use Rattle.oca_control.specs.declared.fault.ControlFault.{ControlFault}
 use Rattle.oca_control.specs.Answers.{AnswerFields}
 use Rattle.oca_control.specs.Untaken.{Untaken, answer_under, holds}
-use Rattle.oca_control.specs.Links.{LinkState, Request, command_under, submission, after_submission, Decision, GivesCommand, GivesKeepAlive, GivesNothing, IsLost as LosesLink, decision, due_answer, due_bytes, gone_on, reception, received, taken}
+use Rattle.oca_control.specs.Links.{LinkState, new_link, present_moment, after_due, Request, command_under, submission, after_submission, Decision, GivesCommand, GivesKeepAlive, GivesNothing, IsLost as LosesLink, decision, due_answer, due_bytes, gone_on, reception, received, taken}
 use Rattle.oca_control.specs.Histories.{Call, Submits, SendsDue, Receives, TakesAnswer, clock_of_calls, commands, command_accepted, Sending, sending_of, sendings, answers_to, first_of, is_untaken, is_lost, IsCopy}
 use Rattle.oca_control.specs.Answering.{IsAskedEvery, IsWaiting}
 use Rattle.oca_control.proofs.Calls.{answer_is}
@@ -26,21 +26,23 @@ use Rattle.oca_control.proofs.Histories.{IsMade, IsMadeBy, HoldsAfter, holds_aft
 use Rattle.oca_control.proofs.InTime.{clock_from, sent_from, in_time_made}
 use Rattle.oca_pair.specs.declared.outcome.Outcome.TheVariants as outcomes
 use Rattle.oca_pair.specs.declared.start.Start.{Start}
-use Rattle.oca_pair.specs.Networks.{Network, PeerLink, SentDatagram, SubmittedCommand, TakenAnswer, Setup, started, opening, is_renewed}
-use Rattle.oca_pair.specs.Steps.{Step, Submit, Due, ToDevice, ToLink, Other, Take, has_link, with_link, submitted_by, after_submit, submit_outcome, given_by, after_due_step, after_delivery, content_read, hears_datagram, after_reception, after_take, Renew, is_no_lower, renewed_link, after_renewal, after_step, after_steps, on_link, outcome_of_step}
+use Rattle.oca_pair.specs.Networks.{Network, PeerLink, SentDatagram, SubmittedCommand, TakenAnswer, Setup, Renewal, left_behind, started, opening}
+use Rattle.oca_pair.specs.Steps.{Step, Submit, Due, ToDevice, ToLink, Other, Take, has_link, with_link, submitted_by, after_submit, submit_outcome, given_by, after_due_step, after_delivery, content_read, hears_datagram, after_reception, after_take, Renew, is_no_lower, unanswered, renewed_link, after_renewal, after_step, after_steps, on_link, outcome_of_step}
 use Rattle.oca_pair.specs.Steps as steps
-use Rattle.oca_pair.specs.Premises.{are_apart, Fit}
-use Rattle.oca_pair.specs.RoundTrip.{IsAnswerTo, GotItsAnswer, ComesBack, RoundTrips}
+use Rattle.oca_pair.specs.Laws.{IsNoRenewal}
+use Rattle.oca_pair.specs.Premises.{are_apart, Fit, SpanFits}
+use Rattle.oca_pair.specs.RoundTrip.{IsAnswerTo, GotItsAnswer, ComesBack, RoundTrips, meanwhile, RenewsNothing}
 use Rattle.oca_pair.specs.GettingThrough.{called, received_from, receiving, call_in, calls_in, IsLost, copy_of, WasSent, WaitsInTime, GetsThrough}
-use Rattle.oca_pair.proofs.Lists.{IsIn, contains_in, in_contains, in_more, in_behind, in_last, each_at, each_in, equal_is, equal_self}
+use Rattle.oca_pair.proofs.Lists.{IsIn, contains_in, in_contains, in_more, in_behind, in_last, each_at, each_in, equal_is, equal_self, mapped_at}
 use Rattle.oca_pair.proofs.Core.{each_map}
 use Rattle.oca_pair.proofs.Truths.{past, IsSubmitted, IsTrueAnswer}
 use Rattle.oca_pair.proofs.Fair.{IsFair}
 use Rattle.oca_pair.proofs.Delivering.{held_answer}
 use Rattle.oca_pair.proofs.Networks.{LinkSound, Sound, sound_after}
-use Rattle.oca_pair.proofs.Renewing.{now_renewed, not_before}
+use Rattle.oca_pair.proofs.Renewing.{renews_nothing, nothing_in_parts, not_its_renewal, left_steps}
+use Rattle.oca_pair.proofs.Fixed.{peers_steps, link_before}
 use Rattle.oca_pair.proofs.Lawful.{true_answer}
-use Rattle.oca_pair.proofs.RoundTrip.{grown_steps, IsKept, Stands, stands_steps, round_trip_law}
+use Rattle.oca_pair.proofs.RoundTrip.{grown_steps, IsKept, Stands, stands_steps, round_trip_law, AreToDevice, to_device_step, to_device_opening}
 
 -- ---- a link of a network is made by its calls
 
@@ -125,7 +127,7 @@ runs_none first born s i p calls n k call e g = by_test (nat_eq k i) refl
         subst (λ (o : Option PeerLink). Runs first born s i p (called call o ++ calls) n) (sym (ap (λ (j : ℕ). slice_get n.links j) (sym (equal_is k i q)) ∙ e)) g
     by_test false q = g
 
-runs_step : (first born s i : ℕ) (p : Peer) (calls : List Call) (step : Step) (n : Network) → is_renewed p (after_step step n) ≡ false → Runs first born s i p calls n →
+runs_step : (first born s i : ℕ) (p : Peer) (calls : List Call) (step : Step) (n : Network) → RenewsNothing p n (after_step step n) → Runs first born s i p calls n →
     Runs first born s i p (call_in i step n ++ calls) (after_step step n)
 runs_step first born s i p calls step n never g = one step never
   where
@@ -200,24 +202,24 @@ runs_step first born s i p calls step n never g = one step never
         taking : (us : List Untaken) → l.peer ≡ p → (h : ℕ) → AreSentBy p (n.to_device ++ []) (sendings born h calls) → AreSentBy p (n.to_device ++ []) (sendings born h (TakesAnswer j (answer_under j us) ∷ calls))
         taking us same h a = by_answer (answer_under j us) h a
 
-    by_renewal : (k f span now origin : ℕ) (o : Option PeerLink) → slice_get n.links k ≡ o → is_renewed p (after_renewal k f span now origin o n) ≡ false → Runs first born s i p calls (after_renewal k f span now origin o n)
+    by_renewal : (k f span now origin : ℕ) (o : Option PeerLink) → slice_get n.links k ≡ o → RenewsNothing p n (after_renewal k f span now origin o n) → Runs first born s i p calls (after_renewal k f span now origin o n)
     by_renewal k f span now origin None e never = g
     by_renewal k f span now origin (Some l) e never = by_test (is_no_lower f l.link.next) never
       where
         m : Network
-        m = record n { links = with_link k l (renewed_link f span now l.link) n.links; renewed = (record { peer = l.peer; zero = origin }) ∷ n.renewed }
+        m = record n { links = with_link k l (renewed_link f span now l.link) n.links; renewed = (record { peer = l.peer; zero = origin; left = unanswered l.link.untaken }) ∷ n.renewed }
 
-        is_another : is_renewed p m ≡ false → nat_eq k i ≡ false
+        is_another : RenewsNothing p n m → nat_eq k i ≡ false
         is_another never = by_number (nat_eq k i) refl
           where
             by_number : (b : Bool) → nat_eq k i ≡ b → b ≡ false
             by_number true q =
                 let there : slice_get n.links i ≡ Some l = ap (λ (j : ℕ). slice_get n.links j) (sym (equal_is k i q)) ∙ e in
                 let same : l ≡ g.link = same_Some l g.link (sym there ∙ g.there) in
-                absurd (now_renewed p l.peer (is_renewed p n) (ap (λ (z : PeerLink). z.peer) same ∙ g.peer) never)
+                absurd (not_its_renewal p l.peer (record { peer = l.peer; zero = origin; left = unanswered l.link.untaken }) n.renewed refl never (ap (λ (z : PeerLink). z.peer) same ∙ g.peer))
             by_number false q = refl
 
-        by_test : (b : Bool) → is_renewed p (cond b m n) ≡ false → Runs first born s i p calls (cond b m n)
+        by_test : (b : Bool) → RenewsNothing p n (cond b m n) → Runs first born s i p calls (cond b m n)
         by_test true never = record {
           link = g.link;
           there = put_elsewhere n.links k i (record { peer = l.peer; link = renewed_link f span now l.link }) (is_another never) ∙ g.there;
@@ -227,7 +229,7 @@ runs_step first born s i p calls step n never g = one step never
         }
         by_test false never = g
 
-    one : (step : Step) → is_renewed p (after_step step n) ≡ false → Runs first born s i p (call_in i step n ++ calls) (after_step step n)
+    one : (step : Step) → RenewsNothing p n (after_step step n) → Runs first born s i p (call_in i step n ++ calls) (after_step step n)
     one (Submit k r now) never = by_submit k r now (slice_get n.links k) refl
     one (Due k now) never = by_due k now (slice_get n.links k) refl
     one (ToDevice k now) never = by_delivery now (slice_get n.to_device k)
@@ -238,12 +240,12 @@ runs_step first born s i p calls step n never g = one step never
     one (Take k j) never = by_take k j (slice_get n.links k) refl
     one (Renew k f span now origin) never = by_renewal k f span now origin (slice_get n.links k) refl never
 
-runs_steps : (first born s i : ℕ) (p : Peer) (calls : List Call) (es : List Step) (n : Network) → is_renewed p (after_steps es n) ≡ false → Runs first born s i p calls n →
+runs_steps : (first born s i : ℕ) (p : Peer) (calls : List Call) (es : List Step) (n : Network) → RenewsNothing p n (after_steps es n) → Runs first born s i p calls n →
     Runs first born s i p (calls_in i es n ++ calls) (after_steps es n)
 runs_steps first born s i p calls [] n never g = g
 runs_steps first born s i p calls (e ∷ es) n never g =
     subst (λ (xs : List Call). Runs first born s i p xs (after_steps es (after_step e n))) (sym (append_assoc (calls_in i es (after_step e n)) (call_in i e n) calls))
-    (runs_steps first born s i p (call_in i e n ++ calls) es (after_step e n) never (runs_step first born s i p calls e n (not_before p es (after_step e n) never) g))
+    (runs_steps first born s i p (call_in i e n ++ calls) es (after_step e n) (nothing_in_parts p e es n never).1 (runs_step first born s i p calls e n (nothing_in_parts p e es n never).0 g))
 
 runs_opening : (w : DeviceSizes) (s : Setup) (tree : List Object) (starts : List Start) (i : ℕ) (x : Start) → slice_get starts i ≡ Some x →
     Runs x.first_handle.0 (s.made x.peer) (s.span x.peer) i x.peer [] (opening w s tree starts)
@@ -254,6 +256,113 @@ runs_opening w s tree starts i x e = record {
   made = refl;
   sent = λ h. tt;
 }
+
+-- the link of this number, which is the peer's, was made by some calls since it was made or renewed
+record WasMade (i : ℕ) (p : Peer) (n : Network) : Type 0 where
+  pub first : ℕ
+  pub born : ℕ
+  pub span : ℕ
+  pub calls : List Call
+  pub runs : Runs first born span i p calls n
+
+made_step : (i : ℕ) (p : Peer) (step : Step) (n : Network) → AreToDevice n → WasMade i p n → WasMade i p (after_step step n)
+made_step i p step n devices g = one step
+  where
+    goes_on : (step : Step) → IsNoRenewal step → WasMade i p (after_step step n)
+    goes_on step none = record {
+      first = g.first;
+      born = g.born;
+      span = g.span;
+      calls = call_in i step n ++ g.calls;
+      runs = runs_step g.first g.born g.span i p g.calls step n (ap (λ rs. length (filter (λ (x : Renewal). same_peer x.peer p) rs)) (renews_nothing step n none)) g.runs;
+    }
+
+    by_renewal : (k f span now origin : ℕ) (o : Option PeerLink) → slice_get n.links k ≡ o → WasMade i p (after_renewal k f span now origin o n)
+    by_renewal k f span now origin None e = g
+    by_renewal k f span now origin (Some l) e = by_test (is_no_lower f l.link.next)
+      where
+        y : PeerLink
+        y = record { peer = l.peer; link = renewed_link f span now l.link }
+
+        m : Network
+        m = record n { links = with_link k l (renewed_link f span now l.link) n.links; renewed = (record { peer = l.peer; zero = origin; left = unanswered l.link.untaken }) ∷ n.renewed }
+
+        by_number : (b : Bool) → nat_eq k i ≡ b → WasMade i p m
+        by_number true q =
+            let there : slice_get n.links i ≡ Some l = ap (λ (j : ℕ). slice_get n.links j) (sym (equal_is k i q)) ∙ e in
+            let same : l ≡ g.runs.link = same_Some l g.runs.link (sym there ∙ g.runs.there) in
+            let device : l.link.device ≡ n.address = each_at (λ (z : PeerLink). z.link.device ≡ n.address) n.links i l devices there in
+            record {
+              first = f;
+              born = now;
+              span = span;
+              calls = [];
+              runs = record {
+                link = y;
+                there = ap (λ (j : ℕ). slice_get (slice_set n.links j y) i) (equal_is k i q) ∙ put_here n.links i y l there;
+                peer = ap (λ (z : PeerLink). z.peer) same ∙ g.runs.peer;
+                made = ap (λ (d : Peer). new_link d f now span) device;
+                sent = λ h. tt;
+              };
+            }
+        by_number false q = record {
+          first = g.first;
+          born = g.born;
+          span = g.span;
+          calls = g.calls;
+          runs = record { link = g.runs.link; there = put_elsewhere n.links k i y q ∙ g.runs.there; peer = g.runs.peer; made = g.runs.made; sent = g.runs.sent };
+        }
+
+        by_test : (b : Bool) → WasMade i p (cond b m n)
+        by_test true = by_number (nat_eq k i) refl
+        by_test false = g
+
+    one : (step : Step) → WasMade i p (after_step step n)
+    one (Submit k r now) = goes_on (Submit k r now) tt
+    one (Due k now) = goes_on (Due k now) tt
+    one (ToDevice k now) = goes_on (ToDevice k now) tt
+    one (ToLink k now) = goes_on (ToLink k now) tt
+    one (Other from bytes now) = goes_on (Other from bytes now) tt
+    one (steps.Tick now) = goes_on (steps.Tick now) tt
+    one (steps.Local ono change) = goes_on (steps.Local ono change) tt
+    one (Take k j) = goes_on (Take k j) tt
+    one (Renew k f span now origin) = by_renewal k f span now origin (slice_get n.links k) refl
+
+made_steps : (i : ℕ) (p : Peer) (es : List Step) (n : Network) → AreToDevice n → WasMade i p n → WasMade i p (after_steps es n)
+made_steps i p [] n devices g = g
+made_steps i p (e ∷ es) n devices g = made_steps i p es (after_step e n) (to_device_step e n devices) (made_step i p e n devices g)
+
+-- of each link of a network after a schedule
+was_made : (w : DeviceSizes) (s : Setup) (tree : List Object) (starts : List Start) (es : List Step) (i : ℕ) (l : PeerLink) → slice_get (after_steps es (opening w s tree starts)).links i ≡ Some l →
+    WasMade i l.peer (after_steps es (opening w s tree starts))
+was_made w s tree starts es i l own =
+    let start : Network = opening w s tree starts in
+    let z = link_before i start (after_steps es start) l (peers_steps es start) own in
+    let x = mapped_at (started s) starts i z.0 z.1 in
+    let peer : x.0.peer ≡ l.peer = ap (λ (y : PeerLink). y.peer) x.2 ∙ z.2 in
+    subst (λ (p : Peer). WasMade i p (after_steps es start)) peer (made_steps i x.0.peer es start (to_device_opening w s tree starts)
+    (record { first = x.0.first_handle.0; born = s.made x.0.peer; span = s.span x.0.peer; calls = []; runs = runs_opening w s tree starts i x.0 x.1 }))
+
+-- no call changes the span
+span_made : (l : LinkState) (call : Call) (after : LinkState) → IsMade l call after → after.span ≡ l.span
+span_made l (Submits r now a) after c = ap (λ (x : LinkState). x.span) c.1 ∙ by (submission r l)
+  where
+    by : (a : Result Handle ControlFault) → (after_submission a r now l).span ≡ l.span
+    by (Ok h) = refl
+    by (Err fault) = refl
+span_made l (SendsDue now a bytes) after c = ap (λ (x : LinkState). x.span) c.2 ∙ by (decision now l)
+  where
+    by : (d : Decision) → (after_due d (present_moment now l) l).span ≡ l.span
+    by (GivesCommand c) = refl
+    by GivesKeepAlive = refl
+    by GivesNothing = refl
+    by LosesLink = refl
+span_made l (Receives from bytes content now a) after c = ap (λ (x : LinkState). x.span) c
+span_made l (TakesAnswer h a) after c = ap (λ (x : LinkState). x.span) c.1
+
+spans_made : (device : Peer) (first born s : ℕ) (calls : List Call) (l : LinkState) → IsMadeBy device first born s calls l → l.span ≡ s
+spans_made device first born s [] l m = ap (λ (x : LinkState). x.span) m
+spans_made device first born s (call ∷ calls) l m = span_made m.0 call l m.2 ∙ spans_made device first born s calls m.0 m.1
 
 pub after_more : (es more : List Step) (n : Network) → after_steps (es ++ more) n ≡ after_steps more (after_steps es n)
 after_more [] more n = refl
@@ -336,19 +445,19 @@ module _ (spans : Peer → ℕ) (s first born i : ℕ) (some : 0 < s) (p : Peer)
       }
 
   -- it waits
-  waits : (g : Runs first born s i p all n) → Sound spans n → IsSubmitted p c n.submitted → RoundTrips p n → sendings born h.0 before ≡ [] → IsAskedEvery ms since calls → IsWaiting n.address h.0 all →
+  waits : (g : Runs first born s i p all n) → Sound spans n → IsSubmitted p c n.submitted → RoundTrips i g.link n → sendings born h.0 before ≡ [] → IsAskedEvery ms since calls → IsWaiting n.address h.0 all →
       WaitsInTime ms since i c p calls n
   waits g sound sub trips none asked w = record {
     in_time = rw (clock_is, sent_is) at (in_time_made n.address first born s some before r now ms h calls g.link.link g.made asked w);
     copies = rw sent_is at copies;
     enough = λ k moment between later there finds keeps fits never. subst (λ (q : Peer). ComesBack k moment between later i c q n) g.peer
-        (trips k moment i (copy_of p c) g.link c between later there g.there g.peer (record {
+        (trips k moment (copy_of p c) c between later there (record {
           peer = g.peer;
           untaken = u.0;
           held = in_contains u.0 g.link.link.untaken u.1;
           command = command_is;
           bytes = refl;
-        }) finds keeps fits never);
+        }) finds keeps fits (subst (λ (q : Peer). RenewsNothing q n (meanwhile k moment between n)) (sym g.peer) never));
   }
     where
       of : LinkSound spans n g.link
@@ -385,15 +494,17 @@ module _ (spans : Peer → ℕ) (s first born i : ℕ) (some : 0 < s) (p : Peer)
       copies : AllByRecursion (λ (y : Sending). WasSent p c y.bytes n) (sendings born h.0 all)
       copies = each_both copy (sendings born h.0 all) (g.sent h.0) (b.now.copies h.0)
 
-pub gets_through : WrittenIsReadBack → (w : DeviceSizes) (s : Setup) (tree : List Object) (starts : List Start) (before later : List Step) (i : ℕ) (x : Start) (r : Request) (now ms : ℕ) (h : Handle) →
-    0 < s.span x.peer → 2 * s.span x.peer ≤ w.window + 1 → are_apart s.address starts ≡ true → Fit starts (before ++ Submit i r now ∷ later) → slice_get starts i ≡ Some x →
+pub gets_through : WrittenIsReadBack → (w : DeviceSizes) (s : Setup) (tree : List Object) (starts : List Start) (before later : List Step) (i : ℕ) (l : PeerLink) (r : Request) (now ms : ℕ) (h : Handle) →
+    slice_get (after_steps before (opening w s tree starts)).links i ≡ Some l → SpanFits w l (after_steps before (opening w s tree starts)) → are_apart s.address starts ≡ true →
+    Fit starts (before ++ Submit i r now ∷ later) →
     outcome_of_step (Submit i r now) (after_steps before (opening w s tree starts)) ≡ outcomes.Submitted h ∷ [] →
-    is_renewed x.peer (after_steps later (after_step (Submit i r now) (after_steps before (opening w s tree starts)))) ≡ false →
-    IsAskedEvery ms (max (clock_of_calls (s.made x.peer) (calls_in i before (opening w s tree starts))) now) (calls_in i later (after_step (Submit i r now) (after_steps before (opening w s tree starts)))) →
-    GetsThrough ms (max (clock_of_calls (s.made x.peer) (calls_in i before (opening w s tree starts))) now) i (command_under h.0 r) x.peer
+    RenewsNothing l.peer (after_steps before (opening w s tree starts)) (after_steps later (after_step (Submit i r now) (after_steps before (opening w s tree starts)))) →
+    IsAskedEvery ms (present_moment now l.link) (calls_in i later (after_step (Submit i r now) (after_steps before (opening w s tree starts)))) →
+    GetsThrough ms (present_moment now l.link) i (command_under h.0 r) l.peer
     (calls_in i later (after_step (Submit i r now) (after_steps before (opening w s tree starts))))
     (after_steps later (after_step (Submit i r now) (after_steps before (opening w s tree starts))))
-gets_through law w s tree starts before later i x r now ms h some wide apart fit begins outcome never asked = by_lost (is_lost all) refl
+gets_through law w s tree starts before later i l r now ms h own wide apart fit outcome never asked =
+    subst (λ (t : ℕ). GetsThrough ms t i c p calls n) (sym since_is) (by_lost (is_lost all) refl)
   where
     start : Network
     start = opening w s tree starts
@@ -408,19 +519,25 @@ gets_through law w s tree starts before later i x r now ms h some wide apart fit
     n = after_steps later new
 
     p : Peer
-    p = x.peer
+    p = l.peer
+
+    was : WasMade i p old
+    was = was_made w s tree starts before i l own
 
     f : ℕ
-    f = x.first_handle.0
+    f = was.first
 
     born : ℕ
-    born = s.made p
+    born = was.born
+
+    s0 : ℕ
+    s0 = was.span
+
+    earlier : List Call
+    earlier = was.calls
 
     c : CommandFields
     c = command_under h.0 r
-
-    earlier : List Call
-    earlier = calls_in i before start
 
     calls : List Call
     calls = calls_in i later new
@@ -428,32 +545,47 @@ gets_through law w s tree starts before later i x r now ms h some wide apart fit
     all : List Call
     all = calls ++ Submits r now (Ok h) ∷ earlier
 
-    never_new : is_renewed p new ≡ false
-    never_new = not_before p later new never
+    never_new : RenewsNothing p old new
+    never_new = (nothing_in_parts p (Submit i r now) later old never).0
 
-    never_old : is_renewed p old ≡ false
-    never_old = not_before p (Submit i r now ∷ []) old never_new
+    never_later : RenewsNothing p new n
+    never_later = (nothing_in_parts p (Submit i r now) later old never).1
 
-    runs_old : Runs f born (s.span p) i p earlier old
-    runs_old = subst (λ (xs : List Call). Runs f born (s.span p) i p xs old) (append-nil earlier) (runs_steps f born (s.span p) i p [] before start never_old (runs_opening w s tree starts i x begins))
+    runs_old : Runs f born s0 i p earlier old
+    runs_old = was.runs
 
-    l : PeerLink
-    l = runs_old.link
+    is_its_link : runs_old.link ≡ l
+    is_its_link = same_Some runs_old.link l (sym runs_old.there ∙ own)
+
+    made_old : IsMadeBy old.address f born s0 earlier l.link
+    made_old = subst (λ (z : PeerLink). IsMadeBy old.address f born s0 earlier z.link) is_its_link runs_old.made
+
+    span_is : l.link.span ≡ s0
+    span_is = spans_made old.address f born s0 earlier l.link made_old
+
+    some : 0 < s0
+    some = rw span_is at wide.some
+
+    since_is : present_moment now l.link ≡ max (clock_of_calls born earlier) now
+    since_is = ap (λ m. max m now) (holds_after_calls old.address f born s0 earlier l.link some made_old).now.moment_is
+
+    asked_since : IsAskedEvery ms (max (clock_of_calls born earlier) now) calls
+    asked_since = subst (λ (t : ℕ). IsAskedEvery ms t calls) since_is asked
 
     accepted : submission r l.link ≡ Ok h
-    accepted = took r h l.link (sym (ap (λ (o : Option PeerLink). on_link (λ y. submit_outcome (submission r y.link)) o) runs_old.there) ∙ outcome)
+    accepted = took r h l.link (sym (ap (λ (o : Option PeerLink). on_link (λ y. submit_outcome (submission r y.link)) o) own) ∙ outcome)
 
     call_is : call_in i (Submit i r now) old ≡ Submits r now (Ok h) ∷ []
     call_is =
         ap (λ (b : Bool). cond b (called (λ y. Submits r now (submission r y)) (slice_get old.links i)) []) (equal_self i)
-        ∙ ap (λ (o : Option PeerLink). called (λ y. Submits r now (submission r y)) o) runs_old.there
+        ∙ ap (λ (o : Option PeerLink). called (λ y. Submits r now (submission r y)) o) own
         ∙ ap (λ (a : Result Handle ControlFault). Submits r now a ∷ []) accepted
 
-    runs_new : Runs f born (s.span p) i p (Submits r now (Ok h) ∷ earlier) new
-    runs_new = subst (λ (xs : List Call). Runs f born (s.span p) i p (xs ++ earlier) new) call_is (runs_step f born (s.span p) i p earlier (Submit i r now) old never_new runs_old)
+    runs_new : Runs f born s0 i p (Submits r now (Ok h) ∷ earlier) new
+    runs_new = subst (λ (xs : List Call). Runs f born s0 i p (xs ++ earlier) new) call_is (runs_step f born s0 i p earlier (Submit i r now) old never_new runs_old)
 
-    runs : Runs f born (s.span p) i p all n
-    runs = runs_steps f born (s.span p) i p (Submits r now (Ok h) ∷ earlier) later new never runs_new
+    runs : Runs f born s0 i p all n
+    runs = runs_steps f born s0 i p (Submits r now (Ok h) ∷ earlier) later new never_later runs_new
 
     run_is : after_steps (before ++ Submit i r now ∷ later) start ≡ n
     run_is = after_more before (Submit i r now ∷ later) start
@@ -461,28 +593,41 @@ gets_through law w s tree starts before later i x r now ms h some wide apart fit
     sound : Sound s.span n
     sound = subst (Sound s.span) run_is (sound_after law w s tree starts (before ++ Submit i r now ∷ later) apart fit)
 
-    trips : RoundTrips p n
-    trips = subst (RoundTrips p) run_is (round_trip_law law w s tree starts (before ++ Submit i r now ∷ later) p some wide apart fit)
+    -- at the end it has the span that it had, and its earlier links left behind what they had left
+    wide_then : SpanFits w runs.link n
+    wide_then =
+        let span : l.link.span ≡ runs.link.link.span = span_is ∙ sym (spans_made n.address f born s0 all runs.link.link runs.made) in
+        let left : left_behind runs.link.peer n ≡ left_behind p old = ap (λ (q : Peer). left_behind q n) runs.peer ∙ left_steps p (Submit i r now ∷ later) old never in
+        record { some = also l.link.span runs.link.link.span span wide.some; wide = as_wide l.link.span runs.link.link.span (left_behind p old) (left_behind runs.link.peer n) span left wide.wide }
+      where
+        also : (a b : ℕ) → a ≡ b → 0 < a → 0 < b
+        also a b e k = omega arith
+
+        as_wide : (a b x y : ℕ) → a ≡ b → y ≡ x → 2 * a + x ≤ w.window + 1 → 2 * b + y ≤ w.window + 1
+        as_wide a b x y e f k = omega arith
+
+    trips : RoundTrips i runs.link n
+    trips = subst (RoundTrips i runs.link) run_is (round_trip_law law w s tree starts (before ++ Submit i r now ∷ later) i runs.link
+        (subst (λ (m : Network). slice_get m.links i ≡ Some runs.link) (sym run_is) runs.there) (subst (λ (m : Network). SpanFits w runs.link m) (sym run_is) wide_then) apart fit)
 
     submitted_is : new.submitted ≡ old.submitted ++ (let it : SubmittedCommand = record { peer = p; command = c } in it) ∷ []
     submitted_is =
-        ap (λ (o : Option PeerLink). (after_submit i r now o old).submitted) runs_old.there
+        ap (λ (o : Option PeerLink). (after_submit i r now o old).submitted) own
         ∙ ap (λ (a : Result Handle ControlFault). old.submitted ++ submitted_by l.peer r a) accepted
-        ∙ ap (λ (q : Peer). old.submitted ++ (let it : SubmittedCommand = record { peer = q; command = c } in it) ∷ []) runs_old.peer
 
     sub : IsSubmitted p c n.submitted
     sub =
         let grown = grown_steps later new in
         subst (IsSubmitted p c) (sym grown.submitted) (in_more _ new.submitted grown.more (subst (IsSubmitted p c) (sym submitted_is) (in_last _ old.submitted)))
 
-    at_submit : HoldsAfter new.address f born (s.span p) (Submits r now (Ok h) ∷ earlier) runs_new.link.link
-    at_submit = holds_after_calls new.address f born (s.span p) (Submits r now (Ok h) ∷ earlier) runs_new.link.link some runs_new.made
+    at_submit : HoldsAfter new.address f born s0 (Submits r now (Ok h) ∷ earlier) runs_new.link.link
+    at_submit = holds_after_calls new.address f born s0 (Submits r now (Ok h) ∷ earlier) runs_new.link.link some runs_new.made
 
-    at_end : HoldsAfter n.address f born (s.span p) all runs.link.link
-    at_end = holds_after_calls n.address f born (s.span p) all runs.link.link some runs.made
+    at_end : HoldsAfter n.address f born s0 all runs.link.link
+    at_end = holds_after_calls n.address f born s0 all runs.link.link some runs.made
 
     none : sendings born h.0 earlier ≡ []
-    none = (holds_after_calls old.address f born (s.span p) earlier l.link some runs_old.made).now.fresh h.0 (at_least (f + length (commands earlier)) h.0 at_submit.now.handles.0)
+    none = (holds_after_calls old.address f born s0 earlier l.link some made_old).now.fresh h.0 (at_least (f + length (commands earlier)) h.0 at_submit.now.handles.0)
       where
         at_least : (a b : ℕ) → b ≡ a → a ≤ b
         at_least a b e = omega arith
@@ -492,7 +637,7 @@ gets_through law w s tree starts before later i x r now ms h some wide apart fit
     second false b q = q
 
     stands : Stands i p h.0 n.links n.taken
-    stands = stands_steps i h.0 p later new never (record {
+    stands = stands_steps i h.0 p later new never_later (record {
       link = runs_new.link;
       there = runs_new.there;
       peer = runs_new.peer;
@@ -504,14 +649,14 @@ gets_through law w s tree starts before later i x r now ms h some wide apart fit
 
     by_answer : is_lost all ≡ false → is_untaken h.0 all ≡ true → (o : Option AnswerFields) → first_of (answers_to n.address h.0 all) ≡ o →
         GotItsAnswer i c p n ⊎ (IsLost i n ⊎ WaitsInTime ms (max (clock_of_calls born earlier) now) i c p calls n)
-    by_answer kept untaken (Some a) e = inl (has s.span (s.span p) f born i some p earlier r now ms h calls n a runs sound sub
+    by_answer kept untaken (Some a) e = inl (has s.span s0 f born i some p earlier r now ms h calls n a runs sound sub
         (answer_is h.0 (λ y. answers_to n.address y all) runs.link.link.untaken at_end.now.are_answered
         ∙ ap (λ (b : Bool). cond b (first_of (answers_to n.address h.0 all)) None) (at_end.now.held h.0 ∙ untaken) ∙ e))
-    by_answer kept untaken None e = inr (inr (waits s.span (s.span p) f born i some p earlier r now ms h calls n runs sound sub trips none asked (record { untaken = untaken; unanswered = e; not_lost = kept })))
+    by_answer kept untaken None e = inr (inr (waits s.span s0 f born i some p earlier r now ms h calls n runs sound sub trips none asked_since (record { untaken = untaken; unanswered = e; not_lost = kept })))
 
     by_untaken : is_lost all ≡ false → (b : Bool) → is_untaken h.0 all ≡ b → GotItsAnswer i c p n ⊎ (IsLost i n ⊎ WaitsInTime ms (max (clock_of_calls born earlier) now) i c p calls n)
     by_untaken kept true e = by_answer kept e (first_of (answers_to n.address h.0 all)) refl
-    by_untaken kept false e = inl (gave s.span (s.span p) f born i some p earlier r now ms h calls n stands sound sub
+    by_untaken kept false e = inl (gave s.span s0 f born i some p earlier r now ms h calls n stands sound sub
         (ap (λ (y : PeerLink). holds h.0 y.link.untaken) same_link ∙ at_end.now.held h.0 ∙ e))
 
     by_lost : (b : Bool) → is_lost all ≡ b → GotItsAnswer i c p n ⊎ (IsLost i n ⊎ WaitsInTime ms (max (clock_of_calls born earlier) now) i c p calls n)

@@ -32,7 +32,7 @@ use Rattle.oca_control.specs.Untaken.{Untaken, new_untaken, is_due, is_late, fir
 use Rattle.oca_control.specs.Links.{LinkState, Request, command_under, submission, handle_after, after_submission, Decision, GivesCommand, GivesKeepAlive, GivesNothing, IsLost, decision_among, decision, after_due, gone_on, hears_content, received, taken, present_moment, late_at}
 use Rattle.oca_pair.specs.declared.start.Start.{Start}
 use Rattle.oca_pair.specs.Networks.{Network, PeerLink, SentDatagram, SubmittedCommand, TakenAnswer, Setup, started, opening, zero_of}
-use Rattle.oca_pair.specs.Steps.{Step, Submit, Due, ToDevice, ToLink, Other, Take, has_link, sendings_in, after_submit, given_by, after_due_step, after_delivery, content_read, hears_datagram, after_reception, after_take, after_step, after_steps, Renew, with_link, is_no_lower, renewed_link, after_renewal}
+use Rattle.oca_pair.specs.Steps.{Step, Submit, Due, ToDevice, ToLink, Other, Take, has_link, sendings_in, after_submit, given_by, after_due_step, after_delivery, content_read, hears_datagram, after_reception, after_take, after_step, after_steps, Renew, with_link, is_no_lower, unanswered, renewed_link, after_renewal}
 use Rattle.oca_pair.specs.Steps as steps
 use Rattle.oca_pair.specs.Happenings.{happenings}
 use Rattle.oca_pair.specs.Premises.{are_apart, StepFits, Fit}
@@ -40,7 +40,7 @@ use Rattle.oca_pair.specs.Laws.{Execution, executions_for, executions_under, Was
 use Rattle.oca_pair.specs.GettingThrough.{copy_of}
 use Rattle.oca_pair.specs.InTime.{Departure, leaving, departures_in, clock_at, longest_delay, ArrivesInTime, StepIsInTime, AreInTime, IsAnswerOfOneExecution, accepted_in_session}
 use Rattle.oca_pair.proofs.Core.{each_map, each_append, has, none_passes}
-use Rattle.oca_pair.proofs.Lists.{IsIn, contains_in, in_contains, both_true, each_at, each_in, equal_is, same_is, other_of, same_turned, same_self, other_is}
+use Rattle.oca_pair.proofs.Lists.{IsIn, contains_in, in_contains, both_true, each_at, each_in, equal_is, same_is, other_of, same_turned, same_self, other_is, same_some, mapped_at}
 use Rattle.oca_pair.proofs.Wire.{IsSendable, read_command, read_keep_alive}
 use Rattle.oca_pair.proofs.Clocks.{Grows, grows_reading}
 use Rattle.oca_pair.proofs.ByEvents.{stands_by}
@@ -554,9 +554,6 @@ zeros s n p = record { link = zero_of s p n; device = s.device_zero }
 abbrev pub TimedAt : Setup → ℕ → List Departure → Network → Type 0
 TimedAt s i left n = (l : PeerLink) → slice_get n.links i ≡ Some l → Timed (zeros s n l.peer) l.peer (end_of l.link.next) l.link.moment l.link.untaken left n.to_device (state_of (past n)).notes
 
-pub same_some : {X : Type 0} (x y : X) → Some x ≡ Some y → x ≡ y
-same_some x y e = cc
-
 -- a link of another number is of another peer
 apart_at : (xs : List PeerLink) (k i : ℕ) (x z : PeerLink) → Apart xs → slice_get xs k ≡ Some x → slice_get xs i ≡ Some z → nat_eq k i ≡ false → x.peer ≢ z.peer
 apart_at [] k i x z a e f other = cc
@@ -615,7 +612,7 @@ timed_step_renewal s i k first span now origin left n sound g (Some x) e = by_te
     y = record { peer = x.peer; link = renewed_link first span now x.link }
 
     m : Network
-    m = record n { links = with_link k x (renewed_link first span now x.link) n.links; renewed = (record { peer = x.peer; zero = origin }) ∷ n.renewed }
+    m = record n { links = with_link k x (renewed_link first span now x.link) n.links; renewed = (record { peer = x.peer; zero = origin; left = unanswered x.link.untaken }) ∷ n.renewed }
 
     zero_by : (p : Peer) (b : Bool) → same_peer x.peer p ≡ b → zero_of s p m ≡ cond b origin (zero_of s p n)
     zero_by p b q = ap (λ c. cond c origin (zero_of s p n)) q
@@ -645,12 +642,6 @@ timed_step_due law s i k now left n sound in_time g (Some x) e =
     (λ is own. timed_due law (zeros s n x.peer) x.peer now x.link left n.to_device (state_of (past n)).notes (sendable_untaken s.span n x (each_at (LinkSound s.span n) n.links i x sound.each own)) (in_time x is own) (g x own))
     (λ l other own. timed_due_other (zeros s n l.peer) l.peer x.peer (zero_of s x.peer n + present_moment now x.link) (end_of l.link.next) l.link.moment l.link.untaken (decision now x.link) left n.to_device (state_of (past n)).notes
     (apart_at n.links k i x l sound.apart e own other) (g l own))
-
--- what stands at a place of a list that a function was mapped over
-pub mapped_at : {X Y : Type 0} (f : X → Y) (xs : List X) (i : ℕ) (y : Y) → slice_get (map f xs) i ≡ Some y → (x : X) × (slice_get xs i ≡ Some x) × (f x ≡ y)
-mapped_at f [] i y e = cc
-mapped_at f (x ∷ xs) zero y e = (x, refl, same_some (f x) y e)
-mapped_at f (x ∷ xs) (suc i) y e = mapped_at f xs i y e
 
 timed_step_reception : (s : Setup) (i now : ℕ) (left : List Departure) (n : Network) → TimedAt s i left n → (o : Option SentDatagram) → TimedAt s i left (after_reception now o n)
 timed_step_reception s i now left n g None = g

@@ -1,12 +1,12 @@
 -- The laws of networks.
 use Rattle.std.proofs.Common.{◌≡◌, ℕ, ◌+◌, ◌*◌, ◌<◌, ◌≤◌, true, false, cond, List, [], ◌∷◌, ◌++◌, Option, Some, refl, sym, ap, ◌∙◌, subst, arith, ◌⊎◌, inl, inr}
 use Rattle.std.specs.Prelude.{map, Ok}
-use Rattle.std.specs.List.{AllByRecursion, slice_get, IsDistinct}
+use Rattle.std.specs.List.{AllByRecursion, slice_get, list_any, IsDistinct}
 use Rattle.std.proofs.Math.Dec.{eqb}
 use Rattle.std.proofs.lemmas.Bool.Decides.{nat_tests}
 use Rattle.oca_types.specs.declared.words.Peer.{Peer}
 use Rattle.oca_types.specs.Replies.{Reply}
-use Rattle.oca_types.specs.Peers.{CommandFields}
+use Rattle.oca_types.specs.Peers.{same_peer, CommandFields}
 use Rattle.oca_types.specs.Sizes.{DeviceSizes}
 use Rattle.oca_pdu.specs.Messages.{Msg, Command, Commands}
 use Rattle.oca_pdu.specs.Encoding.{pdu_encoding}
@@ -25,11 +25,11 @@ use Rattle.oca_control.specs.Answers.{AnswerFields}
 use Rattle.oca_control.specs.Untaken.{Untaken}
 use Rattle.oca_pair.specs.declared.outcome.Outcome.TheVariants as outcomes
 use Rattle.oca_pair.specs.declared.start.Start.{Start}
-use Rattle.oca_pair.specs.Networks.{Network, PeerLink, SentDatagram, SubmittedCommand, TakenAnswer, Setup, opening, is_renewed}
+use Rattle.oca_pair.specs.Networks.{Network, PeerLink, SentDatagram, SubmittedCommand, TakenAnswer, Setup, Renewal, opening, is_renewed, left_behind}
 use Rattle.oca_pair.specs.Steps.{Step, sendings_in, after_steps}
 use Rattle.oca_pair.specs.Happenings.{happenings}
-use Rattle.oca_pair.specs.Premises.{are_apart, Fit, KeepsItsSession, FindsRoom}
-use Rattle.oca_pair.specs.Laws.{Execution, executions_in, executions_for, executions_under, IsAnswerOfItsCommand, handles_of, EachToNext, AnswersItsCommands, CarriesUntaken, IsAnswered, AnswersUntaken, ExecutesOnce}
+use Rattle.oca_pair.specs.Premises.{are_apart, Fit, KeepsItsSession, FindsRoom, SpanFits}
+use Rattle.oca_pair.specs.Laws.{Execution, executions_in, executions_for, executions_under, IsAnswerOfItsCommand, handles_of, EachToNext, AnswersItsCommands, CarriesUntaken, IsAnswered, AnswersUntaken, ExecutesOnce, OnlyRenewalsRenew}
 use Rattle.oca_pair.proofs.Fixed.{sizes_kept}
 use Rattle.oca_pair.proofs.Core.{IsServed}
 use Rattle.oca_pair.proofs.Lists.{IsIn, contains_in, in_contains, each_at, each_in, equal_is}
@@ -41,8 +41,9 @@ use Rattle.oca_pair.proofs.Truths.{Past, past, and_then, state_of, IsSubmitted, 
 use Rattle.oca_pair.proofs.Fair.{end_of, IsFair, AreOwn, Fair, owns_then, judged_duplicate}
 use Rattle.oca_pair.proofs.Delivering.{let_in, after_read, answers_read, held_answer}
 use Rattle.oca_pair.proofs.Keeping.{accepted_by, Kept, executed_noted, accepted_let_in}
-use Rattle.oca_pair.proofs.Span.{Good, untaken_served}
-use Rattle.oca_pair.proofs.Networks.{LinkSound, Sound, sound_after}
+use Rattle.oca_pair.proofs.Span.{GoodSince, untaken_served}
+use Rattle.oca_pair.proofs.Renewing.{renew_nothing, nothing_left}
+use Rattle.oca_pair.proofs.Networks.{one_or, LinkSound, Sound, sound_after}
 
 -- ---- the law of answers
 
@@ -133,11 +134,11 @@ once_law law w s tree starts es apart fit i l own keeps =
 -- ---- the law of commands in hand
 
 -- a delivery at the moment is answered
-answered_now : WrittenIsReadBack → (w : DeviceSizes) (s f : ℕ) (n : Network) (k now : ℕ) (d : SentDatagram) (next : Option ℕ) (us : List Untaken) (u : Untaken) (c : CommandFields) →
-    2 * s ≤ n.sizes.window + 1 → slice_get n.to_device k ≡ Some d → (fair : Fair d.peer next us (past n) n.to_device n.to_links n.taken) (kept : Kept d.peer (past n)) →
-    Good s f d.peer next us n.submitted (accepted_by d.peer (past n)) → IsIn u us → u.command ≡ c → d.bytes ≡ pdu_encoding (Commands true (c ∷ [])) →
+answered_now : WrittenIsReadBack → (w : DeviceSizes) (s left : ℕ) (n : Network) (k now : ℕ) (d : SentDatagram) (next : Option ℕ) (us : List Untaken) (u : Untaken) (c : CommandFields) →
+    2 * s + left ≤ n.sizes.window + 1 → slice_get n.to_device k ≡ Some d → (fair : Fair d.peer next us (past n) n.to_device n.to_links n.taken) (kept : Kept d.peer (past n)) →
+    GoodSince s left d.peer next us n.submitted (accepted_by d.peer (past n)) → IsIn u us → u.command ≡ c → d.bytes ≡ pdu_encoding (Commands true (c ∷ [])) →
     FindsRoom d.peer now n → Keeps d.peer (and_then (Datagram d.peer d.bytes now) (past n)) → IsAnswered k now n d c
-answered_now law w s f n k now d next us u c wide there fair kept good held command bytes finds keeps =
+answered_now law w s left n k now d next us u c wide there fair kept good held command bytes finds keeps =
     by_judgement (judged_in n.sizes s2 p c) refl (rw is_accepted served_by)
   where
     p : Peer
@@ -184,7 +185,7 @@ answered_now law w s f n k now d next us u c wide there fair kept good held comm
 
     served_by : IsServed (judgement n.sizes.window (accepted_by p g) c)
     served_by =
-        rw command at (untaken_served n.sizes.window s f p next us n.submitted (accepted_by p g) u wide
+        rw command at (untaken_served n.sizes.window s left p next us n.submitted (accepted_by p g) u wide
         (λ x q. same_command (accepted_by p g) is_accepted x (rw command at q) ∙ sym command) good held)
 
     was : executions_for p n ≡ executed_for p (state_of g).notes
@@ -244,25 +245,38 @@ answered_now law w s f n k now d next us u c wide there fair kept good held comm
     by_judgement Reused q t = absurd t
     by_judgement Old q t = absurd t
 
-delivered : WrittenIsReadBack → (w : DeviceSizes) (s : Peer → ℕ) (n : Network) (k now : ℕ) (d : SentDatagram) (l : PeerLink) (c : CommandFields) → 0 < s l.peer → 2 * s l.peer ≤ n.sizes.window + 1 →
-    slice_get n.to_device k ≡ Some d → LinkSound s n l → CarriesUntaken d l c → is_renewed l.peer n ≡ false →
+delivered : WrittenIsReadBack → (w : DeviceSizes) (s : Peer → ℕ) (n : Network) (k now : ℕ) (d : SentDatagram) (l : PeerLink) (c : CommandFields) → SpanFits n.sizes l n →
+    slice_get n.to_device k ≡ Some d → LinkSound s n l → CarriesUntaken d l c →
     FindsRoom d.peer now n → Keeps d.peer (and_then (Datagram d.peer d.bytes now) (past n)) → IsAnswered k now n d c
-delivered law w s n k now d l c some wide there of of_untaken never finds keeps =
+delivered law w s n k now d l c fits there of of_untaken finds keeps =
     let As : Peer → Type 0 = λ x. Keeps x (past n) in
     let before : Keeps l.peer (past n) = subst As (sym of_untaken.peer) (keeps_before d.peer (Datagram d.peer d.bytes now) (past n) keeps) in
     let FairAs : Peer → Type 0 = λ x. Fair x l.link.next l.link.untaken (past n) n.to_device n.to_links n.taken in
     let KeptAs : Peer → Type 0 = λ x. Kept x (past n) in
-    let good = of.good never some before in
-    let GoodAs : Peer → Type 0 = λ x. Good (s l.peer) good.0 x l.link.next l.link.untaken n.submitted (accepted_by x (past n)) in
-    answered_now law w (s l.peer) good.0 n k now d l.link.next l.link.untaken of_untaken.untaken c wide there
-    (subst FairAs of_untaken.peer of.fair) (subst KeptAs of_untaken.peer (of.kept before)) (subst GoodAs of_untaken.peer good.1) (contains_in of_untaken.untaken l.link.untaken of_untaken.held) of_untaken.command of_untaken.bytes finds keeps
+    let GoodAs : Peer → Type 0 = λ x. GoodSince (one_or l.link.span) (left_behind l.peer n) x l.link.next l.link.untaken n.submitted (accepted_by x (past n)) in
+    answered_now law w (one_or l.link.span) (left_behind l.peer n) n k now d l.link.next l.link.untaken of_untaken.untaken c (wide l.link.span (left_behind l.peer n) n.sizes.window fits.some fits.wide) there
+    (subst FairAs of_untaken.peer of.fair) (subst KeptAs of_untaken.peer (of.kept before)) (subst GoodAs of_untaken.peer (of.good before)) (contains_in of_untaken.untaken l.link.untaken of_untaken.held) of_untaken.command of_untaken.bytes finds keeps
+  where
+    wide : (s left w : ℕ) → 0 < s → 2 * s + left ≤ w + 1 → 2 * one_or s + left ≤ w + 1
+    wide s left w p q = omega arith
 
-pub never_old_law : WrittenIsReadBack → (w : DeviceSizes) (s : Setup) (tree : List Object) (starts : List Start) (es : List Step) (p : Peer) → 0 < s.span p → 2 * s.span p ≤ w.window + 1 → are_apart s.address starts ≡ true → Fit starts es →
-    is_renewed p (after_steps es (opening w s tree starts)) ≡ false → AnswersUntaken p (after_steps es (opening w s tree starts))
-never_old_law law w s tree starts es p some wide apart fit never k now i d l c there own his of_untaken finds keeps =
+pub never_old_law : WrittenIsReadBack → (w : DeviceSizes) (s : Setup) (tree : List Object) (starts : List Start) (es : List Step) (i : ℕ) (l : PeerLink) →
+    slice_get (after_steps es (opening w s tree starts)).links i ≡ Some l → SpanFits w l (after_steps es (opening w s tree starts)) → are_apart s.address starts ≡ true → Fit starts es →
+    AnswersUntaken l (after_steps es (opening w s tree starts))
+never_old_law law w s tree starts es i l own fits apart fit k now d c there of_untaken finds keeps =
     let n : Network = after_steps es (opening w s tree starts) in
     let sound : Sound s.span n = sound_after law w s tree starts es apart fit in
     let of : LinkSound s.span n l = each_at (LinkSound s.span n) n.links i l sound.each own in
     let sizes : n.sizes ≡ w = sizes_kept es (opening w s tree starts) in
-    delivered law w s.span n k now d l c (subst (λ (q : Peer). 0 < s.span q) (sym his) some) (subst (λ (q : Peer). 2 * s.span q ≤ n.sizes.window + 1) (sym his) (rw sizes wide)) there of of_untaken
-    (subst (λ (q : Peer). is_renewed q n ≡ false) (sym his) never) finds (rw there at keeps)
+    let fits' : SpanFits n.sizes l n = subst (λ (x : DeviceSizes). SpanFits x l n) (sym sizes) fits in
+    delivered law w s.span n k now d l c fits' there of of_untaken finds (rw there at keeps)
+
+-- ---- what a schedule without renewals leaves of these premises
+
+pub only_renewals_renew : WrittenIsReadBack → OnlyRenewalsRenew
+only_renewals_renew law w s tree starts es i l apart fit none own =
+    let n : Network = after_steps es (opening w s tree starts) in
+    let sound : Sound s.span n = sound_after law w s tree starts es apart fit in
+    let of : LinkSound s.span n l = each_at (LinkSound s.span n) n.links i l sound.each own in
+    let never : is_renewed l.peer n ≡ false = ap (λ rs. list_any (λ (x : Renewal). same_peer x.peer l.peer) rs) (renew_nothing es (opening w s tree starts) none) in
+    record { never = never; nothing_left = nothing_left l.peer n.renewed never; span = of.span never }

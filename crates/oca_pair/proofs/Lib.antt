@@ -1,5 +1,5 @@
-pub mod Core
 pub mod Lists
+pub mod Core
 pub mod Wire
 pub mod Fitting
 pub mod Clocks

@@ -1,6 +1,6 @@
 -- Of lists and peers.
 use Rattle.std.proofs.Common.{◌≡◌, ℕ, ◌≢◌, Bool, true, false, List, [], ◌∷◌, ◌++◌, Some, refl, sym, ap, ◌∙◌, arith, zero, suc, ◌⊎◌, inl, inr}
-use Rattle.std.specs.Prelude.{nat_eq, not, ◌&&◌, ◌||◌}
+use Rattle.std.specs.Prelude.{nat_eq, not, ◌&&◌, ◌||◌, map}
 use Rattle.std.specs.List.{AllByRecursion, Contains, slice_get, slice_set}
 use Rattle.std.proofs.lemmas.Bool.Decides.{nat_tests}
 use Rattle.oca_types.specs.declared.words.Peer.{Peer}
@@ -111,3 +111,12 @@ pub each_set : {X : Type 0} (P : X → Type 0) (xs : List X) (k : ℕ) (y : X) �
 each_set P [] k y q p = tt
 each_set P (x ∷ xs) zero y q p = (q, p.1)
 each_set P (x ∷ xs) (suc k) y q p = (p.0, each_set P xs k y q p.1)
+
+pub same_some : {X : Type 0} (x y : X) → Some x ≡ Some y → x ≡ y
+same_some x y e = cc
+
+-- what stands at a place of a list that a function was mapped over
+pub mapped_at : {X Y : Type 0} (f : X → Y) (xs : List X) (i : ℕ) (y : Y) → slice_get (map f xs) i ≡ Some y → (x : X) × (slice_get xs i ≡ Some x) × (f x ≡ y)
+mapped_at f [] i y e = cc
+mapped_at f (x ∷ xs) zero y e = (x, refl, same_some (f x) y e)
+mapped_at f (x ∷ xs) (suc i) y e = mapped_at f xs i y e

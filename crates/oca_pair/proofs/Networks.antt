@@ -1,6 +1,6 @@
 -- What holds of each link of a network is kept by each step; and the laws.
-use Rattle.std.proofs.Common.{append-nil, ◌≡◌, ℕ, ◌+◌, ◌^◌, ◌<◌, ◌≤◌, ◌≢◌, Bool, true, false, cond, List, [], ◌∷◌, ◌++◌, Option, Some, None, refl, sym, ap, ◌∙◌, subst, arith, zero, suc, inl, inr}
-use Rattle.std.specs.Prelude.{◌&&◌, map, is_some, Result, Ok, Err}
+use Rattle.std.proofs.Common.{append-nil, ◌≡◌, ℕ, ◌+◌, ◌^◌, ◌<◌, ◌≤◌, ◌≢◌, Bool, true, false, cond, List, [], ◌∷◌, ◌++◌, Option, Some, None, refl, sym, ap, ◌∙◌, subst, arith, zero, suc, ◌⊎◌, inl, inr}
+use Rattle.std.specs.Prelude.{◌&&◌, map, max, is_none, is_some, Result, Ok, Err}
 use Rattle.std.specs.List.{list_all, AllByRecursion, slice_get, slice_set, IsDistinct}
 use Rattle.oca_types.specs.declared.words.Peer.{Peer}
 use Rattle.oca_types.specs.declared.words.Handle.{Handle}
@@ -18,15 +18,15 @@ use Rattle.oca_device.specs.Answers.{packets}
 use Rattle.oca_control.specs.declared.fault.ControlFault.{ControlFault}
 use Rattle.oca_control.specs.Answers.{AnswerFields, answer_of_response}
 use Rattle.oca_control.specs.Untaken.{Untaken, answer_under, without_handle}
-use Rattle.oca_control.specs.Links.{Request, submission, after_submission, Decision, GivesCommand, GivesKeepAlive, GivesNothing, IsLost, decision, after_due, gone_on, hears_content, received, taken, present_moment}
+use Rattle.oca_control.specs.Links.{LinkState, Request, submission, after_submission, Decision, GivesCommand, GivesKeepAlive, GivesNothing, IsLost, decision, after_due, gone_on, hears_content, received, taken, present_moment}
 use Rattle.oca_pair.specs.declared.start.Start.{Start}
-use Rattle.oca_pair.specs.Networks.{Network, PeerLink, SentDatagram, SubmittedCommand, TakenAnswer, Setup, started, opening, is_renewed}
+use Rattle.oca_pair.specs.Networks.{Network, PeerLink, SentDatagram, SubmittedCommand, TakenAnswer, Setup, started, opening, is_renewed, left_behind}
 use Rattle.oca_pair.specs.Laws.{handles_of, AreConsecutive}
-use Rattle.oca_pair.specs.Steps.{Step, Submit, Due, ToDevice, ToLink, Other, Take, Renew, with_link, is_no_lower, renewed_link, after_renewal, has_link, sendings_in, submitted_by, after_submit, given_by, after_due_step, after_delivery, content_read, hears_datagram, after_reception, after_take, after_step, after_steps}
+use Rattle.oca_pair.specs.Steps.{Step, Submit, Due, ToDevice, ToLink, Other, Take, Renew, with_link, is_no_lower, unanswered, renewed_link, after_renewal, has_link, sendings_in, submitted_by, after_submit, given_by, after_due_step, after_delivery, content_read, hears_datagram, after_reception, after_take, after_step, after_steps}
 use Rattle.oca_pair.specs.Steps as steps
 use Rattle.oca_pair.specs.Premises.{is_of_another_peer, are_apart, RequestFits, StepFits, StartFits, Fit}
 use Rattle.oca_pair.proofs.Core.{each_map, none_passes, has}
-use Rattle.oca_pair.proofs.Lists.{both_true, not_true, same_is, same_turned, other_of, each_at, each_in, each_set}
+use Rattle.oca_pair.proofs.Lists.{both_true, not_true, same_is, same_turned, other_of, each_at, each_in, each_set, IsIn, differs, other_is, same_self}
 use Rattle.oca_pair.proofs.Arrivals.{Keeps, keeps_before}
 use Rattle.oca_pair.proofs.Wire.{IsSendable, read_command, read_keep_alive}
 use Rattle.oca_pair.proofs.Truths.{Past, past, and_then, state_of, IsSubmitted, IsTrueAnswer}
@@ -34,7 +34,7 @@ use Rattle.oca_pair.proofs.Fair.{end_of, IsOut, IsBack, IsHeld, Fair, fair_other
 use Rattle.oca_pair.proofs.Renewing.{above_next, fair_renewed, now_renewed, other_renewed}
 use Rattle.oca_pair.proofs.Delivering.{granted, handles_submit, handles_submitted_by, fair_command, fair_keep_alive, fair_submit, fair_submitted_by, fair_gone_on, fair_sent, fair_received, fair_taken, fair_taken_by, held_answer}
 use Rattle.oca_pair.proofs.Keeping.{Kept, accepted_by, IsGrown, delivers, kept_other, accepted_other, executed_has}
-use Rattle.oca_pair.proofs.Span.{Good, good_submit, good_submitted, good_marked_sent, good_answered, good_without, good_grown}
+use Rattle.oca_pair.proofs.Span.{GoodSince, IsKnown, since_by, room_each, good_renewed, good_submit, good_submitted, good_marked_sent, good_answered, good_without, good_grown}
 
 -- No two links have one peer.
 abbrev pub Apart : List PeerLink → Type 0
@@ -76,13 +76,17 @@ apart_hears from d now (x ∷ xs) a = (heads xs a.0, apart_hears from d now xs a
     heads [] q = tt
     heads (y ∷ ys) q = ((λ h. q.0 (sym (hears_peer from d now y) ∙ h ∙ hears_peer from d now x)), heads ys q.1)
 
+-- a span of at least 1
+abbrev pub one_or : ℕ → ℕ
+one_or s = max 1 s
+
 -- What holds of a link of a network.
 pub record LinkSound (s : Peer → ℕ) (n : Network) (l : PeerLink) : Type 0 where
   pub span : is_renewed l.peer n ≡ false → l.link.span ≡ s l.peer
   pub fair : Fair l.peer l.link.next l.link.untaken (past n) n.to_device n.to_links n.taken
   pub kept : Keeps l.peer (past n) → Kept l.peer (past n)
   pub consecutive : is_renewed l.peer n ≡ false → AreConsecutive (handles_of l.peer n.submitted ++ end_of l.link.next ∷ [])
-  pub good : is_renewed l.peer n ≡ false → 0 < s l.peer → Keeps l.peer (past n) → (f : ℕ) × Good (s l.peer) f l.peer l.link.next l.link.untaken n.submitted (accepted_by l.peer (past n))
+  pub good : Keeps l.peer (past n) → GoodSince (one_or l.link.span) (left_behind l.peer n) l.peer l.link.next l.link.untaken n.submitted (accepted_by l.peer (past n))
 
 pub record Sound (s : Peer → ℕ) (n : Network) : Type 0 where
   pub apart : Apart n.links
@@ -120,23 +124,30 @@ sound_submit s i r now n fits g (Some l) e = record {
       fair = fair_submitted_by z.peer l.peer r (submission r l.link) z.link.next z.link.untaken (past n) n.to_device n.to_links n.taken (λ same. other (sym same)) w.fair;
       kept = w.kept;
       consecutive = λ first. handles_submitted_by (λ x y. y ≡ x + 1) z.peer l.peer r (submission r l.link) (end_of z.link.next) n.submitted (λ same. other (sym same)) (w.consecutive first);
-      good = λ first some keeps. let q = w.good first some keeps in (
-        q.0,
-        good_submitted (s z.peer) q.0 z.peer z.link.next z.link.untaken n.submitted (submitted_by l.peer r (submission r l.link)) (accepted_by z.peer (past n))
-            (not_his z.peer (submission r l.link) (λ same. other (sym same))) q.1,
-      );
+      good = λ keeps. since_by (λ f late. good_submitted (one_or z.link.span) f late z.peer z.link.next z.link.untaken n.submitted (submitted_by l.peer r (submission r l.link)) (accepted_by z.peer (past n))
+          (not_his z.peer (submission r l.link) (λ same. other (sym same)))) (w.good keeps);
     }
 
     span_kept : (a : Result Handle ControlFault) → (after_submission a r now l.link).span ≡ l.link.span
     span_kept (Ok h) = refl
     span_kept (Err fault) = refl
 
-    good_kept : (f : ℕ) (a : Result Handle ControlFault) → submission r l.link ≡ a → l.link.span ≡ s l.peer → 0 < s l.peer → Good (s l.peer) f l.peer l.link.next l.link.untaken n.submitted (accepted_by l.peer (past n)) →
-        Good (s l.peer) f l.peer (after_submission a r now l.link).next (after_submission a r now l.link).untaken (n.submitted ++ submitted_by l.peer r a) (accepted_by l.peer (past n))
-    good_kept f (Err fault) q span_is some w = good_submitted (s l.peer) f l.peer l.link.next l.link.untaken n.submitted [] (accepted_by l.peer (past n)) tt w
-    good_kept f (Ok h) q span_is some w =
+    Of : LinkState → List SubmittedCommand → Type 0
+    Of x more = GoodSince (one_or x.span) (left_behind l.peer n) l.peer x.next x.untaken (n.submitted ++ more) (accepted_by l.peer (past n))
+
+    good_kept : (a : Result Handle ControlFault) → submission r l.link ≡ a → GoodSince (one_or l.link.span) (left_behind l.peer n) l.peer l.link.next l.link.untaken n.submitted (accepted_by l.peer (past n)) →
+        Of (after_submission a r now l.link) (submitted_by l.peer r a)
+    good_kept (Err fault) q w = since_by (λ f late. good_submitted (one_or l.link.span) f late l.peer l.link.next l.link.untaken n.submitted [] (accepted_by l.peer (past n)) tt) w
+    good_kept (Ok h) q w =
         let t = granted r l.link h q in
-        good_submit (s l.peer) f l.peer l.link.next l.link.untaken n.submitted (accepted_by l.peer (past n)) h.0 (present_moment now l.link) r some t.0 (rw span_is at t.1) w
+        since_by (λ f late. good_submit (one_or l.link.span) f late l.peer l.link.next l.link.untaken n.submitted (accepted_by l.peer (past n)) h.0 (present_moment now l.link) r (some l.link.span) t.0
+        (each_map (λ u k. wider u.command.handle h.0 l.link.span k) l.link.untaken (room_each l.link.span h.0 l.link.untaken t.1))) w
+      where
+        some : (x : ℕ) → 0 < one_or x
+        some x = omega arith
+
+        wider : (x h s : ℕ) → h < x + s → h < x + one_or s
+        wider x h s k = omega arith
 
     mine : LinkSound s n' y
     mine = record {
@@ -144,7 +155,7 @@ sound_submit s i r now n fits g (Some l) e = record {
       fair = fair_submit l.peer r now l.link (past n) n.to_device n.to_links n.taken fits was.fair;
       kept = was.kept;
       consecutive = λ first. handles_submit (λ x y. y ≡ x + 1) (λ h. refl) l.peer r now l.link n.submitted (was.consecutive first);
-      good = λ first some keeps. let q = was.good first some keeps in (q.0, good_kept q.0 (submission r l.link) refl (was.span first) some q.1);
+      good = λ keeps. good_kept (submission r l.link) refl (was.good keeps);
     }
 
 -- ---- due
@@ -186,12 +197,14 @@ sound_due s i now n g (Some l) e = record {
     next_kept GivesNothing = refl
     next_kept IsLost = refl
 
-    good_kept : (f : ℕ) (d : Decision) → Good (s l.peer) f l.peer l.link.next l.link.untaken n.submitted (accepted_by l.peer (past n)) →
-        Good (s l.peer) f l.peer (after_due d (present_moment now l.link) l.link).next (after_due d (present_moment now l.link) l.link).untaken n.submitted (accepted_by l.peer (past n))
-    good_kept f (GivesCommand c) w = good_marked_sent (s l.peer) f l.peer l.link.next l.link.untaken n.submitted (accepted_by l.peer (past n)) (present_moment now l.link) c.handle w
-    good_kept f GivesKeepAlive w = w
-    good_kept f GivesNothing w = w
-    good_kept f IsLost w = w
+    Of : LinkState → Type 0
+    Of x = GoodSince (one_or x.span) (left_behind l.peer n) l.peer x.next x.untaken n.submitted (accepted_by l.peer (past n))
+
+    good_kept : (d : Decision) → Of l.link → Of (after_due d (present_moment now l.link) l.link)
+    good_kept (GivesCommand c) w = since_by (λ f late. good_marked_sent (one_or l.link.span) f late l.peer l.link.next l.link.untaken n.submitted (accepted_by l.peer (past n)) (present_moment now l.link) c.handle) w
+    good_kept GivesKeepAlive w = w
+    good_kept GivesNothing w = w
+    good_kept IsLost w = w
 
     mine : LinkSound s n' y
     mine = record {
@@ -199,7 +212,7 @@ sound_due s i now n g (Some l) e = record {
       fair = fair_gone_on l.peer now l.link (past n) n.to_device n.to_links n.taken was.fair;
       kept = was.kept;
       consecutive = λ first. subst (λ (o : Option ℕ). AreConsecutive (handles_of l.peer n.submitted ++ end_of o ∷ [])) (sym (next_kept (decision now l.link))) (was.consecutive first);
-      good = λ first some keeps. let q = was.good first some keeps in (q.0, good_kept q.0 (decision now l.link) q.1);
+      good = λ keeps. good_kept (decision now l.link) (was.good keeps);
     }
 
 -- ---- take
@@ -229,10 +242,12 @@ sound_take s i h n g (Some l) e = record {
       good = w.good;
     }
 
-    good_kept : (f : ℕ) (o : Option AnswerFields) → IsHeld l.peer (past n) h o → Good (s l.peer) f l.peer l.link.next l.link.untaken n.submitted (accepted_by l.peer (past n)) →
-        Good (s l.peer) f l.peer l.link.next (cond (is_some o) (without_handle h l.link.untaken) l.link.untaken) n.submitted (accepted_by l.peer (past n))
-    good_kept f None held w = w
-    good_kept f (Some a) held w = good_without (s l.peer) f l.peer l.link.next l.link.untaken n.submitted (accepted_by l.peer (past n)) h (held_has l.peer (past n) h a held) w
+    Of : List Untaken → Type 0
+    Of us = GoodSince (one_or l.link.span) (left_behind l.peer n) l.peer l.link.next us n.submitted (accepted_by l.peer (past n))
+
+    good_kept : (o : Option AnswerFields) → IsHeld l.peer (past n) h o → Of l.link.untaken → Of (cond (is_some o) (without_handle h l.link.untaken) l.link.untaken)
+    good_kept None held w = w
+    good_kept (Some a) held w = since_by (λ f late. good_without (one_or l.link.span) f late l.peer l.link.next l.link.untaken n.submitted (accepted_by l.peer (past n)) h (held_has l.peer (past n) h a held)) w
 
     mine : LinkSound s n' y
     mine = record {
@@ -240,8 +255,7 @@ sound_take s i h n g (Some l) e = record {
       fair = fair_taken l.peer h l.link (past n) n.to_device n.to_links n.taken was.fair;
       kept = was.kept;
       consecutive = was.consecutive;
-      good = λ first some keeps. let q = was.good first some keeps in
-          (q.0, good_kept q.0 (answer_under h l.link.untaken) (held_answer l.peer (past n) h l.link.untaken was.fair.untaken) q.1);
+      good = λ keeps. good_kept (answer_under h l.link.untaken) (held_answer l.peer (past n) h l.link.untaken was.fair.untaken) (was.good keeps);
     }
 
 -- ---- renew
@@ -254,7 +268,7 @@ sound_renewal s i first span now origin n low g (Some l) e = by_test (is_no_lowe
     y = record { peer = l.peer; link = renewed_link first span now l.link }
 
     n' : Network
-    n' = record n { links = with_link i l (renewed_link first span now l.link) n.links; renewed = (record { peer = l.peer; zero = origin }) ∷ n.renewed }
+    n' = record n { links = with_link i l (renewed_link first span now l.link) n.links; renewed = (record { peer = l.peer; zero = origin; left = unanswered l.link.untaken }) ∷ n.renewed }
 
     was : LinkSound s n l
     was = each_at (LinkSound s n) n.links i l g.each e
@@ -265,8 +279,14 @@ sound_renewal s i first span now origin n low g (Some l) e = by_test (is_no_lowe
       fair = w.fair;
       kept = w.kept;
       consecutive = λ never. w.consecutive (other_renewed z.peer l.peer (is_renewed z.peer n) never);
-      good = λ never. w.good (other_renewed z.peer l.peer (is_renewed z.peer n) never);
+      good = λ keeps. subst (λ (k : ℕ). GoodSince (one_or z.link.span) k z.peer z.link.next z.link.untaken n.submitted (accepted_by z.peer (past n)))
+          (sym (ap (λ b. cond b (unanswered l.link.untaken + left_behind z.peer n) (left_behind z.peer n)) (other_is l.peer z.peer (λ same. other (sym same))))) (w.good keeps);
     }
+
+    -- what has an answer was accepted
+    answered_has : (h : ℕ) (o : Option AnswerFields) → IsHeld l.peer (past n) h o → is_none o ≡ false → has h (accepted_by l.peer (past n)) ≡ true
+    answered_has h None held some = cc
+    answered_has h (Some a) held some = held_has l.peer (past n) h a held
 
     mine : end_of l.link.next ≤ first → LinkSound s n' y
     mine above = record {
@@ -274,7 +294,10 @@ sound_renewal s i first span now origin n low g (Some l) e = by_test (is_no_lowe
       fair = fair_renewed l.peer first l.link.next l.link.untaken (past n) n.to_device n.to_links n.taken low above was.fair;
       kept = was.kept;
       consecutive = λ never. absurd (now_renewed l.peer l.peer (is_renewed l.peer n) refl never);
-      good = λ never. absurd (now_renewed l.peer l.peer (is_renewed l.peer n) refl never);
+      good = λ keeps. subst (λ (k : ℕ). GoodSince (one_or span) k l.peer (Some first) [] n.submitted (accepted_by l.peer (past n)))
+          (sym (ap (λ b. cond b (unanswered l.link.untaken + left_behind l.peer n) (left_behind l.peer n)) (same_self l.peer)))
+          (good_renewed (one_or l.link.span) (one_or span) (left_behind l.peer n) l.peer l.link.next l.link.untaken n.submitted (accepted_by l.peer (past n)) first above
+          (each_map (λ u f some. answered_has u.command.handle u.answer f.1 some) l.link.untaken was.fair.untaken) (each_map (λ x f same. (f same).1) n.submitted was.fair.sendable) (was.good keeps));
     }
 
     by_test : (b : Bool) → is_no_lower first l.link.next ≡ b → Sound s (cond b n' n)
@@ -298,15 +321,16 @@ sound_reception s now n g d k e = record { apart = apart_hears n.address d now n
         y : PeerLink
         y = record { peer = z.peer; link = received n.address (content_read d.bytes) now z.link }
 
-        good_heard : (f : ℕ) → IsBack z.peer (past n) d.bytes → Good (s z.peer) f z.peer z.link.next z.link.untaken n.submitted (accepted_by z.peer (past n)) →
-            Good (s z.peer) f z.peer z.link.next (hears_content (content_read d.bytes) z.link.untaken) n.submitted (accepted_by z.peer (past n))
-        good_heard f (inl (r, t, read)) q = rw read (good_answered (s z.peer) f z.peer z.link.next z.link.untaken n.submitted (accepted_by z.peer (past n)) r.handle (answer_of_response r) q)
-        good_heard f (inr read) q = rw read q
+        Of : List Untaken → Type 0
+        Of us = GoodSince (one_or z.link.span) (left_behind z.peer n) z.peer z.link.next us n.submitted (accepted_by z.peer (past n))
 
-        good_received : (f : ℕ) (b : Bool) → IsBack z.peer (past n) d.bytes → Good (s z.peer) f z.peer z.link.next z.link.untaken n.submitted (accepted_by z.peer (past n)) →
-            Good (s z.peer) f z.peer z.link.next (cond b (hears_content (content_read d.bytes) z.link.untaken) z.link.untaken) n.submitted (accepted_by z.peer (past n))
-        good_received f true back q = good_heard f back q
-        good_received f false back q = q
+        good_heard : IsBack z.peer (past n) d.bytes → Of z.link.untaken → Of (hears_content (content_read d.bytes) z.link.untaken)
+        good_heard (inl (r, t, read)) q = rw read (since_by (λ f late. good_answered (one_or z.link.span) f late z.peer z.link.next z.link.untaken n.submitted (accepted_by z.peer (past n)) r.handle (answer_of_response r)) q)
+        good_heard (inr read) q = rw read q
+
+        good_received : (b : Bool) → IsBack z.peer (past n) d.bytes → Of z.link.untaken → Of (cond b (hears_content (content_read d.bytes) z.link.untaken) z.link.untaken)
+        good_received true back q = good_heard back q
+        good_received false back q = q
 
         heard : IsBack z.peer (past n) d.bytes → LinkSound s n' y
         heard back = record {
@@ -314,7 +338,7 @@ sound_reception s now n g d k e = record { apart = apart_hears n.address d now n
           fair = fair_received n.address z.peer d.bytes now z.link (past n) n.to_device n.to_links n.taken back w.fair;
           kept = w.kept;
           consecutive = w.consecutive;
-          good = λ first some keeps. let q = w.good first some keeps in (q.0, good_received q.0 (same_peer n.address z.link.device) back q.1);
+          good = λ keeps. good_received (same_peer n.address z.link.device) back (w.good keeps);
         }
 
         unheard : LinkSound s n' z
@@ -334,18 +358,19 @@ sound_reception s now n g d k e = record { apart = apart_hears n.address d now n
 sound_elsewhere : (s : Peer → ℕ) (n : Network) (q : Peer) (bytes : List ℕ) (now : ℕ) (packets : List (List ℕ)) (z : PeerLink) → same_peer q z.peer ≡ false → LinkSound s n z →
     Fair z.peer z.link.next z.link.untaken (and_then (Datagram q bytes now) (past n)) n.to_device (n.to_links ++ sendings_in q packets) n.taken
     × (Keeps z.peer (and_then (Datagram q bytes now) (past n)) → Kept z.peer (and_then (Datagram q bytes now) (past n)))
-    × (is_renewed z.peer n ≡ false → 0 < s z.peer → Keeps z.peer (and_then (Datagram q bytes now) (past n)) →
-    (f : ℕ) × Good (s z.peer) f z.peer z.link.next z.link.untaken n.submitted (accepted_by z.peer (and_then (Datagram q bytes now) (past n))))
+    × (Keeps z.peer (and_then (Datagram q bytes now) (past n)) →
+    GoodSince (one_or z.link.span) (left_behind z.peer n) z.peer z.link.next z.link.untaken n.submitted (accepted_by z.peer (and_then (Datagram q bytes now) (past n))))
 sound_elsewhere s n q bytes now packets z other w = (
   fair_other z.peer q z.link.next z.link.untaken (past n) n.to_device n.to_links n.taken bytes now packets (other_of q z.peer other) w.fair,
   (λ keeps. kept_other z.peer q bytes now (past n) other (w.kept (keeps_before z.peer (Datagram q bytes now) (past n) keeps))),
-  (λ first some keeps. let good = w.good first some (keeps_before z.peer (Datagram q bytes now) (past n) keeps) in
-      (good.0, moved good.0 (accepted_by z.peer (and_then (Datagram q bytes now) (past n))) (accepted_other z.peer q bytes now (past n) other) good.1)),
+  (λ keeps. moved (accepted_by z.peer (and_then (Datagram q bytes now) (past n))) (accepted_other z.peer q bytes now (past n) other) (w.good (keeps_before z.peer (Datagram q bytes now) (past n) keeps))),
 )
   where
-    moved : (f : ℕ) (B : List Entry) → B ≡ accepted_by z.peer (past n) → Good (s z.peer) f z.peer z.link.next z.link.untaken n.submitted (accepted_by z.peer (past n)) →
-        Good (s z.peer) f z.peer z.link.next z.link.untaken n.submitted B
-    moved f B e g = rw e g
+    Of : List Entry → Type 0
+    Of A = GoodSince (one_or z.link.span) (left_behind z.peer n) z.peer z.link.next z.link.untaken n.submitted A
+
+    moved : (B : List Entry) → B ≡ accepted_by z.peer (past n) → Of (accepted_by z.peer (past n)) → Of B
+    moved B e g = rw e g
 
 -- of the link itself
 own_fair : (law : WrittenIsReadBack) (p : Peer) (next : Option ℕ) (us : List Untaken) (g : Past) (out back : List SentDatagram) (handed : List TakenAnswer) (bytes : List ℕ) (now : ℕ) →
@@ -358,11 +383,11 @@ own_fair law p next us g out back handed bytes now (inl (c, sub, is)) f =
     sendable_of c sub = (each_in (λ (x : SubmittedCommand). x.peer ≡ p → IsSendable x.command × (x.command.handle < end_of next)) _ g.submitted f.sendable sub refl).0
 own_fair law p next us g out back handed bytes now (inr is) f = rw is (fair_keep_alive law p next us g out back handed now f)
 
-own_kept : (law : WrittenIsReadBack) (s f : ℕ) (p : Peer) (next : Option ℕ) (us : List Untaken) (g : Past) (out back : List SentDatagram) (handed : List TakenAnswer) (bytes : List ℕ) (now : ℕ) →
+own_kept : (law : WrittenIsReadBack) (s left : ℕ) (p : Peer) (next : Option ℕ) (us : List Untaken) (g : Past) (out back : List SentDatagram) (handed : List TakenAnswer) (bytes : List ℕ) (now : ℕ) →
     IsOut p g.submitted bytes → Fair p next us g out back handed → Keeps p (and_then (Datagram p bytes now) g) → Kept p g →
     Kept p (and_then (Datagram p bytes now) g)
-    × (Good s f p next us g.submitted (accepted_by p g) → Good s f p next us g.submitted (accepted_by p (and_then (Datagram p bytes now) g)))
-own_kept law s f p next us g out back handed bytes now (inl (c, sub, is)) fair keeps k =
+    × (GoodSince s left p next us g.submitted (accepted_by p g) → GoodSince s left p next us g.submitted (accepted_by p (and_then (Datagram p bytes now) g)))
+own_kept law s left p next us g out back handed bytes now (inl (c, sub, is)) fair keeps k =
     let its = each_in (λ (x : SubmittedCommand). x.peer ≡ p → IsSendable x.command × (x.command.handle < end_of next)) _ g.submitted fair.sendable sub refl in
     let d = delivers p (Command true c) bytes now g (ap read_datagram is ∙ read_command law c its.0) (inl (c, refl)) keeps k in
     (d.kept, λ good. grown (accepted_by p (and_then (Datagram p bytes now) g)) d.grown good its.1)
@@ -370,30 +395,35 @@ own_kept law s f p next us g out back handed bytes now (inl (c, sub, is)) fair k
     command_is : (x y : CommandFields) → Command true x ≡ Command true y → x ≡ y
     command_is x y q = cc
 
-    grown : (B : List Entry) → IsGrown (Command true c) (accepted_by p g) B → Good s f p next us g.submitted (accepted_by p g) → c.handle < end_of next → Good s f p next us g.submitted B
+    of_link : (f : ℕ) (late : List ℕ) (h : ℕ) (A : List Entry) → has h A ≡ false → IsKnown f late A h → (f ≤ h) ⊎ IsIn h late
+    of_link f late h A new (inl mine) = inl mine
+    of_link f late h A new (inr (inl there)) = differs (sym there ∙ new)
+    of_link f late h A new (inr (inr left)) = inr left
+
+    grown : (B : List Entry) → IsGrown (Command true c) (accepted_by p g) B → GoodSince s left p next us g.submitted (accepted_by p g) → c.handle < end_of next → GoodSince s left p next us g.submitted B
     grown B (inl same) good below = rw same good
     grown B (inr (x, r, m_is, new, grows)) good below =
         let same : c ≡ x = command_is c x m_is in
-        let from : f ≤ c.handle = each_in (λ (y : SubmittedCommand). y.peer ≡ p → f ≤ y.command.handle) _ g.submitted good.from sub refl in
-        rw grows (good_grown s f p next us g.submitted (accepted_by p g) (record { command = x; reply = r }) (rw same at from) (rw same at below) new good)
-own_kept law s f p next us g out back handed bytes now (inr is) fair keeps k =
+        rw grows (since_by (λ f late q. good_grown s f late p next us g.submitted (accepted_by p g) (record { command = x; reply = r })
+            (rw same at below, rw same at (of_link f late c.handle (accepted_by p g) (ap (λ (y : CommandFields). has y.handle (accepted_by p g)) same ∙ new)
+            (each_in (λ (y : SubmittedCommand). y.peer ≡ p → IsKnown f late (accepted_by p g) y.command.handle) _ g.submitted q.from sub refl))) new q) good)
+own_kept law s left p next us g out back handed bytes now (inr is) fair keeps k =
     let d = delivers p (KeepAlive (Seconds 5)) bytes now g (ap read_datagram is ∙ read_keep_alive law) (inr (Seconds 5, refl)) keeps k in
     (d.kept, λ good. grown (accepted_by p (and_then (Datagram p bytes now) g)) d.grown good)
   where
-    grown : (B : List Entry) → IsGrown (KeepAlive (Seconds 5)) (accepted_by p g) B → Good s f p next us g.submitted (accepted_by p g) → Good s f p next us g.submitted B
+    grown : (B : List Entry) → IsGrown (KeepAlive (Seconds 5)) (accepted_by p g) B → GoodSince s left p next us g.submitted (accepted_by p g) → GoodSince s left p next us g.submitted B
     grown B (inl same) good = rw same good
     grown B (inr (x, r, m_is, new, grows)) good = cc
 
 sound_own : (law : WrittenIsReadBack) (s : Peer → ℕ) (n : Network) (bytes : List ℕ) (now : ℕ) (z : PeerLink) → IsOut z.peer n.submitted bytes → LinkSound s n z →
     Fair z.peer z.link.next z.link.untaken (and_then (Datagram z.peer bytes now) (past n)) n.to_device (n.to_links ++ sendings_in z.peer (packets n.sizes n.tree n.events (Datagram z.peer bytes now))) n.taken
     × (Keeps z.peer (and_then (Datagram z.peer bytes now) (past n)) → Kept z.peer (and_then (Datagram z.peer bytes now) (past n)))
-    × (is_renewed z.peer n ≡ false → 0 < s z.peer → Keeps z.peer (and_then (Datagram z.peer bytes now) (past n)) →
-    (f : ℕ) × Good (s z.peer) f z.peer z.link.next z.link.untaken n.submitted (accepted_by z.peer (and_then (Datagram z.peer bytes now) (past n))))
+    × (Keeps z.peer (and_then (Datagram z.peer bytes now) (past n)) →
+    GoodSince (one_or z.link.span) (left_behind z.peer n) z.peer z.link.next z.link.untaken n.submitted (accepted_by z.peer (and_then (Datagram z.peer bytes now) (past n))))
 sound_own law s n bytes now z out w = (
   own_fair law z.peer z.link.next z.link.untaken (past n) n.to_device n.to_links n.taken bytes now out w.fair,
-  (λ keeps. (own_kept law (s z.peer) 0 z.peer z.link.next z.link.untaken (past n) n.to_device n.to_links n.taken bytes now out w.fair keeps (w.kept (before keeps))).0),
-  (λ first some keeps. let good = w.good first some (before keeps) in
-      (good.0, (own_kept law (s z.peer) good.0 z.peer z.link.next z.link.untaken (past n) n.to_device n.to_links n.taken bytes now out w.fair keeps (w.kept (before keeps))).1 good.1)),
+  (λ keeps. (own_kept law (one_or z.link.span) (left_behind z.peer n) z.peer z.link.next z.link.untaken (past n) n.to_device n.to_links n.taken bytes now out w.fair keeps (w.kept (before keeps))).0),
+  (λ keeps. (own_kept law (one_or z.link.span) (left_behind z.peer n) z.peer z.link.next z.link.untaken (past n) n.to_device n.to_links n.taken bytes now out w.fair keeps (w.kept (before keeps))).1 (w.good (before keeps))),
 )
   where
     before : Keeps z.peer (and_then (Datagram z.peer bytes now) (past n)) → Keeps z.peer (past n)
@@ -404,8 +434,8 @@ abbrev AfterDatagram : (Peer → ℕ) → Network → PeerLink → Peer → List
 AfterDatagram s n z q bytes now =
     Fair z.peer z.link.next z.link.untaken (and_then (Datagram q bytes now) (past n)) n.to_device (n.to_links ++ sendings_in q (packets n.sizes n.tree n.events (Datagram q bytes now))) n.taken
     × (Keeps z.peer (and_then (Datagram q bytes now) (past n)) → Kept z.peer (and_then (Datagram q bytes now) (past n)))
-    × (is_renewed z.peer n ≡ false → 0 < s z.peer → Keeps z.peer (and_then (Datagram q bytes now) (past n)) →
-    (f : ℕ) × Good (s z.peer) f z.peer z.link.next z.link.untaken n.submitted (accepted_by z.peer (and_then (Datagram q bytes now) (past n))))
+    × (Keeps z.peer (and_then (Datagram q bytes now) (past n)) →
+    GoodSince (one_or z.link.span) (left_behind z.peer n) z.peer z.link.next z.link.untaken n.submitted (accepted_by z.peer (and_then (Datagram q bytes now) (past n))))
 
 sound_delivery : (law : WrittenIsReadBack) (s : Peer → ℕ) (now : ℕ) (n : Network) → Sound s n → (d : SentDatagram) (k : ℕ) → slice_get n.to_device k ≡ Some d → Sound s (after_delivery now (Some d) n)
 sound_delivery law s now n g d k e = record { apart = g.apart; each = each_map one n.links g.each }
@@ -529,7 +559,12 @@ sound_opening w s tree starts a fits = record { apart = apart starts a; each = e
         fair = record { fits = f.0; own = tt; outgoing = tt; incoming = tt; untaken = tt; was_taken = tt; sendable = tt; unique = λ c d i j e. absurd i; rising = tt };
         kept = λ keeps. record { whole = refl; once = tt };
         consecutive = λ never. tt;
-        good = λ never some keeps. (x.first_handle.0, record { start = omega arith; untaken = tt; taken = λ y p q free. nothing x.first_handle.0 y p q; own = tt; order = tt; from = tt });
+        good = λ keeps. record {
+          first = x.first_handle.0;
+          late = [];
+          few = omega arith;
+          good = record { start = omega arith; untaken = tt; taken = λ y p q free. nothing x.first_handle.0 y p q; earlier = []; since = []; accepted = refl; below = tt; own = tt; order = tt; from = tt };
+        };
       },
       each xs f.1,
     )

@@ -23,12 +23,12 @@ use Rattle.oca_control.specs.Answers.{AnswerFields, answer_of_response}
 use Rattle.oca_control.specs.Untaken.{Untaken, new_untaken, answered, hears_all, answer_under, without_handle, holds}
 use Rattle.oca_control.specs.Links.{LinkState, Request, command_under, submission, after_submission, Decision, GivesCommand, GivesKeepAlive, GivesNothing, IsLost, decision, after_due, gone_on, hears_content, received, taken, present_moment}
 use Rattle.oca_pair.specs.declared.start.Start.{Start}
-use Rattle.oca_pair.specs.Networks.{Network, PeerLink, SentDatagram, SubmittedCommand, TakenAnswer, Setup, started, opening, is_renewed}
-use Rattle.oca_pair.specs.Steps.{Step, Submit, Due, ToDevice, ToLink, Other, Take, has_link, sendings_in, with_link, submitted_by, after_submit, after_due_step, after_delivery, messages_read, content_read, hears_datagram, after_reception, taken_by, after_take, Renew, is_no_lower, renewed_link, after_renewal, after_step, after_steps}
+use Rattle.oca_pair.specs.Networks.{Network, PeerLink, SentDatagram, SubmittedCommand, TakenAnswer, Setup, started, opening}
+use Rattle.oca_pair.specs.Steps.{Step, Submit, Due, ToDevice, ToLink, Other, Take, has_link, sendings_in, with_link, submitted_by, after_submit, after_due_step, after_delivery, messages_read, content_read, hears_datagram, after_reception, taken_by, after_take, Renew, is_no_lower, unanswered, renewed_link, after_renewal, after_step, after_steps}
 use Rattle.oca_pair.specs.Steps as steps
-use Rattle.oca_pair.specs.Premises.{are_apart, StepFits, Fit}
+use Rattle.oca_pair.specs.Premises.{are_apart, StepFits, Fit, SpanFits}
 use Rattle.oca_pair.specs.Laws.{Execution, executions_under, executions_for, answer_of, IsExecutedNow, WasExecuted, CarriesUntaken, IsAnswered}
-use Rattle.oca_pair.specs.RoundTrip.{HoldsUntaken, IsAnswerTo, HoldsItsAnswer, GotItsAnswer, asked, meanwhile, come_back, ComesBack, RoundTrips}
+use Rattle.oca_pair.specs.RoundTrip.{HoldsUntaken, IsAnswerTo, HoldsItsAnswer, GotItsAnswer, asked, meanwhile, come_back, ComesBack, RoundTrips, RenewsNothing}
 use Rattle.oca_pair.proofs.Lists.{IsIn, contains_in, in_contains, in_more, in_last, each_at, each_in, each_set, same_of, same_is, equal_self}
 use Rattle.oca_pair.proofs.Wire.{IsSendable, read_response}
 use Rattle.oca_pair.proofs.Fitting.{response_to, reply_fits}
@@ -38,7 +38,7 @@ use Rattle.oca_pair.proofs.Fair.{end_of, IsFair, AreOwn}
 use Rattle.oca_pair.proofs.Delivering.{held_answer}
 use Rattle.oca_pair.proofs.Span.{holds_marked_sent, holds_answered, holds_without}
 use Rattle.oca_pair.proofs.Networks.{LinkSound, Sound, hears_peer, sound_step, sound_steps, sound_after}
-use Rattle.oca_pair.proofs.Renewing.{now_renewed, not_before}
+use Rattle.oca_pair.proofs.Renewing.{nothing_in_parts, not_its_renewal}
 use Rattle.oca_pair.proofs.Lawful.{true_answer, never_old_law}
 
 -- ---- what was sent to links and what was submitted is never lost
@@ -89,7 +89,7 @@ grown_step step n = one step
     by_renewal i first span now origin None = grown_not n
     by_renewal i first span now origin (Some l) = by_test (is_no_lower first l.link.next)
       where
-        by_test : (b : Bool) → Grown n (cond b (record n { links = with_link i l (renewed_link first span now l.link) n.links; renewed = (record { peer = l.peer; zero = origin }) ∷ n.renewed }) n)
+        by_test : (b : Bool) → Grown n (cond b (record n { links = with_link i l (renewed_link first span now l.link) n.links; renewed = (record { peer = l.peer; zero = origin; left = unanswered l.link.untaken }) ∷ n.renewed }) n)
         by_test true = record { sent = []; to_links = none_sent; more = []; submitted = none_more }
         by_test false = grown_not n
 
@@ -188,7 +188,7 @@ to_device_step step n a = one step
     by_renewal i first span now origin None e = a
     by_renewal i first span now origin (Some l) e = by_test (is_no_lower first l.link.next)
       where
-        by_test : (b : Bool) → AreToDevice (cond b (record n { links = with_link i l (renewed_link first span now l.link) n.links; renewed = (record { peer = l.peer; zero = origin }) ∷ n.renewed }) n)
+        by_test : (b : Bool) → AreToDevice (cond b (record n { links = with_link i l (renewed_link first span now l.link) n.links; renewed = (record { peer = l.peer; zero = origin; left = unanswered l.link.untaken }) ∷ n.renewed }) n)
         by_test true = put i l (renewed_link first span now l.link) e refl
         by_test false = a
 
@@ -274,7 +274,7 @@ holds_received false content x us = refl
 either : (a b : Bool) → a ≡ true → (a || b) ≡ true
 either a b q = cc
 
-stands_step : (i h : ℕ) (p : Peer) (step : Step) (n : Network) → is_renewed p (after_step step n) ≡ false → Stands i p h n.links n.taken → Stands i p h (after_step step n).links (after_step step n).taken
+stands_step : (i h : ℕ) (p : Peer) (step : Step) (n : Network) → RenewsNothing p n (after_step step n) → Stands i p h n.links n.taken → Stands i p h (after_step step n).links (after_step step n).taken
 stands_step i h p step n never g = one step never
   where
     by_answer : (l : LinkState) (r : Request) (now : ℕ) (x : Result Handle ControlFault) → holds h l.untaken ≡ true → holds h (after_submission x r now l).untaken ≡ true
@@ -349,20 +349,20 @@ stands_step i h p step n never g = one step never
         stands_put i k h p l (taken j l.link) n.links n.taken (taken_by l.peer j (answer_under j l.link.untaken)) e
         (λ q same. by_taken j l (answer_under j l.link.untaken) q same) g
 
-    by_renewal : (k first span now origin : ℕ) (o : Option PeerLink) → slice_get n.links k ≡ o → is_renewed p (after_renewal k first span now origin o n) ≡ false →
+    by_renewal : (k first span now origin : ℕ) (o : Option PeerLink) → slice_get n.links k ≡ o → RenewsNothing p n (after_renewal k first span now origin o n) →
         Stands i p h (after_renewal k first span now origin o n).links (after_renewal k first span now origin o n).taken
     by_renewal k first span now origin None e never = g
     by_renewal k first span now origin (Some l) e never = by_test (is_no_lower first l.link.next) never
       where
         m : Network
-        m = record n { links = with_link k l (renewed_link first span now l.link) n.links; renewed = (record { peer = l.peer; zero = origin }) ∷ n.renewed }
+        m = record n { links = with_link k l (renewed_link first span now l.link) n.links; renewed = (record { peer = l.peer; zero = origin; left = unanswered l.link.untaken }) ∷ n.renewed }
 
-        by_test : (b : Bool) → is_renewed p (cond b m n) ≡ false → (let x : Network = cond b m n in Stands i p h x.links x.taken)
+        by_test : (b : Bool) → RenewsNothing p n (cond b m n) → (let x : Network = cond b m n in Stands i p h x.links x.taken)
         by_test true never = as_before i h p (with_link k l (renewed_link first span now l.link) n.links) n.taken
-            (stands_put i k h p l (renewed_link first span now l.link) n.links n.taken [] e (λ q same. absurd (now_renewed p l.peer (is_renewed p n) same never)) g)
+            (stands_put i k h p l (renewed_link first span now l.link) n.links n.taken [] e (λ q same. absurd (not_its_renewal p l.peer (record { peer = l.peer; zero = origin; left = unanswered l.link.untaken }) n.renewed refl never same)) g)
         by_test false never = g
 
-    one : (step : Step) → is_renewed p (after_step step n) ≡ false → Stands i p h (after_step step n).links (after_step step n).taken
+    one : (step : Step) → RenewsNothing p n (after_step step n) → Stands i p h (after_step step n).links (after_step step n).taken
     one (Submit k r now) never = by_submit k r now (slice_get n.links k) refl
     one (Due k now) never = by_due k now (slice_get n.links k) refl
     one (ToDevice k now) never = by_delivery now (slice_get n.to_device k)
@@ -373,9 +373,9 @@ stands_step i h p step n never g = one step never
     one (Take k j) never = by_take k j (slice_get n.links k) refl
     one (Renew k first span now origin) never = by_renewal k first span now origin (slice_get n.links k) refl never
 
-pub stands_steps : (i h : ℕ) (p : Peer) (es : List Step) (n : Network) → is_renewed p (after_steps es n) ≡ false → Stands i p h n.links n.taken → Stands i p h (after_steps es n).links (after_steps es n).taken
+pub stands_steps : (i h : ℕ) (p : Peer) (es : List Step) (n : Network) → RenewsNothing p n (after_steps es n) → Stands i p h n.links n.taken → Stands i p h (after_steps es n).links (after_steps es n).taken
 stands_steps i h p [] n never g = g
-stands_steps i h p (e ∷ es) n never g = stands_steps i h p es (after_step e n) never (stands_step i h p e n (not_before p es (after_step e n) never) g)
+stands_steps i h p (e ∷ es) n never g = let parts = nothing_in_parts p e es n never in stands_steps i h p es (after_step e n) parts.1 (stands_step i h p e n parts.0 g)
 
 -- a member's handle is held
 holds_in : (h : ℕ) (u : Untaken) (us : List Untaken) → IsIn u us → u.command.handle ≡ h → holds h us ≡ true
@@ -516,7 +516,7 @@ executed_steps p x (e ∷ es) n i = executed_steps p x es (after_step e n) (one 
     by_renewal k first span now origin None = i
     by_renewal k first span now origin (Some l) = by_test (is_no_lower first l.link.next)
       where
-        by_test : (b : Bool) → Has (cond b (record n { links = with_link k l (renewed_link first span now l.link) n.links; renewed = (record { peer = l.peer; zero = origin }) ∷ n.renewed }) n)
+        by_test : (b : Bool) → Has (cond b (record n { links = with_link k l (renewed_link first span now l.link) n.links; renewed = (record { peer = l.peer; zero = origin; left = unanswered l.link.untaken }) ∷ n.renewed }) n)
         by_test true = i
         by_test false = i
 
@@ -566,7 +566,7 @@ is_only h x y xs i e only = alone (subst (λ (zs : List Execution). IsIn x zs) o
 -- ---- there and back
 
 comes_back : WrittenIsReadBack → (s : Peer → ℕ) (n : Network) (k now i later : ℕ) (d : SentDatagram) (l : PeerLink) (c : CommandFields) (between : List Step) → Sound s n → AreToDevice n →
-    slice_get n.to_device k ≡ Some d → slice_get n.links i ≡ Some l → CarriesUntaken d l c → AllByRecursion StepFits between → is_renewed l.peer (meanwhile k now between n) ≡ false →
+    slice_get n.to_device k ≡ Some d → slice_get n.links i ≡ Some l → CarriesUntaken d l c → AllByRecursion StepFits between → RenewsNothing l.peer n (meanwhile k now between n) →
     IsAnswered k now n d c → ComesBack k now between later i c l.peer n
 comes_back law s n k now i later d l c between sound devices sent_to own carries fits never is_answered = record {
   sent_back = record { datagram = back; peer = sym carries.peer; reply = x.reply; bytes = refl; sent = is_answered.sent; delivered = delivered };
@@ -640,7 +640,7 @@ comes_back law s n k now i later d l c between sound devices sent_to own carries
     delivered = stays_at n.to_links back grown.sent n1.to_links n2.to_links is_answered.sent grown.to_links
 
     stands : Stands i p c.handle n2.links n2.taken
-    stands = stands_steps i c.handle p between n1 never
+    stands = stands_steps i c.handle p between n1 (nothing_in_parts p (ToDevice k now) between n never).1
         (record { link = l; there = own1; peer = refl; kept = inl (holds_in c.handle carries.untaken l.link.untaken held (ap (λ (y : CommandFields). y.handle) carries.command)) })
 
     to_device : AreToDevice n2
@@ -666,11 +666,12 @@ comes_back law s n k now i later d l c between sound devices sent_to own carries
         ap (λ (y : PeerLink). holds c.handle y.link.untaken) (sym same)
         ∙ holds_in c.handle h.untaken h.link.link.untaken (contains_in h.untaken h.link.link.untaken h.held) (ap (λ (y : CommandFields). y.handle) h.command)
 
-pub round_trip_law : WrittenIsReadBack → (w : DeviceSizes) (s : Setup) (tree : List Object) (starts : List Start) (es : List Step) (p : Peer) → 0 < s.span p → 2 * s.span p ≤ w.window + 1 → are_apart s.address starts ≡ true → Fit starts es →
-    RoundTrips p (after_steps es (opening w s tree starts))
-round_trip_law law w s tree starts es p some wide apart fit k now i d l c between later sent_to own his carries finds keeps fits never =
+pub round_trip_law : WrittenIsReadBack → (w : DeviceSizes) (s : Setup) (tree : List Object) (starts : List Start) (es : List Step) (i : ℕ) (l : PeerLink) →
+    slice_get (after_steps es (opening w s tree starts)).links i ≡ Some l → SpanFits w l (after_steps es (opening w s tree starts)) → are_apart s.address starts ≡ true → Fit starts es →
+    RoundTrips i l (after_steps es (opening w s tree starts))
+round_trip_law law w s tree starts es i l own wide apart fit k now d c between later sent_to carries finds keeps fits never =
     let start : Network = opening w s tree starts in
     let n : Network = after_steps es start in
     comes_back law s.span n k now i later d l c between (sound_after law w s tree starts es apart fit)
-    (to_device_steps es start (to_device_opening w s tree starts)) sent_to own carries fits (subst (λ (q : Peer). is_renewed q (meanwhile k now between n) ≡ false) (sym his) never)
-    (never_old_law law w s tree starts es p some wide apart fit (not_before p (ToDevice k now ∷ between) n never) k now i d l c sent_to own his carries finds keeps)
+    (to_device_steps es start (to_device_opening w s tree starts)) sent_to own carries fits never
+    (never_old_law law w s tree starts es i l own wide apart fit k now d c sent_to carries finds keeps)

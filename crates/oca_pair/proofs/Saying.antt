@@ -30,7 +30,7 @@ use Rattle.oca_control.specs.Links.{Request, command_under, submission}
 use Rattle.oca_pair.specs.declared.outcome.Outcome.TheVariants as outcomes
 use Rattle.oca_pair.specs.declared.start.Start.{Start}
 use Rattle.oca_pair.specs.Networks.{Network, PeerLink, SentDatagram, SubmittedCommand, Setup, opening}
-use Rattle.oca_pair.specs.Steps.{Step, Submit, Due, ToDevice, ToLink, Other, Take, has_link, submitted_by, submit_outcome, after_submit, after_due_step, after_delivery, hears_datagram, after_reception, after_take, after_step, after_steps, on_link, delivery_outcome, outcome_of_step, Renew, with_link, is_no_lower, renewed_link, after_renewal}
+use Rattle.oca_pair.specs.Steps.{Step, Submit, Due, ToDevice, ToLink, Other, Take, has_link, submitted_by, submit_outcome, after_submit, after_due_step, after_delivery, hears_datagram, after_reception, after_take, after_step, after_steps, on_link, delivery_outcome, outcome_of_step, Renew, with_link, is_no_lower, unanswered, renewed_link, after_renewal}
 use Rattle.oca_pair.specs.Steps as steps
 use Rattle.oca_pair.specs.Happenings.{happenings}
 use Rattle.oca_pair.specs.Premises.{are_apart, StepFits, Fit}
@@ -38,9 +38,9 @@ use Rattle.oca_pair.specs.Laws.{Execution, executions_for, executions_under, Was
 use Rattle.oca_pair.specs.GettingThrough.{copy_of}
 use Rattle.oca_pair.specs.InTime.{AreInTime, IsAnswerOfOneExecution}
 use Rattle.oca_pair.specs.Saying.{objects_held, HappensWith, HappensIn, IsOfOneExecutionSince, RefusalsChangeNothing, ClassesStay, OfEachAnswer}
-use Rattle.oca_pair.proofs.Fixed.{tree_kept}
+use Rattle.oca_pair.proofs.Fixed.{tree_kept, peers_of, peers_step, peers_steps, link_before}
 use Rattle.oca_pair.proofs.Core.{none_passes}
-use Rattle.oca_pair.proofs.Lists.{IsIn, contains_in, in_more, in_last, in_parts, each_at, each_in, same_is, same_turned, equal_is}
+use Rattle.oca_pair.proofs.Lists.{IsIn, contains_in, in_more, in_last, in_parts, each_at, each_in, same_is, same_turned, equal_is, same_some, mapped_at}
 use Rattle.oca_pair.proofs.Wire.{IsSendable, read_command, read_keep_alive}
 use Rattle.oca_pair.proofs.Clocks.{Grows, grows_reading}
 use Rattle.oca_pair.proofs.ByEvents.{stands_by}
@@ -53,80 +53,9 @@ use Rattle.oca_pair.proofs.Keeping.{executed_noted}
 use Rattle.oca_pair.proofs.Networks.{LinkSound, Sound, hears_peer, sound_step, sound_steps, sound_opening}
 use Rattle.oca_pair.proofs.RoundTrip.{grown_steps}
 use Rattle.oca_pair.proofs.GettingThrough.{after_more, took}
-use Rattle.oca_pair.proofs.InTime.{mapped_at, same_some, answers_in_time}
+use Rattle.oca_pair.proofs.InTime.{answers_in_time}
 use Rattle.oca_tree.proofs.TypesKept.{execution_status, execution_refuses}
 use Rattle.oca_pair.proofs.ObjectsKept.{class_stays}
-
--- ---- the peers of links stay
-
-abbrev peers_of : List PeerLink → List Peer
-peers_of links = map (λ (z : PeerLink). z.peer) links
-
-peers_put : (xs : List PeerLink) (k : ℕ) (l y : PeerLink) → slice_get xs k ≡ Some l → y.peer ≡ l.peer → peers_of (slice_set xs k y) ≡ peers_of xs
-peers_put [] k l y e s = refl
-peers_put (x ∷ xs) zero l y e s = let same : x ≡ l = same_some x l e in ap (λ (p : Peer). p ∷ peers_of xs) (s ∙ ap (λ (z : PeerLink). z.peer) (sym same))
-peers_put (x ∷ xs) (suc k) l y e s = ap (λ (ps : List Peer). x.peer ∷ ps) (peers_put xs k l y e s)
-
-peers_hear : (from : Peer) (d : SentDatagram) (now : ℕ) (xs : List PeerLink) → peers_of (map (hears_datagram from d now) xs) ≡ peers_of xs
-peers_hear from d now [] = refl
-peers_hear from d now (x ∷ xs) =
-    ap (λ (p : Peer). p ∷ peers_of (map (hears_datagram from d now) xs)) (hears_peer from d now x) ∙ ap (λ (ps : List Peer). x.peer ∷ ps) (peers_hear from d now xs)
-
-peers_step : (step : Step) (n : Network) → peers_of (after_step step n).links ≡ peers_of n.links
-peers_step step n = one step
-  where
-    by_submit : (k : ℕ) (r : Request) (now : ℕ) (o : Option PeerLink) → slice_get n.links k ≡ o → peers_of (after_submit k r now o n).links ≡ peers_of n.links
-    by_submit k r now None e = refl
-    by_submit k r now (Some l) e = peers_put n.links k l _ e refl
-
-    by_due : (k now : ℕ) (o : Option PeerLink) → slice_get n.links k ≡ o → peers_of (after_due_step k now o n).links ≡ peers_of n.links
-    by_due k now None e = refl
-    by_due k now (Some l) e = peers_put n.links k l _ e refl
-
-    by_delivery : (now : ℕ) (o : Option SentDatagram) → peers_of (after_delivery now o n).links ≡ peers_of n.links
-    by_delivery now None = refl
-    by_delivery now (Some d) = refl
-
-    by_reception : (now : ℕ) (o : Option SentDatagram) → peers_of (after_reception now o n).links ≡ peers_of n.links
-    by_reception now None = refl
-    by_reception now (Some d) = peers_hear n.address d now n.links
-
-    by_other : (from : Peer) (bytes : List ℕ) (now : ℕ) (b : Bool) → peers_of (let m : Network = cond b n (record n { events = Datagram from bytes now ∷ n.events }) in m).links ≡ peers_of n.links
-    by_other from bytes now true = refl
-    by_other from bytes now false = refl
-
-    by_take : (k h : ℕ) (o : Option PeerLink) → slice_get n.links k ≡ o → peers_of (after_take k h o n).links ≡ peers_of n.links
-    by_take k h None e = refl
-    by_take k h (Some l) e = peers_put n.links k l _ e refl
-
-    by_renewal : (k first span now origin : ℕ) (o : Option PeerLink) → slice_get n.links k ≡ o → peers_of (after_renewal k first span now origin o n).links ≡ peers_of n.links
-    by_renewal k first span now origin None e = refl
-    by_renewal k first span now origin (Some l) e = by_test (is_no_lower first l.link.next)
-      where
-        by_test : (b : Bool) → peers_of (let m : Network = cond b (record n { links = with_link k l (renewed_link first span now l.link) n.links; renewed = (record { peer = l.peer; zero = origin }) ∷ n.renewed }) n in m).links ≡ peers_of n.links
-        by_test true = peers_put n.links k l _ e refl
-        by_test false = refl
-
-    one : (step : Step) → peers_of (after_step step n).links ≡ peers_of n.links
-    one (Submit k r now) = by_submit k r now (slice_get n.links k) refl
-    one (Due k now) = by_due k now (slice_get n.links k) refl
-    one (ToDevice k now) = by_delivery now (slice_get n.to_device k)
-    one (ToLink k now) = by_reception now (slice_get n.to_links k)
-    one (Other from bytes now) = by_other from bytes now (has_link from n.links)
-    one (steps.Tick now) = refl
-    one (steps.Local ono change) = refl
-    one (Take k h) = by_take k h (slice_get n.links k) refl
-    one (Renew k first span now origin) = by_renewal k first span now origin (slice_get n.links k) refl
-
-peers_steps : (es : List Step) (n : Network) → peers_of (after_steps es n).links ≡ peers_of n.links
-peers_steps [] n = refl
-peers_steps (e ∷ es) n = peers_steps es (after_step e n) ∙ peers_step e n
-
--- the link of a number after some steps is that of a peer before them
-link_before : (i : ℕ) (n m : Network) (l : PeerLink) → peers_of m.links ≡ peers_of n.links → slice_get m.links i ≡ Some l → (z : PeerLink) × (slice_get n.links i ≡ Some z) × (z.peer ≡ l.peer)
-link_before i n m l same own =
-    mapped_at (λ (z : PeerLink). z.peer) n.links i l.peer
-    (ap (λ (ps : List Peer). slice_get ps i) (sym same) ∙ slice_get-map (λ (z : PeerLink). z.peer) m.links i ∙ ap (λ (o : Option PeerLink). option_map (λ (z : PeerLink). z.peer) o) own)
 
 -- ---- what a step executes for a peer
 
@@ -290,7 +219,7 @@ does_step law s i l step n sound own = one step
     by_renewal k first span now origin None = inl refl
     by_renewal k first span now origin (Some z) = by_test (is_no_lower first z.link.next)
       where
-        by_test : (b : Bool) → Does p (Renew k first span now origin) n (cond b (record n { links = with_link k z (renewed_link first span now z.link) n.links; renewed = (record { peer = z.peer; zero = origin }) ∷ n.renewed }) n)
+        by_test : (b : Bool) → Does p (Renew k first span now origin) n (cond b (record n { links = with_link k z (renewed_link first span now z.link) n.links; renewed = (record { peer = z.peer; zero = origin; left = unanswered z.link.untaken }) ∷ n.renewed }) n)
         by_test true = inl refl
         by_test false = inl refl
 

@@ -46,7 +46,7 @@ use Rattle.oca_tree.proofs.TypesKept.{found_in, number_of, IsGood, ok_found, exe
 use Rattle.oca_pair.proofs.ObjectsKept.{objects_good, class_stays}
 use Rattle.oca_pair.proofs.Fixed.{tree_kept}
 use Rattle.oca_pair.proofs.Saying.{between_law}
-use Rattle.oca_pair.proofs.InTime.{same_some}
+use Rattle.oca_pair.proofs.Lists.{same_some}
 
 -- ---- what every class answers alike
 

@@ -1,9 +1,10 @@
 -- What holds of one link whose peer's session is never forgotten: what it holds lies within the span, and its commands were accepted in
 -- nearly rising order.
-use Rattle.std.proofs.Common.{append-nil, ◌≡◌, ℕ, ◌+◌, ◌*◌, ◌<◌, ◌≤◌, ◌≢◌, Bool, true, false, cond, List, [], ◌∷◌, ◌++◌, Option, Some, refl, sym, ap, ◌∙◌, arith, append_assoc, ◌⊎◌, inl, inr}
-use Rattle.std.specs.Prelude.{nat_eq, nat_lt, not, ◌&&◌, ◌||◌, map}
+use Rattle.std.proofs.Common.{append-nil, ◌≡◌, ℕ, ◌+◌, ◌-◌, ◌*◌, ◌<◌, ◌≤◌, ◌≢◌, Bool, true, false, cond, List, [], ◌∷◌, ◌++◌, length, take, Option, Some, refl, sym, ap, ◌∙◌, arith, append_assoc, ◌⊎◌, inl, inr}
+use Rattle.std.specs.Prelude.{nat_eq, nat_lt, not, ◌&&◌, ◌||◌, map, filter, is_none}
 use Rattle.std.specs.List.{AllByRecursion}
 use Rattle.std.proofs.Math.Dec.{eqb}
+use Rattle.std.proofs.lemmas.List.{length-map, length-append}
 use Rattle.std.proofs.lemmas.List.Folds.{list_any-append}
 use Rattle.std.proofs.lemmas.Bool.Decides.{nat_tests}
 use Rattle.std.specs.Cmp.Lexicographic.{pointwise}
@@ -14,8 +15,9 @@ use Rattle.oca_control.specs.Answers.{AnswerFields}
 use Rattle.oca_control.specs.Untaken.{Untaken, new_untaken, span_has_room, marked_sent, answered, without_handle, holds}
 use Rattle.oca_control.specs.Links.{Request, command_under, handle_after}
 use Rattle.oca_pair.specs.Networks.{SubmittedCommand}
-use Rattle.oca_pair.proofs.Core.{has, Ordered, each_map, each_both, each_append, either_false, below_all, never_old, IsServed}
-use Rattle.oca_pair.proofs.Lists.{IsIn, neither, equal_self}
+use Rattle.oca_pair.specs.Steps.{unanswered}
+use Rattle.oca_pair.proofs.Core.{has, Ordered, IsOfLink, AllBelow, each_map, each_both, each_append, either_false, below_all, below_whole, never_old, IsServed}
+use Rattle.oca_pair.proofs.Lists.{IsIn, in_more, in_behind, neither, equal_is, equal_self}
 use Rattle.oca_pair.proofs.Fair.{end_of}
 use Rattle.oca_pair.proofs.Delivering.{end_after}
 
@@ -24,17 +26,38 @@ pub record Near (s f n : ℕ) (u : Untaken) : Type 0 where
   pub below : u.command.handle < n
   pub near : n ≤ u.command.handle + s
 
-pub record Good (s f : ℕ) (p : Peer) (next : Option ℕ) (us : List Untaken) (submitted : List SubmittedCommand) (A : List Entry) : Type 0 where
+-- a submitted command is of this link, or was accepted, or is one that an earlier link left behind
+abbrev pub IsKnown : ℕ → List ℕ → List Entry → ℕ → Type 0
+IsKnown f late A h = (f ≤ h) ⊎ ((has h A ≡ true) ⊎ IsIn h late)
+
+-- of the peer's accepted commands `earlier` were accepted before the link was made, `since` after it; of these some are of
+-- earlier links, whose handles are `late`
+pub record Good (s f : ℕ) (late : List ℕ) (p : Peer) (next : Option ℕ) (us : List Untaken) (submitted : List SubmittedCommand) (A : List Entry) : Type 0 where
   pub start : f ≤ end_of next
   pub untaken : AllByRecursion (Near s f (end_of next)) us
   pub taken : (x : ℕ) → f ≤ x → x < end_of next → holds x us ≡ false → has x A ≡ true
-  pub own : AllByRecursion (λ e. (f ≤ e.command.handle) × (e.command.handle < end_of next)) A
-  pub order : Ordered f s [] A
-  pub from : AllByRecursion (λ x. x.peer ≡ p → f ≤ x.command.handle) submitted
+  pub earlier : List Entry
+  pub since : List Entry
+  pub accepted : A ≡ earlier ++ since
+  pub below : AllByRecursion (λ e. e.command.handle < f) earlier
+  pub own : AllByRecursion (IsOfLink f (end_of next) late) since
+  pub order : Ordered f s earlier since
+  pub from : AllByRecursion (λ x. x.peer ≡ p → IsKnown f late A x.command.handle) submitted
+
+-- the same of a link whose earlier ones left so many behind
+pub record GoodSince (s left : ℕ) (p : Peer) (next : Option ℕ) (us : List Untaken) (submitted : List SubmittedCommand) (A : List Entry) : Type 0 where
+  pub first : ℕ
+  pub late : List ℕ
+  pub few : length late ≤ left
+  pub good : Good s first late p next us submitted A
+
+pub since_by : {s left : ℕ} {p : Peer} {next next' : Option ℕ} {us us' : List Untaken} {submitted submitted' : List SubmittedCommand} {A A' : List Entry} →
+    ((f : ℕ) (late : List ℕ) → Good s f late p next us submitted A → Good s f late p next' us' submitted' A') → GoodSince s left p next us submitted A → GoodSince s left p next' us' submitted' A'
+since_by go g = record { first = g.first; late = g.late; few = g.few; good = go g.first g.late g.good }
 
 -- ---- the link submits
 
-room_each : (s h : ℕ) (us : List Untaken) → span_has_room s h us ≡ true → AllByRecursion (λ u. h < u.command.handle + s) us
+pub room_each : (s h : ℕ) (us : List Untaken) → span_has_room s h us ≡ true → AllByRecursion (λ u. h < u.command.handle + s) us
 room_each s h [] e = tt
 room_each s h (u ∷ us) e = let p = parts (nat_lt h (u.command.handle + s)) (span_has_room s h us) e in (lower h (u.command.handle + s) p.0, room_each s h us p.1)
   where
@@ -45,11 +68,11 @@ room_each s h (u ∷ us) e = let p = parts (nat_lt h (u.command.handle + s)) (sp
     lower : (a b : ℕ) → nat_lt a b ≡ true → a < b
     lower a b p = grind (arith, nat_tests)
 
-pub good_submit : (s f : ℕ) (p : Peer) (next : Option ℕ) (us : List Untaken) (submitted : List SubmittedCommand) (A : List Entry) (h at : ℕ) (r : Request) → 0 < s →
-    next ≡ Some h → span_has_room s h us ≡ true → Good s f p next us submitted A →
+pub good_submit : (s f : ℕ) (late : List ℕ) (p : Peer) (next : Option ℕ) (us : List Untaken) (submitted : List SubmittedCommand) (A : List Entry) (h at : ℕ) (r : Request) → 0 < s →
+    next ≡ Some h → AllByRecursion (λ u. h < u.command.handle + s) us → Good s f late p next us submitted A →
     let new : SubmittedCommand = record { peer = p; command = command_under h r } in
-    Good s f p (handle_after h) (us ++ new_untaken at (command_under h r) ∷ []) (submitted ++ new ∷ []) A
-good_submit s f p next us submitted A h at r some next_is room g =
+    Good s f late p (handle_after h) (us ++ new_untaken at (command_under h r) ∷ []) (submitted ++ new ∷ []) A
+good_submit s f late p next us submitted A h at r some next_is room g =
     let was : end_of next ≡ h = ap end_of next_is in
     let is : end_of (handle_after h) ≡ h + 1 = end_after h in
     let more : end_of next ≤ end_of (handle_after h) = omega arith in
@@ -60,16 +83,20 @@ good_submit s f p next us submitted A h at r some next_is room g =
       start = omega arith;
       untaken = each_append _ us (u' ∷ [])
           (each_both (λ u a (b : h < u.command.handle + s). let a1 = a.from in let a2 = a.below in record { from = a1; below = below_more u.command.handle a2 more; near = nearer u.command.handle is b })
-          us g.untaken (room_each s h us room))
+          us g.untaken room)
           (record { from = omega arith; below = omega arith; near = omega arith }, tt);
       taken = λ x from below free.
           let free' : (holds x us ≡ false) × (holds x (u' ∷ []) ≡ false) =
           either_false (holds x us) (holds x (u' ∷ [])) (sym (list_any-append (λ (u : Untaken). eqb u.command.handle x) us (u' ∷ [])) ∙ free) in
           let other : h ≢ x = unequal h x (either_false (eqb h x) false free'.1).0 in
           g.taken x from (omega arith) free'.0;
-      own = each_map (λ e q. (q.0, below_more e.command.handle q.1 more)) A g.own;
+      earlier = g.earlier;
+      since = g.since;
+      accepted = g.accepted;
+      below = g.below;
+      own = each_map (λ e q. (below_more e.command.handle q.0 more, q.1)) g.since g.own;
       order = g.order;
-      from = each_append _ submitted (new ∷ []) g.from ((λ same. starts f h (end_of next) start was), tt);
+      from = each_append _ submitted (new ∷ []) g.from ((λ same. inl (starts f h (end_of next) start was)), tt);
     }
   where
     below_more : (x : ℕ) {n m : ℕ} → x < n → n ≤ m → x < m
@@ -85,12 +112,16 @@ good_submit s f p next us submitted A h at r some next_is room g =
     unequal a b p = grind (arith, nat_tests)
 
 -- the link of another peer submits
-pub good_submitted : (s f : ℕ) (p : Peer) (next : Option ℕ) (us : List Untaken) (submitted more : List SubmittedCommand) (A : List Entry) →
-    AllByRecursion (λ (x : SubmittedCommand). x.peer ≡ p → ⊥) more → Good s f p next us submitted A → Good s f p next us (submitted ++ more) A
-good_submitted s f p next us submitted more A none g = record {
+pub good_submitted : (s f : ℕ) (late : List ℕ) (p : Peer) (next : Option ℕ) (us : List Untaken) (submitted more : List SubmittedCommand) (A : List Entry) →
+    AllByRecursion (λ (x : SubmittedCommand). x.peer ≡ p → ⊥) more → Good s f late p next us submitted A → Good s f late p next us (submitted ++ more) A
+good_submitted s f late p next us submitted more A none g = record {
   start = g.start;
   untaken = g.untaken;
   taken = g.taken;
+  earlier = g.earlier;
+  since = g.since;
+  accepted = g.accepted;
+  below = g.below;
   own = g.own;
   order = g.order;
   from = each_append _ submitted more g.from (each_map (λ x n same. absurd (n same)) more none);
@@ -99,12 +130,16 @@ good_submitted s f p next us submitted more A none g = record {
 -- ---- the list of untaken commands changes
 
 -- other times, moments or answers
-pub good_same : (s f : ℕ) (p : Peer) (next : Option ℕ) (us vs : List Untaken) (submitted : List SubmittedCommand) (A : List Entry) →
-    AllByRecursion (Near s f (end_of next)) vs → ((x : ℕ) → holds x vs ≡ holds x us) → Good s f p next us submitted A → Good s f p next vs submitted A
-good_same s f p next us vs submitted A near same g = record {
+pub good_same : (s f : ℕ) (late : List ℕ) (p : Peer) (next : Option ℕ) (us vs : List Untaken) (submitted : List SubmittedCommand) (A : List Entry) →
+    AllByRecursion (Near s f (end_of next)) vs → ((x : ℕ) → holds x vs ≡ holds x us) → Good s f late p next us submitted A → Good s f late p next vs submitted A
+good_same s f late p next us vs submitted A near same g = record {
   start = g.start;
   untaken = near;
   taken = λ x a b free. g.taken x a b (sym (same x) ∙ free);
+  earlier = g.earlier;
+  since = g.since;
+  accepted = g.accepted;
+  below = g.below;
   own = g.own;
   order = g.order;
   from = g.from;
@@ -118,10 +153,10 @@ near_marked_sent : (s f n t h : ℕ) (us : List Untaken) → AllByRecursion (Nea
 near_marked_sent s f n t h [] g = tt
 near_marked_sent s f n t h (u ∷ us) g = (record { from = g.0.from; below = g.0.below; near = g.0.near }, near_marked_sent s f n t h us g.1)
 
-pub good_marked_sent : (s f : ℕ) (p : Peer) (next : Option ℕ) (us : List Untaken) (submitted : List SubmittedCommand) (A : List Entry) (t h : ℕ) →
-    Good s f p next us submitted A → Good s f p next (map (marked_sent t h) us) submitted A
-good_marked_sent s f p next us submitted A t h g =
-    good_same s f p next us (map (marked_sent t h) us) submitted A (near_marked_sent s f (end_of next) t h us g.untaken) (λ x. holds_marked_sent t h x us) g
+pub good_marked_sent : (s f : ℕ) (late : List ℕ) (p : Peer) (next : Option ℕ) (us : List Untaken) (submitted : List SubmittedCommand) (A : List Entry) (t h : ℕ) →
+    Good s f late p next us submitted A → Good s f late p next (map (marked_sent t h) us) submitted A
+good_marked_sent s f late p next us submitted A t h g =
+    good_same s f late p next us (map (marked_sent t h) us) submitted A (near_marked_sent s f (end_of next) t h us g.untaken) (λ x. holds_marked_sent t h x us) g
 
 pub holds_answered : (h x : ℕ) (a : AnswerFields) (us : List Untaken) → holds x (map (answered h a) us) ≡ holds x us
 holds_answered h x a [] = refl
@@ -131,10 +166,10 @@ near_answered : (s f n h : ℕ) (a : AnswerFields) (us : List Untaken) → AllBy
 near_answered s f n h a [] g = tt
 near_answered s f n h a (u ∷ us) g = (record { from = g.0.from; below = g.0.below; near = g.0.near }, near_answered s f n h a us g.1)
 
-pub good_answered : (s f : ℕ) (p : Peer) (next : Option ℕ) (us : List Untaken) (submitted : List SubmittedCommand) (A : List Entry) (h : ℕ) (a : AnswerFields) →
-    Good s f p next us submitted A → Good s f p next (map (answered h a) us) submitted A
-good_answered s f p next us submitted A h a g =
-    good_same s f p next us (map (answered h a) us) submitted A (near_answered s f (end_of next) h a us g.untaken) (λ x. holds_answered h x a us) g
+pub good_answered : (s f : ℕ) (late : List ℕ) (p : Peer) (next : Option ℕ) (us : List Untaken) (submitted : List SubmittedCommand) (A : List Entry) (h : ℕ) (a : AnswerFields) →
+    Good s f late p next us submitted A → Good s f late p next (map (answered h a) us) submitted A
+good_answered s f late p next us submitted A h a g =
+    good_same s f late p next us (map (answered h a) us) submitted A (near_answered s f (end_of next) h a us g.untaken) (λ x. holds_answered h x a us) g
 
 -- an answered command is taken, which was executed
 near_without : (s f n h : ℕ) (us : List Untaken) → AllByRecursion (Near s f n) us → AllByRecursion (Near s f n) (without_handle h us)
@@ -162,12 +197,16 @@ holds_without h x (u ∷ us) e = by_test (eqb u.command.handle h) refl e (holds_
         let p = either_false (eqb u.command.handle x) (holds x (without_handle h us)) free in
         elim (rest p.1) [ inl same ↦ inl same | inr none ↦ inr (neither (eqb u.command.handle x) (holds x us) p.0 none) ]
 
-pub good_without : (s f : ℕ) (p : Peer) (next : Option ℕ) (us : List Untaken) (submitted : List SubmittedCommand) (A : List Entry) (h : ℕ) → has h A ≡ true →
-    Good s f p next us submitted A → Good s f p next (without_handle h us) submitted A
-good_without s f p next us submitted A h there g = record {
+pub good_without : (s f : ℕ) (late : List ℕ) (p : Peer) (next : Option ℕ) (us : List Untaken) (submitted : List SubmittedCommand) (A : List Entry) (h : ℕ) → has h A ≡ true →
+    Good s f late p next us submitted A → Good s f late p next (without_handle h us) submitted A
+good_without s f late p next us submitted A h there g = record {
   start = g.start;
   untaken = near_without s f (end_of next) h us g.untaken;
   taken = λ x from below free. elim (holds_without h x us free) [ inl same ↦ rw same at there | inr none ↦ g.taken x from below none ];
+  earlier = g.earlier;
+  since = g.since;
+  accepted = g.accepted;
+  below = g.below;
   own = g.own;
   order = g.order;
   from = g.from;
@@ -187,29 +226,112 @@ order_more f s before (y ∷ ys) e o new all =
     regroup : (before ++ y ∷ []) ++ ys ≡ before ++ y ∷ ys
     regroup = append_assoc before (y ∷ []) ys
 
-pub good_grown : (s f : ℕ) (p : Peer) (next : Option ℕ) (us : List Untaken) (submitted : List SubmittedCommand) (A : List Entry) (e : Entry) →
-    f ≤ e.command.handle → e.command.handle < end_of next → has e.command.handle A ≡ false → Good s f p next us submitted A → Good s f p next us submitted (A ++ e ∷ [])
-good_grown s f p next us submitted A e from below new g = record {
+pub good_grown : (s f : ℕ) (late : List ℕ) (p : Peer) (next : Option ℕ) (us : List Untaken) (submitted : List SubmittedCommand) (A : List Entry) (e : Entry) →
+    IsOfLink f (end_of next) late e → has e.command.handle A ≡ false → Good s f late p next us submitted A → Good s f late p next us submitted (A ++ e ∷ [])
+good_grown s f late p next us submitted A e own new g = record {
   start = g.start;
   untaken = g.untaken;
   taken = λ x a b free. has_more x A e (g.taken x a b free);
-  own = each_append _ A (e ∷ []) g.own ((from, below), tt);
-  order = order_more f s [] A e g.order new (λ x a b. g.taken x a (omega arith) (far x us g.untaken b));
-  from = g.from;
+  earlier = g.earlier;
+  since = g.since ++ e ∷ [];
+  accepted = ap (λ B. B ++ e ∷ []) g.accepted ∙ append_assoc g.earlier g.since (e ∷ []);
+  below = g.below;
+  own = each_append _ g.since (e ∷ []) g.own (own, tt);
+  order = order_more f s g.earlier g.since e g.order (rw g.accepted at new)
+      (λ x a b. rw g.accepted at (g.taken x a (nearer x b own.0) (far x us g.untaken b)));
+  from = each_map (λ x k same. elim (k same) [
+    | inl mine ↦ inl mine
+    | inr (inl there) ↦ inr (inl (has_more x.command.handle A e there))
+    | inr (inr left) ↦ inr (inr left)
+  ]) submitted g.from;
 }
   where
-    apart : (x h : ℕ) → x + s ≤ e.command.handle → end_of next ≤ h + s → eqb h x ≡ false
-    apart x h a b = grind (arith, nat_tests)
+    nearer : (x : ℕ) → x + s ≤ e.command.handle → e.command.handle < end_of next → x < end_of next
+    nearer x a b = omega arith
+
+    apart : (x h : ℕ) → x + s ≤ e.command.handle → end_of next ≤ h + s → e.command.handle < end_of next → eqb h x ≡ false
+    apart x h a b c = grind (arith, nat_tests)
 
     far : (x : ℕ) (us : List Untaken) → AllByRecursion (Near s f (end_of next)) us → x + s ≤ e.command.handle → holds x us ≡ false
     far x [] q b = refl
-    far x (u ∷ us) q b = neither (eqb u.command.handle x) (holds x us) (apart x u.command.handle b q.0.near) (far x us q.1 b)
+    far x (u ∷ us) q b = neither (eqb u.command.handle x) (holds x us) (apart x u.command.handle b q.0.near own.0) (far x us q.1 b)
+
+-- ---- the link is renewed
+
+-- the handles of the commands without an answer
+abbrev pub unanswered_handles : List Untaken → List ℕ
+unanswered_handles us = map (λ u. u.command.handle) (filter (λ u. is_none u.answer) us)
+
+-- what is untaken was accepted, or has no answer
+held_or_left : (A : List Entry) (x : ℕ) (us : List Untaken) → AllByRecursion (λ u. is_none u.answer ≡ false → has u.command.handle A ≡ true) us → holds x us ≡ true →
+    (has x A ≡ true) ⊎ IsIn x (unanswered_handles us)
+held_or_left A x [] own e = cc
+held_or_left A x (u ∷ us) own e = by_test (held_or_left A x us own.1) (eqb u.command.handle x) refl e (is_none u.answer) refl
+  where
+    by_test : (holds x us ≡ true → (has x A ≡ true) ⊎ IsIn x (unanswered_handles us)) → (b : Bool) → eqb u.command.handle x ≡ b → (b || holds x us) ≡ true → (c : Bool) → is_none u.answer ≡ c →
+        (has x A ≡ true) ⊎ IsIn x (map (λ (u : Untaken). u.command.handle) (cond c (u ∷ filter (λ (u : Untaken). is_none u.answer) us) (filter (λ (u : Untaken). is_none u.answer) us)))
+    by_test rest true same e true none = inr (inl (equal_is u.command.handle x same))
+    by_test rest true same e false some = let there : has u.command.handle A ≡ true = own.0 some in inl (rw (equal_is u.command.handle x same) at there)
+    by_test rest false other e true none = elim (rest e) [ inl there ↦ inl there | inr left ↦ inr (inr left) ]
+    by_test rest false other e false some = rest e
+
+pub good_renewed : (s s' left : ℕ) (p : Peer) (next : Option ℕ) (us : List Untaken) (submitted : List SubmittedCommand) (A : List Entry) (first : ℕ) → end_of next ≤ first →
+    AllByRecursion (λ u. is_none u.answer ≡ false → has u.command.handle A ≡ true) us → AllByRecursion (λ x. x.peer ≡ p → x.command.handle < end_of next) submitted →
+    GoodSince s left p next us submitted A → GoodSince s' (unanswered us + left) p (Some first) [] submitted A
+good_renewed s s' left p next us submitted A first above taken_in low g = record {
+  first = first;
+  late = unanswered_handles us ++ g.late;
+  few = few;
+  good = record {
+    start = omega arith;
+    untaken = tt;
+    taken = λ x a b free. absurd (contra x a b);
+    earlier = A;
+    since = [];
+    accepted = sym (append-nil A);
+    below = rw good.accepted (each_append _ good.earlier good.since (each_map (λ e q. lower e.command.handle q) good.earlier good.below) (each_map (λ e q. higher e.command.handle q.0) good.since good.own));
+    own = tt;
+    order = tt;
+    from = each_both (λ x k b same. by_known x.command.handle (k same) (b same)) submitted good.from low;
+  };
+}
+  where
+    good : Good s g.first g.late p next us submitted A
+    good = g.good
+
+    few : length (unanswered_handles us ++ g.late) ≤ unanswered us + left
+    few =
+        let whole : length (unanswered_handles us ++ g.late) ≡ length (unanswered_handles us) + length g.late = length-append (unanswered_handles us) g.late in
+        let mapped : length (unanswered_handles us) ≡ unanswered us = length-map (filter (λ (u : Untaken). is_none u.answer) us) (λ (u : Untaken). u.command.handle) in
+        let old : length g.late ≤ left = g.few in
+        omega arith
+
+    contra : (x : ℕ) → first ≤ x → x < first → ⊥
+    contra x a b = omega arith
+
+    start : g.first ≤ end_of next
+    start = good.start
+
+    lower : (x : ℕ) → x < g.first → x < first
+    lower x q = omega arith
+
+    higher : (x : ℕ) → x < end_of next → x < first
+    higher x q = omega arith
+
+    by_held : (h : ℕ) → g.first ≤ h → h < end_of next → (b : Bool) → holds h us ≡ b → IsKnown first (unanswered_handles us ++ g.late) A h
+    by_held h a b true q = elim (held_or_left A h us taken_in q) [ inl there ↦ inr (inl there) | inr left ↦ inr (inr (in_more h (unanswered_handles us) g.late left)) ]
+    by_held h a b false q = inr (inl (good.taken h a b q))
+
+    by_known : (h : ℕ) → IsKnown g.first g.late A h → h < end_of next → IsKnown first (unanswered_handles us ++ g.late) A h
+    by_known h (inl mine) b = by_held h mine b (holds h us) refl
+    by_known h (inr (inl there)) b = inr (inl there)
+    by_known h (inr (inr left)) b = inr (inr (in_behind h (unanswered_handles us) g.late left))
 
 -- ---- no untaken command is too old
 
-near_of : (s f n : ℕ) (u : Untaken) (us : List Untaken) → AllByRecursion (Near s f n) us → IsIn u us → (u.command.handle < n) × (n ≤ u.command.handle + s)
+near_of : (s f n : ℕ) (u : Untaken) (us : List Untaken) → AllByRecursion (Near s f n) us → IsIn u us → (f ≤ u.command.handle) × (u.command.handle < n) × (n ≤ u.command.handle + s)
 near_of s f n u [] g i = absurd i
-near_of s f n u (x ∷ us) g (inl e) = let both : (x.command.handle < n) × (n ≤ x.command.handle + s) = (g.0.below, g.0.near) in rw e at both
+near_of s f n u (x ∷ us) g (inl e) = let all : (f ≤ x.command.handle) × (x.command.handle < n) × (n ≤ x.command.handle + s) = (g.0.from, g.0.below, g.0.near) in rw e at all
 near_of s f n u (x ∷ us) g (inr i) = near_of s f n u us g.1 i
 
 all_same : (xs : List ℕ) → pointwise nat_eq xs xs ≡ true
@@ -224,10 +346,17 @@ asks_itself c =
     five : (a b c d e : Bool) → a ≡ true → b ≡ true → c ≡ true → d ≡ true → e ≡ true → ((((a && b) && c) && d) && e) ≡ true
     five a b c d e p q r s t = cc
 
-pub untaken_served : (w s f : ℕ) (p : Peer) (next : Option ℕ) (us : List Untaken) (submitted : List SubmittedCommand) (A : List Entry) (u : Untaken) → 2 * s ≤ w + 1 →
+pub untaken_served : (w s left : ℕ) (p : Peer) (next : Option ℕ) (us : List Untaken) (submitted : List SubmittedCommand) (A : List Entry) (u : Untaken) → 2 * s + left ≤ w + 1 →
     ((e : Entry) → entry_under u.command.handle (window w A) ≡ Some e → e.command ≡ u.command) →
-    Good s f p next us submitted A → IsIn u us → IsServed (judgement w A u.command)
-untaken_served w s f p next us submitted A u wide same g i =
-    let n = near_of s f (end_of next) u us g.untaken i in
-    never_old w u.command A (below_all f s w (end_of next) u.command.handle wide n.0 n.1 [] A g.own g.order)
-    (λ e q. rw (same e q) (asks_itself u.command))
+    GoodSince s left p next us submitted A → IsIn u us → IsServed (judgement w A u.command)
+untaken_served w s left p next us submitted A u wide same g i =
+    let good : Good s g.first g.late p next us submitted A = g.good in
+    let n = near_of s g.first (end_of next) u us good.untaken i in
+    let few : length g.late ≤ left = g.few in
+    let low : AllBelow u.command.handle (take (length (good.earlier ++ good.since) - w) (good.earlier ++ good.since)) =
+    below_whole u.command.handle w good.earlier good.since (each_map (λ e q. lower e.command.handle q n.0) good.earlier good.below)
+    (below_all g.first s w (end_of next) u.command.handle g.late (omega arith) n.1 n.2 good.earlier good.since good.own good.order) in
+    never_old w u.command A (rw (← good.accepted) at low) (λ e q. rw (same e q) (asks_itself u.command))
+  where
+    lower : (x : ℕ) → x < g.first → g.first ≤ u.command.handle → x < u.command.handle
+    lower x a b = omega arith

@@ -1,7 +1,7 @@
 -- THE LAW OF GETTING THROUGH (profile), over every schedule: a link that is asked often enough gives each command out
 -- to the device until it has the command's answer or is lost; and one copy that arrives, and the one response that
 -- comes back, are enough.
-use Rattle.std.specs.Prelude.{◌≡◌, ◌⊎◌, ℕ, ◌+◌, ◌*◌, ◌==◌, ◌<◌, ◌≤◌, max, true, false, if◌then◌else◌, List, [], ◌∷◌, ◌++◌}
+use Rattle.std.specs.Prelude.{◌≡◌, ◌⊎◌, ℕ, ◌==◌, true, if◌then◌else◌, List, [], ◌∷◌, ◌++◌}
 use Rattle.std.specs.Prelude.{Option, Some, None}
 use Rattle.std.specs.List.{slice_get, AllByRecursion, Contains}
 use Rattle.oca_types.specs.declared.words.Peer.{Peer}
@@ -13,17 +13,18 @@ use Rattle.oca_pdu.specs.Encoding.{pdu_encoding}
 use Rattle.oca_tree.specs.declared.object.Object.{Object}
 use Rattle.oca_control.specs.Untaken.{answer_under}
 use Rattle.oca_control.specs.Links.{LinkState, Request, command_under, submission, decision, due_answer, due_bytes}
+use Rattle.oca_control.specs.Links.{present_moment}
 use Rattle.oca_control.specs.Links.{reception}
 use Rattle.oca_control.specs.Histories.{Call, Submits, SendsDue, Receives, TakesAnswer, clock_of_calls, sendings}
 use Rattle.oca_control.specs.Answering.{IsAskedEvery, IsSentInTime}
 use Rattle.oca_pair.specs.declared.outcome.Outcome.TheVariants as outcomes
 use Rattle.oca_pair.specs.declared.start.Start.{Start}
-use Rattle.oca_pair.specs.Networks.{Network, PeerLink, SentDatagram, Setup, opening, is_renewed}
+use Rattle.oca_pair.specs.Networks.{Network, PeerLink, SentDatagram, Setup, opening}
 use Rattle.oca_pair.specs.Steps.{Step, Submit, Due, ToDevice, ToLink, Other, Tick, Local, Take, Renew, content_read}
 use Rattle.oca_pair.specs.Steps.{after_step}
 use Rattle.oca_pair.specs.Steps.{after_steps, outcome_of_step}
-use Rattle.oca_pair.specs.Premises.{are_apart, StepFits, Fit, KeepsItsSession, FindsRoom}
-use Rattle.oca_pair.specs.RoundTrip.{GotItsAnswer, asked, meanwhile, ComesBack}
+use Rattle.oca_pair.specs.Premises.{are_apart, StepFits, Fit, KeepsItsSession, FindsRoom, SpanFits}
+use Rattle.oca_pair.specs.RoundTrip.{GotItsAnswer, asked, meanwhile, RenewsNothing, ComesBack}
 
 -- ---- THE CALLS OF A LINK in a schedule: what its steps make of the link of a number. As in a history the latest
 -- stands first.
@@ -93,26 +94,24 @@ pub record WaitsInTime (ms since i : ℕ) (c : CommandFields) (p : Peer) (calls 
   -- `ComesBack`.
   pub enough : (k now : ℕ) (between : List Step) (later : ℕ) →
       slice_get n.to_device k ≡ Some (copy_of p c) → FindsRoom p now n → KeepsItsSession p (asked k now n) →
-      AllByRecursion StepFits between → is_renewed p (meanwhile k now between n) ≡ false →
+      AllByRecursion StepFits between → RenewsNothing p n (meanwhile k now between n) →
       ComesBack k now between later i c p n
 
 -- The link got the command's answer, or is lost, or the command is waiting, and was sent in time.
 abbrev pub GetsThrough : ℕ → ℕ → ℕ → CommandFields → Peer → List Call → Network → Type 0
 GetsThrough ms since i c p calls n = GotItsAnswer i c p n ⊎ (IsLost i n ⊎ WaitsInTime ms since i c p calls n)
 
--- Over every schedule, for all sizes and each link where the window is at least twice the link's span less one: so it
--- is of each command that the link of a start submitted in a step, where from this step on the link is asked every so
--- many ms, and it was never renewed.
+-- Over every schedule, for all sizes and each link whose span fits the window: so it is of each command that the link
+-- submitted in a step, where from this step on the link is asked every so many ms, and is not renewed.
 abbrev pub EveryCommandGetsThrough : Type 0
 EveryCommandGetsThrough =
     (w : DeviceSizes) (s : Setup) (tree : List Object) (starts : List Start) (before later : List Step) (i : ℕ)
-    (x : Start) (request : Request) (now ms : ℕ) (h : Handle) →
-    let start : Network = opening w s tree starts in
-    let old : Network = after_steps before start in
+    (l : PeerLink) (request : Request) (now ms : ℕ) (h : Handle) →
+    let old : Network = after_steps before (opening w s tree starts) in
     let new : Network = after_step (Submit i request now) old in
-    let since : ℕ = max (clock_of_calls (s.made x.peer) (calls_in i before start)) now in
-    0 < s.span x.peer → 2 * s.span x.peer ≤ w.window + 1 → are_apart s.address starts ≡ true →
-    Fit starts (before ++ Submit i request now ∷ later) → slice_get starts i ≡ Some x →
+    let since : ℕ = present_moment now l.link in
+    slice_get old.links i ≡ Some l → SpanFits w l old → are_apart s.address starts ≡ true →
+    Fit starts (before ++ Submit i request now ∷ later) →
     outcome_of_step (Submit i request now) old ≡ outcomes.Submitted h ∷ [] →
-    is_renewed x.peer (after_steps later new) ≡ false → IsAskedEvery ms since (calls_in i later new) →
-    GetsThrough ms since i (command_under h.0 request) x.peer (calls_in i later new) (after_steps later new)
+    RenewsNothing l.peer old (after_steps later new) → IsAskedEvery ms since (calls_in i later new) →
+    GetsThrough ms since i (command_under h.0 request) l.peer (calls_in i later new) (after_steps later new)

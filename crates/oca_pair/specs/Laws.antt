@@ -25,10 +25,10 @@ use Rattle.oca_control.specs.Untaken.{Untaken, answer_under}
 use Rattle.oca_pair.specs.declared.outcome.Outcome.TheVariants as outcomes
 use Rattle.oca_pair.specs.declared.start.Start.{Start}
 use Rattle.oca_pair.specs.Networks.{Network, PeerLink, SentDatagram, SubmittedCommand, TakenAnswer, Setup, opening}
-use Rattle.oca_pair.specs.Networks.{is_renewed}
+use Rattle.oca_pair.specs.Networks.{is_renewed, left_behind}
 use Rattle.oca_pair.specs.Steps.{Step, ToDevice, Renew, after_step, after_steps, outcome_of_step}
 use Rattle.oca_pair.specs.Happenings.{happenings}
-use Rattle.oca_pair.specs.Premises.{are_apart, Fit, KeepsItsSession, FindsRoom}
+use Rattle.oca_pair.specs.Premises.{are_apart, Fit, KeepsItsSession, FindsRoom, SpanFits}
 
 -- ---- what the device executed
 
@@ -165,31 +165,40 @@ pub record IsAnswered (k now : ℕ) (n : Network) (d : SentDatagram) (c : Comman
   pub sent : (after_step (ToDevice k now) n).to_links
       ≡ n.to_links ++ (record { peer = d.peer; bytes = pdu_encoding (pdu_of (response c.handle execution.reply)) }) ∷ []
 
--- A delivery of a datagram that carries an untaken command of the link of this peer is answered, where it finds room,
--- and the peer kept its session, this datagram counted.
-abbrev pub AnswersUntaken : Peer → Network → Type 0
-AnswersUntaken p n = (k now i : ℕ) (d : SentDatagram) (l : PeerLink) (c : CommandFields) →
-    slice_get n.to_device k ≡ Some d → slice_get n.links i ≡ Some l → l.peer ≡ p → CarriesUntaken d l c →
+-- A delivery of a datagram that carries an untaken command of the link is answered, where it finds room, and the peer
+-- kept its session, this datagram counted.
+abbrev pub AnswersUntaken : PeerLink → Network → Type 0
+AnswersUntaken l n = (k now : ℕ) (d : SentDatagram) (c : CommandFields) →
+    slice_get n.to_device k ≡ Some d → CarriesUntaken d l c →
     FindsRoom d.peer now n → KeepsItsSession d.peer (after_step (ToDevice k now) n) → IsAnswered k now n d c
 
--- Over every schedule, for all sizes and each link that was never renewed, where the window is at least twice the link's
--- span less one:
+-- Over every schedule, for all sizes and each link whose span fits the window:
 abbrev pub NoUntakenCommandIsTooOld : Type 0
 NoUntakenCommandIsTooOld =
-    (w : DeviceSizes) (s : Setup) (tree : List Object) (starts : List Start) (steps : List Step) (p : Peer) →
+    (w : DeviceSizes) (s : Setup) (tree : List Object) (starts : List Start) (steps : List Step) (i : ℕ)
+    (l : PeerLink) →
     let n : Network = after_steps steps (opening w s tree starts) in
-    0 < s.span p → 2 * s.span p ≤ w.window + 1 → are_apart s.address starts ≡ true → Fit starts steps →
-    is_renewed p n ≡ false → AnswersUntaken p n
+    slice_get n.links i ≡ Some l → SpanFits w l n → are_apart s.address starts ≡ true → Fit starts steps →
+    AnswersUntaken l n
 
--- Where no step renews a link, no link was renewed.
+-- Where no step renews a link, no link was renewed: so nothing was left behind, and each link has the span that it was
+-- set up with.
+pub record WasNotRenewed (s : Setup) (l : PeerLink) (n : Network) : Type 0 where
+  pub never : is_renewed l.peer n ≡ false
+  pub nothing_left : left_behind l.peer n ≡ 0
+  pub span : l.link.span ≡ s.span l.peer
+
 abbrev pub IsNoRenewal : Step → Type 0
 IsNoRenewal (Renew link first span now origin) = ⊥
 IsNoRenewal _ = Unit {0}
 
 abbrev pub OnlyRenewalsRenew : Type 0
 OnlyRenewalsRenew =
-    (w : DeviceSizes) (s : Setup) (tree : List Object) (starts : List Start) (steps : List Step) (p : Peer) →
-    AllByRecursion IsNoRenewal steps → is_renewed p (after_steps steps (opening w s tree starts)) ≡ false
+    (w : DeviceSizes) (s : Setup) (tree : List Object) (starts : List Start) (steps : List Step) (i : ℕ)
+    (l : PeerLink) →
+    let n : Network = after_steps steps (opening w s tree starts) in
+    are_apart s.address starts ≡ true → Fit starts steps → AllByRecursion IsNoRenewal steps →
+    slice_get n.links i ≡ Some l → WasNotRenewed s l n
 
 -- No command of a link is executed twice, where its peer kept its session.
 abbrev pub ExecutesOnce : Network → Type 0

@@ -1,5 +1,5 @@
 -- WHAT THE LAWS ASK of a schedule (profile), by the steps and by the datagrams that came to the device.
-use Rattle.std.specs.Prelude.{◌≡◌, ℕ, ◌-◌, ◌<◌, ◌≤◌, ◌^◌, Bool, true, not, ◌&&◌, List, [], ◌∷◌, filter, length}
+use Rattle.std.specs.Prelude.{◌≡◌, ℕ, ◌+◌, ◌-◌, ◌*◌, ◌<◌, ◌≤◌, ◌^◌, Bool, true, not, ◌&&◌, List, [], ◌∷◌, filter, length}
 use Rattle.std.specs.List.{list_any, list_all, AllByRecursion}
 use Rattle.oca_types.specs.declared.words.Peer.{Peer}
 use Rattle.oca_types.specs.Peers.{same_peer}
@@ -9,7 +9,7 @@ use Rattle.oca_device.specs.LawByEvents.{Happening, Passes, Says, Sets, Arrival,
 use Rattle.oca_device.specs.LawByEvents.{session, last_moment, has_room}
 use Rattle.oca_control.specs.Links.{Request}
 use Rattle.oca_pair.specs.declared.start.Start.{Start}
-use Rattle.oca_pair.specs.Networks.{Network}
+use Rattle.oca_pair.specs.Networks.{Network, PeerLink, left_behind}
 use Rattle.oca_pair.specs.Steps.{Step, Submit, Renew}
 use Rattle.oca_pair.specs.Happenings.{happenings}
 
@@ -52,6 +52,13 @@ abbrev pub KeepsItsSession : Peer → Network → Type 0
 KeepsItsSession p n =
     let arrivals = admitted n.sizes (happenings n.events) in
     session (last_moment (arrivals_of p arrivals)) p arrivals ≡ arrivals_of p arrivals
+
+-- ---- the window is wide enough
+-- THE SPAN OF THE LINK FITS THE WINDOW: it is at least 1, and the reply window has room for twice the span less one, and
+-- for one more command for each that earlier links of the peer left behind.
+pub record SpanFits (w : DeviceSizes) (l : PeerLink) (n : Network) : Type 0 where
+  pub some : 0 < l.link.span
+  pub wide : 2 * l.link.span + left_behind l.peer n ≤ w.window + 1
 
 -- ---- there is room
 -- A DELIVERY FINDS ROOM: when a datagram of this peer comes at this moment, the peer is known, or fewer peers are than

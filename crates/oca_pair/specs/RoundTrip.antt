@@ -1,7 +1,7 @@
 -- THE LAW OF THE ROUND TRIP (profile), over every schedule: a command that a link holds untaken comes to the device,
 -- what the device sends comes to the link, and the link has the command's answer, whatever happens in between but a
 -- renewal of the link.
-use Rattle.std.specs.Prelude.{◌≡◌, ◌⊎◌, ℕ, ◌+◌, ◌*◌, ◌<◌, ◌≤◌, true, false, List, [], ◌∷◌, ◌++◌, length, Some}
+use Rattle.std.specs.Prelude.{◌≡◌, ◌⊎◌, ℕ, true, List, [], ◌∷◌, ◌++◌, length, Some}
 use Rattle.std.specs.List.{slice_get, AllByRecursion, Contains}
 use Rattle.oca_types.specs.declared.words.Peer.{Peer}
 use Rattle.oca_types.specs.Replies.{Reply}
@@ -14,9 +14,9 @@ use Rattle.oca_device.specs.Answers.{response}
 use Rattle.oca_control.specs.Answers.{AnswerFields}
 use Rattle.oca_control.specs.Untaken.{Untaken, answer_under}
 use Rattle.oca_pair.specs.declared.start.Start.{Start}
-use Rattle.oca_pair.specs.Networks.{Network, PeerLink, SentDatagram, Setup, opening, is_renewed}
+use Rattle.oca_pair.specs.Networks.{Network, PeerLink, SentDatagram, Setup, opening, times_renewed}
 use Rattle.oca_pair.specs.Steps.{Step, ToDevice, ToLink, after_step, after_steps}
-use Rattle.oca_pair.specs.Premises.{are_apart, StepFits, Fit, KeepsItsSession, FindsRoom}
+use Rattle.oca_pair.specs.Premises.{are_apart, StepFits, Fit, KeepsItsSession, FindsRoom, SpanFits}
 use Rattle.oca_pair.specs.Laws.{answer_of, IsAnswerOfItsCommand, WasTaken, CarriesUntaken}
 
 -- The link of this number holds the command untaken.
@@ -84,19 +84,24 @@ pub record ComesBack (k now : ℕ) (between : List Step) (later i : ℕ) (c : Co
       IsAnswerTo c p answer (come_back k now between later n) →
       answer ≡ answer_of sent_back.reply
 
--- Each delivery of a datagram that carries an untaken command of the link of this peer comes back, under the premises
--- of `AnswersUntaken`. Of what happens after that delivery nothing is asked, but that the link was never renewed, before
--- or since.
-abbrev pub RoundTrips : Peer → Network → Type 0
-RoundTrips p n = (k now i : ℕ) (d : SentDatagram) (l : PeerLink) (c : CommandFields) (between : List Step) (later : ℕ) →
-    slice_get n.to_device k ≡ Some d → slice_get n.links i ≡ Some l → l.peer ≡ p → CarriesUntaken d l c →
+-- The link of this peer is not renewed from the one network to the other.
+abbrev pub RenewsNothing : Peer → Network → Network → Type 0
+RenewsNothing p n later = times_renewed p later ≡ times_renewed p n
+
+-- Each delivery of a datagram that carries an untaken command of the link of this number comes back, under the premises
+-- of `AnswersUntaken`. Of what happens after that delivery nothing is asked, but that the link is not renewed then.
+abbrev pub RoundTrips : ℕ → PeerLink → Network → Type 0
+RoundTrips i l n = (k now : ℕ) (d : SentDatagram) (c : CommandFields) (between : List Step) (later : ℕ) →
+    slice_get n.to_device k ≡ Some d → CarriesUntaken d l c →
     FindsRoom d.peer now n → KeepsItsSession d.peer (asked k now n) → AllByRecursion StepFits between →
-    is_renewed p (meanwhile k now between n) ≡ false →
+    RenewsNothing l.peer n (meanwhile k now between n) →
     ComesBack k now between later i c l.peer n
 
--- Over every schedule, for all sizes and each link where the window is at least twice the link's span less one:
+-- Over every schedule, for all sizes and each link whose span fits the window:
 abbrev pub EveryRoundTripBringsTheAnswer : Type 0
 EveryRoundTripBringsTheAnswer =
-    (w : DeviceSizes) (s : Setup) (tree : List Object) (starts : List Start) (steps : List Step) (p : Peer) →
-    0 < s.span p → 2 * s.span p ≤ w.window + 1 → are_apart s.address starts ≡ true → Fit starts steps →
-    RoundTrips p (after_steps steps (opening w s tree starts))
+    (w : DeviceSizes) (s : Setup) (tree : List Object) (starts : List Start) (steps : List Step) (i : ℕ)
+    (l : PeerLink) →
+    let n : Network = after_steps steps (opening w s tree starts) in
+    slice_get n.links i ≡ Some l → SpanFits w l n → are_apart s.address starts ≡ true → Fit starts steps →
+    RoundTrips i l n

@@ -1,6 +1,6 @@
 -- THE STEPS OF A NETWORK (profile). A schedule is any list of steps, of which the first comes first.
 use Rattle.std.specs.Prelude.{ℕ, ◌+◌, Bool, true, false, not, if◌then◌else◌, nat_le, List, [], ◌∷◌, ◌++◌, map}
-use Rattle.std.specs.Prelude.{length, Option, Some, None, is_some, Result, Ok, Err}
+use Rattle.std.specs.Prelude.{filter, length, Option, Some, None, is_none, is_some, Result, Ok, Err}
 use Rattle.std.specs.List.{list_any, slice_get, slice_set}
 use Rattle.oca_types.specs.declared.words.Peer.{Peer}
 use Rattle.oca_types.specs.declared.words.Handle.{Handle}
@@ -20,7 +20,7 @@ use Rattle.oca_tree.specs.Settings.{set_fault}
 use Rattle.oca_tree.specs.LocalChanges.{LocalChange, ToValue, ToLabel, ToEnabled, ToUnlocked, ToFailing, front_fault}
 use Rattle.oca_control.specs.declared.fault.ControlFault.{ControlFault}
 use Rattle.oca_control.specs.Answers.{AnswerFields}
-use Rattle.oca_control.specs.Untaken.{answer_under}
+use Rattle.oca_control.specs.Untaken.{Untaken, answer_under}
 use Rattle.oca_control.specs.Links.{LinkState, Request, new_link, command_under, submission, after_submission, Decision}
 use Rattle.oca_control.specs.Links.{GivesCommand, GivesKeepAlive, GivesNothing, IsLost, decision, due_bytes, gone_on}
 use Rattle.oca_control.specs.Links.{reception, received, taken}
@@ -170,12 +170,16 @@ is_no_lower first (Some next) = nat_le next first
 abbrev pub renewed_link : ℕ → ℕ → ℕ → LinkState → LinkState
 renewed_link first span now l = new_link l.device first now span
 
+-- how many of the commands have no answer
+abbrev pub unanswered : List Untaken → ℕ
+unanswered us = length (filter (λ u. is_none u.answer) us)
+
 abbrev pub after_renewal : ℕ → ℕ → ℕ → ℕ → ℕ → Option PeerLink → Network → Network
 after_renewal i first span now origin None n = n
 after_renewal i first span now origin (Some l) n =
     if is_no_lower first l.link.next then record n {
       links = with_link i l (renewed_link first span now l.link) n.links;
-      renewed = (record { peer = l.peer; zero = origin }) ∷ n.renewed;
+      renewed = (record { peer = l.peer; zero = origin; left = unanswered l.link.untaken }) ∷ n.renewed;
     } else n
 
 -- ---- LOCAL: what the device says of a change at its own front

@@ -62,8 +62,10 @@ pub fn law_answers()
 /// - A peer *keeps its session* if each of its admitted datagrams came at most 120,000 ms after the one before it.
 ///
 /// The first law has these premises:
-/// - The link's span `s` ([`Span`](oca_types::Span)) is at least 1. The reply window has `w` commands
-///   ([`Window`](oca_types::Window)), with `2 * s <= w + 1`. The link was never renewed: no new link took its place.
+/// - The link's *span fits the window*: the span `s` ([`Span`](oca_types::Span)) is at least 1, and the reply window has
+///   `w` commands ([`Window`](oca_types::Window)), with `2 * s + k <= w + 1`. Here `k` is 0 if the link was never
+///   *renewed*. If a new link took the place of another one, once or many times, `k` is how many commands the earlier
+///   links of the peer left unanswered, all together.
 /// - A datagram with a command that is still in flight at its link is delivered to the device.
 /// - The datagram finds room, and the link's peer kept its session, this datagram counted.
 ///
@@ -72,8 +74,8 @@ pub fn law_answers()
 ///
 /// The second law holds for all sizes: no command of a link is executed twice if its peer kept its session.
 ///
-/// The clause `never`: no link was renewed by a schedule without a step that renews one. So the premise holds for each
-/// schedule of [`run_pair`](crate::run_pair).
+/// The clause `never`: a schedule without a step that renews a link renews none. So `k` is 0, and each link has the span
+/// that it was set up with.
 ///
 /// The third law holds for all sizes: a datagram finds room if at most as many peers as there is room for sent
 /// well-formed datagrams in the last 120,000 ms, its own peer counted.
@@ -96,9 +98,8 @@ pub fn law_never_old()
 ///   words too.
 ///
 /// The premises:
-/// - The link's span `s` ([`Span`](oca_types::Span)) is at least 1. The reply window has `w` commands
-///   ([`Window`](oca_types::Window)), with `2 * s <= w + 1`.
-/// - The link was never renewed until that response is delivered: no new link took its place.
+/// - The link's span fits the reply window, as in [`law_never_old`]. So the link may have been renewed before.
+/// - The link is not renewed from this delivery on until that response is delivered: no new link takes its place.
 /// - A datagram with a command that is still in flight at its link is delivered to the device.
 /// - The datagram finds room, and the link's peer kept its session, this datagram counted.
 ///
@@ -122,9 +123,9 @@ pub fn law_round_trip()
 /// - A link is *lost* once a command got no answer to 20 transmissions.
 ///
 /// The premises:
-/// - The link's span `s` ([`Span`](oca_types::Span)) is at least 1. The reply window has `w` commands
-///   ([`Window`](oca_types::Window)), with `2 * s <= w + 1`.
-/// - The link is never renewed: no new link takes its place.
+/// - The link's span fits the reply window at the submit of the command, as in [`law_never_old`]. So the link may have
+///   been renewed before.
+/// - The link is not renewed from the submit on: no new link takes its place.
 /// - The link is asked at least every `ms` milliseconds from the submit of the command on, each time until `due`
 ///   returns no command.
 ///

@@ -131,14 +131,20 @@ abbrev pub AsksAtPlace : Question → Bool → View → PanelState → View → 
 AsksAtPlace question done old before new after =
     AsksFrom (option_map target_of (slice_get old.inventory.objects.list question.place)) question done old before new after
 
+-- the first handle of another link: the view's next one, but no lower than the one that the next command of the old link
+-- would get
+abbrev pub begins_behind : ℕ → Option ℕ → ℕ
+begins_behind next None = next
+begins_behind next (Some h) = max next h
+
 -- Where the link is lost or late, all orders are noted as lost, and the panel goes on with another link to the same
--- device, whose first handle is the next one; else nothing changes.
+-- device, with that first handle; else nothing changes.
 pub record RenewsLost (reach : Reach) (next : ℕ) (old : OrdersState) (before : PanelState) (new : OrdersState)
     (after : PanelState) : Type 0 where
   pub is_lost : Bool
   pub loses : LosesOrders is_lost before old new
   pub same : is_lost ≡ false → after ≡ before
-  pub renews : is_lost ≡ true → IsRenewed reach.device next (span_size reach.span) before after
+  pub renews : is_lost ≡ true → IsRenewed reach.device (begins_behind next before.link.next) (span_size reach.span) before after
 
 -- No order is left that could be submitted, 32 are in flight, or half of the handles are used.
 abbrev pub RestsBehind : (first next ahead : ℕ) → OrdersState → PanelState → Type 0
@@ -150,8 +156,8 @@ next_with first next s = if half_spent first next then next else max next (above
 
 -- Where the link is lost or late all orders are noted as lost, and those that waited for too long as not sent; and then
 -- those that wait are submitted, in their order and before any question, over the same panel where the link is not lost,
--- and else over one with another link to the same device, whose first handle is the next one; this is the panel then. The
--- program's clock reads `now`, and is so far ahead of the end's. The view's next handle is then this one.
+-- and else over one with another link to the same device, with its first handle behind the old one's; this is the panel
+-- then. The program's clock reads `now`, and is so far ahead of the end's. The view's next handle is then this one.
 pub record SubmitsAll (reach : Reach) (first next ahead now : ℕ) (old : OrdersState) (before : PanelState)
     (further : ℕ) (new : OrdersState) (submitted : PanelState) : Type 0 where
   pub is_lost : Bool
@@ -159,7 +165,7 @@ pub record SubmitsAll (reach : Reach) (first next ahead now : ℕ) (old : Orders
   pub renewed : PanelState
   pub loses : LosesOrders is_lost before old between
   pub same : is_lost ≡ false → renewed ≡ before
-  pub renews : is_lost ≡ true → IsRenewed reach.device next (span_size reach.span) before renewed
+  pub renews : is_lost ≡ true → IsRenewed reach.device (begins_behind next before.link.next) (span_size reach.span) before renewed
   pub submits : SubmitsOrders ahead (with_passed now between) renewed new submitted
   pub rests : RestsBehind first next ahead new submitted
   pub above : further ≡ next_with first next new

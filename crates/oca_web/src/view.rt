@@ -1,6 +1,8 @@
 //! A view of a device: what is known of it, the orders of the pages, and how its link is.
 ghost use Rattle.std.specs.Prelude.{◌≡◌, IfOk};
+ghost use Rattle.std.specs.Option.{option_map};
 ghost use Rattle.oca_web.specs.Bodies.{IsForWord};
+ghost use Rattle.oca_web.specs.Views.{begins_behind};
 
 use crate::ask::Question;
 use crate::asking::{ask_one, leaves_half};
@@ -514,7 +516,8 @@ impl View {
         if !lose_orders(&mut self.orders, panel) {
             return Ok(());
         }
-        panel.renew(self.reach.device, Handle(self.next_handle), self.reach.span);
+        let first = first_behind(self.next_handle, panel.next_handle());
+        panel.renew(self.reach.device, first, self.reach.span);
         self.news.lost = self.news.lost.saturating_add(1);
         self.news.lost_since = self.news.lost_since.or(Some(self.news.now));
         self.inventory.forget_asked();
@@ -585,6 +588,17 @@ impl View {
     /// nothing.
     pub fn next_moment(&self) -> Option<u64> {
         self.inventory.next_moment(self.news.now)
+    }
+}
+
+/// The first handle of another link: the view's next one, but no lower than the one that the next command of the old
+/// link would get.
+fn first_behind(next: u32, of_link: Option<Handle>) -> Handle
+    ensures { result.0 ≡ begins_behind next (option_map (λ h. h.0) of_link) }
+{
+    match of_link {
+        Some(handle) => Handle(next.max(handle.0)),
+        None => Handle(next),
     }
 }
 
