@@ -431,6 +431,21 @@ fair_gone_on p now l g out back handed f = by_decision (decision now l) (marked_
     by_decision GivesNothing new = with_untaken l.untaken [] f.untaken new
     by_decision IsLost new = with_untaken l.untaken [] f.untaken new
 
+-- a keep-alive is sent beside a link, its own or another one
+pub fair_alive : (p q : Peer) (next : Option ℕ) (us : List Untaken) (g : Past) (out back : List SentDatagram) (handed : List TakenAnswer) →
+    Fair p next us g out back handed → Fair p next us g (out ++ sendings_in q (given_by GivesKeepAlive)) back handed
+fair_alive p q next us g out back handed f = record {
+  fits = f.fits;
+  own = f.own;
+  outgoing = each_append _ out (sendings_in q (given_by GivesKeepAlive)) f.outgoing ((λ same. inr refl), tt);
+  incoming = f.incoming;
+  untaken = f.untaken;
+  was_taken = f.was_taken;
+  sendable = f.sendable;
+  unique = f.unique;
+  rising = f.rising;
+}
+
 -- another sends to the device
 pub fair_sent : (p q : Peer) (next : Option ℕ) (us : List Untaken) (g : Past) (out back : List SentDatagram) (handed : List TakenAnswer) (packets : List (List ℕ)) →
     (q ≡ p → ⊥) → Fair p next us g out back handed → Fair p next us g (out ++ sendings_in q packets) back handed

@@ -11,7 +11,7 @@ use Rattle.oca_device.specs.Events.{Datagram}
 use Rattle.oca_control.specs.Links.{Request}
 use Rattle.oca_pair.specs.Networks.{Network, PeerLink, SentDatagram}
 use Rattle.oca_pair.specs.Steps as steps
-use Rattle.oca_pair.specs.Steps.{Step, Submit, Due, ToDevice, ToLink, Other, Take, has_link, after_submit, after_due_step, after_delivery, hears_datagram, after_reception, after_take, Renew, unanswered, renewed_link, is_no_lower, with_link, after_renewal, after_step, after_steps}
+use Rattle.oca_pair.specs.Steps.{Step, Submit, Due, ToDevice, ToLink, Other, Take, has_link, after_submit, after_due_step, after_delivery, hears_datagram, after_reception, after_take, Renew, Beside, after_beside, unanswered, renewed_link, is_no_lower, with_link, after_renewal, after_step, after_steps}
 use Rattle.oca_pair.proofs.Lists.{same_some, mapped_at}
 use Rattle.oca_pair.proofs.Networks.{hears_peer}
 
@@ -54,6 +54,10 @@ fixed_kept (step ∷ es) n = fixed_kept es (after_step step n) ∙ one step
         by_test true = refl
         by_test false = refl
 
+    by_beside : (o : Option PeerLink) → fixed (after_beside o n) ≡ fixed n
+    by_beside None = refl
+    by_beside (Some l) = refl
+
     one : (step : Step) → fixed (after_step step n) ≡ fixed n
     one (Submit i r now) = by_submit i r now (slice_get n.links i)
     one (Due i now) = by_due i now (slice_get n.links i)
@@ -64,6 +68,7 @@ fixed_kept (step ∷ es) n = fixed_kept es (after_step step n) ∙ one step
     one (steps.Local ono change) = refl
     one (Take i h) = by_take i h (slice_get n.links i)
     one (Renew i first span now origin) = by_renewal i first span now origin (slice_get n.links i)
+    one (Beside i now) = by_beside (slice_get n.links i)
 
 pub sizes_kept : (es : List Step) (n : Network) → (after_steps es n).sizes ≡ n.sizes
 sizes_kept es n = ap (λ (f : DeviceSizes × List Object). f.0) (fixed_kept es n)
@@ -121,6 +126,10 @@ peers_step step n = one step
         by_test true = peers_put n.links k l _ e refl
         by_test false = refl
 
+    by_beside : (o : Option PeerLink) → peers_of (after_beside o n).links ≡ peers_of n.links
+    by_beside None = refl
+    by_beside (Some l) = refl
+
     one : (step : Step) → peers_of (after_step step n).links ≡ peers_of n.links
     one (Submit k r now) = by_submit k r now (slice_get n.links k) refl
     one (Due k now) = by_due k now (slice_get n.links k) refl
@@ -131,6 +140,7 @@ peers_step step n = one step
     one (steps.Local ono change) = refl
     one (Take k h) = by_take k h (slice_get n.links k) refl
     one (Renew k first span now origin) = by_renewal k first span now origin (slice_get n.links k) refl
+    one (Beside k now) = by_beside (slice_get n.links k)
 
 pub peers_steps : (es : List Step) (n : Network) → peers_of (after_steps es n).links ≡ peers_of n.links
 peers_steps [] n = refl

@@ -27,7 +27,7 @@ use Rattle.oca_control.proofs.InTime.{clock_from, sent_from, in_time_made}
 use Rattle.oca_pair.specs.declared.outcome.Outcome.TheVariants as outcomes
 use Rattle.oca_pair.specs.declared.start.Start.{Start}
 use Rattle.oca_pair.specs.Networks.{Network, PeerLink, SentDatagram, SubmittedCommand, TakenAnswer, Setup, Renewal, left_behind, started, opening}
-use Rattle.oca_pair.specs.Steps.{Step, Submit, Due, ToDevice, ToLink, Other, Take, has_link, with_link, submitted_by, after_submit, submit_outcome, given_by, after_due_step, after_delivery, content_read, hears_datagram, after_reception, after_take, Renew, is_no_lower, unanswered, renewed_link, after_renewal, after_step, after_steps, on_link, outcome_of_step}
+use Rattle.oca_pair.specs.Steps.{Step, Submit, Due, ToDevice, ToLink, Other, Take, has_link, with_link, submitted_by, after_submit, submit_outcome, given_by, after_due_step, after_delivery, content_read, hears_datagram, after_reception, after_take, Renew, Beside, after_beside, is_no_lower, unanswered, renewed_link, after_renewal, after_step, after_steps, on_link, outcome_of_step}
 use Rattle.oca_pair.specs.Steps as steps
 use Rattle.oca_pair.specs.Laws.{IsNoRenewal}
 use Rattle.oca_pair.specs.Premises.{are_apart, Fit, SpanFits}
@@ -229,6 +229,16 @@ runs_step first born s i p calls step n never g = one step never
         }
         by_test false never = g
 
+    by_beside : (o : Option PeerLink) → Runs first born s i p calls (after_beside o n)
+    by_beside None = g
+    by_beside (Some l) = record {
+      link = g.link;
+      there = g.there;
+      peer = g.peer;
+      made = g.made;
+      sent = λ h. sent_more p n.to_device (steps.sendings_in l.peer (given_by GivesKeepAlive)) (sendings born h calls) (g.sent h);
+    }
+
     one : (step : Step) → RenewsNothing p n (after_step step n) → Runs first born s i p (call_in i step n ++ calls) (after_step step n)
     one (Submit k r now) never = by_submit k r now (slice_get n.links k) refl
     one (Due k now) never = by_due k now (slice_get n.links k) refl
@@ -239,6 +249,7 @@ runs_step first born s i p calls step n never g = one step never
     one (steps.Local ono change) never = record { link = g.link; there = g.there; peer = g.peer; made = g.made; sent = g.sent }
     one (Take k j) never = by_take k j (slice_get n.links k) refl
     one (Renew k f span now origin) never = by_renewal k f span now origin (slice_get n.links k) refl never
+    one (Beside k now) never = by_beside (slice_get n.links k)
 
 runs_steps : (first born s i : ℕ) (p : Peer) (calls : List Call) (es : List Step) (n : Network) → RenewsNothing p n (after_steps es n) → Runs first born s i p calls n →
     Runs first born s i p (calls_in i es n ++ calls) (after_steps es n)
@@ -327,6 +338,7 @@ made_step i p step n devices g = one step
     one (steps.Local ono change) = goes_on (steps.Local ono change) tt
     one (Take k j) = goes_on (Take k j) tt
     one (Renew k f span now origin) = by_renewal k f span now origin (slice_get n.links k) refl
+    one (Beside k now) = goes_on (Beside k now) tt
 
 made_steps : (i : ℕ) (p : Peer) (es : List Step) (n : Network) → AreToDevice n → WasMade i p n → WasMade i p (after_steps es n)
 made_steps i p [] n devices g = g

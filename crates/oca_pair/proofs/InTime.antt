@@ -32,13 +32,13 @@ use Rattle.oca_control.specs.Untaken.{Untaken, new_untaken, is_due, is_late, fir
 use Rattle.oca_control.specs.Links.{LinkState, Request, command_under, submission, handle_after, after_submission, Decision, GivesCommand, GivesKeepAlive, GivesNothing, IsLost, decision_among, decision, after_due, gone_on, hears_content, received, taken, present_moment, late_at}
 use Rattle.oca_pair.specs.declared.start.Start.{Start}
 use Rattle.oca_pair.specs.Networks.{Network, PeerLink, SentDatagram, SubmittedCommand, TakenAnswer, Setup, started, opening, zero_of}
-use Rattle.oca_pair.specs.Steps.{Step, Submit, Due, ToDevice, ToLink, Other, Take, has_link, sendings_in, after_submit, given_by, after_due_step, after_delivery, content_read, hears_datagram, after_reception, after_take, after_step, after_steps, Renew, with_link, is_no_lower, unanswered, renewed_link, after_renewal}
+use Rattle.oca_pair.specs.Steps.{Step, Submit, Due, ToDevice, ToLink, Other, Take, has_link, sendings_in, after_submit, given_by, after_due_step, after_delivery, content_read, hears_datagram, after_reception, after_take, after_step, after_steps, Renew, Beside, after_beside, with_link, is_no_lower, unanswered, renewed_link, after_renewal}
 use Rattle.oca_pair.specs.Steps as steps
 use Rattle.oca_pair.specs.Happenings.{happenings}
 use Rattle.oca_pair.specs.Premises.{are_apart, StepFits, Fit}
 use Rattle.oca_pair.specs.Laws.{Execution, executions_for, executions_under, WasSubmitted, WasTaken}
 use Rattle.oca_pair.specs.GettingThrough.{copy_of}
-use Rattle.oca_pair.specs.InTime.{Departure, leaving, departures_in, clock_at, longest_delay, ArrivesInTime, StepIsInTime, AreInTime, IsAnswerOfOneExecution, accepted_in_session}
+use Rattle.oca_pair.specs.InTime.{Departure, leaving, leaving_beside, departures_in, clock_at, longest_delay, ArrivesInTime, StepIsInTime, AreInTime, IsAnswerOfOneExecution, accepted_in_session}
 use Rattle.oca_pair.proofs.Core.{each_map, each_append, has, none_passes}
 use Rattle.oca_pair.proofs.Lists.{IsIn, contains_in, in_contains, both_true, each_at, each_in, equal_is, same_is, other_of, same_turned, same_self, other_is, same_some, mapped_at}
 use Rattle.oca_pair.proofs.Wire.{IsSendable, read_command, read_keep_alive}
@@ -273,6 +273,11 @@ timed_due_other zs p q t end m us d left out ns other g = timed_more zs p end m 
     none : (packets : List (List ℕ)) → AllByRecursion (TimedDeparture g.born end p) (map (λ bytes. record { datagram = record { peer = q; bytes = bytes }; at = t }) packets)
     none [] = tt
     none (b ∷ bs) = ((λ same. absurd (other same)), none bs)
+
+-- a keep-alive is sent beside a link
+timed_beside : WrittenIsReadBack → (zs : Zeros) (p q : Peer) (t end m : ℕ) (us : List Untaken) (left : List Departure) (out : List SentDatagram) (ns : List Note) → Timed zs p end m us left out ns →
+    Timed zs p end m us (left ++ of_decision q t GivesKeepAlive) (out ++ sendings_in q (given_by GivesKeepAlive)) ns
+timed_beside law zs p q t end m us left out ns g = timed_more zs p end m us left (of_decision q t GivesKeepAlive) out (sendings_in q (given_by GivesKeepAlive)) ns (of_decision_are q t GivesKeepAlive) g ((λ same. inr (Seconds 5, read_keep_alive law)), tt)
 
 -- the link takes a command: from now on its handle has a submit
 timed_submit : (zs : Zeros) (p : Peer) (r : Request) (now : ℕ) (l : LinkState) (left : List Departure) (out : List SentDatagram) (ns : List Note) → Timed zs p (end_of l.next) l.moment l.untaken left out ns →
@@ -643,6 +648,10 @@ timed_step_due law s i k now left n sound in_time g (Some x) e =
     (λ l other own. timed_due_other (zeros s n l.peer) l.peer x.peer (zero_of s x.peer n + present_moment now x.link) (end_of l.link.next) l.link.moment l.link.untaken (decision now x.link) left n.to_device (state_of (past n)).notes
     (apart_at n.links k i x l sound.apart e own other) (g l own))
 
+timed_step_beside : WrittenIsReadBack → (s : Setup) (i now : ℕ) (left : List Departure) (n : Network) → TimedAt s i left n → (o : Option PeerLink) → TimedAt s i (left ++ leaving_beside s n now o) (after_beside o n)
+timed_step_beside law s i now left n g None = λ l own. no_more (zeros s n l.peer) l.peer (end_of l.link.next) l.link.moment l.link.untaken left n.to_device (state_of (past n)).notes (g l own)
+timed_step_beside law s i now left n g (Some x) = λ l own. timed_beside law (zeros s n l.peer) l.peer x.peer (zero_of s x.peer n + now) (end_of l.link.next) l.link.moment l.link.untaken left n.to_device (state_of (past n)).notes (g l own)
+
 timed_step_reception : (s : Setup) (i now : ℕ) (left : List Departure) (n : Network) → TimedAt s i left n → (o : Option SentDatagram) → TimedAt s i left (after_reception now o n)
 timed_step_reception s i now left n g None = g
 timed_step_reception s i now left n g (Some d) = λ l own. let z = mapped_at (hears_datagram n.address d now) n.links i l own in
@@ -702,6 +711,7 @@ timed_step law s i left step n sound in_time g = one step in_time
     one (steps.Local ono change) t = none (after_step (steps.Local ono change) n) (λ l own. let f = g l own in f)
     one (Take k h) t = none (after_step (Take k h) n) (timed_step_take s i k h left n g (slice_get n.links k) refl)
     one (Renew k first span now origin) t = none (after_step (Renew k first span now origin) n) (timed_step_renewal s i k first span now origin left n sound g (slice_get n.links k) refl)
+    one (Beside k now) t = timed_step_beside law s i now left n g (slice_get n.links k)
 
 -- what left with the steps
 abbrev pub departed : Setup → List Departure → List Step → Network → List Departure

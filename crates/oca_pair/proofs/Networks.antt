@@ -22,7 +22,7 @@ use Rattle.oca_control.specs.Links.{LinkState, Request, submission, after_submis
 use Rattle.oca_pair.specs.declared.start.Start.{Start}
 use Rattle.oca_pair.specs.Networks.{Network, PeerLink, SentDatagram, SubmittedCommand, TakenAnswer, Setup, started, opening, is_renewed, left_behind}
 use Rattle.oca_pair.specs.Laws.{handles_of, AreConsecutive}
-use Rattle.oca_pair.specs.Steps.{Step, Submit, Due, ToDevice, ToLink, Other, Take, Renew, with_link, is_no_lower, unanswered, renewed_link, after_renewal, has_link, sendings_in, submitted_by, after_submit, given_by, after_due_step, after_delivery, content_read, hears_datagram, after_reception, after_take, after_step, after_steps}
+use Rattle.oca_pair.specs.Steps.{Step, Submit, Due, ToDevice, ToLink, Other, Take, Renew, Beside, after_beside, with_link, is_no_lower, unanswered, renewed_link, after_renewal, has_link, sendings_in, submitted_by, after_submit, given_by, after_due_step, after_delivery, content_read, hears_datagram, after_reception, after_take, after_step, after_steps}
 use Rattle.oca_pair.specs.Steps as steps
 use Rattle.oca_pair.specs.Premises.{is_of_another_peer, are_apart, RequestFits, StepFits, StartFits, Fit}
 use Rattle.oca_pair.proofs.Core.{each_map, none_passes, has}
@@ -32,7 +32,7 @@ use Rattle.oca_pair.proofs.Wire.{IsSendable, read_command, read_keep_alive}
 use Rattle.oca_pair.proofs.Truths.{Past, past, and_then, state_of, IsSubmitted, IsTrueAnswer}
 use Rattle.oca_pair.proofs.Fair.{end_of, IsOut, IsBack, IsHeld, Fair, fair_other, fair_tick, fair_local}
 use Rattle.oca_pair.proofs.Renewing.{above_next, fair_renewed, now_renewed, other_renewed}
-use Rattle.oca_pair.proofs.Delivering.{granted, handles_submit, handles_submitted_by, fair_command, fair_keep_alive, fair_submit, fair_submitted_by, fair_gone_on, fair_sent, fair_received, fair_taken, fair_taken_by, held_answer}
+use Rattle.oca_pair.proofs.Delivering.{granted, handles_submit, handles_submitted_by, fair_command, fair_keep_alive, fair_submit, fair_submitted_by, fair_gone_on, fair_sent, fair_alive, fair_received, fair_taken, fair_taken_by, held_answer}
 use Rattle.oca_pair.proofs.Keeping.{Kept, accepted_by, IsGrown, delivers, kept_other, accepted_other, executed_has}
 use Rattle.oca_pair.proofs.Span.{GoodSince, IsKnown, since_by, room_each, good_renewed, good_submit, good_submitted, good_marked_sent, good_answered, good_without, good_grown}
 
@@ -213,6 +213,21 @@ sound_due s i now n g (Some l) e = record {
       kept = was.kept;
       consecutive = λ first. subst (λ (o : Option ℕ). AreConsecutive (handles_of l.peer n.submitted ++ end_of o ∷ [])) (sym (next_kept (decision now l.link))) (was.consecutive first);
       good = λ keeps. good_kept (decision now l.link) (was.good keeps);
+    }
+
+-- ---- a keep-alive beside a link
+
+sound_beside : (s : Peer → ℕ) (n : Network) → Sound s n → (o : Option PeerLink) → Sound s (after_beside o n)
+sound_beside s n g None = g
+sound_beside s n g (Some l) = record { apart = g.apart; each = each_map one n.links g.each }
+  where
+    one : (z : PeerLink) → LinkSound s n z → LinkSound s (after_beside (Some l) n) z
+    one z w = record {
+      span = w.span;
+      fair = fair_alive z.peer l.peer z.link.next z.link.untaken (past n) n.to_device n.to_links n.taken w.fair;
+      kept = w.kept;
+      consecutive = w.consecutive;
+      good = w.good;
     }
 
 -- ---- take
@@ -525,6 +540,7 @@ sound_step law s (steps.Tick now) n fits g = sound_tick s now n g
 sound_step law s (steps.Local ono change) n fits g = sound_local s ono change n g
 sound_step law s (Take i h) n fits g = sound_take s i h n g (slice_get n.links i) refl
 sound_step law s (Renew i first span now origin) n fits g = sound_renewal s i first span now origin n fits g (slice_get n.links i) refl
+sound_step law s (Beside i now) n fits g = sound_beside s n g (slice_get n.links i)
 
 pub sound_steps : (law : WrittenIsReadBack) (s : Peer → ℕ) (es : List Step) (n : Network) → AllByRecursion StepFits es → Sound s n → Sound s (after_steps es n)
 sound_steps law s [] n fits g = g

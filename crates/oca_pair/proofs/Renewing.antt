@@ -10,7 +10,7 @@ use Rattle.oca_control.specs.Untaken.{Untaken}
 use Rattle.oca_control.specs.Links.{Request}
 use Rattle.oca_pair.specs.Networks.{Network, PeerLink, SentDatagram, TakenAnswer, Renewal, times_renewed, left_by, left_behind}
 use Rattle.oca_pair.specs.Steps as steps
-use Rattle.oca_pair.specs.Steps.{Step, Submit, Due, ToDevice, ToLink, Other, Take, Renew, has_link, with_link, after_submit, after_due_step, after_delivery, after_reception, after_take, is_no_lower, unanswered, renewed_link, after_renewal, after_step, after_steps}
+use Rattle.oca_pair.specs.Steps.{Step, Submit, Due, ToDevice, ToLink, Other, Take, Renew, Beside, after_beside, has_link, with_link, after_submit, after_due_step, after_delivery, after_reception, after_take, is_no_lower, unanswered, renewed_link, after_renewal, after_step, after_steps}
 use Rattle.oca_pair.specs.Laws.{AreIncreasing, IsNoRenewal}
 use Rattle.oca_pair.specs.RoundTrip.{RenewsNothing}
 use Rattle.oca_pair.proofs.Core.{each_map, either_false}
@@ -89,6 +89,10 @@ renews_nothing step n none = one step none
     by_take k h None = refl
     by_take k h (Some l) = refl
 
+    by_beside : (o : Option PeerLink) → Stays (after_beside o n)
+    by_beside None = refl
+    by_beside (Some l) = refl
+
     one : (step : Step) → IsNoRenewal step → Stays (after_step step n)
     one (Submit k r now) none = by_submit k r now (slice_get n.links k)
     one (Due k now) none = by_due k now (slice_get n.links k)
@@ -99,6 +103,7 @@ renews_nothing step n none = one step none
     one (steps.Local ono change) none = refl
     one (Take k h) none = by_take k h (slice_get n.links k)
     one (Renew k first span now origin) none = absurd none
+    one (Beside k now) none = by_beside (slice_get n.links k)
 
 pub renew_nothing : (es : List Step) (n : Network) → AllByRecursion IsNoRenewal es → (after_steps es n).renewed ≡ n.renewed
 renew_nothing [] n none = refl
@@ -139,6 +144,7 @@ no_fewer_step p step n = one step
     one (steps.Local ono change) = goes_on (steps.Local ono change) tt
     one (Take k h) = goes_on (Take k h) tt
     one (Renew k first span now origin) = by_renewal k first span now origin (slice_get n.links k)
+    one (Beside k now) = goes_on (Beside k now) tt
 
 no_fewer : (p : Peer) (es : List Step) (n : Network) → times_renewed p n ≤ times_renewed p (after_steps es n)
 no_fewer p [] n = omega arith
@@ -196,6 +202,7 @@ left_step p step n never = one step never
     one (steps.Local ono change) never = goes_on (steps.Local ono change) tt
     one (Take k h) never = goes_on (Take k h) tt
     one (Renew k first span now origin) never = by_renewal k first span now origin (slice_get n.links k) never
+    one (Beside k now) never = goes_on (Beside k now) tt
 
 pub left_steps : (p : Peer) (es : List Step) (n : Network) → RenewsNothing p n (after_steps es n) → left_behind p (after_steps es n) ≡ left_behind p n
 left_steps p [] n never = refl

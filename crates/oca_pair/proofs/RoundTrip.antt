@@ -24,7 +24,7 @@ use Rattle.oca_control.specs.Untaken.{Untaken, new_untaken, answered, hears_all,
 use Rattle.oca_control.specs.Links.{LinkState, Request, command_under, submission, after_submission, Decision, GivesCommand, GivesKeepAlive, GivesNothing, IsLost, decision, after_due, gone_on, hears_content, received, taken, present_moment}
 use Rattle.oca_pair.specs.declared.start.Start.{Start}
 use Rattle.oca_pair.specs.Networks.{Network, PeerLink, SentDatagram, SubmittedCommand, TakenAnswer, Setup, started, opening}
-use Rattle.oca_pair.specs.Steps.{Step, Submit, Due, ToDevice, ToLink, Other, Take, has_link, sendings_in, with_link, submitted_by, after_submit, after_due_step, after_delivery, messages_read, content_read, hears_datagram, after_reception, taken_by, after_take, Renew, is_no_lower, unanswered, renewed_link, after_renewal, after_step, after_steps}
+use Rattle.oca_pair.specs.Steps.{Step, Submit, Due, ToDevice, ToLink, Other, Take, has_link, sendings_in, with_link, submitted_by, after_submit, after_due_step, after_delivery, messages_read, content_read, hears_datagram, after_reception, taken_by, after_take, Renew, Beside, after_beside, is_no_lower, unanswered, renewed_link, after_renewal, after_step, after_steps}
 use Rattle.oca_pair.specs.Steps as steps
 use Rattle.oca_pair.specs.Premises.{are_apart, StepFits, Fit, SpanFits}
 use Rattle.oca_pair.specs.Laws.{Execution, executions_under, executions_for, answer_of, IsExecutedNow, WasExecuted, CarriesUntaken, IsAnswered}
@@ -93,6 +93,10 @@ grown_step step n = one step
         by_test true = record { sent = []; to_links = none_sent; more = []; submitted = none_more }
         by_test false = grown_not n
 
+    by_beside : (o : Option PeerLink) → Grown n (after_beside o n)
+    by_beside None = grown_not n
+    by_beside (Some l) = record { sent = []; to_links = none_sent; more = []; submitted = none_more }
+
     one : (step : Step) → Grown n (after_step step n)
     one (Submit i r now) = by_submit i r now (slice_get n.links i)
     one (Due i now) = by_due i now (slice_get n.links i)
@@ -103,6 +107,7 @@ grown_step step n = one step
     one (steps.Local ono change) = record { sent = []; to_links = none_sent; more = []; submitted = none_more }
     one (Take i h) = by_take i h (slice_get n.links i)
     one (Renew i first span now origin) = by_renewal i first span now origin (slice_get n.links i)
+    one (Beside i now) = by_beside (slice_get n.links i)
 
 grown_on : (n m o : Network) → Grown n m → Grown m o → Grown n o
 grown_on n m o a b = record {
@@ -192,6 +197,10 @@ to_device_step step n a = one step
         by_test true = put i l (renewed_link first span now l.link) e refl
         by_test false = a
 
+    by_beside : (o : Option PeerLink) → AreToDevice (after_beside o n)
+    by_beside None = a
+    by_beside (Some l) = a
+
     one : (step : Step) → AreToDevice (after_step step n)
     one (Submit i r now) = by_submit i r now (slice_get n.links i) refl
     one (Due i now) = by_due i now (slice_get n.links i) refl
@@ -202,6 +211,7 @@ to_device_step step n a = one step
     one (steps.Local ono change) = a
     one (Take i h) = by_take i h (slice_get n.links i) refl
     one (Renew i first span now origin) = by_renewal i first span now origin (slice_get n.links i) refl
+    one (Beside i now) = by_beside (slice_get n.links i)
 
 pub to_device_steps : (es : List Step) (n : Network) → AreToDevice n → AreToDevice (after_steps es n)
 to_device_steps [] n a = a
@@ -362,6 +372,10 @@ stands_step i h p step n never g = one step never
             (stands_put i k h p l (renewed_link first span now l.link) n.links n.taken [] e (λ q same. absurd (not_its_renewal p l.peer (record { peer = l.peer; zero = origin; left = unanswered l.link.untaken }) n.renewed refl never same)) g)
         by_test false never = g
 
+    by_beside : (o : Option PeerLink) → Stands i p h (after_beside o n).links (after_beside o n).taken
+    by_beside None = g
+    by_beside (Some l) = record { link = g.link; there = g.there; peer = g.peer; kept = g.kept }
+
     one : (step : Step) → RenewsNothing p n (after_step step n) → Stands i p h (after_step step n).links (after_step step n).taken
     one (Submit k r now) never = by_submit k r now (slice_get n.links k) refl
     one (Due k now) never = by_due k now (slice_get n.links k) refl
@@ -372,6 +386,7 @@ stands_step i h p step n never g = one step never
     one (steps.Local ono change) never = record { link = g.link; there = g.there; peer = g.peer; kept = g.kept }
     one (Take k j) never = by_take k j (slice_get n.links k) refl
     one (Renew k first span now origin) never = by_renewal k first span now origin (slice_get n.links k) refl never
+    one (Beside k now) never = by_beside (slice_get n.links k)
 
 pub stands_steps : (i h : ℕ) (p : Peer) (es : List Step) (n : Network) → RenewsNothing p n (after_steps es n) → Stands i p h n.links n.taken → Stands i p h (after_steps es n).links (after_steps es n).taken
 stands_steps i h p [] n never g = g
@@ -520,6 +535,10 @@ executed_steps p x (e ∷ es) n i = executed_steps p x es (after_step e n) (one 
         by_test true = i
         by_test false = i
 
+    by_beside : (o : Option PeerLink) → Has (after_beside o n)
+    by_beside None = i
+    by_beside (Some l) = i
+
     one : (step : Step) → Has (after_step step n)
     one (Submit k r now) = by_submit k r now (slice_get n.links k)
     one (Due k now) = by_due k now (slice_get n.links k)
@@ -530,6 +549,7 @@ executed_steps p x (e ∷ es) n i = executed_steps p x es (after_step e n) (one 
     one (steps.Local ono change) = executed_then p x (past n) (event.Local ono change) i
     one (Take k h) = by_take k h (slice_get n.links k)
     one (Renew k first span now origin) = by_renewal k first span now origin (slice_get n.links k)
+    one (Beside k now) = by_beside (slice_get n.links k)
 
 -- what a delivery is answered with was executed then or before
 executed_by : (k now : ℕ) (p : Peer) (x : Execution) (n : Network) → IsExecutedNow k now p x n ⊎ WasExecuted k now p x n →

@@ -30,7 +30,7 @@ use Rattle.oca_control.specs.Links.{Request, command_under, submission}
 use Rattle.oca_pair.specs.declared.outcome.Outcome.TheVariants as outcomes
 use Rattle.oca_pair.specs.declared.start.Start.{Start}
 use Rattle.oca_pair.specs.Networks.{Network, PeerLink, SentDatagram, SubmittedCommand, Setup, opening}
-use Rattle.oca_pair.specs.Steps.{Step, Submit, Due, ToDevice, ToLink, Other, Take, has_link, submitted_by, submit_outcome, after_submit, after_due_step, after_delivery, hears_datagram, after_reception, after_take, after_step, after_steps, on_link, delivery_outcome, outcome_of_step, Renew, with_link, is_no_lower, unanswered, renewed_link, after_renewal}
+use Rattle.oca_pair.specs.Steps.{Step, Submit, Due, ToDevice, ToLink, Other, Take, has_link, submitted_by, submit_outcome, after_submit, after_due_step, after_delivery, hears_datagram, after_reception, after_take, after_step, after_steps, on_link, delivery_outcome, outcome_of_step, Renew, Beside, after_beside, with_link, is_no_lower, unanswered, renewed_link, after_renewal}
 use Rattle.oca_pair.specs.Steps as steps
 use Rattle.oca_pair.specs.Happenings.{happenings}
 use Rattle.oca_pair.specs.Premises.{are_apart, StepFits, Fit}
@@ -223,6 +223,10 @@ does_step law s i l step n sound own = one step
         by_test true = inl refl
         by_test false = inl refl
 
+    by_beside : (k now : ℕ) (o : Option PeerLink) → Does p (Beside k now) n (after_beside o n)
+    by_beside k now None = inl refl
+    by_beside k now (Some z) = inl refl
+
     one : (step : Step) → Does p step n (after_step step n)
     one (Submit k r now) = by_submit k r now (slice_get n.links k)
     one (Due k now) = by_due k now (slice_get n.links k)
@@ -233,6 +237,7 @@ does_step law s i l step n sound own = one step
     one (steps.Local ono change) = inl (executions_are n.sizes p n.tree (Local ono change ∷ n.events) ∙ sym (executions_are n.sizes p n.tree n.events))
     one (Take k h) = by_take k h (slice_get n.links k)
     one (Renew k first span now origin) = by_renewal k first span now origin (slice_get n.links k)
+    one (Beside k now) = by_beside k now (slice_get n.links k)
 
 -- what is among the executions after steps was before them, or happens in one of them
 executed_in_steps : WrittenIsReadBack → (s : Peer → ℕ) (i : ℕ) (p : Peer) (es : List Step) (n : Network) → AllByRecursion StepFits es → Sound s n →

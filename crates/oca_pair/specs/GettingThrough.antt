@@ -20,7 +20,7 @@ use Rattle.oca_control.specs.Answering.{IsAskedEvery, IsSentInTime}
 use Rattle.oca_pair.specs.declared.outcome.Outcome.TheVariants as outcomes
 use Rattle.oca_pair.specs.declared.start.Start.{Start}
 use Rattle.oca_pair.specs.Networks.{Network, PeerLink, SentDatagram, Setup, opening}
-use Rattle.oca_pair.specs.Steps.{Step, Submit, Due, ToDevice, ToLink, Other, Tick, Local, Take, Renew, content_read}
+use Rattle.oca_pair.specs.Steps.{Step, Submit, Due, ToDevice, ToLink, Other, Tick, Local, Take, Renew, Beside, content_read}
 use Rattle.oca_pair.specs.Steps.{after_step}
 use Rattle.oca_pair.specs.Steps.{after_steps, outcome_of_step}
 use Rattle.oca_pair.specs.Premises.{are_apart, StepFits, Fit, KeepsItsSession, FindsRoom, SpanFits}
@@ -63,6 +63,7 @@ call_in i (Other from bytes now) n = []
 call_in i (Tick now) n = []
 call_in i (Local ono change) n = []
 call_in i (Renew link first span now origin) n = []
+call_in i (Beside link now) n = []
 
 abbrev pub calls_in : ℕ → List Step → Network → List Call
 calls_in i [] n = []

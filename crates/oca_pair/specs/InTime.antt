@@ -10,10 +10,10 @@ use Rattle.oca_tree.specs.declared.object.Object.{Object}
 use Rattle.oca_device.specs.LawByEvents.{Passes, clock, admitted, accepted_by}
 use Rattle.oca_control.specs.Answers.{AnswerFields}
 use Rattle.oca_control.specs.Untaken.{answer_under}
-use Rattle.oca_control.specs.Links.{present_moment, late_at, decision}
+use Rattle.oca_control.specs.Links.{GivesKeepAlive, present_moment, late_at, decision}
 use Rattle.oca_pair.specs.declared.start.Start.{Start}
 use Rattle.oca_pair.specs.Networks.{Network, PeerLink, SentDatagram, Setup, opening, zero_of}
-use Rattle.oca_pair.specs.Steps.{Step, Submit, Due, ToDevice, ToLink, Other, Tick, Local, Take, Renew, given_by}
+use Rattle.oca_pair.specs.Steps.{Step, Submit, Due, ToDevice, ToLink, Other, Tick, Local, Take, Renew, Beside, given_by}
 use Rattle.oca_pair.specs.Steps.{after_step, after_steps}
 use Rattle.oca_pair.specs.Happenings.{happenings}
 use Rattle.oca_pair.specs.Premises.{are_apart, Fit}
@@ -35,6 +35,13 @@ leaving s n now (Some l) =
     let at : ℕ = zero_of s l.peer n + present_moment now l.link in
     map (λ bytes. record { datagram = record { peer = l.peer; bytes = bytes }; at = at }) (given_by (decision now l.link))
 
+-- what leaves beside a link at this moment of its clock
+abbrev pub leaving_beside : Setup → Network → ℕ → Option PeerLink → List Departure
+leaving_beside s n now None = []
+leaving_beside s n now (Some l) =
+    let at : ℕ = zero_of s l.peer n + now in
+    map (λ bytes. record { datagram = record { peer = l.peer; bytes = bytes }; at = at }) (given_by GivesKeepAlive)
+
 -- what leaves with a step
 abbrev pub departures_in : Setup → Step → Network → List Departure
 departures_in s (Due link now) n = leaving s n now (slice_get n.links link)
@@ -46,6 +53,7 @@ departures_in s (Tick now) n = []
 departures_in s (Local ono change) n = []
 departures_in s (Take link handle) n = []
 departures_in s (Renew link first span now origin) n = []
+departures_in s (Beside link now) n = leaving_beside s n now (slice_get n.links link)
 
 -- the device's clock when something comes to it at this moment
 abbrev pub clock_at : ℕ → Network → ℕ

@@ -49,6 +49,8 @@ pub data Step : Type 0 where
   -- a link is replaced by a new one of the same peer: with this first handle and span, made at this moment of its own
   -- clock, which showed 0 at the moment `origin` of the common clock
   Renew : (link first span now origin : ℕ) → Step
+  -- a keep-alive is sent beside a link: from its address and port at this moment of its clock, and without the link
+  Beside : (link now : ℕ) → Step
 
 -- the peer is that of a link
 abbrev pub has_link : Peer → List PeerLink → Bool
@@ -65,6 +67,7 @@ is_there (Tick now) n = true
 is_there (Local ono change) n = true
 is_there (Take link handle) n = is_some (slice_get n.links link)
 is_there (Renew link first span now origin) n = is_some (slice_get n.links link)
+is_there (Beside link now) n = is_some (slice_get n.links link)
 
 -- the datagrams of a peer with these bytes
 abbrev pub sendings_in : Peer → List (List ℕ) → List SentDatagram
@@ -109,6 +112,11 @@ due_outcome number (GivesCommand c) = outcomes.Sent number
 due_outcome number GivesKeepAlive = outcomes.Sent number
 due_outcome number GivesNothing = outcomes.Nothing
 due_outcome number IsLost = outcomes.Lost
+
+-- ---- BESIDE: what is sent beside the link is sent to the device, and the link knows nothing of it
+abbrev pub after_beside : Option PeerLink → Network → Network
+after_beside None n = n
+after_beside (Some l) n = record n { to_device = n.to_device ++ sendings_in l.peer (given_by GivesKeepAlive) }
 
 -- ---- TO DEVICE: the datagram comes to the device from the link's peer, and the device's packets are sent to that link
 abbrev pub after_delivery : ℕ → Option SentDatagram → Network → Network
@@ -213,6 +221,7 @@ after_step (Tick now) n = record n { events = event.Tick now ∷ n.events }
 after_step (Local ono change) n = record n { events = event.Local ono change ∷ n.events }
 after_step (Take link handle) n = after_take link handle (slice_get n.links link) n
 after_step (Renew link first span now origin) n = after_renewal link first span now origin (slice_get n.links link) n
+after_step (Beside link now) n = after_beside (slice_get n.links link) n
 
 -- THE NETWORK AFTER A SCHEDULE.
 abbrev pub after_steps : List Step → Network → Network
@@ -246,6 +255,7 @@ outcome_of_step (Local ono change) n = local_outcome (state_after n.sizes n.tree
 outcome_of_step (Take link handle) n =
     on_link (λ l. take_outcome (answer_under handle l.link.untaken)) (slice_get n.links link)
 outcome_of_step (Renew link first span now origin) n = on_link (λ l. outcomes.Nothing) (slice_get n.links link)
+outcome_of_step (Beside link now) n = on_link (λ l. outcomes.Sent (length n.to_device)) (slice_get n.links link)
 
 -- THE OUTCOMES OF A SCHEDULE, in order.
 abbrev pub outcomes_of : List Step → Network → List Outcome

@@ -9,16 +9,16 @@ use Rattle.oca_types.specs.Peers.{same_peer}
 use Rattle.oca_control.specs.declared.fault.ControlFault.{ControlFault}
 use Rattle.oca_control.specs.Answers.{AnswerFields}
 use Rattle.oca_control.specs.Untaken.{answer_under}
-use Rattle.oca_control.specs.Links.{LinkState, Request, submission, submitted, gone_on, received, taken}
+use Rattle.oca_control.specs.Links.{LinkState, Request, submission, submitted, gone_on, received, taken, GivesKeepAlive, due_bytes}
 use Rattle.oca_pair.specs.Networks.{Network, PeerLink, SentDatagram, TakenAnswer}
 use Rattle.oca_pair.specs.declared.outcome.Outcome.TheVariants as outcomes
-use Rattle.oca_pair.specs.Steps.{Step, Submit, Due, ToDevice, ToLink, Other, Take, has_link, content_read, hears_datagram, after_submit, after_due_step, after_delivery, after_reception, taken_by, after_take, after_step, after_steps, on_link, submit_outcome, outcome_of_step, Renew, with_link, is_no_lower, unanswered, renewed_link, after_renewal}
+use Rattle.oca_pair.specs.Steps.{Step, Submit, Due, ToDevice, ToLink, Other, Take, has_link, content_read, hears_datagram, after_submit, after_due_step, after_delivery, after_reception, taken_by, after_take, after_step, after_steps, on_link, submit_outcome, outcome_of_step, Renew, Beside, after_beside, with_link, is_no_lower, unanswered, renewed_link, after_renewal}
 use Rattle.oca_pair.specs.Steps as steps
 use Rattle.oca_pair.proofs.Lists.{same_self, IsIn, in_more, in_last, each_at}
 use Rattle.oca_pair.proofs.RoundTrip.{AreToDevice, to_device_step}
 use Rattle.oca_device.specs.Events.{Datagram}
 use Rattle.oca_panel.specs.Panels.{PanelState}
-use Rattle.oca_promise.specs.Renewals.{EveryRenewalIsAStep}
+use Rattle.oca_promise.specs.Renewals.{EveryRenewalIsAStep, EveryCallBesideIsAStep}
 use Rattle.oca_promise.specs.Doings.{Doing, Submits, Sends, Hears, Takes, done, all_done, IsStepFor, GoesOnWith, Plays}
 
 -- the link of this number is the peer's, and in this state
@@ -69,6 +69,20 @@ pub renewals_are_steps : EveryRenewalIsAStep
 renewals_are_steps first span old new renewed n i p origin next is above e =
     renew_there i p old.link first span renewed.now origin n (ap (is_no_lower first) is ∙ no_lower next first above) e
     ∙ ap (λ (s : PanelState). let y : PeerLink = record { peer = p; link = s.link } in Some y) (sym renewed.panel)
+
+-- and so it is where a keep-alive is sent beside its link
+pub calls_beside_are_steps : EveryCallBesideIsAStep
+calls_beside_are_steps heard old new calls n i now p e =
+    let x : PeerLink = record { peer = p; link = old.link } in
+    let link_is : old.link ≡ new.link = sym (ap (λ (s : PanelState). s.link) calls.same) in
+    record {
+      bytes = due_bytes GivesKeepAlive;
+      taken = calls.keeps.0;
+      given = calls.keeps.1;
+      sent = ap (λ (o : Option PeerLink). (after_beside o n).to_device) e;
+      link = ap (λ (o : Option PeerLink). slice_get (after_beside o n).links i) e ∙ e
+          ∙ ap (λ (l : LinkState). let y : PeerLink = record { peer = p; link = l } in Some y) link_is;
+    }
 
 heard_there : (from p : Peer) (bytes : List ℕ) (now : ℕ) (l : LinkState) → hears_datagram from (record { peer = p; bytes = bytes }) now (record { peer = p; link = l }) ≡ record { peer = p; link = received from (content_read bytes) now l }
 heard_there from p bytes now l = by_test (same_peer p p) (same_self p)
@@ -174,6 +188,10 @@ taken_stays p h a step n is = one step
     by_take i k None = is
     by_take i k (Some l) = in_more _ n.taken (taken_by l.peer k (answer_under k l.link.untaken)) is
 
+    by_beside : (o : Option PeerLink) → HasTaken p h a (after_beside o n)
+    by_beside None = is
+    by_beside (Some l) = is
+
     by_renewal : (i first span now origin : ℕ) (o : Option PeerLink) → HasTaken p h a (after_renewal i first span now origin o n)
     by_renewal i first span now origin None = is
     by_renewal i first span now origin (Some l) = by_test (is_no_lower first l.link.next)
@@ -192,6 +210,7 @@ taken_stays p h a step n is = one step
     one (steps.Local ono change) = is
     one (Take i k) = by_take i k (slice_get n.links i)
     one (Renew i first span now origin) = by_renewal i first span now origin (slice_get n.links i)
+    one (Beside i now) = by_beside (slice_get n.links i)
 
 taken_stays_on : (p : Peer) (h : ℕ) (a : AnswerFields) (steps : List Step) (n : Network) → HasTaken p h a n → HasTaken p h a (after_steps steps n)
 taken_stays_on p h a [] n is = is

@@ -1,9 +1,12 @@
--- A PANEL IS RENEWED (profile), and goes on in the same network.
-use Rattle.std.specs.Prelude.{◌≡◌, ℕ, ◌≤◌, Some}
+-- A PANEL IS RENEWED, or sends a keep-alive beside its link (profile), and goes on in the same network.
+use Rattle.std.specs.Prelude.{◌≡◌, ℕ, ◌≤◌, Bool, List, [], ◌∷◌, ◌++◌, Some}
 use Rattle.std.specs.List.{slice_get}
 use Rattle.oca_types.specs.declared.words.Peer.{Peer}
+use Rattle.oca_net.specs.declared.end.Heard.{Heard}
+use Rattle.oca_net.specs.EndStates.{Sends}
 use Rattle.oca_pair.specs.Networks.{Network}
-use Rattle.oca_pair.specs.Steps.{Renew, after_step}
+use Rattle.oca_pair.specs.Steps.{Renew, Beside, after_step}
+use Rattle.oca_panel.specs.Calls.{CallsBeside}
 use Rattle.oca_panel.specs.Panels.{PanelState}
 use Rattle.oca_panel.specs.Renewals.{IsRenewed}
 
@@ -17,3 +20,20 @@ EveryRenewalIsAStep =
     old.link.next ≡ Some next → next ≤ first → slice_get n.links i ≡ Some (record { peer = p; link = old.link }) →
     slice_get (after_step (Renew i first span renewed.now origin) n).links i
     ≡ Some (record { peer = p; link = new.link })
+
+-- The panel's end was given a datagram for its link's device; after the step Beside this very datagram is the next one that
+-- was sent to the device in the network, and the panel's link is the one of this number.
+pub record GoesOnBeside (heard : Heard) (old new : PanelState) (calls : CallsBeside old.link.device heard old new)
+    (i now : ℕ) (p : Peer) (n : Network) : Type 0 where
+  pub bytes : List ℕ
+  pub taken : Bool
+  pub given : Sends taken old.link.device bytes old.end_state calls.between
+  pub sent : (after_step (Beside i now) n).to_device ≡ n.to_device ++ record { peer = p; bytes = bytes } ∷ []
+  pub link : slice_get (after_step (Beside i now) n).links i ≡ Some (record { peer = p; link = new.link })
+
+-- So it is of each panel whose link is the one of this number, and which sends its link's device a keep-alive beside it.
+abbrev pub EveryCallBesideIsAStep : Type 0
+EveryCallBesideIsAStep =
+    (heard : Heard) (old new : PanelState) (calls : CallsBeside old.link.device heard old new) (n : Network)
+    (i now : ℕ) (p : Peer) →
+    slice_get n.links i ≡ Some (record { peer = p; link = old.link }) → GoesOnBeside heard old new calls i now p n

@@ -4,7 +4,7 @@ ghost use Rattle.oca_promise.specs.Calls.{EveryAnsweredCallKeeps, EveryCallIsInT
 ghost use Rattle.oca_promise.specs.Promises.{EverySetKeeps, EveryRefusedSetKeeps, EveryReadingKeeps, EveryGetKeeps};
 ghost use Rattle.oca_promise.specs.Promises.{EveryLockKeeps, EveryUnlockKeeps, EveryClassKeeps, EveryRoleKeeps};
 ghost use Rattle.oca_promise.specs.Promises.{EveryLabelKeeps, EveryMembersKeep, EveryDescriptionKeeps};
-ghost use Rattle.oca_promise.specs.Renewals.{EveryRenewalIsAStep};
+ghost use Rattle.oca_promise.specs.Renewals.{EveryCallBesideIsAStep, EveryRenewalIsAStep};
 ghost use Rattle.oca_promise.specs.Flights.{EveryAnsweredFlightKeeps, EveryFlightIsInTime};
 ghost use Rattle.oca_promise.specs.Flights.{EverySetInFlightKeeps, EveryReadingInFlightKeeps, EveryAnswerInFlightKeeps};
 
@@ -37,6 +37,8 @@ use oca_pdu::law_reading;
 /// - Renewal: after [`renew`](oca_panel::Panel::renew) the panel's link is the link of the same network after a step that
 ///   renews it, so all this holds of its later calls too. The new link must be to the same device, with a first handle
 ///   no lower than the handle that the next command of the old link would get.
+/// - Beside: [`call`](oca_panel::Panel::call) to the link's device sends what a step of the network sends beside the link,
+///   and the panel's link is the link of the same network after that step.
 ///
 /// If the end does not record what it delivers, all this holds of some deliveries and an answer that fit the call.
 pub fn law_of_calls()
@@ -55,6 +57,7 @@ pub fn law_of_calls()
     ensures members { EveryMembersKeep }
     ensures describes { EveryDescriptionKeeps }
     ensures renewal { EveryRenewalIsAStep }
+    ensures beside { EveryCallBesideIsAStep }
 {
     law_of_what_is_said();
     law_reading();
