@@ -419,9 +419,11 @@ own_kept law s left p next us g out back handed bytes now (inl (c, sub, is)) fai
     grown B (inl same) good below = rw same good
     grown B (inr (x, r, m_is, new, grows)) good below =
         let same : c ≡ x = command_is c x m_is in
-        rw grows (since_by (λ f late q. good_grown s f late p next us g.submitted (accepted_by p g) (record { command = x; reply = r })
-            (rw same at below, rw same at (of_link f late c.handle (accepted_by p g) (ap (λ (y : CommandFields). has y.handle (accepted_by p g)) same ∙ new)
-            (each_in (λ (y : SubmittedCommand). y.peer ≡ p → IsKnown f late (accepted_by p g) y.command.handle) _ g.submitted q.from sub refl))) new q) good)
+        rw grows (since_by (λ f late q. good_grown s f late p next us g.submitted (accepted_by p g) (record { command = x; reply = r }) (
+          rw same at below,
+          rw same at (of_link f late c.handle (accepted_by p g) (ap (λ (y : CommandFields). has y.handle (accepted_by p g)) same ∙ new)
+              (each_in (λ (y : SubmittedCommand). y.peer ≡ p → IsKnown f late (accepted_by p g) y.command.handle) _ g.submitted q.from sub refl)),
+        ) new q) good)
 own_kept law s left p next us g out back handed bytes now (inr is) fair keeps k =
     let d = delivers p (KeepAlive (Seconds 5)) bytes now g (ap read_datagram is ∙ read_keep_alive law) (inr (Seconds 5, refl)) keeps k in
     (d.kept, λ good. grown (accepted_by p (and_then (Datagram p bytes now) g)) d.grown good)
