@@ -445,10 +445,12 @@ def altered(r, _, lines, walk):
         return []
     law = r.choice(sorted(walk.places))
     at = 1 + r.choice(walk.places[law])
-    status, count, params = (lines[at].split(" ") + [""] * 4)[1:4]
-    new = {"answers": f"answer {int(status) ^ 1} {count} {params}" if r.randrange(2) else lines[at].removesuffix("-") + "00",
-           "untaken": "served 0 0 1", "once": "served 1 0 0", "round trip": "nothing new",
-           "renewed": {"renewed": "not renewed"}.get(lines[at], "renewed")}[law]
+    if law == "answers":
+        status, count, params = lines[at].split(" ")[1:4]
+        new = f"answer {int(status) ^ 1} {count} {params}" if r.randrange(2) else lines[at].removesuffix("-") + "00"
+    else:
+        new = {"untaken": "served 0 0 1", "once": "served 1 0 0", "round trip": "nothing new",
+               "renewed": "not renewed" if lines[at] == "renewed" else "renewed"}[law]
     return [(law, None, lines[:at] + [new] + lines[at + 1:])]
 
 
