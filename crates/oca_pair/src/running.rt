@@ -49,7 +49,8 @@ pub(crate) struct PeerLink {
 }
 
 impl Model for PeerLink {
-    ghost use Rattle.oca_pair.specs.Networks.{PeerLink as LinkOfPeer};
+    ghost use Rattle.std.specs.Prelude.{◌≡◌};
+    ghost use Rattle.oca_pair.specs.Networks.{PeerLink as LinkOfPeer, device_address};
 
     ghost Value = { LinkOfPeer };
 
