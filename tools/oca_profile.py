@@ -681,6 +681,12 @@ class Network:
             return "none" if answer is None else f"answer {answer[0]} {answer[1]} {hex_text(answer[2])}"
         if kind == "submit":
             return link.submit(*step[3:], step[1])
+        if kind == "renew":
+            _, now, _, first, span = step
+            if first < link.next:
+                return "not renewed"
+            self.links[number] = peer, Link(DEVICE, first, span, now)
+            return "renewed"
         said, data = link.due(step[1])
         if data is None:
             return said

@@ -12,7 +12,7 @@ class Schedule:
 
     def __init__(self, window, span, starts, peers=16):
         self.window, self.span, self.starts, self.peers = window, span, starts, peers
-        self.steps, self.outcomes, self.now, self.refusal = [], [], 0, None
+        self.steps, self.outcomes, self.now, self.refusal, self.renews = [], [], 0, None, False
         self.network, self.came = oca.Network(window, span, starts, peers), {"to-device": 0, "to-link": 0}
 
     def add(self, *step):
@@ -63,9 +63,9 @@ class Schedule:
 
     def refused(self, r):
         """With one more step that names what is not there, or two starts of one peer or one of the device's."""
-        sent, kind = self.network, r.randrange(6)
-        step = [("to-device", self.now, len(sent.to_device)), ("to-link", self.now, len(sent.to_links)), ("take", len(self.starts), 1),
-                ("due", self.now, len(self.starts)), ("other", self.now, self.starts[-1][0], b""), None][kind]
+        sent, count, kind = self.network, len(self.starts), r.randrange(7)
+        step = [("to-device", self.now, len(sent.to_device)), ("to-link", self.now, len(sent.to_links)), ("take", count, 1), ("due", self.now, count),
+                ("renew", self.now, count, 1, 1), ("other", self.now, self.starts[-1][0], b""), None][kind]
         if step is None:
             self.starts, self.refusal = self.starts + [r.choice([(oca.DEVICE, 1), self.starts[0]])], "same peer"
         else:
@@ -88,9 +88,11 @@ def peer(number):
 
 
 def linked(r, window, span, count):
-    """A schedule with so many links, and room for some number of peers."""
+    """A schedule with so many links, and room for some number of peers; in some of them links are renewed."""
     starts = [(peer(n), r.choice([0, 1, 1, 5, 1000, 2**31, oca.U32 - 300, oca.U32 - 3])) for n in range(count)]
-    return Schedule(window, span, starts, r.choice(PEERS))
+    schedule = Schedule(window, span, starts, r.choice(PEERS))
+    schedule.renews = r.randrange(4) == 0
+    return schedule
 
 
 CALM = [0] * 8 + [1, 1, 2, 5, 20, 100, 250, 300]
@@ -117,6 +119,19 @@ def submit(r, schedule, link):
     return schedule.timed("submit", link, *asked, params if r.randrange(60) else bytes(r.choice([1445, 1446])))
 
 
+def renew(r, schedule, link):
+    """A link is renewed, mostly with another span, where the first handle is no lower than its next one; now and then it is lower."""
+    first = schedule.network.links[link][1].next + r.choice([0, 0, 0, 1, 2, 40, -1, -1, -3])
+    return schedule.timed("renew", link, min(oca.U32, max(0, first)), r.choice([schedule.span, r.randrange(1, 33), r.randrange(1, 33)]))
+
+
+def some_renewed(r, schedule):
+    """Where links are renewed, some are now."""
+    for link in range(len(schedule.starts)) if schedule.renews else ():
+        if r.randrange(3) == 0:
+            renew(r, schedule, link)
+
+
 def others_bytes(r):
     c = oca.Command(r.randrange(5), 4097, 1, r.choice([3, 4, 5, 6]), 0, b"")
     return r.choice([oca.pdu(1, [c.body()]), oca.pdu(4, [oca.u16(1)]), b"", b"\x3b\x00", oca.response(1), oca.pdu(1, [c.body(), c.body()])])
@@ -128,7 +143,7 @@ def wander(r, window, span):
     length, links = r.choice([10, 16, 24, 40, 80, 150, 250]), len(network.links)
     strangers = [peer(n) for n in range(16, 16 + r.choice([0, 0, 1, 3, 20]))]
     kinds = ["submit", "due", "to-device", "to-link", "take"] + ["tick"] * r.randrange(2) + ["other"] * (len(strangers) > 0) \
-        + ["set"] * (r.randrange(3) == 0)
+        + ["set"] * (r.randrange(3) == 0) + ["renew"] * schedule.renews
     weights = [r.choice([2, 3, 5]) for _ in kinds[:5]] + [1] * (len(kinds) - 5)
     heard = {"to-device": set(), "to-link": set()}
     if r.randrange(16) == 0:  # a link without answers, until it is lost
@@ -140,6 +155,8 @@ def wander(r, window, span):
             submit(r, schedule, link)
         elif kind == "due":
             schedule.timed("due", link)
+        elif kind == "renew":
+            renew(r, schedule, link)
         elif kind == "take":
             answered = [u[0].handle for u in network.links[link][1].untaken if u[3] is not None]
             schedule.add("take", link, r.choice(answered) if answered and r.randrange(8) else r.randrange(20))
@@ -209,6 +226,7 @@ def crowd(r, window, span):
         schedule.deliver("to-device", holds=lambda k: r.randrange(3))
         schedule.deliver("to-link")
         schedule.take_all()
+        some_renewed(r, schedule)
         schedule.now += r.choice([119999, 120000, 120001, 200000])
     schedule.deliver("to-device")
     schedule.deliver("to-link")
@@ -235,6 +253,7 @@ def visitors(r, window, span):
 def goes_on(r, schedule, pace):
     if r.randrange(3) == 0:
         schedule.take_all()
+    some_renewed(r, schedule)
     schedule.now += r.choice(pace)
 
 
@@ -268,6 +287,7 @@ def slow(r, window, span):
             left |= dict.fromkeys(schedule.sends(i), schedule.now)
             schedule.now += r.choice([0, 99999, 100000, 100000] + [105001] * (r.randrange(8) == 0))
             schedule.deliver("to-device", range(first, len(network.to_device)), lambda k: schedule.now - left[k] <= 100000 or r.randrange(8) == 0)
+        some_renewed(r, schedule)
         schedule.deliver("to-link")
         schedule.take_all()
         schedule.now += r.choice([119999, 120000, 120001, 200000])

@@ -18,6 +18,9 @@ A peer keeps its session while its admitted datagrams come at most 120,000 ms ap
  once        no command is executed twice if the peer kept its session
  in time     the same of a link in time, whatever the device forgets: it asks nothing 15,000 ms behind a submit, and its
              datagrams come at most 100,000 ms late; its answer is that of the only execution under the handle
+ renewed     a link is renewed exactly where the first handle is no lower than its next one; the new link's first command
+             gets that handle, and it gets no answer to a command of a link before. Then `untaken`, `round trip` and
+             `through` ask nothing of it any more; the other laws are those of the links before it too
  said        that execution lies behind the submit, and an OK answer of GetLabel, GetEnabled or the get method of a class is what
              was last set, with its limits
  second      the transcript is, byte for byte, that of the second implementation
@@ -76,26 +79,33 @@ def set_by(o, method, params):
 
 class Given:
     """A command that a link was given: at which step and when, when its link was asked last and had nothing to send, the longest time
-    since, when it was sent, the step of its last execution and what a get method gave there, and the answer that came to its link."""
+    since, when it was sent, the step of its last execution and what a get method gave there, and the answer that came to its link. It
+    is gone once its answer was taken, or its link renewed."""
 
     def __init__(self, command, step, now):
         self.command, self.step, self.since, self.asked = command, step, now, now
         self.ms, self.sent, self.met, self.owed = 0, [], (-1, None), None
-        self.is_answered = self.is_owed = self.is_taken = False
+        self.is_answered = self.is_owed = self.is_gone = False
 
 
 class Link:
-    """What is known of a link: its peer, its clock, its commands by handle, and the executions of them, each a command and its reply."""
+    """What is known of a link, and of the links that were renewed as it: its peer, its clock, its commands by handle, the executions
+    of them, each a command and its reply, and the handle of its next command."""
 
-    def __init__(self, peer):
-        self.peer, self.clock, self.commands, self.executions = peer, 0, {}, []
-        self.is_lost, self.is_in_time = False, True
+    def __init__(self, peer, first):
+        self.peer, self.clock, self.commands, self.executions, self.next = peer, 0, {}, [], first
+        self.is_lost, self.is_renewed, self.is_in_time = False, False, True
 
     def go_on(self, now):
         self.clock = max(self.clock, now)
 
+    def renew(self, first, now):
+        for it in self.commands.values():
+            it.is_gone = True
+        self.next, self.clock, self.is_lost, self.is_renewed = first, now, False, True
+
     def waiting(self):
-        return [it for it in self.commands.values() if not (it.is_answered or self.is_lost)]
+        return [it for it in self.commands.values() if not (it.is_answered or it.is_gone or self.is_lost)]
 
     def under(self, handle):
         return [(command, reply) for command, reply in self.executions if command.handle == handle]
@@ -113,7 +123,7 @@ class Laws:
         for line in lines[len(self.steps) + 1:-1]:
             way, to, data = line.split(" ")
             self.sent[way].append((oca.peer_of(to), oca.hex_of(data)))
-        self.links = [Link(p) for p, _ in schedule.starts]
+        self.links = [Link(*start) for start in schedule.starts]
         self.of_peer = {link.peer: link for link in self.links}
         self.came, self.admitted, self.refused, self.forgotten = set(), {}, set(), set()
         self.spoke = {}  # by peer, when its last well-formed datagram came
@@ -182,7 +192,9 @@ class Laws:
     def submit(self, step, said):
         if said.startswith("handle "):
             link, handle = self.links[step[2]], int(said.split(" ")[1])
-            self.expect(handle not in link.commands, "answers", f"two commands have handle {handle}")
+            self.expect(handle > max(link.commands, default=-1), "answers", f"handle {handle} is no higher than one before")
+            self.expect(handle == link.next, "renewed" if link.is_renewed else "answers", f"handle {handle} comes where {link.next} is next")
+            link.next = handle + 1
             link.go_on(step[1])
             link.commands[handle] = Given(oca.Command(handle, *step[3:]), self.number, link.clock)
             self.called(link)
@@ -190,7 +202,7 @@ class Laws:
     def due(self, step, said):
         link, number = self.links[step[2]], int(said.split(" ")[1]) if said.startswith("sent ") else None
         link.go_on(step[1])
-        link.is_in_time &= all(link.clock - it.since <= 15000 for it in link.commands.values() if not it.is_answered)
+        link.is_in_time &= all(link.clock - it.since <= 15000 for it in link.commands.values() if not (it.is_answered or it.is_gone))
         link.is_lost |= said == "lost"
         self.left[number] = link.clock
         p, data = self.sent["to-device"][number] if number is not None else (None, None)
@@ -209,7 +221,7 @@ class Laws:
     def called(self, link):
         """After a call of the link: what waits is sent in time."""
         now = link.clock
-        for it in link.waiting():
+        for it in link.waiting() if not link.is_renewed else ():
             it.ms = max(it.ms, now - it.asked)
             is_late = now >= it.sent[-1] + 250 + it.ms if it.sent else now > it.since + it.ms
             self.expect(not is_late and now <= it.since + it.ms + 20 * (250 + it.ms), "through",
@@ -217,6 +229,15 @@ class Laws:
             self.count["waiting"] += 1
             self.count["waiting, asked every 250 ms"] += it.ms <= 250
             self.count["waiting, asked so, and sent again"] += it.ms <= 250 and len(it.sent) > 1
+
+    def renew(self, step, said):
+        _, now, number, first, _ = step
+        link = self.links[number]
+        self.expect((said == "renewed") == (first >= link.next), "renewed", f"{said} from {first} on, where {link.next} is next")
+        self.places["renewed"].append(self.number)
+        if said == "renewed":
+            self.count["renewals of a renewed link"] += link.is_renewed
+            link.renew(first, now)
 
     def tick(self, step, said):
         self.clock = max(self.clock, step[1])
@@ -261,7 +282,7 @@ class Laws:
             self.places["once"].append(self.number)
         if executed:
             self.executes(link, held, message[2], reply)
-        if finds_room and not held.is_taken and data == oca.pdu(1, [held.command.body()]):
+        if finds_room and not held.is_gone and data == oca.pdu(1, [held.command.body()]):
             self.untaken_came(link, held, said, reply)
 
     def executes(self, link, held, command, reply):
@@ -271,7 +292,10 @@ class Laws:
         self.expect(is_forgotten or not is_again, "once", what)
         self.expect(not (link.is_in_time and is_again), "in time", what)
         self.count["once"] += not is_forgotten
+        self.count["once, of a renewed link"] += link.is_renewed and not is_forgotten
+        self.count["once, of a link before"] += link.is_renewed and not is_forgotten and held.is_gone
         self.count["in time"] += link.is_in_time
+        self.count["in time, of a renewed link"] += link.is_in_time and link.is_renewed
         self.count["in time, of a forgotten peer"] += link.is_in_time and is_forgotten
         link.executions.append((command, reply))
         o, method = self.settings.get(command.target), (command.level, command.index)
@@ -288,7 +312,7 @@ class Laws:
 
     def untaken_came(self, link, held, said, reply):
         """A copy came, and found room, of a command that the link holds untaken."""
-        if not self.fit or link.peer in self.forgotten:
+        if not self.fit or link.is_renewed or link.peer in self.forgotten:
             return
         handle = held.command.handle
         self.count["untaken"] += 1
@@ -312,13 +336,17 @@ class Laws:
         message, link = oca.check(data)[0], self.of_peer[p]
         link.go_on(now)
         if message[0] == "response" and said == "answered 1":
-            link.commands[message[1]].is_answered = True
+            held = link.commands[message[1]]
+            self.expect(not (link.is_renewed and held.is_gone), "renewed", f"the answer to handle {message[1]} of a link before comes to it")
+            held.is_answered = True
         self.called(link)
 
     def came_back(self, said, link, held, reply):
         """The datagram came that the device sent when a copy came of a command that this link held untaken."""
+        if link.is_renewed:
+            return
         self.count["round trips"] += 1
-        if held.is_taken:
+        if held.is_gone:
             return
         self.count["round trips of a command that is still untaken"] += 1
         if not held.is_answered:
@@ -333,16 +361,18 @@ class Laws:
         link = self.links[number]
         held = link.commands.get(handle)
         if said == "none":
-            is_owed = held and held.is_owed and not held.is_taken
+            is_owed = held and held.is_owed and not held.is_gone
             self.expect(not is_owed, "round trip", f"the answer to handle {handle} came, and its link has none")
             return
         _, status, count, params = said.split(" ")
         answer, under = (handle, int(status), int(count), oca.hex_of(params)), link.under(handle)
         self.count["answers"] += 1
+        self.count["answers, of a renewed link"] += link.is_renewed
         self.places["answers"].append(self.number)
         self.expect(held and any(command.asks() == held.command.asks() and reply == answer for command, reply in under), "answers",
                     f"the answer under {handle} is none of an execution of its command")
         self.expect(held.owed in (None, answer), "round trip", f"the answer to handle {handle} is another than the one that came")
+        self.expect(not (link.is_renewed and held.is_gone), "renewed", f"the answer to handle {handle} of a link before is taken")
         if link.peer not in self.forgotten:
             self.count["only"] += 1
             self.count["only, of a peer that found no room before"] += link.peer in self.refused
@@ -350,7 +380,8 @@ class Laws:
         if link.is_in_time:
             self.expect(len(under) == 1, "in time", f"{len(under)} executions under {handle} of a link in time")
             self.says(held, answer)
-        held.is_taken = True
+            self.count["said, of a renewed link"] += link.is_renewed
+        held.is_gone = True
 
     def says(self, held, answer):
         """An answer of a link in time: its execution lies behind the call, and a reading is what the object held."""
@@ -414,9 +445,12 @@ def altered(r, _, lines, walk):
         return []
     law = r.choice(sorted(walk.places))
     at = 1 + r.choice(walk.places[law])
-    status, count, params = (lines[at].split(" ") + [""] * 4)[1:4]
-    new = {"answers": f"answer {int(status) ^ 1} {count} {params}" if r.randrange(2) else lines[at].removesuffix("-") + "00",
-           "untaken": "served 0 0 1", "once": "served 1 0 0", "round trip": "nothing new"}[law]
+    if law == "answers":
+        status, count, params = lines[at].split(" ")[1:4]
+        new = f"answer {int(status) ^ 1} {count} {params}" if r.randrange(2) else lines[at].removesuffix("-") + "00"
+    else:
+        new = {"untaken": "served 0 0 1", "once": "served 1 0 0", "round trip": "nothing new",
+               "renewed": "not renewed" if lines[at] == "renewed" else "renewed"}[law]
     return [(law, None, lines[:at] + [new] + lines[at + 1:])]
 
 

@@ -6,6 +6,7 @@ use Rattle.std.specs.Option.{option_or}
 use Rattle.std.proofs.lemmas.List.{get_or_at, set_at, drop_more, drop_all, map_more, length-map, length-take-le}
 use Rattle.std.proofs.lemmas.Option.{slice_get-get_or}
 use Rattle.oca_types.specs.declared.words.Peer.{Peer}
+use Rattle.oca_types.specs.declared.words.Handle.{Handle}
 use Rattle.oca_types.specs.Peers.{same_peer}
 use Rattle.oca_types.specs.Sizes.{DeviceSizes}
 use Rattle.oca_pdu.specs.declared.fault.PduFault.{PduFault}
@@ -20,7 +21,8 @@ use Rattle.oca_device.specs.Answers.{packets, verdict}
 use Rattle.oca_control.specs.declared.reception.Reception.{Reception}
 use Rattle.oca_control.specs.Contents.{IsContent}
 use Rattle.oca_control.specs.Untaken.{answer_under}
-use Rattle.oca_control.specs.Links.{LinkState, Request, submission, submitted, Decision, GivesCommand, GivesKeepAlive, GivesNothing, IsLost, decision, gone_on, reception, received, taken}
+use Rattle.oca_control.specs.declared.fault.ControlFault.{ControlFault}
+use Rattle.oca_control.specs.Links.{LinkState, Request, submission, after_submission, submitted, Decision, GivesCommand, GivesKeepAlive, GivesNothing, IsLost, decision, after_due, gone_on, present_moment, reception, received, taken}
 use Rattle.oca_pair.specs.declared.outcome.Outcome.{Outcome}
 use Rattle.oca_pair.specs.declared.outcome.Outcome.TheVariants as outcomes
 use Rattle.oca_pair.specs.declared.running.Running.{Running}
@@ -30,10 +32,10 @@ use Rattle.oca_pair.specs.declared.pair.Transcript.{Transcript}
 use Rattle.oca_pair.specs.declared.start.Start.{Start}
 use Rattle.oca_pair.specs.Networks.{Network, PeerLink, SentDatagram, device_address}
 use Rattle.oca_pair.specs.Premises.{is_of_another_peer, are_apart}
-use Rattle.oca_pair.specs.Steps.{Step, Submit, Due, ToDevice, ToLink, Take, has_link, sendings_in, with_link, submit_outcome, after_submit, given_by, due_outcome, after_due_step, after_delivery, delivery_outcome, content_read, messages_read, hears_datagram, after_reception, reception_outcomes, reception_outcome, take_outcome, after_take, after_step, after_steps, on_link, outcomes_of, one_later, first_missing}
+use Rattle.oca_pair.specs.Steps.{Step, Submit, Due, ToDevice, ToLink, Take, has_link, sendings_in, with_link, submit_outcome, after_submit, given_by, due_outcome, after_due_step, after_delivery, delivery_outcome, content_read, messages_read, hears_datagram, after_reception, reception_outcomes, reception_outcome, take_outcome, after_take, Renew, is_no_lower, renewed_link, after_renewal, renewal_outcome, after_step, after_steps, on_link, outcomes_of, one_later, first_missing}
 use Rattle.oca_pair.proofs.Lists.{same_self}
 use Rattle.oca_pair.specs.Transcripts.{IsTranscript}
-use Rattle.oca_pair.specs.PrivateRunning.{AreOfLinks, Shows, Took, is_of_peer, heard, first_heard}
+use Rattle.oca_pair.specs.PrivateRunning.{AreOfLinks, Shows, Took, in_its_place, is_of_peer, heard, first_heard}
 
 -- ---- bytes
 
@@ -206,6 +208,50 @@ took_take old new n i k l o h at same is set =
       subst (λ (x : Option PeerLink). Shows new (after_take i k x n)) (sym at')
           (record { address = s.address; device = s.device; links = s.links; to_device = s.to_device; to_links = s.to_links; sent = s.sent; answered = s.answered }),
     )
+
+-- a link that is put where it stands already
+put_again : {X : Type 0} (xs : List X) (i : ℕ) (x : X) → slice_get xs i ≡ Some x → slice_set xs i x ≡ xs
+put_again [] i x e = cc
+put_again (y ∷ xs) zero x e = let same : y ≡ x = cc in ap (λ z. z ∷ xs) (sym same)
+put_again (y ∷ xs) (suc i) x e = ap (λ zs. y ∷ zs) (put_again xs i x e)
+
+-- what holds of either of two networks, where a test chooses one
+chosen : (P : Network → Type 0) (b : Bool) (x y : Network) → (b ≡ true → P x) → (b ≡ false → P y) → P (if b then x else y)
+chosen P true x y f g = f refl
+chosen P false x y f g = g refl
+
+pub took_renew : (old new : Running) (n : Network) (i first span now : ℕ) (l : PeerLink) (o : Outcome) → Shows old n → slice_get old.links.items i ≡ Some l → Relinked old new →
+    o ≡ renewal_outcome (is_no_lower first l.link.next) → new.links.items ≡ slice_set old.links.items i (in_its_place first span now l) → Took (Ok o) (Renew i first span now 0) n new
+took_renew old new n i first span now l o h at same is set =
+    let at' : slice_get n.links i ≡ Some l = there old n i l h at in
+    let place : (b : Bool) → is_no_lower first l.link.next ≡ b →
+    new.links.items ≡ slice_set old.links.items i (if b then record { peer = l.peer; link = renewed_link first span now l.link } else l) =
+    λ b e. set ∙ ap (λ (c : Bool). slice_set old.links.items i (if c then record { peer = l.peer; link = renewed_link first span now l.link } else l)) e in (
+      ap (λ (x : Option PeerLink). is_some x) at',
+      ap (λ (x : Option PeerLink). on_link (λ y. renewal_outcome (is_no_lower first y.link.next)) x) at' ∙ ap (λ (x : Outcome). x ∷ []) (sym is),
+      subst (λ (x : Option PeerLink). Shows new (after_renewal i first span now 0 x n)) (sym at') (chosen (Shows new) (is_no_lower first l.link.next) _ n
+          (λ e. let s = linked old new n i l (renewed_link first span now l.link) h at' same (place true e) in
+          record { address = s.address; device = s.device; links = s.links; to_device = s.to_device; to_links = s.to_links; sent = s.sent; answered = s.answered })
+          (λ e. let s = relinked old new n n.links h same (place false e ∙ put_again old.links.items i l at ∙ h.links) (λ p. refl) in
+          record { address = s.address; device = s.device; links = s.links; to_device = s.to_device; to_links = s.to_links; sent = s.sent; answered = s.answered })),
+    )
+
+-- a link stays one to its device
+pub device_submitted : (r : Request) (now : ℕ) (l : LinkState) → (submitted r now l).device ≡ l.device
+device_submitted r now l = by_answer (submission r l)
+  where
+    by_answer : (x : Result Handle ControlFault) → (after_submission x r now l).device ≡ l.device
+    by_answer (Ok h) = refl
+    by_answer (Err fault) = refl
+
+pub device_gone_on : (now : ℕ) (l : LinkState) → (gone_on now l).device ≡ l.device
+device_gone_on now l = by_decision (decision now l)
+  where
+    by_decision : (d : Decision) → (after_due d (present_moment now l) l).device ≡ l.device
+    by_decision (GivesCommand c) = refl
+    by_decision GivesKeepAlive = refl
+    by_decision GivesNothing = refl
+    by_decision IsLost = refl
 
 -- the outcome of what a link gave out
 sent_outcome : (number : ℕ) (d : Decision) (bytes : List ℕ) → given_by d ≡ bytes ∷ [] → due_outcome number d ≡ outcomes.Sent number

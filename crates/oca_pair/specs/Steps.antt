@@ -190,6 +190,11 @@ after_renewal i first span now origin (Some l) n =
       renewed = (record { peer = l.peer; zero = origin; left = unanswered l.link.untaken }) ∷ n.renewed;
     } else n
 
+-- whether the link was renewed
+abbrev pub renewal_outcome : Bool → Outcome
+renewal_outcome true = outcomes.Renewed
+renewal_outcome false = outcomes.NotRenewed
+
 -- ---- LOCAL: what the device says of a change at its own front
 abbrev pub set_outcome : Option SetFault → Outcome
 set_outcome None = outcomes.Set
@@ -254,7 +259,8 @@ outcome_of_step (Tick now) n = outcomes.Ticked ∷ []
 outcome_of_step (Local ono change) n = local_outcome (state_after n.sizes n.tree n.events).tree ono change ∷ []
 outcome_of_step (Take link handle) n =
     on_link (λ l. take_outcome (answer_under handle l.link.untaken)) (slice_get n.links link)
-outcome_of_step (Renew link first span now origin) n = on_link (λ l. outcomes.Nothing) (slice_get n.links link)
+outcome_of_step (Renew link first span now origin) n =
+    on_link (λ l. renewal_outcome (is_no_lower first l.link.next)) (slice_get n.links link)
 outcome_of_step (Beside link now) n = on_link (λ l. outcomes.Sent (length n.to_device)) (slice_get n.links link)
 
 -- THE OUTCOMES OF A SCHEDULE, in order.

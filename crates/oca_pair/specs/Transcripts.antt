@@ -1,6 +1,6 @@
 -- WHAT RUNNING A SCHEDULE ANSWERS (profile).
 use Rattle.std.specs.Prelude.{◌≡◌, ℕ, true, false, List, map, Result, Ok, Err, Some, None}
-use Rattle.oca_types.specs.Sizes.{DeviceSizes}
+use Rattle.oca_types.specs.Sizes.{DeviceSizes, span_size}
 use Rattle.oca_tree.specs.declared.object.Object.{Object}
 use Rattle.oca_tree.specs.LocalChanges.{ToValue, ToLabel, ToEnabled, ToUnlocked, ToFailing}
 use Rattle.oca_device.specs.Devices.{Represents}
@@ -11,11 +11,11 @@ use Rattle.oca_pair.specs.declared.start.Start.{Start}
 use Rattle.oca_pair.specs.declared.step.Step as declared
 use Rattle.oca_pair.specs.declared.step.Step.TheVariants as given
 use Rattle.oca_pair.specs.Networks.{Network, run_setup, opening}
-use Rattle.oca_pair.specs.Steps.{Step, Submit, Due, ToDevice, ToLink, Other, Tick, Local, Take, after_steps}
+use Rattle.oca_pair.specs.Steps.{Step, Submit, Due, ToDevice, ToLink, Other, Tick, Local, Take, Renew, after_steps}
 use Rattle.oca_pair.specs.Steps.{outcomes_of, first_missing}
 use Rattle.oca_pair.specs.Premises.{are_apart}
 
--- a step without where its bytes lie in memory
+-- a step without where its bytes lie in memory; the clock of a renewed link shows the time of all clocks
 abbrev pub step_of : declared.Step → Step
 step_of (given.Submit link target method count params now) =
     Submit link (record {
@@ -36,6 +36,7 @@ step_of (given.Enable ono enabled) = Local ono.0 (ToEnabled enabled)
 step_of (given.Unlock ono) = Local ono.0 ToUnlocked
 step_of (given.Fail ono failing) = Local ono.0 (ToFailing failing)
 step_of (given.Take link handle) = Take link handle.0
+step_of (given.Renew link first span now) = Renew link first.0 (span_size span) now 0
 
 -- The transcript of the steps from a network on: its lists, one outcome for each step, and a device that represents
 -- what came to it.

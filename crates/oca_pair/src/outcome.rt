@@ -36,4 +36,8 @@ pub enum Outcome {
     Answer(Answer),
     /// `Take`: the link has no answer under the handle. Nothing changed.
     NoAnswer,
+    /// `Renew`: a new link took the place of the link.
+    Renewed,
+    /// `Renew`: the first handle is lower than the next one of the link, or the link has no handle left. Nothing changed.
+    NotRenewed,
 }

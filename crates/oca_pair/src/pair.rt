@@ -33,12 +33,13 @@ pub struct Transcript {
 }
 
 /// Runs the steps of a schedule over a device and some links, for tests, and returns what each step did, in the order
-/// of the steps. A *schedule* is a list of steps: what is submitted, sent, delivered, taken or set ([`Step`]). Nothing
-/// is sent over a network. The call takes memory from `alloc` for the run. The arguments:
+/// of the steps. A *schedule* is a list of steps: what is submitted, sent, delivered, taken, renewed or set ([`Step`]).
+/// Nothing is sent over a network. The call takes memory from `alloc` for the run. The arguments:
 /// - `tree` has the objects of the device, which is at 127.0.0.1:65000 and has sessions of at most 16 peers.
 /// - `window` is the size of the reply window: the device keeps the last 1 to 64 accepted commands of each peer with
 ///   their replies.
-/// - `span` is the span of each link, 1 to 32: a new handle is below the lowest handle in flight plus the span.
+/// - `span` is the span of each link until it is renewed, 1 to 32: a new handle is below the lowest handle in flight plus
+///   the span.
 /// - `starts` has the address and port of each link, and the handle of its first command. Each link is made at moment
 ///   0.
 /// - `steps` are run in order. [`Step`] says which steps have a moment, in milliseconds.
@@ -66,13 +67,14 @@ pub fn run_pair(
 }
 
 /// Runs the steps of a schedule over a device and some links, for tests, and returns what each step did, in the order
-/// of the steps. A *schedule* is a list of steps: what is submitted, sent, delivered, taken or set ([`Step`]).
+/// of the steps. A *schedule* is a list of steps: what is submitted, sent, delivered, taken, renewed or set ([`Step`]).
 /// Datagrams go from list to list: nothing is sent over a network. The call takes memory from `alloc` for the run. The
 /// arguments:
 /// - `tree` has the objects of the device, which is at 127.0.0.1:65000.
 /// - `sizes` has the device's sizes. The reply window keeps the last 1 to 64 accepted commands of each peer with their
 ///   replies. At most 1 to 64 peers have a session at once.
-/// - `span` is the span of each link, 1 to 32: a new handle is below the lowest handle in flight plus the span.
+/// - `span` is the span of each link until it is renewed, 1 to 32: a new handle is below the lowest handle in flight plus
+///   the span.
 /// - `starts` has the address and port of each link, and the handle of its first command. Each link is made at moment
 ///   0.
 /// - `steps` are run in order. [`Step`] says which steps have a moment, in milliseconds.

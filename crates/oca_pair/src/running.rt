@@ -8,6 +8,7 @@ ghost use Rattle.oca_control.specs.Links.{taken};
 ghost use Rattle.oca_control.specs.Untaken.{answer_under};
 ghost use Rattle.oca_pair.specs.Networks.{Network, SentDatagram, started, opening, device_address, run_setup};
 ghost use Rattle.oca_pair.specs.Steps.{Submit, Due as DueStep, ToDevice, ToLink, Other, Tick as TickStep, Local, Take};
+ghost use Rattle.oca_pair.specs.Steps.{Renew};
 ghost use Rattle.oca_pair.specs.Steps.{sendings_in, hears_datagram, submit_outcome, content_read, take_outcome};
 ghost use Rattle.oca_pair.specs.Steps.{front_outcome};
 ghost use Rattle.oca_pair.specs.PrivateRunning.{first_heard};
@@ -40,7 +41,7 @@ pub(crate) enum StepFault {
     Missing,
 }
 
-/// A link, and the peer whose it is.
+/// A link to the device, and the peer whose it is.
 #[derive(Drop)]
 pub(crate) struct PeerLink {
     peer: Peer,
@@ -48,16 +49,19 @@ pub(crate) struct PeerLink {
 }
 
 impl Model for PeerLink {
-    ghost use Rattle.oca_pair.specs.Networks.{PeerLink as LinkOfPeer};
+    ghost use Rattle.std.specs.Prelude.{◌≡◌};
+    ghost use Rattle.oca_pair.specs.Networks.{PeerLink as LinkOfPeer, device_address};
 
     ghost Value = { LinkOfPeer };
 
     ghost view = { λ l. record { peer = l.peer; link = l.link } };
+
+    ghost invariant = { λ l. l.link.device ≡ device_address };
 }
 
 impl PeerLink {
-    ghost use Rattle.oca_pair.specs.Steps.{hears_datagram};
-    ghost use Rattle.oca_pair.specs.PrivateRunning.{GivesBy, heard};
+    ghost use Rattle.oca_pair.specs.Steps.{hears_datagram, renewal_outcome};
+    ghost use Rattle.oca_pair.specs.PrivateRunning.{GivesBy, heard, in_its_place};
 
     /// Submits a command to the link.
     fn submit(
@@ -140,6 +144,29 @@ impl PeerLink {
         }
     }
 
+    /// Whether a new link may take its place whose first handle is this one.
+    fn is_no_lower(&self, first: Handle) -> bool
+        ensures { result ≡ Rattle.oca_pair.specs.Steps.is_no_lower first.0 self.now.link.next }
+    {
+        match self.link.next_handle() {
+            Some(next) => next.0 <= first.0,
+            None => false,
+        }
+    }
+
+    /// Puts a new link in its place, where the first handle is no lower than the next one.
+    fn renew(&mut self, first: Handle, span: Span, now: u64) -> Outcome
+        ensures answer { result
+            ≡ renewal_outcome (Rattle.oca_pair.specs.Steps.is_no_lower first.0 self.old.link.next) }
+        ensures link { self.new ≡ in_its_place first.0 (span_size span) now self.old }
+    {
+        if !self.is_no_lower(first) {
+            return Outcome::NotRenewed;
+        }
+        self.link = Link::new(DEVICE, first, now, span);
+        Outcome::Renewed
+    }
+
     /// The peer whose it is.
     fn peer(&self) -> Peer
         ensures { result ≡ self.now.peer }
@@ -208,6 +235,12 @@ impl Running {
             Step::Unlock { ono } => Ok(self.unlock(ono)),
             Step::Fail { ono, failing } => Ok(self.fail(ono, failing)),
             Step::Take { link, handle } => self.take(link, handle),
+            Step::Renew {
+                link,
+                first,
+                span,
+                now,
+            } => self.renew(link, first, span, now),
         }
     }
 
@@ -367,6 +400,23 @@ impl Running {
         }
         let place = &mut self.links[link];
         Ok(place.take(handle))
+    }
+
+    /// Renews a link.
+    fn renew(
+        &mut self,
+        link: usize,
+        first: Handle,
+        span: Span,
+        now: u64,
+    ) -> Result<Outcome, StepFault>
+        ensures { (n : Network) → Shows self.old n → Took result (Renew link first.0 (span_size span) now 0) n self.new }
+    {
+        if link >= self.links.len() {
+            return Err(StepFault::Missing);
+        }
+        let place = &mut self.links[link];
+        Ok(place.renew(first, span, now))
     }
 }
 

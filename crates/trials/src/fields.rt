@@ -3,7 +3,7 @@ ghost use Rattle.std.specs.Prelude.{◌≤◌};
 
 use oca_script::field::{first_field, moment, number, peer};
 use oca_tree::Value;
-use oca_types::{Class, MethodId, Ono, Peer, Peers, Window};
+use oca_types::{Class, MethodId, Ono, Peer, Peers, Span, Window};
 use std::alloc::Global;
 
 /// Why a line is refused.
@@ -175,6 +175,18 @@ impl<'a> Fields<'a> {
             None => {
                 self.refuse(LineFault::Number);
                 Window::default()
+            }
+        }
+    }
+
+    /// The span that this number is.
+    pub fn span(&mut self) -> Span {
+        let size = self.byte();
+        match Span::new(size) {
+            Some(span) => span,
+            None => {
+                self.refuse(LineFault::Number);
+                Span::default()
             }
         }
     }

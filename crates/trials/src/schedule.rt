@@ -11,10 +11,12 @@
 //!     take LINK H                                  set ONO CLASS VALUE
 //!     label ONO HEX                                enabled ONO 0|1
 //!     unlock ONO                                   failing ONO 0|1
+//!     N renew LINK H S
 //!
 //! `set` sets an object at the local front panel: CLASS is `mute`, `polarity`, `switch`, `boolean`, `int8` and so on to
 //! `uint64`, and VALUE the number of a state, a position, 0 or 1, or an integer of the type. `label`, `enabled`, `unlock`
-//! and `failing` are the other changes there; HEX are the bytes of a text in UTF-8.
+//! and `failing` are the other changes there; HEX are the bytes of a text in UTF-8. `renew` puts a new link of first
+//! handle H and span S in the place of a link.
 use crate::fields::{Fields, LARGEST_32, LineFault};
 use oca_pair::{Start, Step};
 use oca_script::field::split_at_byte;
@@ -46,15 +48,8 @@ pub fn read_line<'a>(fields: &mut Fields<'a>, starts: &mut Vec<Start>) -> Line<'
 /// What begins a schedule.
 fn begun<'a>(fields: &mut Fields<'_>, starts: &mut Vec<Start>) -> Line<'a> {
     let window = fields.byte();
-    let span = fields.byte();
+    let span = fields.span();
     let window = fields.window(window);
-    let span = match Span::new(span) {
-        Some(span) => span,
-        None => {
-            fields.refuse(LineFault::Number);
-            Span::default()
-        }
-    };
     let peers = peers_and_starts(fields, starts);
     Line::Begins(Sizes { window, peers }, span)
 }
@@ -113,6 +108,9 @@ fn step<'a>(first: &[u8], fields: &mut Fields<'a>) -> (Step<'static>, &'a [u8]) 
     }
     if word == b"other".as_slice() {
         return other(now, fields);
+    }
+    if word == b"renew".as_slice() {
+        return (renewed(now, fields), NO_BYTES);
     }
     (placed(now, word, fields), NO_BYTES)
 }
@@ -186,6 +184,19 @@ fn placed(now: u64, word: &[u8], fields: &mut Fields<'_>) -> Step<'static> {
         return Step::ToLink { k, now };
     }
     Step::ToDevice { k, now }
+}
+
+/// A link that is renewed.
+fn renewed(now: u64, fields: &mut Fields<'_>) -> Step<'static> {
+    let link = fields.number() as usize;
+    let first = Handle(fields.number());
+    let span = fields.span();
+    Step::Renew {
+        link,
+        first,
+        span,
+        now,
+    }
 }
 
 /// A datagram of another peer, and its text.

@@ -257,6 +257,8 @@ fn put_outcome(alloc: Global, out: &mut Told, outcome: &Outcome) {
         Outcome::NotChanged(fault) => out.put_front_fault(*fault),
         Outcome::Answer(answer) => put_answer(alloc, out, answer),
         Outcome::NoAnswer => out.put("none\n"),
+        Outcome::Renewed => out.put("renewed\n"),
+        Outcome::NotRenewed => out.put("not renewed\n"),
     }
 }
 

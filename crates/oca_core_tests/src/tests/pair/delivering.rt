@@ -1,7 +1,7 @@
 //! Commands that come twice, and what is lost.
 use super::rows::Row::*;
-use super::rows::{ANSWERED, EXECUTED, Each, KEPT, Row, Seen};
-use super::schedules::{Case, ONE_LINK, Ran};
+use super::rows::{ANSWERED, EXECUTED, Each, KEPT, Row, STATE, Seen};
+use super::schedules::{Case, Network, ONE_LINK, Ran};
 use super::{A, B, DEVICE, GET};
 use crate::tests::play;
 use oca_control::{ControlFault, Reception};
@@ -101,6 +101,36 @@ const ALL_LOST: &[Row] = &[
     Gets(5_000, Seen::Refused(ControlFault::Lost)),
 ];
 
+/// A link is renewed, with a span of 1, and again, with the last handle. What was sent for the old link still arrives.
+const RENEWED: &[Row] = &[
+    Gets(0, Seen::Submitted(1)),
+    Gets(0, Seen::Submitted(2)),
+    Due(0, Seen::Sent(0)),
+    Due(0, Seen::Sent(1)),
+    ToDevice(0, 0, EXECUTED),
+    Renews(2, 1, 500, Seen::NotRenewed),
+    Renews(3, 1, 500, Seen::Renewed),
+    Due(500, Seen::Nothing),
+    ToLink(0, 500, Seen::Link(Reception::NothingNew)),
+    ToDevice(1, 500, EXECUTED),
+    Gets(500, Seen::Submitted(3)),
+    Gets(500, Seen::Refused(ControlFault::SpanFull)),
+    Due(500, Seen::Sent(2)),
+    ToDevice(2, 500, EXECUTED),
+    ToLink(2, 500, ANSWERED),
+    Takes(3, STATE),
+    Takes(1, Seen::NoAnswer),
+    Renews(4_294_967_295, 16, 400, Seen::Renewed),
+    Gets(400, Seen::Submitted(4_294_967_295)),
+    Renews(4_294_967_295, 16, 400, Seen::NotRenewed),
+];
+
+/// A lost link is renewed.
+const NO_LONGER_LOST: &[Row] = &[
+    Renews(2, 16, 5_000, Seen::Renewed),
+    Gets(5_000, Seen::Submitted(2)),
+];
+
 /// What it leads to where the peer has no link.
 const OF_ANOTHER: Ran = Ran {
     wrong: None,
@@ -163,6 +193,42 @@ const CASES: &[Case] = &[
             last_byte: None,
             sessions: 0,
         }),
+    },
+    // A link is renewed where the first handle is no lower than its next one.
+    Case {
+        name: "a_link_is_renewed",
+        network: ONE_LINK,
+        parts: &[RENEWED],
+        want: Ok(Ran {
+            wrong: None,
+            to_device: 3,
+            to_links: 3,
+            last_byte: Some(1),
+            sessions: 1,
+        }),
+    },
+    Case {
+        name: "a_lost_link_is_renewed",
+        network: ONE_LINK,
+        parts: &[ALL_LOST, NO_LONGER_LOST],
+        want: Ok(Ran {
+            wrong: None,
+            to_device: 20,
+            to_links: 0,
+            last_byte: None,
+            sessions: 0,
+        }),
+    },
+    Case {
+        name: "a_link_that_is_not_there",
+        network: Network {
+            window: 32,
+            peers: None,
+            span: 16,
+            starts: &[],
+        },
+        parts: &[&[Renews(1, 16, 0, Seen::Renewed)]],
+        want: Err(PairFault::BadStep(0)),
     },
     // A step that names a datagram that was never sent is refused by its number.
     Case {

@@ -5,7 +5,7 @@ use oca_control::{ControlFault, Reception};
 use oca_device::Verdict;
 use oca_pair::{Outcome, Step};
 use oca_tree::{FrontFault, SetFault, Value};
-use oca_types::{Handle, LOOPBACK, MethodId, Ono, Peer};
+use oca_types::{Handle, LOOPBACK, MethodId, Ono, Peer, Span};
 use std::alloc::Global;
 
 /// What a step led to, but for the bytes of an answer's parameters, of which it has the number.
@@ -29,6 +29,8 @@ pub enum Seen {
     /// Status, ParamCount and the number of parameter bytes.
     Answer(u8, u8, usize),
     NoAnswer,
+    Renewed,
+    NotRenewed,
 }
 
 /// Executed as a new command.
@@ -96,6 +98,8 @@ pub enum Row {
     Fails(u32, bool, Seen),
     /// The answer under a handle is taken.
     Takes(u32, Seen),
+    /// The link is renewed, with a first handle and a span, at a moment.
+    Renews(u32, u8, u64, Seen),
     /// Such steps, with the numbers from the first to below the second.
     All(Each, u32, u32),
 }
@@ -138,6 +142,8 @@ impl Wanted<Outcome> for Seen {
                 answer.status == status && answer.count == count && answer.params.len() == size
             }
             (Outcome::NoAnswer, Seen::NoAnswer) => true,
+            (Outcome::Renewed, Seen::Renewed) => true,
+            (Outcome::NotRenewed, Seen::NotRenewed) => true,
             _ => false,
         }
     }
@@ -178,6 +184,16 @@ fn take(handle: u32) -> Step<'static> {
     Step::Take {
         link: 0,
         handle: Handle(handle),
+    }
+}
+
+/// The first link is renewed.
+fn renew(first: u32, size: u8, now: u64) -> Step<'static> {
+    Step::Renew {
+        link: 0,
+        first: Handle(first),
+        span: Span::new(size).unwrap_or(Span::default()),
+        now,
     }
 }
 
@@ -255,6 +271,7 @@ fn only_step(row: Row) -> (Step<'static>, Seen) {
             (Step::Local { ono, value }, want)
         }
         Row::Takes(handle, want) => (take(handle), want),
+        Row::Renews(first, size, now, want) => (renew(first, size, now), want),
         Row::All(each, first, _) => step_of(each, first),
         other => front_step(other),
     }

@@ -15,3 +15,8 @@ returns-clause-link c =
     ap (λ (l : LinkState). let x : PeerLink = record { peer = c.self.inside.peer; link = l } in x)
     (c.datagram.ensures.link (content_read c.args.bytes.now) (content_is c.law_reading.ensures c.args.bytes.now (λ i. omega (arith, c.type_inv.bytes i))))
     ∙ ap (λ (x : PeerLink). let y : PeerLink = record { peer = x.peer; link = received device_address (content_read c.args.bytes.now) c.args.now x.link } in y) c.self.view_is
+
+pub invariant_of-self : goal.invariant_of-self
+invariant_of-self c =
+    ap (λ (l : LinkState). l.device) (c.datagram.ensures.link (content_read c.args.bytes.now) (content_is c.law_reading.ensures c.args.bytes.now (λ i. omega (arith, c.type_inv.bytes i))))
+    ∙ c.self.invariant
