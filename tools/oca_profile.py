@@ -687,7 +687,7 @@ class Network:
                 return "not renewed"
             self.links[number] = peer, Link(DEVICE, first, span, now)
             return "renewed"
-        said, data = link.due(step[1])
+        said, data = ("", pdu(4, [u16(5)])) if kind == "beside" else link.due(step[1])
         if data is None:
             return said
         self.to_device.append((peer, data))

@@ -63,9 +63,9 @@ class Schedule:
 
     def refused(self, r):
         """With one more step that names what is not there, or two starts of one peer or one of the device's."""
-        sent, count, kind = self.network, len(self.starts), r.randrange(7)
+        sent, count, kind = self.network, len(self.starts), r.randrange(8)
         step = [("to-device", self.now, len(sent.to_device)), ("to-link", self.now, len(sent.to_links)), ("take", count, 1), ("due", self.now, count),
-                ("renew", self.now, count, 1, 1), ("other", self.now, self.starts[-1][0], b""), None][kind]
+                ("renew", self.now, count, 1, 1), ("beside", self.now, count), ("other", self.now, self.starts[-1][0], b""), None][kind]
         if step is None:
             self.starts, self.refusal = self.starts + [r.choice([(oca.DEVICE, 1), self.starts[0]])], "same peer"
         else:
@@ -143,7 +143,7 @@ def wander(r, window, span):
     length, links = r.choice([10, 16, 24, 40, 80, 150, 250]), len(network.links)
     strangers = [peer(n) for n in range(16, 16 + r.choice([0, 0, 1, 3, 20]))]
     kinds = ["submit", "due", "to-device", "to-link", "take"] + ["tick"] * r.randrange(2) + ["other"] * (len(strangers) > 0) \
-        + ["set"] * (r.randrange(3) == 0) + ["renew"] * schedule.renews
+        + ["set"] * (r.randrange(3) == 0) + ["renew"] * schedule.renews + ["beside"] * (r.randrange(4) == 0)
     weights = [r.choice([2, 3, 5]) for _ in kinds[:5]] + [1] * (len(kinds) - 5)
     heard = {"to-device": set(), "to-link": set()}
     if r.randrange(16) == 0:  # a link without answers, until it is lost
@@ -153,8 +153,8 @@ def wander(r, window, span):
         kind, link = r.choices(kinds, weights)[0], r.randrange(links)
         if kind == "submit":
             submit(r, schedule, link)
-        elif kind == "due":
-            schedule.timed("due", link)
+        elif kind in ("due", "beside"):
+            schedule.timed(kind, link)
         elif kind == "renew":
             renew(r, schedule, link)
         elif kind == "take":

@@ -239,6 +239,11 @@ class Laws:
             self.count["renewals of a renewed link"] += link.is_renewed
             link.renew(first, now)
 
+    def beside(self, step, said):
+        _, now, number = step
+        self.left[int(said.split(" ")[1])] = now
+        self.count["keep-alives beside a link"] += 1
+
     def tick(self, step, said):
         self.clock = max(self.clock, step[1])
 

@@ -22,7 +22,7 @@ use Rattle.oca_control.specs.declared.reception.Reception.{Reception}
 use Rattle.oca_control.specs.Contents.{IsContent}
 use Rattle.oca_control.specs.Untaken.{answer_under}
 use Rattle.oca_control.specs.declared.fault.ControlFault.{ControlFault}
-use Rattle.oca_control.specs.Links.{LinkState, Request, submission, after_submission, submitted, Decision, GivesCommand, GivesKeepAlive, GivesNothing, IsLost, decision, after_due, gone_on, present_moment, reception, received, taken}
+use Rattle.oca_control.specs.Links.{LinkState, Request, submission, after_submission, submitted, Decision, GivesCommand, GivesKeepAlive, GivesNothing, IsLost, decision, due_bytes, after_due, gone_on, present_moment, reception, received, taken}
 use Rattle.oca_pair.specs.declared.outcome.Outcome.{Outcome}
 use Rattle.oca_pair.specs.declared.outcome.Outcome.TheVariants as outcomes
 use Rattle.oca_pair.specs.declared.running.Running.{Running}
@@ -32,7 +32,7 @@ use Rattle.oca_pair.specs.declared.pair.Transcript.{Transcript}
 use Rattle.oca_pair.specs.declared.start.Start.{Start}
 use Rattle.oca_pair.specs.Networks.{Network, PeerLink, SentDatagram, device_address}
 use Rattle.oca_pair.specs.Premises.{is_of_another_peer, are_apart}
-use Rattle.oca_pair.specs.Steps.{Step, Submit, Due, ToDevice, ToLink, Take, has_link, sendings_in, with_link, submit_outcome, after_submit, given_by, due_outcome, after_due_step, after_delivery, delivery_outcome, content_read, messages_read, hears_datagram, after_reception, reception_outcomes, reception_outcome, take_outcome, after_take, Renew, is_no_lower, renewed_link, after_renewal, renewal_outcome, after_step, after_steps, on_link, outcomes_of, one_later, first_missing}
+use Rattle.oca_pair.specs.Steps.{Step, Submit, Due, ToDevice, ToLink, Take, has_link, sendings_in, with_link, submit_outcome, after_submit, given_by, due_outcome, after_due_step, after_delivery, delivery_outcome, content_read, messages_read, hears_datagram, after_reception, reception_outcomes, reception_outcome, take_outcome, after_take, Renew, is_no_lower, renewed_link, after_renewal, renewal_outcome, Beside, after_beside, after_step, after_steps, on_link, outcomes_of, one_later, first_missing}
 use Rattle.oca_pair.proofs.Lists.{same_self}
 use Rattle.oca_pair.specs.Transcripts.{IsTranscript}
 use Rattle.oca_pair.specs.PrivateRunning.{AreOfLinks, Shows, Took, in_its_place, is_of_peer, heard, first_heard}
@@ -314,6 +314,29 @@ pub took_lost : (old new : Running) (n : Network) (i now : ℕ) (l : PeerLink) �
 took_lost old new n i now l h at is same set =
     took_due old new n i now l outcomes.Lost h at (ap (λ (d : Decision). due_outcome (length old.to_device.items) d) is) same.device same.to_links
     (same.to_device ∙ sym (append-nil old.to_device.items) ∙ ap (λ (d : Decision). old.to_device.items ++ sendings_in l.peer (given_by d)) (sym is)) set
+
+-- a keep-alive is sent beside a link
+pub took_beside : (old new : Running) (n : Network) (i now : ℕ) (l : PeerLink) (number : ℕ) (p : Peer) (bytes : List ℕ) → Shows old n → slice_get old.links.items i ≡ Some l →
+    number ≡ length old.to_device.items → p ≡ l.peer → bytes ≡ due_bytes GivesKeepAlive →
+    new.device ≡ old.device → new.to_links.items ≡ old.to_links.items → new.to_device.items ≡ old.to_device.items ++ (record { peer = p; bytes = bytes }) ∷ [] →
+    new.links.items ≡ old.links.items → Took (Ok (outcomes.Sent number)) (Beside i now) n new
+took_beside old new n i now l number p bytes h at count owner are device to_links to_device same =
+    let at' : slice_get n.links i ≡ Some l = there old n i l h at in
+    let given = given_by GivesKeepAlive in (
+      ap (λ (x : Option PeerLink). is_some x) at',
+      ap (λ (x : Option PeerLink). on_link (λ y. outcomes.Sent (length n.to_device)) x) at'
+          ∙ ap (λ (xs : List SentDatagram). outcomes.Sent (length xs) ∷ []) (sym h.to_device) ∙ ap (λ (k : ℕ). outcomes.Sent k ∷ []) (sym count),
+      subst (λ (x : Option PeerLink). Shows new (after_beside x n)) (sym at') (record {
+        address = h.address;
+        device = subst (λ d. Represents n.sizes d n.tree n.events) (sym device) h.device;
+        links = same ∙ h.links;
+        to_device = to_device ∙ ap (λ (x : Peer). old.to_device.items ++ sendings_in x (bytes ∷ [])) owner
+            ∙ ap (λ (b : List ℕ). old.to_device.items ++ sendings_in l.peer (b ∷ [])) are ∙ ap (λ (xs : List SentDatagram). xs ++ sendings_in l.peer given) h.to_device;
+        to_links = to_links ∙ h.to_links;
+        sent = of_links_more n.links n.to_device (sendings_in l.peer given) h.sent (sendings_of_links n.links l.peer given (one_of l n.links i at'));
+        answered = h.answered;
+      }),
+    )
 
 -- ---- deliveries
 

@@ -11,7 +11,7 @@ use Rattle.oca_pair.specs.declared.start.Start.{Start}
 use Rattle.oca_pair.specs.declared.step.Step as declared
 use Rattle.oca_pair.specs.declared.step.Step.TheVariants as given
 use Rattle.oca_pair.specs.Networks.{Network, run_setup, opening}
-use Rattle.oca_pair.specs.Steps.{Step, Submit, Due, ToDevice, ToLink, Other, Tick, Local, Take, Renew, after_steps}
+use Rattle.oca_pair.specs.Steps.{Step, Submit, Due, ToDevice, ToLink, Other, Tick, Local, Take, Renew, Beside, after_steps}
 use Rattle.oca_pair.specs.Steps.{outcomes_of, first_missing}
 use Rattle.oca_pair.specs.Premises.{are_apart}
 
@@ -37,6 +37,7 @@ step_of (given.Unlock ono) = Local ono.0 ToUnlocked
 step_of (given.Fail ono failing) = Local ono.0 (ToFailing failing)
 step_of (given.Take link handle) = Take link handle.0
 step_of (given.Renew link first span now) = Renew link first.0 (span_size span) now 0
+step_of (given.Beside link now) = Beside link now
 
 -- The transcript of the steps from a network on: its lists, one outcome for each step, and a device that represents
 -- what came to it.

@@ -4,11 +4,12 @@ ghost use Rattle.std.specs.Result.{result_err};
 ghost use Rattle.oca_types.specs.Sizes.{sizes_of, span_size};
 ghost use Rattle.oca_tree.specs.LocalChanges.{ToValue, ToLabel, ToEnabled, ToUnlocked, ToFailing};
 ghost use Rattle.oca_control.specs.Links.{Request, submitted, submission, decision, gone_on, received, reception};
+ghost use Rattle.oca_control.specs.Links.{GivesKeepAlive, due_bytes};
 ghost use Rattle.oca_control.specs.Links.{taken};
 ghost use Rattle.oca_control.specs.Untaken.{answer_under};
 ghost use Rattle.oca_pair.specs.Networks.{Network, SentDatagram, started, opening, device_address, run_setup};
 ghost use Rattle.oca_pair.specs.Steps.{Submit, Due as DueStep, ToDevice, ToLink, Other, Tick as TickStep, Local, Take};
-ghost use Rattle.oca_pair.specs.Steps.{Renew};
+ghost use Rattle.oca_pair.specs.Steps.{Beside, Renew};
 ghost use Rattle.oca_pair.specs.Steps.{sendings_in, hears_datagram, submit_outcome, content_read, take_outcome};
 ghost use Rattle.oca_pair.specs.Steps.{front_outcome};
 ghost use Rattle.oca_pair.specs.PrivateRunning.{first_heard};
@@ -20,7 +21,7 @@ use crate::start::Start;
 use crate::step::Step;
 use oca_control::{Due, Link, Reception};
 use oca_device::{Device, Outbox};
-use oca_pdu::law_reading;
+use oca_pdu::{Form, law_reading, write_keepalive};
 use oca_tree::{FrontFault, Tree, Value};
 use oca_types::{Handle, LOOPBACK, MethodId, NoMemory, Ono, Packet, Peer, Sizes, Span};
 use std::alloc::Global;
@@ -241,6 +242,7 @@ impl Running {
                 span,
                 now,
             } => self.renew(link, first, span, now),
+            Step::Beside { link, .. } => self.send_beside(link),
         }
     }
 
@@ -295,6 +297,27 @@ impl Running {
             }
             Given::Nothing => Ok(Outcome::Nothing),
             Given::Lost => Ok(Outcome::Lost),
+        }
+    }
+
+    /// Sends a keep-alive to the device beside a link, whatever the moment is.
+    fn send_beside(&mut self, link: usize) -> Result<Outcome, StepFault>
+        ensures { (n : Network) (now : ℕ) → Shows self.old n → Took result (Beside link now) n self.new }
+    {
+        if link >= self.links.len() {
+            return Err(StepFault::Missing);
+        }
+        let peer = self.links[link].peer();
+        let number = self.to_device.len();
+        match add(
+            &mut self.to_device,
+            Sent {
+                peer,
+                bytes: keep_alive(),
+            },
+        ) {
+            Ok(()) => Ok(Outcome::Sent(number)),
+            Err(NoMemory) => Err(StepFault::NoMemory),
         }
     }
 
@@ -418,6 +441,15 @@ impl Running {
         let place = &mut self.links[link];
         Ok(place.renew(first, span, now))
     }
+}
+
+/// The keep-alive that a link sends, with a heartbeat of five seconds.
+fn keep_alive() -> Packet
+    ensures { result.items ≡ due_bytes GivesKeepAlive }
+{
+    let mut packet = Packet::new();
+    let _ = write_keepalive(&mut packet, Form::Seconds(5));
+    packet
 }
 
 /// What a change at the local front panel led to.

@@ -3,8 +3,8 @@ use oca_tree::Value;
 use oca_types::{Handle, MethodId, Ono, Peer, Span};
 
 /// A step of a *schedule*, which is a list of steps of one device and some links. A step submits a command, asks a link
-/// what is due, delivers a datagram, takes an answer, renews a link, moves the device's clock, or changes an object at
-/// the device's local front panel.
+/// what is due, delivers a datagram, takes an answer, renews a link, sends a keep-alive beside a link, moves the device's
+/// clock, or changes an object at the device's local front panel.
 ///
 /// Links and datagrams are named by their number, from 0: links in the order of the starts, datagrams in the order in
 /// which they were sent. Datagrams to the device and datagrams to links are counted apart. A datagram can be delivered
@@ -84,6 +84,12 @@ pub enum Step<'a> {
         link: usize,
         first: Handle,
         span: Span,
+        now: u64,
+    },
+    /// A keep-alive with a heartbeat of 5 seconds (AES70-3) is sent to the device from the address and port of a link,
+    /// without the link: the link stays as it is. `now` is the moment at which it leaves.
+    Beside {
+        link: usize,
         now: u64,
     },
 }

@@ -11,12 +11,12 @@
 //!     take LINK H                                  set ONO CLASS VALUE
 //!     label ONO HEX                                enabled ONO 0|1
 //!     unlock ONO                                   failing ONO 0|1
-//!     N renew LINK H S
+//!     N renew LINK H S                             N beside LINK
 //!
 //! `set` sets an object at the local front panel: CLASS is `mute`, `polarity`, `switch`, `boolean`, `int8` and so on to
 //! `uint64`, and VALUE the number of a state, a position, 0 or 1, or an integer of the type. `label`, `enabled`, `unlock`
 //! and `failing` are the other changes there; HEX are the bytes of a text in UTF-8. `renew` puts a new link of first
-//! handle H and span S in the place of a link.
+//! handle H and span S in the place of a link, and `beside` sends a keep-alive beside a link.
 use crate::fields::{Fields, LARGEST_32, LineFault};
 use oca_pair::{Start, Step};
 use oca_script::field::split_at_byte;
@@ -175,6 +175,10 @@ fn placed(now: u64, word: &[u8], fields: &mut Fields<'_>) -> Step<'static> {
     if word == b"due".as_slice() {
         let link = fields.number() as usize;
         return Step::Due { link, now };
+    }
+    if word == b"beside".as_slice() {
+        let link = fields.number() as usize;
+        return Step::Beside { link, now };
     }
     if word != b"to-device".as_slice() && word != b"to-link".as_slice() {
         fields.refuse(LineFault::Form);
