@@ -480,20 +480,20 @@ stops r r' log k s rest all from h took =
     sym h.missing ∙ ap (λ (b : Bool). counted_from k (if b then one_later (first_missing rest (after_step s n)) else Some 0)) (took n h.shows) ∙ ap (λ (m : ℕ). Some m) e
 
 -- the steps from an index on
-rest_is : {X : Type 0} (f : X → Step) (xs : List X) (i : ℕ) (d : X) → i < length xs → map f (drop i xs) ≡ f (get_or xs i d) ∷ map f (drop (i + 1) xs)
-rest_is f xs i d h = ap (λ ys. map f ys) (drop_more xs i d h)
+rest_is : {X : Type 0} (f : X → Step) (xs : List X) (i : ℕ) (x : X) → i < length xs → x ≡ get_or xs i x → map f (drop i xs) ≡ f x ∷ map f (drop (i + 1) xs)
+rest_is f xs i x h at = ap (λ ys. map f ys) (drop_more xs i x h) ∙ ap (λ y. f y ∷ map f (drop (i + 1) xs)) (sym at)
 
-pub goes_on_at : {X : Type 0} (f : X → Step) (xs : List X) (i : ℕ) (d : X) (r r' : Running) (log log' : List Outcome) (from : Network) (o : Outcome) → i < length xs →
-    IsHalfway r log i (map f (drop i xs)) (map f xs) from → ((n : Network) → Shows r n → Took (Ok o) (f (get_or xs i d)) n r') → log' ≡ log ++ o ∷ [] →
+pub goes_on_at : {X : Type 0} (f : X → Step) (xs : List X) (i : ℕ) (x : X) (r r' : Running) (log log' : List Outcome) (from : Network) (o : Outcome) → i < length xs → x ≡ get_or xs i x →
+    IsHalfway r log i (map f (drop i xs)) (map f xs) from → ((n : Network) → Shows r n → Took (Ok o) (f x) n r') → log' ≡ log ++ o ∷ [] →
     IsHalfway r' log' (i + 1) (map f (drop (i + 1) xs)) (map f xs) from
-goes_on_at f xs i d r r' log log' from o h before took more =
-    goes_on r r' log log' i (f (get_or xs i d)) (map f (drop (i + 1) xs)) (map f xs) from o (subst (λ (ys : List Step). IsHalfway r log i ys (map f xs) from) (rest_is f xs i d h) before) took more
+goes_on_at f xs i x r r' log log' from o h at before took more =
+    goes_on r r' log log' i (f x) (map f (drop (i + 1) xs)) (map f xs) from o (subst (λ (ys : List Step). IsHalfway r log i ys (map f xs) from) (rest_is f xs i x h at) before) took more
 
-pub stops_at : {X : Type 0} (f : X → Step) (xs : List X) (i : ℕ) (d : X) (r r' : Running) (log : List Outcome) (from : Network) (fault : StepFault) → i < length xs → fault ≡ faults.Missing →
-    IsHalfway r log i (map f (drop i xs)) (map f xs) from → ((n : Network) → Shows r n → Took (Err fault) (f (get_or xs i d)) n r') → first_missing (map f xs) from ≡ Some i
-stops_at f xs i d r r' log from fault h is before took =
-    stops r r' log i (f (get_or xs i d)) (map f (drop (i + 1) xs)) (map f xs) from (subst (λ (ys : List Step). IsHalfway r log i ys (map f xs) from) (rest_is f xs i d h) before)
-    (λ n s. subst (λ (e : StepFault). Took (Err e) (f (get_or xs i d)) n r') is (took n s))
+pub stops_at : {X : Type 0} (f : X → Step) (xs : List X) (i : ℕ) (x : X) (r r' : Running) (log : List Outcome) (from : Network) (fault : StepFault) → i < length xs → x ≡ get_or xs i x → fault ≡ faults.Missing →
+    IsHalfway r log i (map f (drop i xs)) (map f xs) from → ((n : Network) → Shows r n → Took (Err fault) (f x) n r') → first_missing (map f xs) from ≡ Some i
+stops_at f xs i x r r' log from fault h at is before took =
+    stops r r' log i (f x) (map f (drop (i + 1) xs)) (map f xs) from (subst (λ (ys : List Step). IsHalfway r log i ys (map f xs) from) (rest_is f xs i x h at) before)
+    (λ n s. subst (λ (e : StepFault). Took (Err e) (f x) n r') is (took n s))
 
 pub begun_at : (r : Running) (log : List Outcome) (all : List Step) (from : Network) → Shows r from → log ≡ [] → IsHalfway r log 0 all all from
 begun_at r log all from h e = subst (λ (xs : List Outcome). IsHalfway r xs 0 all all from) (sym e) (begun r all from h)

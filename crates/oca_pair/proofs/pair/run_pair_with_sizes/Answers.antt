@@ -13,14 +13,14 @@ pub returns-in-Err-Missing : goal.returns-in-Err-Missing
 returns-in-Err-Missing c =
     let within : c.loop-number.number < length c.args.steps.now = omega arith in (
       sym c.are_apart.ensures ∙ c.if-not-are_apart.false,
-      stops_at step_of c.args.steps.now c.loop-number.number _ c.loop-number.running c.take_step.new.self c.loop-number.log.items _ c.in-Err-Missing.field-0 within c.in-Err-Missing.field-0-is
+      stops_at step_of c.args.steps.now c.loop-number.number c.index-steps-number.result c.loop-number.running c.take_step.new.self c.loop-number.log.items _ c.in-Err-Missing.field-0 within c.index-steps-number.is c.in-Err-Missing.field-0-is
           c.loop-number.invariant c.in-Err-Missing.ensures,
     )
 
 pub loop-number-preserved : goal.loop-number-preserved
 loop-number-preserved c =
     let within : c.loop-number.number < length c.args.steps.now = omega arith in
-    goes_on_at step_of c.args.steps.now c.loop-number.number _ c.loop-number.running c.take_step.new.self c.loop-number.log.items c.add.new.log.items _ c.in-Ok-take_step.outcome within
+    goes_on_at step_of c.args.steps.now c.loop-number.number c.index-steps-number.result c.loop-number.running c.take_step.new.self c.loop-number.log.items c.add.new.log.items _ c.in-Ok-take_step.outcome within c.index-steps-number.is
     c.loop-number.invariant c.in-Ok-take_step.ensures c.in-Ok-add.ensures
 
 pub returns : goal.returns
