@@ -1,5 +1,6 @@
 //! Why a run of a program fails.
-ghost use Rattle.std.specs.Prelude.{◌≡◌, ◌+◌, ◌++◌, ◌≤◌, Result, Some, length};
+ghost use Rattle.std.specs.Prelude.{◌≡◌, ◌+◌, ◌++◌, ◌≤◌, IfSome, Result, Some, length, string_bytes};
+ghost use Rattle.std.specs.Result.{result_ok};
 ghost use Rattle.oca_script.specs.Ends.{output};
 ghost use Rattle.oca_script.specs.declared.fault.WriteFailed.{WriteFailed as Failed};
 ghost use Rattle.oca_script.specs.Printing.{WritesOut};
@@ -85,7 +86,8 @@ impl Failure {
     /// Returns a failure with this fault and a copy of this note, for which it takes memory (*profile*). If memory is
     /// refused, the failure has no note. The call itself refuses nothing and prints nothing.
     pub fn told(alloc: Global, fault: RunFault, note: &str) -> Failure
-        ensures { result.fault ≡ fault }
+        ensures fault { result.fault ≡ fault }
+        ensures note { IfSome result.note (λ told. string_bytes told ≡ note.now) }
     {
         Failure::noted_if(fault, String::from_str(alloc, note))
     }
@@ -93,7 +95,8 @@ impl Failure {
     /// Returns a failure with this fault, and with this note if there was memory to make it (*profile*). The call
     /// itself takes no memory, refuses nothing and prints nothing.
     pub fn noted_if(fault: RunFault, note: Result<String, AllocError>) -> Failure
-        ensures { result.fault ≡ fault }
+        ensures fault { result.fault ≡ fault }
+        ensures note { result.note ≡ result_ok note }
     {
         match note {
             Ok(note) => Failure::noted(fault, note),
