@@ -1,5 +1,5 @@
 //! Why a run of a program fails.
-ghost use Rattle.std.specs.Prelude.{◌≡◌, ◌+◌, ◌++◌, ◌≤◌, IfSome, Result, Some, length, string_bytes};
+ghost use Rattle.std.specs.Prelude.{◌≡◌, ◌+◌, ◌++◌, ◌≤◌, IfErr, IfOk, IfSome, Result, Some, length, string_bytes};
 ghost use Rattle.std.specs.Result.{result_ok};
 ghost use Rattle.oca_script.specs.Ends.{output};
 ghost use Rattle.oca_script.specs.declared.fault.WriteFailed.{WriteFailed as Failed};
@@ -129,7 +129,10 @@ pub fn print_note<F: Sink>(note: &str, faults: &mut Printer<F>)
 /// Prints to `faults` the line of this note, as [`print_note`] does, if there was memory to make the note (*profile*).
 /// If there was none, nothing is printed. A failed write is ignored. The call takes no memory.
 pub fn print_made_note<F: Sink>(note: Result<String, AllocError>, faults: &mut Printer<F>)
-    ensures { PrintsANote faults.old faults.new }
+    ensures one { PrintsANote faults.old faults.new }
+    ensures made { IfOk note (λ text. (written : Result Unit Failed)
+        × WritesOut written faults.old faults.new (note_text (string_bytes text))) }
+    ensures none { IfErr note (λ _. faults.new ≡ faults.old) }
 {
     if let Ok(note) = note {
         print_note(note.as_str(), faults);
