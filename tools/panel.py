@@ -320,6 +320,8 @@ def slow(panel):
     halves = [panel.connected() for _ in range(4)]
     for s in halves:
         s.sendall(f"POST /set HTTP/1.1\r\nHost: {panel.host}\r\nContent-Le".encode())
+    promises = panel.connected()
+    promises.sendall(f"POST /set HTTP/1.1\r\nHost: {panel.host}\r\nContent-Length: 9\r\nExpect: 100-continue\r\n\r\n".encode())
     greedy = panel.connected(small=True)
     with contextlib.suppress(OSError):
         greedy.settimeout(1)
@@ -334,7 +336,12 @@ def slow(panel):
             dropped += s.recv(100) == b"" or True
     same("half requests are dropped", dropped, 4)
     check(had > 4, f"a half request has 5 seconds: one was dropped after {had:.1f} s")
-    for s in [*halves, greedy]:
+    with contextlib.suppress(OSError):
+        same("what comes where a body is promised", promises.recv(100), b"HTTP/1.1 100 Continue\r\n\r\n")
+        promises.recv(100)
+    had = time.monotonic() - connected
+    check(4 < had < 15, f"a body that is promised has 5 seconds, not {had:.1f}")
+    for s in [*halves, promises, greedy]:
         s.close()
     same("others are served", panel.status("/values?since=0"), 200)
 

@@ -1,5 +1,6 @@
 //! Why a run of a program fails.
-ghost use Rattle.std.specs.Prelude.{◌≡◌, ◌+◌, ◌++◌, ◌≤◌, Result, Some, length};
+ghost use Rattle.std.specs.Prelude.{◌≡◌, ◌+◌, ◌++◌, ◌≤◌, IfErr, IfOk, IfSome, Result, Some, length, string_bytes};
+ghost use Rattle.std.specs.Result.{result_ok};
 ghost use Rattle.oca_script.specs.Ends.{output};
 ghost use Rattle.oca_script.specs.declared.fault.WriteFailed.{WriteFailed as Failed};
 ghost use Rattle.oca_script.specs.Printing.{WritesOut};
@@ -85,7 +86,8 @@ impl Failure {
     /// Returns a failure with this fault and a copy of this note, for which it takes memory (*profile*). If memory is
     /// refused, the failure has no note. The call itself refuses nothing and prints nothing.
     pub fn told(alloc: Global, fault: RunFault, note: &str) -> Failure
-        ensures { result.fault ≡ fault }
+        ensures fault { result.fault ≡ fault }
+        ensures note { IfSome result.note (λ told. string_bytes told ≡ note.now) }
     {
         Failure::noted_if(fault, String::from_str(alloc, note))
     }
@@ -93,7 +95,8 @@ impl Failure {
     /// Returns a failure with this fault, and with this note if there was memory to make it (*profile*). The call
     /// itself takes no memory, refuses nothing and prints nothing.
     pub fn noted_if(fault: RunFault, note: Result<String, AllocError>) -> Failure
-        ensures { result.fault ≡ fault }
+        ensures fault { result.fault ≡ fault }
+        ensures note { result.note ≡ result_ok note }
     {
         match note {
             Ok(note) => Failure::noted(fault, note),
@@ -126,7 +129,10 @@ pub fn print_note<F: Sink>(note: &str, faults: &mut Printer<F>)
 /// Prints to `faults` the line of this note, as [`print_note`] does, if there was memory to make the note (*profile*).
 /// If there was none, nothing is printed. A failed write is ignored. The call takes no memory.
 pub fn print_made_note<F: Sink>(note: Result<String, AllocError>, faults: &mut Printer<F>)
-    ensures { PrintsANote faults.old faults.new }
+    ensures one { PrintsANote faults.old faults.new }
+    ensures made { IfOk note (λ text. (written : Result Unit Failed)
+        × WritesOut written faults.old faults.new (note_text (string_bytes text))) }
+    ensures none { IfErr note (λ _. faults.new ≡ faults.old) }
 {
     if let Ok(note) = note {
         print_note(note.as_str(), faults);

@@ -1,6 +1,7 @@
 //! The socket of a program, and what is printed of sends that failed.
 ghost use Rattle.std.specs.Prelude.{◌≡◌, ◌⊎◌, IfOk, IfErr};
 ghost use Rattle.oca_net.specs.Sockets.{IsBoundAt, IsBoundFrom, new_socket};
+ghost use Rattle.oca_program.specs.Notes.{PrintsANote};
 ghost use Rattle.oca_program.specs.Sockets.{bind_refusal, kind_fault};
 ghost use Rattle.oca_program.specs.declared.fault.RunFault.TheVariants.{Socket, NoMemory};
 
@@ -92,7 +93,9 @@ pub fn note_failed_sends<F: Sink>(
     failed: u64,
     last: Option<io::Error>,
     faults: &mut Printer<F>,
-) {
+)
+    ensures { PrintsANote faults.old faults.new }
+{
     let Some(reason) = last else {
         return;
     };

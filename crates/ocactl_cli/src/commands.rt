@@ -175,7 +175,8 @@ fn write_unless_failed<W: Sink>(
     written: Result<(), WriteFailed>,
     printer: &mut Printer<W>,
 ) -> Result<(), WriteFailed>
-    ensures { PrintsUnlessFailed written result printer.old printer.new (outcome_line outcome.now) }
+    ensures prints { PrintsUnlessFailed written result printer.old printer.new (outcome_line outcome.now) }
+    ensures empty { OnOk result (printer.new.held ≡ []) }
 {
     let printed = print_unless_failed(outcome, written, printer);
     flush_unless_failed(printed, printer)

@@ -1,6 +1,6 @@
 //! The state of a device, kept in a file: it is read when the device starts, and written before what wrote something is
 //! answered. Reply windows and sessions are not kept.
-ghost use Rattle.std.specs.Prelude.{◌≡◌, false, IfErr, IfOk, IfSome, IsTrue, Some as some, is_some};
+ghost use Rattle.std.specs.Prelude.{◌≡◌, ◌++◌, false, IfErr, IfOk, IfSome, IsTrue, Some as some, codes, is_some, string_bytes};
 ghost use Rattle.std.specs.Option.{option_copied};
 ghost use Rattle.oca_program.specs.declared.fault.RunFault.TheVariants.{NoMemory as no_memory, Read as read_failed};
 ghost use Rattle.ocadev_cli.specs.Words.{object_source};
@@ -233,6 +233,7 @@ pub fn kept_at<'a, F: Files>(
 ) -> Result<Option<Kept<'a>>, RunFault>
     ensures kept { IfOk result (λ kept. is_some kept ≡ is_some (option_copied keep.entry)) }
     ensures path { IfOk result (λ kept. IfSome kept (λ k. some k.path ≡ keep.entry)) }
+    ensures fresh { IfOk result (λ kept. IfSome kept (λ k. string_bytes k.fresh ≡ k.path.now ++ codes ".new")) }
     ensures behind { IfOk result (λ kept. IfSome kept (λ k. k.waiting.is_behind ≡ false)) }
     ensures refused { IfErr result (λ why. why ≡ no_memory) }
 {

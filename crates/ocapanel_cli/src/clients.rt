@@ -35,8 +35,10 @@ struct Client {
     ready: bool,
     /// When something moved last.
     moved: u64,
-    /// Since when something is begun: a request that is not whole, or an answer that is not taken.
+    /// Since when a request is begun that is not whole.
     begun: Option<u64>,
+    /// Since when an answer waits that is not taken.
+    untaken: Option<u64>,
     /// Whether what waits on it may have come while the program was suspended.
     doubts: bool,
     /// Whether a request on it was let in so far.
@@ -71,12 +73,12 @@ impl Client {
             Ok(0) => Err(Over),
             Ok(_) => {
                 if !self.http.wants_write() {
-                    self.begun = None;
+                    self.untaken = None;
                 }
                 Ok(true)
             }
             Err(error) if error.kind() == io::ErrorKind::WouldBlock => {
-                self.begun = self.begun.or(Some(now));
+                self.untaken = self.untaken.or(Some(now));
                 Ok(false)
             }
             Err(_) => Err(Over),
@@ -90,6 +92,7 @@ impl Client {
         self.http.advance(site);
         if site.calls() != calls {
             self.begun = None;
+            self.untaken = None;
         }
         self.is_known = self.is_known || site.admitted() != admitted;
         let written = self.write(now)?;
@@ -128,18 +131,24 @@ impl Client {
 
     /// Whether it is too slow, or idle for too long.
     fn is_late(&self, now: u64) -> bool {
-        if self.moved.saturating_add(IDLE_MS) < now {
-            return true;
-        }
-        match self.begun {
-            Some(moment) => moment.saturating_add(SLOW_MS) < now,
-            None => false,
-        }
+        self.moved.saturating_add(IDLE_MS) < now
+            || is_slow(self.begun, now)
+            || is_slow(self.untaken, now)
     }
 
     /// Whether there is no request on it, and was none for a while.
     fn rests(&self, now: u64) -> bool {
-        self.begun.is_none() && self.moved.saturating_add(RESTING_MS) < now
+        self.begun.is_none()
+            && self.untaken.is_none()
+            && self.moved.saturating_add(RESTING_MS) < now
+    }
+}
+
+/// Whether what is begun since this moment takes too long.
+fn is_slow(since: Option<u64>, now: u64) -> bool {
+    match since {
+        Some(moment) => moment.saturating_add(SLOW_MS) < now,
+        None => false,
     }
 }
 
@@ -222,6 +231,7 @@ impl Clients {
                     ready: true,
                     moved: now,
                     begun: Some(now),
+                    untaken: None,
                     doubts,
                     is_known: false,
                 }),

@@ -15,10 +15,10 @@ const MOST_NAME: usize = 16;
 /// What is said where memory is refused.
 const NO_MEMORY: &str = "no memory";
 
-/// The units of values that the file at a path lists; none if no path is given. Each line is `class WORD FACTOR UNIT`
-/// or `ono N FACTOR UNIT`; lines that are empty or begin with `#` are skipped. Failures: `Read` if the file can't be
-/// read. `BadWords` if it is not UTF-8, a line does not have its form, or memory was refused. The note names the first
-/// such line, if there is memory for it.
+/// The units of values that the first 65,536 bytes of the file at a path list; none if no path is given. Each line is
+/// `class WORD FACTOR UNIT` or `ono N FACTOR UNIT`; lines that are empty or begin with `#` are skipped. Failures: `Read`
+/// if the file can't be read. `BadWords` if these bytes are not UTF-8, a line does not have its form, or memory was
+/// refused for a line. The note names the first such line, if there is memory for it.
 pub fn units_of<F: Files>(
     alloc: Global,
     files: &F,

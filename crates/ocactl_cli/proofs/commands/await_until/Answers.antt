@@ -9,7 +9,7 @@ loop-session-init g c = ([], NoneAwaited, goes-nil c.args.written c.args.printer
 pub loop-session-preserved : goal.loop-session-preserved
 loop-session-preserved g c =
     awaited-more _ _ c.loop-session.session _ _ c.loop-session.so_far _ _ c.loop-session.printer _ c.await_first-outcome.result
-    c.loop-session.invariant (omega arith) c.await_first-outcome.ensures c.write_unless_failed-so_far.ensures
+    c.loop-session.invariant (omega arith) c.await_first-outcome.ensures c.write_unless_failed-so_far.ensures.prints
 
 pub loop-session-smaller : goal.loop-session-smaller
 loop-session-smaller g c = let one = fewer _ _ _ c.await_first-outcome.ensures in omega (arith, one)

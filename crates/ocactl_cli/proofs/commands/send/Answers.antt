@@ -9,4 +9,4 @@ returns-in-Ok g c =
 pub returns-in-Err : goal.returns-in-Err
 returns-in-Err g c =
     sends-none (request_of c.args.request) c.submit.result c.in-Err.fault c.refused.result _ _ _ _ c.submit.new.self _ _ _ _ _ c.in-Err.is c.submit.ensures
-    c.await_until-written.ensures c.refuse.ensures c.refused.ensures c.write_unless_failed.ensures
+    c.await_until-written.ensures c.refuse.ensures c.refused.ensures c.write_unless_failed.ensures.prints
