@@ -5,8 +5,8 @@
 //! happens if a panel goes on with a new link, or if its program is started again. The first handle of the new link must
 //! not be lower than the handle that the next command of the old link would get. So it is above all handles that the old
 //! link and the links before it gave. The laws say nothing of a link with a lower first handle at an address and port that
-//! another link used before. [`Step`](crate::Step) does not have this step, since [`run_pair`](crate::run_pair) renews no
-//! link.
+//! another link used before. Another step sends a keep-alive *beside* a link: from its address and port, and without the
+//! link. [`Step`](crate::Step) does not have these two steps, since [`run_pair`](crate::run_pair) makes neither.
 ghost use Rattle.oca_pair.specs.Happenings.{TheseHappened};
 ghost use Rattle.oca_pair.specs.Premises.{FewFindRoom};
 ghost use Rattle.oca_pair.specs.Laws.{EveryFirstLinkIsAsSetUp, EveryScheduleAnswersItsCommands};
