@@ -1,8 +1,8 @@
 -- Schedules with loss, repeats and overtaking, of which the laws speak: they meet all that they ask.
-use Rattle.std.proofs.Common.{◌≡◌, ℕ, ◌^◌, ◌<◌, true, false, List, [], ◌∷◌, ◌++◌, Some, None, refl, sym, subst, lit<, lit≤}
-use Rattle.std.specs.Prelude.{Result, Ok}
+use Rattle.std.proofs.Common.{◌≡◌, ℕ, ◌^◌, ◌<◌, true, false, List, [], ◌∷◌, ◌++◌, Some, None, refl, sym, ap, subst, lit<, lit≤}
+use Rattle.std.specs.Prelude.{filter, length, Result, Ok}
 use Rattle.oca_types.specs.declared.words.Peer.{Peer}
-use Rattle.oca_types.specs.Peers.{CommandFields}
+use Rattle.oca_types.specs.Peers.{CommandFields, same_peer}
 use Rattle.oca_types.specs.Sizes.{DeviceSizes}
 use Rattle.oca_pdu.specs.declared.fault.PduFault.{PduFault}
 use Rattle.oca_pdu.specs.declared.message.Form.TheVariants.{Seconds}
@@ -15,14 +15,15 @@ use Rattle.oca_device.specs.LawByEvents.{Happening, Passes, clock, admitted, has
 use Rattle.oca_control.specs.Untaken.{Untaken}
 use Rattle.oca_control.specs.Links.{Request, new_link, command_under}
 use Rattle.oca_pair.specs.declared.start.Start.{Start}
-use Rattle.oca_pair.specs.Networks.{Network, PeerLink, SentDatagram, Setup, device_address, run_setup, opening}
-use Rattle.oca_pair.specs.Steps.{Step, Submit, Due, ToDevice, Other, Take, Renew, after_step, after_steps}
+use Rattle.oca_pair.specs.Networks.{Network, PeerLink, SentDatagram, Renewal, Setup, device_address, run_setup, opening}
+use Rattle.oca_pair.specs.Steps.{Step, Submit, Due, ToDevice, Other, Take, Renew, Beside, after_step, after_steps}
 use Rattle.oca_pair.specs.Happenings.{sayings}
 use Rattle.oca_pair.specs.Premises.{RequestFits, Fit, KeepsItsSession}
 use Rattle.oca_pair.specs.Laws.{CarriesUntaken, IsAnswered}
-use Rattle.oca_pair.specs.RoundTrip.{HoldsUntaken, HoldsItsAnswer, meanwhile, come_back, ComesBack}
+use Rattle.oca_pair.specs.RoundTrip.{HoldsUntaken, HoldsItsAnswer, meanwhile, come_back, RenewsNothing, ComesBack}
 use Rattle.oca_pair.proofs.Wire.{read_command, read_keep_alive}
 use Rattle.oca_pair.proofs.Arrivals.{HasOneSession}
+use Rattle.oca_pair.proofs.Renewing.{renew_nothing}
 use Rattle.oca_pair.proofs.Lawful.{never_old_law}
 use Rattle.oca_pair.proofs.RoundTrip.{round_trip_law}
 
@@ -120,14 +121,14 @@ repeated_is_answered law tree =
     refl carries_third (finds_room law) (keeps law)
 
 -- Before the device's datagram, the fourth that it sent, comes to the link, the first command is sent again, the third is asked
--- for in vain, and the second comes to the device at last.
+-- for in vain, a keep-alive is sent beside the link, and the second command comes to the device at last.
 abbrev between : List Step
-between = Due 0 410 ∷ Take 0 3 ∷ ToDevice 1 420 ∷ []
+between = Due 0 410 ∷ Take 0 3 ∷ Beside 0 415 ∷ ToDevice 1 420 ∷ []
 
 pub repeated_comes_back : WrittenIsReadBack → (tree : List Object) → ComesBack 2 400 between 500 0 third controller (the_network tree)
 repeated_comes_back law tree =
     round_trip_law law the_sizes the_setup tree the_starts the_steps 0 the_link refl (record { some = lit< tt; wide = lit≤ tt }) refl meets 2 400 sent_third third between 500
-    refl carries_third (finds_room law) (keeps law) (tt, (tt, (tt, tt))) refl
+    refl carries_third (finds_room law) (keeps law) (tt, (tt, (tt, (tt, tt)))) refl
 
 abbrev again : Untaken
 again = record { command = command_under 1 get_state; submitted = 0; times = 2; last = 410; answer = None }
@@ -262,11 +263,33 @@ room_through law =
     subst (λ (r : Result (List Msg) PduFault). RoomThrough r (read_datagram (bytes_of 3))) (sym (read_of law 1 (lit< tt)))
     (subst (λ (r : Result (List Msg) PduFault). RoomThrough (command_read 1) r) (sym (read_of law 3 (lit< tt))) refl)
 
+renewing_meets : Fit the_starts renewing
+renewing_meets = ((lit< tt, tt), (fits, (fits, (fits, (tt, (tt, (tt, (tt, (tt, (tt, (lit< tt, (fits, (tt, tt)))))))))))))
+
+carries_fourth : CarriesUntaken sent_fourth the_renewed (command_under 4 get_state)
+carries_fourth = record {
+  peer = refl;
+  untaken = record { command = command_under 4 get_state; submitted = 500; times = 1; last = 500; answer = None };
+  held = (0, lit< tt, refl);
+  command = refl;
+  bytes = refl;
+}
+
 pub renewed_is_answered : WrittenIsReadBack → (tree : List Object) →
     IsAnswered 3 600 (after_steps renewing (opening the_sizes the_setup tree the_starts)) sent_fourth (command_under 4 get_state)
 renewed_is_answered law tree =
-    never_old_law law the_sizes the_setup tree the_starts renewing 0 the_renewed refl (record { some = lit< tt; wide = lit≤ tt }) refl
-    ((lit< tt, tt), (fits, (fits, (fits, (tt, (tt, (tt, (tt, (tt, (tt, (lit< tt, (fits, (tt, tt)))))))))))))
-    3 600 sent_fourth (command_under 4 get_state) refl
-    (record { peer = refl; untaken = record { command = command_under 4 get_state; submitted = 500; times = 1; last = 500; answer = None }; held = (0, lit< tt, refl); command = refl; bytes = refl })
-    (room_through law) (keeps_through law)
+    never_old_law law the_sizes the_setup tree the_starts renewing 0 the_renewed refl (record { some = lit< tt; wide = lit≤ tt }) refl renewing_meets
+    3 600 sent_fourth (command_under 4 get_state) refl carries_fourth (room_through law) (keeps_through law)
+
+renews_nothing_meanwhile : (n : Network) → RenewsNothing controller n (meanwhile 3 600 (Beside 0 610 ∷ ToDevice 1 620 ∷ []) n)
+renews_nothing_meanwhile n =
+    ap (λ (rs : List Renewal). length (filter (λ (x : Renewal). same_peer x.peer controller) rs)) (renew_nothing (ToDevice 3 600 ∷ Beside 0 610 ∷ ToDevice 1 620 ∷ []) n (tt, (tt, (tt, tt))))
+
+-- And its answer comes back, though a keep-alive is sent beside the link and the second command, which the old link left
+-- behind, comes to the device meanwhile.
+pub renewed_comes_back : WrittenIsReadBack → (tree : List Object) →
+    ComesBack 3 600 (Beside 0 610 ∷ ToDevice 1 620 ∷ []) 700 0 (command_under 4 get_state) controller (after_steps renewing (opening the_sizes the_setup tree the_starts))
+renewed_comes_back law tree =
+    round_trip_law law the_sizes the_setup tree the_starts renewing 0 the_renewed refl (record { some = lit< tt; wide = lit≤ tt }) refl renewing_meets
+    3 600 sent_fourth (command_under 4 get_state) (Beside 0 610 ∷ ToDevice 1 620 ∷ []) 700 refl carries_fourth (room_through law) (keeps_through law) (tt, (tt, tt))
+    (renews_nothing_meanwhile (after_steps renewing (opening the_sizes the_setup tree the_starts)))

@@ -25,11 +25,11 @@ use Rattle.oca_control.specs.Answers.{AnswerFields}
 use Rattle.oca_control.specs.Untaken.{Untaken}
 use Rattle.oca_pair.specs.declared.outcome.Outcome.TheVariants as outcomes
 use Rattle.oca_pair.specs.declared.start.Start.{Start}
-use Rattle.oca_pair.specs.Networks.{Network, PeerLink, SentDatagram, SubmittedCommand, TakenAnswer, Setup, Renewal, opening, is_renewed, left_behind}
+use Rattle.oca_pair.specs.Networks.{Network, PeerLink, SentDatagram, SubmittedCommand, TakenAnswer, Setup, Renewal, opening, left_behind}
 use Rattle.oca_pair.specs.Steps.{Step, sendings_in, after_steps}
 use Rattle.oca_pair.specs.Happenings.{happenings}
 use Rattle.oca_pair.specs.Premises.{are_apart, Fit, KeepsItsSession, FindsRoom, SpanFits}
-use Rattle.oca_pair.specs.Laws.{Execution, executions_in, executions_for, executions_under, IsAnswerOfItsCommand, handles_of, EachToNext, AnswersItsCommands, CarriesUntaken, IsAnswered, AnswersUntaken, ExecutesOnce, OnlyRenewalsRenew}
+use Rattle.oca_pair.specs.Laws.{Execution, executions_in, executions_for, executions_under, IsAnswerOfItsCommand, handles_of, EachToNext, AnswersItsCommands, CarriesUntaken, IsAnswered, AnswersUntaken, ExecutesOnce, OnlyRenewalsRenew, EveryFirstLinkIsAsSetUp}
 use Rattle.oca_pair.proofs.Fixed.{sizes_kept}
 use Rattle.oca_pair.proofs.Core.{IsServed}
 use Rattle.oca_pair.proofs.Lists.{IsIn, contains_in, in_contains, each_at, each_in, equal_is}
@@ -271,12 +271,15 @@ never_old_law law w s tree starts es i l own fits apart fit k now d c there of_u
     let fits' : SpanFits n.sizes l n = subst (λ (x : DeviceSizes). SpanFits x l n) (sym sizes) fits in
     delivered law w s.span n k now d l c fits' there of of_untaken finds (rw there at keeps)
 
--- ---- what a schedule without renewals leaves of these premises
+-- ---- what is left of these premises where a link was never renewed
 
-pub only_renewals_renew : WrittenIsReadBack → OnlyRenewalsRenew
-only_renewals_renew law w s tree starts es i l apart fit none own =
+pub only_renewals_renew : OnlyRenewalsRenew
+only_renewals_renew w s tree starts es p none =
+    ap (λ rs. list_any (λ (x : Renewal). same_peer x.peer p) rs) (renew_nothing es (opening w s tree starts) none)
+
+pub first_links_are_as_set_up : WrittenIsReadBack → EveryFirstLinkIsAsSetUp
+first_links_are_as_set_up law w s tree starts es i l apart fit own never =
     let n : Network = after_steps es (opening w s tree starts) in
     let sound : Sound s.span n = sound_after law w s tree starts es apart fit in
     let of : LinkSound s.span n l = each_at (LinkSound s.span n) n.links i l sound.each own in
-    let never : is_renewed l.peer n ≡ false = ap (λ rs. list_any (λ (x : Renewal). same_peer x.peer l.peer) rs) (renew_nothing es (opening w s tree starts) none) in
-    record { never = never; nothing_left = nothing_left l.peer n.renewed never; span = of.span never }
+    record { nothing_left = nothing_left l.peer n.renewed never; span = of.span never }

@@ -1,7 +1,7 @@
 -- Each answer that is in time is that of an execution after the call.
-use Rattle.std.proofs.Common.{◌≡◌, ℕ, ◌<◌, ◌≢◌, Bool, true, false, cond, List, [], ◌∷◌, ◌++◌, Option, Some, None, refl, sym, ap, ◌∙◌, subst, arith, zero, suc, ◌⊎◌, inl, inr}
-use Rattle.std.specs.Prelude.{nat_eq, map, Ok}
-use Rattle.std.specs.List.{AllByRecursion, slice_get, slice_set}
+use Rattle.std.proofs.Common.{◌≡◌, ℕ, ◌<◌, ◌≢◌, Bool, true, false, cond, List, [], ◌∷◌, ◌++◌, Option, Some, None, refl, sym, ap, ◌∙◌, subst, arith, zero, ◌⊎◌, inl, inr}
+use Rattle.std.specs.Prelude.{nat_eq, Ok}
+use Rattle.std.specs.List.{AllByRecursion, slice_get}
 use Rattle.std.specs.Option.{option_map}
 use Rattle.std.proofs.lemmas.Option.{slice_get-map}
 use Rattle.oca_types.specs.declared.words.Peer.{Peer}
@@ -30,7 +30,7 @@ use Rattle.oca_control.specs.Links.{Request, command_under, submission}
 use Rattle.oca_pair.specs.declared.outcome.Outcome.TheVariants as outcomes
 use Rattle.oca_pair.specs.declared.start.Start.{Start}
 use Rattle.oca_pair.specs.Networks.{Network, PeerLink, SentDatagram, SubmittedCommand, Setup, opening}
-use Rattle.oca_pair.specs.Steps.{Step, Submit, Due, ToDevice, ToLink, Other, Take, has_link, submitted_by, submit_outcome, after_submit, after_due_step, after_delivery, hears_datagram, after_reception, after_take, after_step, after_steps, on_link, delivery_outcome, outcome_of_step, Renew, Beside, after_beside, with_link, is_no_lower, unanswered, renewed_link, after_renewal}
+use Rattle.oca_pair.specs.Steps.{Step, Submit, Due, ToDevice, ToLink, Other, Take, has_link, submitted_by, submit_outcome, after_submit, after_due_step, after_delivery, after_reception, after_take, after_step, after_steps, on_link, delivery_outcome, outcome_of_step, Renew, Beside, after_beside, with_link, is_no_lower, unanswered, renewed_link, after_renewal}
 use Rattle.oca_pair.specs.Steps as steps
 use Rattle.oca_pair.specs.Happenings.{happenings}
 use Rattle.oca_pair.specs.Premises.{are_apart, StepFits, Fit}
@@ -50,7 +50,7 @@ use Rattle.oca_pair.proofs.Fair.{end_of, IsOut, AreOwn, Fair}
 use Rattle.oca_pair.proofs.Arrivals.{looked_at}
 use Rattle.oca_pair.proofs.Delivering.{let_in, after_read, granted}
 use Rattle.oca_pair.proofs.Keeping.{executed_noted}
-use Rattle.oca_pair.proofs.Networks.{LinkSound, Sound, hears_peer, sound_step, sound_steps, sound_opening}
+use Rattle.oca_pair.proofs.Networks.{LinkSound, Sound, sound_step, sound_steps, sound_opening}
 use Rattle.oca_pair.proofs.RoundTrip.{grown_steps}
 use Rattle.oca_pair.proofs.GettingThrough.{after_more, took}
 use Rattle.oca_pair.proofs.InTime.{answers_in_time}

@@ -16,7 +16,7 @@ use Rattle.oca_pair.specs.Networks.{Network, PeerLink, SentDatagram, Setup, open
 use Rattle.oca_pair.specs.Steps.{Step, Submit, Due, ToDevice, ToLink, Other, Tick, Local, Take, Renew, Beside, given_by}
 use Rattle.oca_pair.specs.Steps.{after_step, after_steps}
 use Rattle.oca_pair.specs.Happenings.{happenings}
-use Rattle.oca_pair.specs.Premises.{are_apart, Fit}
+use Rattle.oca_pair.specs.Premises.{are_apart, StepFits, Fit}
 use Rattle.oca_pair.specs.Laws.{Execution, executions_for, executions_under, answer_of, WasSubmitted, WasTaken}
 use Rattle.oca_pair.specs.GettingThrough.{copy_of}
 
@@ -86,6 +86,13 @@ abbrev pub EveryRenewalIsInTime : Type 0
 EveryRenewalIsInTime =
     (s : Setup) (i k first span now origin : ℕ) (left : List Departure) (n : Network) →
     StepIsInTime s i left (Renew k first span now origin) n
+
+-- Sending a keep-alive beside a link is always in time, and its numbers always fit. What is asked of the keep-alive is
+-- asked where it comes to the device.
+abbrev pub EverySendingBesideIsInTime : Type 0
+EverySendingBesideIsInTime =
+    (s : Setup) (i k now : ℕ) (left : List Departure) (n : Network) →
+    StepIsInTime s i left (Beside k now) n × StepFits (Beside k now)
 
 -- all steps from a network on
 abbrev pub AreInTime : Setup → ℕ → List Departure → List Step → Network → Type 0

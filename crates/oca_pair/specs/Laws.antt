@@ -1,5 +1,5 @@
 -- THE LAWS OF A NETWORK (profile), over every schedule.
-use Rattle.std.specs.Prelude.{◌≡◌, ◌==◌, ◌⊎◌, ℕ, ◌+◌, ◌*◌, ◌<◌, ◌≤◌, true, false, if◌then◌else◌, List, [], ◌∷◌, ◌++◌}
+use Rattle.std.specs.Prelude.{◌≡◌, ◌==◌, ◌⊎◌, ℕ, ◌+◌, ◌<◌, true, false, if◌then◌else◌, List, [], ◌∷◌, ◌++◌}
 use Rattle.std.specs.Prelude.{map, filter, Some}
 use Rattle.std.specs.List.{slice_get, AllByRecursion, Contains, IsDistinct}
 use Rattle.oca_types.specs.declared.words.Peer.{Peer}
@@ -181,24 +181,29 @@ NoUntakenCommandIsTooOld =
     slice_get n.links i ≡ Some l → SpanFits w l n → are_apart s.address starts ≡ true → Fit starts steps →
     AnswersUntaken l n
 
--- Where no step renews a link, no link was renewed: so nothing was left behind, and each link has the span that it was
--- set up with.
-pub record WasNotRenewed (s : Setup) (l : PeerLink) (n : Network) : Type 0 where
-  pub never : is_renewed l.peer n ≡ false
-  pub nothing_left : left_behind l.peer n ≡ 0
-  pub span : l.link.span ≡ s.span l.peer
-
+-- Where no step renews a link, no link was renewed.
 abbrev pub IsNoRenewal : Step → Type 0
 IsNoRenewal (Renew link first span now origin) = ⊥
 IsNoRenewal _ = Unit {0}
 
 abbrev pub OnlyRenewalsRenew : Type 0
 OnlyRenewalsRenew =
+    (w : DeviceSizes) (s : Setup) (tree : List Object) (starts : List Start) (steps : List Step) (p : Peer) →
+    AllByRecursion IsNoRenewal steps → is_renewed p (after_steps steps (opening w s tree starts)) ≡ false
+
+-- A link that was never renewed, whatever became of others: nothing was left behind, and it has the span that it was set
+-- up with.
+pub record IsAsSetUp (s : Setup) (l : PeerLink) (n : Network) : Type 0 where
+  pub nothing_left : left_behind l.peer n ≡ 0
+  pub span : l.link.span ≡ s.span l.peer
+
+abbrev pub EveryFirstLinkIsAsSetUp : Type 0
+EveryFirstLinkIsAsSetUp =
     (w : DeviceSizes) (s : Setup) (tree : List Object) (starts : List Start) (steps : List Step) (i : ℕ)
     (l : PeerLink) →
     let n : Network = after_steps steps (opening w s tree starts) in
-    are_apart s.address starts ≡ true → Fit starts steps → AllByRecursion IsNoRenewal steps →
-    slice_get n.links i ≡ Some l → WasNotRenewed s l n
+    are_apart s.address starts ≡ true → Fit starts steps → slice_get n.links i ≡ Some l →
+    is_renewed l.peer n ≡ false → IsAsSetUp s l n
 
 -- No command of a link is executed twice, where its peer kept its session.
 abbrev pub ExecutesOnce : Network → Type 0

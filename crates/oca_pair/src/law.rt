@@ -5,16 +5,17 @@
 //! happens if a panel goes on with a new link, or if its program is started again. The first handle of the new link must
 //! not be lower than the handle that the next command of the old link would get. So it is above all handles that the old
 //! link and the links before it gave. The laws say nothing of a link with a lower first handle at an address and port that
-//! another link used before. [`run_pair`](crate::run_pair) renews links with one clock for all
-//! ([`Step::Renew`](crate::Step::Renew)).
+//! another link used before. Another step sends a keep-alive *beside* a link: from its address and port, and without the
+//! link. [`run_pair`](crate::run_pair) makes both steps, with one clock for all ([`Step`](crate::Step)).
 ghost use Rattle.oca_pair.specs.Happenings.{TheseHappened};
 ghost use Rattle.oca_pair.specs.Premises.{FewFindRoom};
-ghost use Rattle.oca_pair.specs.Laws.{EveryScheduleAnswersItsCommands};
+ghost use Rattle.oca_pair.specs.Laws.{EveryFirstLinkIsAsSetUp, EveryScheduleAnswersItsCommands};
 ghost use Rattle.oca_pair.specs.Laws.{NoUntakenCommandIsTooOld, EveryCommandIsExecutedOnce, OnlyRenewalsRenew};
 ghost use Rattle.oca_pair.specs.RoundTrip.{EveryRoundTripBringsTheAnswer};
 ghost use Rattle.oca_pair.specs.GettingThrough.{EveryCommandGetsThrough};
 ghost use Rattle.oca_pair.specs.InTime.{EveryCommandInTimeIsExecutedOnce, EveryAnswerInTimeIsOfOneExecution};
 ghost use Rattle.oca_pair.specs.InTime.{NoCopyInTimeFindsItsSessionForgotten, EveryRenewalIsInTime};
+ghost use Rattle.oca_pair.specs.InTime.{EverySendingBesideIsInTime};
 ghost use Rattle.oca_pair.specs.Saying.{OfEachAnswer, IsOfOneExecutionSince, RefusalsChangeNothing, OksSayWhatIsHeld};
 ghost use Rattle.oca_pair.specs.Saying.{ReadingsWereHeld, SettingsWereMade, ClassesStay, ClassesMetAreThoseAtFirst};
 
@@ -74,8 +75,8 @@ pub fn law_answers()
 ///
 /// The second law holds for all sizes: no command of a link is executed twice if its peer kept its session.
 ///
-/// The clause `never`: a schedule without a step that renews a link renews none. So `k` is 0, and each link has the span
-/// that it was set up with.
+/// The clause `never`: a schedule without a step that renews a link renews none. The clause `set_up`: if a link was never
+/// renewed, `k` is 0, and the link has the span that it was set up with. Renewals of other links do not matter.
 ///
 /// The third law holds for all sizes: a datagram finds room if at most as many peers as there is room for sent
 /// well-formed datagrams in the last 120,000 ms, its own peer counted.
@@ -84,6 +85,7 @@ pub fn law_never_old()
     ensures once { EveryCommandIsExecutedOnce }
     ensures room { FewFindRoom }
     ensures never { OnlyRenewalsRenew }
+    ensures set_up { EveryFirstLinkIsAsSetUp }
 {
     law_written_is_read_back();
 }
@@ -157,7 +159,8 @@ pub fn law_getting_through()
 /// - Each of the link's datagrams that comes to the device comes no earlier than it left, and at most 100,000 ms later.
 ///   The moment of leaving is by the link's clock, and that of coming is by the device's clock. The premise says that
 ///   these clocks run alike, and that the network holds nothing longer than 100,000 ms. The clocks may have counted
-///   from different moments. A datagram that never comes does not matter.
+///   from different moments. A datagram that never comes does not matter. A keep-alive that was sent beside the link,
+///   from its address and port, counts as one of its datagrams.
 ///
 /// The conclusions:
 /// - No two executions for the link's peer, which is its address and port, are of one handle.
@@ -171,6 +174,7 @@ pub fn law_once_in_time()
     ensures answers { EveryAnswerInTimeIsOfOneExecution }
     ensures session { NoCopyInTimeFindsItsSessionForgotten }
     ensures renewal { EveryRenewalIsInTime }
+    ensures beside { EverySendingBesideIsInTime }
 {
     law_written_is_read_back();
 }

@@ -14,6 +14,7 @@ use Rattle.oca_pair.specs.Networks.{Network, PeerLink, SentDatagram, TakenAnswer
 use Rattle.oca_pair.specs.declared.outcome.Outcome.TheVariants as outcomes
 use Rattle.oca_pair.specs.Steps.{Step, Submit, Due, ToDevice, ToLink, Other, Take, has_link, content_read, hears_datagram, after_submit, after_due_step, after_delivery, after_reception, taken_by, after_take, after_step, after_steps, on_link, submit_outcome, outcome_of_step, Renew, Beside, after_beside, with_link, is_no_lower, unanswered, renewed_link, after_renewal}
 use Rattle.oca_pair.specs.Steps as steps
+use Rattle.oca_pair.specs.InTime.{leaving_beside}
 use Rattle.oca_pair.proofs.Lists.{same_self, IsIn, in_more, in_last, each_at}
 use Rattle.oca_pair.proofs.RoundTrip.{AreToDevice, to_device_step}
 use Rattle.oca_device.specs.Events.{Datagram}
@@ -80,6 +81,7 @@ calls_beside_are_steps heard old new calls n i now p e =
       taken = calls.keeps.0;
       given = calls.keeps.1;
       sent = ap (λ (o : Option PeerLink). (after_beside o n).to_device) e;
+      leaves = λ s. ap (λ (o : Option PeerLink). leaving_beside s n now o) e;
       link = ap (λ (o : Option PeerLink). slice_get (after_beside o n).links i) e ∙ e
           ∙ ap (λ (l : LinkState). let y : PeerLink = record { peer = p; link = l } in Some y) link_is;
     }

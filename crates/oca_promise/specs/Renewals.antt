@@ -1,11 +1,12 @@
 -- A PANEL IS RENEWED, or sends a keep-alive beside its link (profile), and goes on in the same network.
-use Rattle.std.specs.Prelude.{◌≡◌, ℕ, ◌≤◌, Bool, List, [], ◌∷◌, ◌++◌, Some}
+use Rattle.std.specs.Prelude.{◌≡◌, ℕ, ◌+◌, ◌≤◌, Bool, List, [], ◌∷◌, ◌++◌, Some}
 use Rattle.std.specs.List.{slice_get}
 use Rattle.oca_types.specs.declared.words.Peer.{Peer}
 use Rattle.oca_net.specs.declared.end.Heard.{Heard}
 use Rattle.oca_net.specs.EndStates.{Sends}
-use Rattle.oca_pair.specs.Networks.{Network}
+use Rattle.oca_pair.specs.Networks.{Network, Setup, zero_of}
 use Rattle.oca_pair.specs.Steps.{Renew, Beside, after_step}
+use Rattle.oca_pair.specs.InTime.{departures_in}
 use Rattle.oca_panel.specs.Calls.{CallsBeside}
 use Rattle.oca_panel.specs.Panels.{PanelState}
 use Rattle.oca_panel.specs.Renewals.{IsRenewed}
@@ -22,13 +23,16 @@ EveryRenewalIsAStep =
     ≡ Some (record { peer = p; link = new.link })
 
 -- The panel's end was given a datagram for its link's device; after the step Beside this very datagram is the next one that
--- was sent to the device in the network, and the panel's link is the one of this number.
+-- was sent to the device in the network, where it left at this moment of the link's clock, and the panel's link is the one
+-- of this number.
 pub record GoesOnBeside (heard : Heard) (old new : PanelState) (calls : CallsBeside old.link.device heard old new)
     (i now : ℕ) (p : Peer) (n : Network) : Type 0 where
   pub bytes : List ℕ
   pub taken : Bool
   pub given : Sends taken old.link.device bytes old.end_state calls.between
   pub sent : (after_step (Beside i now) n).to_device ≡ n.to_device ++ record { peer = p; bytes = bytes } ∷ []
+  pub leaves : (s : Setup) → departures_in s (Beside i now) n
+      ≡ record { datagram = record { peer = p; bytes = bytes }; at = zero_of s p n + now } ∷ []
   pub link : slice_get (after_step (Beside i now) n).links i ≡ Some (record { peer = p; link = new.link })
 
 -- So it is of each panel whose link is the one of this number, and which sends its link's device a keep-alive beside it.

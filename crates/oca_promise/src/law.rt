@@ -38,7 +38,7 @@ use oca_pdu::law_reading;
 ///   renews it, so all this holds of its later calls too. The new link must be to the same device, with a first handle
 ///   no lower than the handle that the next command of the old link would get.
 /// - Beside: [`call`](oca_panel::Panel::call) to the link's device sends what a step of the network sends beside the link,
-///   and the panel's link is the link of the same network after that step.
+///   and the panel's link is the link of the same network after that step. So all this holds of its later calls too.
 ///
 /// If the end does not record what it delivers, all this holds of some deliveries and an answer that fit the call.
 pub fn law_of_calls()

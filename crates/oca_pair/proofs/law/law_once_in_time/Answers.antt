@@ -7,4 +7,5 @@ returns c = record {
   answers = answers_in_time c.law_written_is_read_back.ensures;
   session = session_in_time c.law_written_is_read_back.ensures;
   renewal = λ s i k first span now origin left n. tt;
+  beside = λ s i k now left n. (tt, tt);
 }
