@@ -327,10 +327,14 @@ def take_others(schedule, pinned, order):
             schedule.add("take", 0, u[0].handle)
 
 
-def directed(window, span, r=None):
-    """The last command of a span overtakes the others, and a copy of it comes behind as many more."""
+def directed(window, span, r=None, left=0):
+    """The last command of a span overtakes the others, and a copy of it comes behind as many more; and behind so many of a link before,
+    which left them unanswered."""
     schedule = Schedule(window, span, [(peer(0), r.choice([1, 1, 1000]) if r else 1)])
     network, mixed = schedule.network, (lambda xs: r.sample(xs, len(xs))) if r else list
+    late = marked_sent(schedule, left, r)
+    if left:
+        schedule.timed("renew", 0, network.links[0][1].next, span)
     for _ in range(r.choice([1, 1, 2]) if r and span < 20 else 1):
         first, untaken = marked_sent(schedule, span, r), network.links[0][1].untaken
         if not first or not untaken:
@@ -338,7 +342,7 @@ def directed(window, span, r=None):
         last = first[-1]
         pinned = oca.check(network.to_device[last][1])[0]
         pinned = pinned[2].handle if pinned[0] == "command" else untaken[-1][0].handle
-        deliver(schedule, [last] + mixed(first[:-1]), r)
+        deliver(schedule, [last] + late + mixed(first[:-1]), r)
         take_others(schedule, pinned, mixed(range(len(network.to_links))))
         deliver(schedule, mixed(marked_sent(schedule, span - 1, r)), r)
         schedule.timed("to-device", last)

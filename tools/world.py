@@ -10,22 +10,24 @@ A peer keeps its session while its admitted datagrams come at most 120,000 ms ap
  answers     a link's answer is what an execution gave of the command that it submitted under that handle, for its peer
  only        that is the only execution for the peer under the handle, if the peer kept its session
  untaken     a delivered command that its link holds untaken gets one datagram with the reply of an execution of it, if
-             2 * S <= W + 1, the peer kept its session, and the datagram finds room
+             2 * S + K <= W + 1, the peer kept its session, and the datagram finds room. S is the span of the link, and K
+             how many commands the links before it left unanswered
  room        if at most as many peers as have room spoke in the last 120,000 ms, the latest finds room
- round trip  if that datagram comes to the link, the link has the answer; the datagram's, if the peer kept its session
+ round trip  if that datagram comes to the link, which was not renewed meanwhile, the link has the answer; the datagram's,
+             if the peer kept its session
  through     a link that is asked every ms milliseconds sends each command within ms, and again within 250 + ms; after
              ms + 20 * (250 + ms) the command is answered, or the link is lost. For each run its least ms is taken
  once        no command is executed twice if the peer kept its session
  in time     the same of a link in time, whatever the device forgets: it asks nothing 15,000 ms behind a submit, and its
              datagrams come at most 100,000 ms late; its answer is that of the only execution under the handle
  renewed     a link is renewed exactly where the first handle is no lower than its next one; the new link's first command
-             gets that handle, and it gets no answer to a command of a link before. Then `untaken`, `round trip` and
-             `through` ask nothing of it any more; the other laws are those of the links before it too
+             gets that handle, and it gets no answer to a command of a link before
  said        that execution lies behind the submit, and an OK answer of GetLabel, GetEnabled or the get method of a class is what
              was last set, with its limits
  second      the transcript is, byte for byte, that of the second implementation
  premises    some schedules are within the premises, and lose, double and overtake datagrams
- sizes       with W = 2 * S - 2 a schedule breaks 'untaken', at each of the 31 pairs; random ones at (2, 2) and (4, 3)
+ sizes       with W = 2 * S - 2 a schedule breaks 'untaken', at each of the 31 pairs; random ones at (2, 2) and (4, 3); and behind
+             S commands of a link before one does with W = 3 * S - 2, but none with one more
  lines       bad lines are refused with their number
  wrong       the laws alone refuse the second implementation with one rule changed
  altered     a transcript in which one answer, or what a copy led to, was altered is refused by the law that it breaks
@@ -89,20 +91,26 @@ class Given:
 
 
 class Link:
-    """What is known of a link, and of the links that were renewed as it: its peer, its clock, its commands by handle, the executions
-    of them, each a command and its reply, and the handle of its next command."""
+    """What is known of a link, and of the links that were renewed as it: its peer, its span, its clock, its commands by handle, the
+    executions of them, each a command and its reply, the handle of its next command, how often it was renewed, and how many commands
+    the links before it left unanswered."""
 
-    def __init__(self, peer, first):
+    def __init__(self, peer, first, span):
         self.peer, self.clock, self.commands, self.executions, self.next = peer, 0, {}, [], first
-        self.is_lost, self.is_renewed, self.is_in_time = False, False, True
+        self.is_lost, self.is_in_time, self.span, self.times, self.left = False, True, span, 0, 0
+
+    @property
+    def is_renewed(self):
+        return self.times > 0
 
     def go_on(self, now):
         self.clock = max(self.clock, now)
 
-    def renew(self, first, now):
+    def renew(self, first, span, now):
         for it in self.commands.values():
+            self.left += not (it.is_answered or it.is_gone)
             it.is_gone = True
-        self.next, self.clock, self.is_lost, self.is_renewed = first, now, False, True
+        self.next, self.span, self.clock, self.is_lost, self.times = first, span, now, False, self.times + 1
 
     def waiting(self):
         return [it for it in self.commands.values() if not (it.is_answered or it.is_gone or self.is_lost)]
@@ -115,7 +123,7 @@ class Laws:
     """Holds each step against the laws, by datagrams, commands, answers and executions alone."""
 
     def __init__(self, schedule, lines, fit):
-        self.fit, self.window, self.most, self.steps = fit, schedule.window, schedule.peers, schedule.steps
+        self.fit, self.span, self.window, self.most, self.steps = fit, schedule.span, schedule.window, schedule.peers, schedule.steps
         self.count, self.number, self.clock = collections.Counter(), 0, 0
         self.places = collections.defaultdict(list)  # steps whose outcome a law speaks of
         self.expect(len(lines) >= len(self.steps) + 2 and lines[0] == "schedule", "second", f"no transcript: {lines[:2]}")
@@ -123,7 +131,7 @@ class Laws:
         for line in lines[len(self.steps) + 1:-1]:
             way, to, data = line.split(" ")
             self.sent[way].append((oca.peer_of(to), oca.hex_of(data)))
-        self.links = [Link(*start) for start in schedule.starts]
+        self.links = [Link(*start, schedule.span) for start in schedule.starts]
         self.of_peer = {link.peer: link for link in self.links}
         self.came, self.admitted, self.refused, self.forgotten = set(), {}, set(), set()
         self.spoke = {}  # by peer, when its last well-formed datagram came
@@ -133,6 +141,9 @@ class Laws:
         self.heard, self.latest = {"to-device": collections.Counter(), "to-link": collections.Counter()}, {}
         # how objects are set, by the law of what is said; nothing of an object that others' commands may have set
         self.settings = {o.ono: o for o in oca.bench()}
+
+    def fits(self, span, left):
+        return fits(self.window, span, left) if self.fit is None else self.fit
 
     def expect(self, holds, law, what):
         if not holds:
@@ -149,7 +160,7 @@ class Laws:
             self.count["losses"] += len(self.sent[way]) - len(self.heard[way])
             self.count["doubles"] += sum(n - 1 for n in self.heard[way].values())
         self.within = not self.forgotten and self.refused.isdisjoint(self.of_peer)
-        if self.fit and self.within:
+        if self.fits(self.span, 0) and self.within:
             self.count["premises met"] = 1
             self.count["premises met, with loss, double and overtaking"] = \
                 int(min(self.count["losses"], self.count["doubles"], self.count["overtakings"]) > 0)
@@ -221,23 +232,24 @@ class Laws:
     def called(self, link):
         """After a call of the link: what waits is sent in time."""
         now = link.clock
-        for it in link.waiting() if not link.is_renewed else ():
+        for it in link.waiting():
             it.ms = max(it.ms, now - it.asked)
             is_late = now >= it.sent[-1] + 250 + it.ms if it.sent else now > it.since + it.ms
             self.expect(not is_late and now <= it.since + it.ms + 20 * (250 + it.ms), "through",
                         f"handle {it.command.handle} waits, and was not sent in time")
             self.count["waiting"] += 1
+            self.count["waiting, of a renewed link"] += link.is_renewed
             self.count["waiting, asked every 250 ms"] += it.ms <= 250
             self.count["waiting, asked so, and sent again"] += it.ms <= 250 and len(it.sent) > 1
 
     def renew(self, step, said):
-        _, now, number, first, _ = step
+        _, now, number, first, span = step
         link = self.links[number]
         self.expect((said == "renewed") == (first >= link.next), "renewed", f"{said} from {first} on, where {link.next} is next")
         self.places["renewed"].append(self.number)
         if said == "renewed":
             self.count["renewals of a renewed link"] += link.is_renewed
-            link.renew(first, now)
+            link.renew(first, span, now)
 
     def beside(self, step, said):
         _, now, number = step
@@ -317,10 +329,12 @@ class Laws:
 
     def untaken_came(self, link, held, said, reply):
         """A copy came, and found room, of a command that the link holds untaken."""
-        if not self.fit or link.is_renewed or link.peer in self.forgotten:
+        if not self.fits(link.span, link.left) or link.peer in self.forgotten:
             return
         handle = held.command.handle
         self.count["untaken"] += 1
+        self.count["untaken, of a renewed link"] += link.is_renewed
+        self.count["untaken, of one whose links before left commands"] += link.left > 0
         self.count["untaken, of more peers ever"] += len(self.came) > self.most
         if said == "served 0 1 0":
             self.places["untaken"].append(self.number)
@@ -330,7 +344,7 @@ class Laws:
         under = [(command.asks(), its) for command, its in link.under(handle)]
         self.expect((held.command.asks(), reply) in under and reply[0] == handle, "untaken",
                     f"a copy of handle {handle} gets a reply of no execution of it")
-        self.trips[self.answers_sent - 1] = link, held, reply
+        self.trips[self.answers_sent - 1] = link, held, reply, link.times
 
     def to_link(self, step, said):
         _, now, k = step
@@ -346,11 +360,12 @@ class Laws:
             held.is_answered = True
         self.called(link)
 
-    def came_back(self, said, link, held, reply):
+    def came_back(self, said, link, held, reply, times):
         """The datagram came that the device sent when a copy came of a command that this link held untaken."""
-        if link.is_renewed:
+        if link.times != times:
             return
         self.count["round trips"] += 1
+        self.count["round trips, of a renewed link"] += link.is_renewed
         if held.is_gone:
             return
         self.count["round trips of a command that is still untaken"] += 1
@@ -404,8 +419,8 @@ def transcripts(program, schedules):
     return runs_of(program, "world", "schedule", [schedule.text() for schedule in schedules])
 
 
-def fits(window, span):
-    return 2 * span <= window + 1
+def fits(window, span, left=0):
+    return 2 * span + left <= window + 1
 
 
 def hold(schedule, lines):
@@ -468,7 +483,7 @@ def count_of(schedule, _, walk):
 
 def laws(schedule, lines, fit=None):
     """The laws' walk along a run; they hold as for these sizes, or as if they fitted."""
-    return Laws(schedule, lines, fits(schedule.window, schedule.span) if fit is None else fit).walk()
+    return Laws(schedule, lines, fit).walk()
 
 
 # ---- wrong devices and links
@@ -501,13 +516,16 @@ def sizes(program, seed):
     """Whether each pair of W = 2 * S - 2 breaks 'untaken', and random schedules do at two pairs; prints what was found."""
     found = [span for span in range(2, 33) if first_broken(program, [directed(2 * span - 2, span)])[1]]
     print(f"windows of 2 * S - 2: {len(found)} of 31 directed schedules break 'untaken'")
+    behind = [[span for span in range(1, 22) if first_broken(program, [directed(window(span), span, left=span)])[1]]
+              for window in (lambda span: 3 * span - 2, lambda span: 3 * span - 1)]
+    print(f"behind S commands of a link before, windows of 3 * S - 2: {len(behind[0])} of 21 break it; of 3 * S - 1: {len(behind[1])}")
     random_found = 0
     for window, span in ((2, 2), (4, 3)):
         r = random.Random(f"{seed} {window}")
         _, fault = first_broken(program, [wander(r, window, span) if n % 2 else directed(window, span, r) for n in range(400)])
         random_found += fault is not None
         print(f"window {window}, span {span}: {f'a random schedule breaks at step {fault.at}' if fault else 'none breaks'}")
-    return len(found) == 31 and random_found == 2
+    return (len(found), *map(len, behind), random_found) == (31, 21, 0, 2)
 
 
 # Each bad line with its word; the first one stands alone.
