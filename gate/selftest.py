@@ -317,10 +317,10 @@ def copies_edits(folder):
 
 
 def judged_copies(crate, of, told):
-    """Which of the two edits of the function are refused where the prover says so."""
+    """Which of the two edits of the function are refused where the prover says so, of these functions or in these lines."""
     trial, asked = edits.Trial(crate, crate.folder), []
-    lines = [f"fn a::m::{name}: not proved: the search did not prove a goal" for name in told.split()]
-    trial.checked = lambda texts, paths, without, _: asked.append(sorted(paths)) or edits.Answer(of_prover(lines, 1), texts)
+    lines = [f"fn a::m::{name}: not proved: the search did not prove a goal" for name in told.split()] if isinstance(told, str) else told
+    trial.checked = lambda texts, paths, _, proofs: asked.append(sorted(paths)) or edits.Answer(of_prover(lines, 1), {*texts} - {*proofs})
     group = edits.grouped([of["a"], of["b"]], crate, True)[0]
     left = trial.try_group(group)
     refused = [name for name in "ab" if of[name].is_refused]

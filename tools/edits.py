@@ -246,9 +246,7 @@ def attributes_at(lines, first):
 
 class Copy:
     """A copy of a function of a crate under another name, which stands behind it: with an edit, or as it stands where there
-    is none. `edits` has those that it is tried for."""
-
-    lemmas = ()
+    is none. `edits` has those that it is tried for, `proofs` the files of its proofs, which are copies too."""
 
     def __init__(self, crate, path, function, name, edits, edit=None):
         self.crate, self.path, self.edits, self.edit = crate, path, edits, edit
@@ -256,15 +254,16 @@ class Copy:
         lines = text_of(crate, path, edit and rt.edited(edit.text, crate.folder)[0]).split("\n")
         head = re.sub(rf"\bfn {function.name}\b", f"fn {name}", lines[function.first], count=1)
         attributes = lines[attributes_at(lines, function.first):function.first]
+        old, new = (Path("proofs", *it.path().split("::")) for it in (self.origin, self.function))
+        self.proofs = {str(new / file.name): file.read_text().replace(".".join(old.parts) + ".", ".".join(new.parts) + ".")
+                       for file in proofs_of(crate, function)}
         self.lines = [*attributes, head, *lines[function.first + 1:function.last + 1]]
 
     def put_into(self, texts):
-        """Adds it, and copies of its proofs, to these texts of the crate."""
+        """Adds it, and its proofs, to these texts of the crate."""
         lines, behind = text_of(self.crate, self.path, texts).split("\n"), self.origin.last + 1
         texts[self.path] = "\n".join([*lines[:behind], "", *self.lines, *lines[behind:]])
-        old, new = (Path("proofs", *it.path().split("::")) for it in (self.origin, self.function))
-        for file in proofs_of(self.crate, self.origin):
-            texts[str(new / file.name)] = file.read_text().replace(".".join(old.parts) + ".", ".".join(new.parts) + ".")
+        texts |= self.proofs
 
 
 class LawFunction(Function):
@@ -296,7 +295,7 @@ class LawCopy:
         copied[Path("src", f"{module}.rt")] = Path("src", f"{module}{ending}.rt")
         copied |= {file: Path("proofs", module + ending, *file.parts[2:]) for file in proofs_of_law(crate, module, name)}
         self.texts = {str(to): self.renamed(text_of(crate, file, changed)) for file, to in copied.items()}
-        self.lemmas = {path for path in self.texts if path.startswith("proofs/")}
+        self.proofs = {path for path in self.texts if path.startswith("proofs/")}
         self.declared = [(f"{it.parts[0]}/Lib.antt", f"mod {it.stem}", "") for it in files] + [("src/lib.rt", f"mod {module}", ";")]
 
     def renamed(self, text):
@@ -591,9 +590,9 @@ class Trial:
         if os.environ.get("EDITS_KEPT") and os.path.isdir(earlier):
             self.kept = shutil.copytree(earlier, f"{room}/kept")
 
-    def checked(self, texts, paths, without=(), lemmas=()):
-        """Checks these functions of a copy of the crate, or all; some without their proofs. The files of these lemmas
-        read well, since they are copies: an error there is of a goal."""
+    def checked(self, texts, paths, without=(), proofs=()):
+        """Checks these functions of a copy of the crate, or all; some without their proofs. The files of these proofs
+        and lemmas read well, since they are copies: an error there is of a goal, or of a name that is gone."""
         self.checks += 1
         only = [word for path in sorted(paths) for word in ("--only", path)]
         with tempfile.TemporaryDirectory(prefix="edits-") as room:
@@ -609,7 +608,7 @@ class Trial:
             ran = rt.checked(crate, texts, [*FLAGS, *only], self.kept)
             if only and "` has no function `" in ran.stdout:  # a path that the prover writes in another way
                 ran = rt.checked(crate, texts, FLAGS, self.kept)
-        return Answer(ran, {*texts} - {*lemmas})
+        return Answer(ran, {*texts} - {*proofs})
 
     def try_group(self, group, empties=False):
         """Checks a group; the edits that are not refused. Once more whole if other functions fail."""
@@ -624,8 +623,8 @@ class Trial:
         if empties:
             texts, empty = emptied(self.crate, texts, functions)
             texts, narrow = narrowed(self.crate, texts, group.wanted(self.crate, copies))
-        lemmas = set().union(*(it.lemmas for it in copies))
-        answer = self.checked(texts, set() if is_whole else paths, empty, lemmas)
+        proofs = set().union(*(it.proofs for it in copies))
+        answer = self.checked(texts, set() if is_whole else paths, empty, proofs)
         strange = answer.strange(functions, empty) if functions and not answer.why else None
         if empties and (strange or answer.why):
             return self.try_group(group)
