@@ -385,6 +385,15 @@ def narrows_contracts(folder):
     return all(found) and all(told_of_clause(crate, *row) for row in DATA.said_of_clauses)
 
 
+def sees_calls(_):
+    """A word of a function's name counts as a call of it unless it can be none: a field, a use, a contract, another type's."""
+    its, found = edits.functions_of("src/m.rt", DATA.called), []
+    for code, *names in DATA.of_calls:
+        sources = {"src/m.rt": DATA.called, "src/n.rt": code}
+        found.append([it.name for it in its if edits.is_called(it, "src/m.rt", sources)])
+    return is_same([names for _, *names in DATA.of_calls], found)
+
+
 def told_of_clause(crate, clause, narrow, whole, wanted):
     """Whether this is told of the edit of `f` that names this clause, where the prover says so of `f` with that clause alone, and with all."""
     laid(Path(crate.folder), {"wrong/f.edit": f"clause: {clause}\nfile: src/m.rt\nold: n + 1\nnew: n + 3\n"})
@@ -544,7 +553,7 @@ ROWS = [*each(lambda steps, passes, last, folder: is_same((int(not passes), last
     goes_on_beside, begins_early, compares_examples, builds_as_asked, compares_documents, lists_each_edit,
     names_functions, judges_edits, loses_no_step, leaves_none_out, stands_on_its_sources, counts_all,
     knows_the_lanes, says_what_is_missing, counts_edits, waits_for_proofs, copies_edits, copies_laws, empties_functions,
-    narrows_contracts, forgives_no_lateness, tells_a_verdict, judges_lossy_runs, carries_badly, counts_what_differs, sees_differences)]
+    narrows_contracts, sees_calls, forgives_no_lateness, tells_a_verdict, judges_lossy_runs, carries_badly, counts_what_differs, sees_differences)]
 
 
 def main():

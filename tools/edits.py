@@ -33,7 +33,6 @@ import sys
 import tempfile
 import threading
 import time
-from collections import Counter
 from concurrent.futures import FIRST_COMPLETED, ThreadPoolExecutor, wait
 from pathlib import Path
 
@@ -254,10 +253,10 @@ class Copy:
         lines = text_of(crate, path, edit and rt.edited(edit.text, crate.folder)[0]).split("\n")
         head = re.sub(rf"\bfn {function.name}\b", f"fn {name}", lines[function.first], count=1)
         attributes = lines[attributes_at(lines, function.first):function.first]
+        self.lines = [*attributes, head, *lines[function.first + 1:function.last + 1]]
         old, new = (Path("proofs", *it.path().split("::")) for it in (self.origin, self.function))
         self.proofs = {str(new / file.name): file.read_text().replace(".".join(old.parts) + ".", ".".join(new.parts) + ".")
                        for file in proofs_of(crate, function)}
-        self.lines = [*attributes, head, *lines[function.first + 1:function.last + 1]]
 
     def put_into(self, texts):
         """Adds it, and its proofs, to these texts of the crate."""
@@ -413,21 +412,50 @@ def emptied(crate, texts, touched):
     return texts, found
 
 
-def code_of(text):
-    """A source without what names functions and calls none: lines of comments, and uses."""
-    text = re.sub(r"(?m)^ *//.*$", "", text)
-    return re.sub(r"(?ms)^ *(?:pub(?:\([a-z: ]+\))? )?(?:ghost )?use .*?;", "", text)
+def calling_code(text, but=None):
+    """What of a source can call functions: no comments, uses and contracts, and nothing of this function of the source."""
+    lines = re.sub(r"(?m)^ *//.*$", "", text).split("\n")
+    for it in functions_of("src/lib.rt", text):
+        is_itself = but and (it.of, it.trait, it.name) == (but.of, but.trait, but.name)
+        for at in range(it.first, it.last + 1) if is_itself else range(it.first + 1, it.opens or 0):
+            lines[at] = ""
+    return re.sub(r"(?ms)^ *(?:pub(?:\([a-z: ]+\))? )?(?:ghost )?use .*?;", "", "\n".join(lines))
+
+
+def called_as(function, text):
+    """How code calls the function, by all that stands in the sources: a path that ends in its name, where it is no method;
+    else its name behind a value's dot or behind its type, which may have other names."""
+    name, types = function.name, {(function.of or "").split("+")[0], "Self"}
+    if not function.of:
+        return re.compile(rf"(?<![.\w])(?<!fn )(?<!mod ){name}\b(?!: )")
+    others = re.findall(r"\btype (\w+)[^=;]*= *([^;]*);", text) + [(new, old) for old, new in re.findall(r"\b(\w+) as (\w+)", text)]
+    for _ in others:
+        types |= {new for new, old in others if not types.isdisjoint(re.findall(r"\w+", old))}
+    return re.compile(rf"\.\s*{name}\s*(\(|::<)|(\b({'|'.join(sorted(types))})|>)::{name}\b")
+
+
+def is_called(function, path, sources):
+    """Whether other code of these sources may call the function, which stands at this path. It is told by the name, since no
+    types of values are known here: where a macro of the crate may make the call, by any word. A trait's method, which an
+    operator may call, one of a cycle, and a function that has another name somewhere may always be called."""
+    text, lines = "\n".join(sources.values()), sources[path].split("\n")
+    attributes = "\n".join(lines[attributes_at(lines, function.first):function.first])
+    if function.is_of_trait or "cycle(" in attributes or re.search(rf"\b{function.name} as \w", text):
+        return True
+    macros = re.compile("|".join([r"\bmacro_rules!", *(rf"\b{it}!" for it in re.findall(r"\bmacro_rules! (\w+)", text))]))
+    word, call = re.compile(rf"(?<!fn )\b{function.name}\b"), called_as(function, text)
+    forms = {at: word if macros.search(source) else call for at, source in sources.items()}
+    return any(forms[at].search(calling_code(source, function if at == path else None)) for at, source in sources.items())
 
 
 def narrowed(crate, texts, wanted):
-    """The texts with only wanted clauses of functions that no other code names; and their paths."""
+    """The texts with only wanted clauses of functions that no other code calls; and their paths."""
     sources = sources_of(crate) | {path: text for path, text in texts.items() if path.startswith("src/")}
-    named = Counter(itertools.chain(*(re.findall(r"\w+", code_of(text)) for text in sources.values())))
     texts, found = dict(texts), set()
     for path, text in sources.items():
         lines = text.split("\n")
         for function in functions_in(crate, path, text):
-            if function.path() in wanted and named[function.name] == 1:
+            if function.path() in wanted and not is_called(function, path, sources):
                 others = [at for name, places in clauses_of(lines, function) if name not in wanted[function.path()] for at in places]
                 for at in others:
                     lines[at] = ""
