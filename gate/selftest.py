@@ -317,10 +317,10 @@ def copies_edits(folder):
 
 
 def judged_copies(crate, of, told):
-    """Which of the two edits of the function are refused where the prover says so."""
+    """Which of the two edits of the function are refused where the prover says so, of these functions or in these lines."""
     trial, asked = edits.Trial(crate, crate.folder), []
-    lines = [f"fn a::m::{name}: not proved: the search did not prove a goal" for name in told.split()]
-    trial.checked = lambda texts, paths, without, _: asked.append(sorted(paths)) or edits.Answer(of_prover(lines, 1), texts)
+    lines = [f"fn a::m::{name}: not proved: the search did not prove a goal" for name in told.split()] if isinstance(told, str) else told
+    trial.checked = lambda texts, paths, _, proofs: asked.append(sorted(paths)) or edits.Answer(of_prover(lines, 1), {*texts} - {*proofs})
     group = edits.grouped([of["a"], of["b"]], crate, True)[0]
     left = trial.try_group(group)
     refused = [name for name in "ab" if of[name].is_refused]
@@ -383,6 +383,15 @@ def narrows_contracts(folder):
         starts = {name: texts["src/m.rt"].split(f"fn {name}(")[1].startswith(wanted[name]) for name in of}
         found += [len(groups) == 1, paths == ({f"m::{narrow}"} if narrow else set()), all(starts.values())]
     return all(found) and all(told_of_clause(crate, *row) for row in DATA.said_of_clauses)
+
+
+def sees_calls(_):
+    """A word of a function's name counts as a call of it unless it can be none: a field, a use, a contract, another type's."""
+    its, found = edits.functions_of("src/m.rt", DATA.called), []
+    for code, *names in DATA.of_calls:
+        sources = {"src/m.rt": DATA.called, "src/n.rt": code}
+        found.append([it.name for it in its if edits.is_called(it, "src/m.rt", sources)])
+    return is_same([names for _, *names in DATA.of_calls], found)
 
 
 def told_of_clause(crate, clause, narrow, whole, wanted):
@@ -544,7 +553,7 @@ ROWS = [*each(lambda steps, passes, last, folder: is_same((int(not passes), last
     goes_on_beside, begins_early, compares_examples, builds_as_asked, compares_documents, lists_each_edit,
     names_functions, judges_edits, loses_no_step, leaves_none_out, stands_on_its_sources, counts_all,
     knows_the_lanes, says_what_is_missing, counts_edits, waits_for_proofs, copies_edits, copies_laws, empties_functions,
-    narrows_contracts, forgives_no_lateness, tells_a_verdict, judges_lossy_runs, carries_badly, counts_what_differs, sees_differences)]
+    narrows_contracts, sees_calls, forgives_no_lateness, tells_a_verdict, judges_lossy_runs, carries_badly, counts_what_differs, sees_differences)]
 
 
 def main():

@@ -33,7 +33,6 @@ import sys
 import tempfile
 import threading
 import time
-from collections import Counter
 from concurrent.futures import FIRST_COMPLETED, ThreadPoolExecutor, wait
 from pathlib import Path
 
@@ -246,9 +245,7 @@ def attributes_at(lines, first):
 
 class Copy:
     """A copy of a function of a crate under another name, which stands behind it: with an edit, or as it stands where there
-    is none. `edits` has those that it is tried for."""
-
-    lemmas = ()
+    is none. `edits` has those that it is tried for, `proofs` the files of its proofs, which are copies too."""
 
     def __init__(self, crate, path, function, name, edits, edit=None):
         self.crate, self.path, self.edits, self.edit = crate, path, edits, edit
@@ -257,14 +254,15 @@ class Copy:
         head = re.sub(rf"\bfn {function.name}\b", f"fn {name}", lines[function.first], count=1)
         attributes = lines[attributes_at(lines, function.first):function.first]
         self.lines = [*attributes, head, *lines[function.first + 1:function.last + 1]]
+        old, new = (Path("proofs", *it.path().split("::")) for it in (self.origin, self.function))
+        self.proofs = {str(new / file.name): file.read_text().replace(".".join(old.parts) + ".", ".".join(new.parts) + ".")
+                       for file in proofs_of(crate, function)}
 
     def put_into(self, texts):
-        """Adds it, and copies of its proofs, to these texts of the crate."""
+        """Adds it, and its proofs, to these texts of the crate."""
         lines, behind = text_of(self.crate, self.path, texts).split("\n"), self.origin.last + 1
         texts[self.path] = "\n".join([*lines[:behind], "", *self.lines, *lines[behind:]])
-        old, new = (Path("proofs", *it.path().split("::")) for it in (self.origin, self.function))
-        for file in proofs_of(self.crate, self.origin):
-            texts[str(new / file.name)] = file.read_text().replace(".".join(old.parts) + ".", ".".join(new.parts) + ".")
+        texts |= self.proofs
 
 
 class LawFunction(Function):
@@ -296,7 +294,7 @@ class LawCopy:
         copied[Path("src", f"{module}.rt")] = Path("src", f"{module}{ending}.rt")
         copied |= {file: Path("proofs", module + ending, *file.parts[2:]) for file in proofs_of_law(crate, module, name)}
         self.texts = {str(to): self.renamed(text_of(crate, file, changed)) for file, to in copied.items()}
-        self.lemmas = {path for path in self.texts if path.startswith("proofs/")}
+        self.proofs = {path for path in self.texts if path.startswith("proofs/")}
         self.declared = [(f"{it.parts[0]}/Lib.antt", f"mod {it.stem}", "") for it in files] + [("src/lib.rt", f"mod {module}", ";")]
 
     def renamed(self, text):
@@ -414,21 +412,50 @@ def emptied(crate, texts, touched):
     return texts, found
 
 
-def code_of(text):
-    """A source without what names functions and calls none: lines of comments, and uses."""
-    text = re.sub(r"(?m)^ *//.*$", "", text)
-    return re.sub(r"(?ms)^ *(?:pub(?:\([a-z: ]+\))? )?(?:ghost )?use .*?;", "", text)
+def calling_code(text, but=None):
+    """What of a source can call functions: no comments, uses and contracts, and nothing of this function of the source."""
+    lines = re.sub(r"(?m)^ *//.*$", "", text).split("\n")
+    for it in functions_of("src/lib.rt", text):
+        is_itself = but and (it.of, it.trait, it.name) == (but.of, but.trait, but.name)
+        for at in range(it.first, it.last + 1) if is_itself else range(it.first + 1, it.opens or 0):
+            lines[at] = ""
+    return re.sub(r"(?ms)^ *(?:pub(?:\([a-z: ]+\))? )?(?:ghost )?use .*?;", "", "\n".join(lines))
+
+
+def called_as(function, text):
+    """How code calls the function, by all that stands in the sources: a path that ends in its name, where it is no method;
+    else its name behind a value's dot or behind its type, which may have other names."""
+    name, types = function.name, {(function.of or "").split("+")[0], "Self"}
+    if not function.of:
+        return re.compile(rf"(?<![.\w])(?<!fn )(?<!mod ){name}\b(?!: )")
+    others = re.findall(r"\btype (\w+)[^=;]*= *([^;]*);", text) + [(new, old) for old, new in re.findall(r"\b(\w+) as (\w+)", text)]
+    for _ in others:
+        types |= {new for new, old in others if not types.isdisjoint(re.findall(r"\w+", old))}
+    return re.compile(rf"\.\s*{name}\s*(\(|::<)|(\b({'|'.join(sorted(types))})|>)::{name}\b")
+
+
+def is_called(function, path, sources):
+    """Whether other code of these sources may call the function, which stands at this path. It is told by the name, since no
+    types of values are known here: where a macro of the crate may make the call, by any word. A trait's method, which an
+    operator may call, one of a cycle, and a function that has another name somewhere may always be called."""
+    text, lines = "\n".join(sources.values()), sources[path].split("\n")
+    attributes = "\n".join(lines[attributes_at(lines, function.first):function.first])
+    if function.is_of_trait or "cycle(" in attributes or re.search(rf"\b{function.name} as \w", text):
+        return True
+    macros = re.compile("|".join([r"\bmacro_rules!", *(rf"\b{it}!" for it in re.findall(r"\bmacro_rules! (\w+)", text))]))
+    word, call = re.compile(rf"(?<!fn )\b{function.name}\b"), called_as(function, text)
+    forms = {at: word if macros.search(source) else call for at, source in sources.items()}
+    return any(forms[at].search(calling_code(source, function if at == path else None)) for at, source in sources.items())
 
 
 def narrowed(crate, texts, wanted):
-    """The texts with only wanted clauses of functions that no other code names; and their paths."""
+    """The texts with only wanted clauses of functions that no other code calls; and their paths."""
     sources = sources_of(crate) | {path: text for path, text in texts.items() if path.startswith("src/")}
-    named = Counter(itertools.chain(*(re.findall(r"\w+", code_of(text)) for text in sources.values())))
     texts, found = dict(texts), set()
     for path, text in sources.items():
         lines = text.split("\n")
         for function in functions_in(crate, path, text):
-            if function.path() in wanted and named[function.name] == 1:
+            if function.path() in wanted and not is_called(function, path, sources):
                 others = [at for name, places in clauses_of(lines, function) if name not in wanted[function.path()] for at in places]
                 for at in others:
                     lines[at] = ""
@@ -591,9 +618,9 @@ class Trial:
         if os.environ.get("EDITS_KEPT") and os.path.isdir(earlier):
             self.kept = shutil.copytree(earlier, f"{room}/kept")
 
-    def checked(self, texts, paths, without=(), lemmas=()):
-        """Checks these functions of a copy of the crate, or all; some without their proofs. The files of these lemmas
-        read well, since they are copies: an error there is of a goal."""
+    def checked(self, texts, paths, without=(), proofs=()):
+        """Checks these functions of a copy of the crate, or all; some without their proofs. The files of these proofs
+        and lemmas read well, since they are copies: an error there is of a goal, or of a name that is gone."""
         self.checks += 1
         only = [word for path in sorted(paths) for word in ("--only", path)]
         with tempfile.TemporaryDirectory(prefix="edits-") as room:
@@ -609,7 +636,7 @@ class Trial:
             ran = rt.checked(crate, texts, [*FLAGS, *only], self.kept)
             if only and "` has no function `" in ran.stdout:  # a path that the prover writes in another way
                 ran = rt.checked(crate, texts, FLAGS, self.kept)
-        return Answer(ran, {*texts} - {*lemmas})
+        return Answer(ran, {*texts} - {*proofs})
 
     def try_group(self, group, empties=False):
         """Checks a group; the edits that are not refused. Once more whole if other functions fail."""
@@ -624,8 +651,8 @@ class Trial:
         if empties:
             texts, empty = emptied(self.crate, texts, functions)
             texts, narrow = narrowed(self.crate, texts, group.wanted(self.crate, copies))
-        lemmas = set().union(*(it.lemmas for it in copies))
-        answer = self.checked(texts, set() if is_whole else paths, empty, lemmas)
+        proofs = set().union(*(it.proofs for it in copies))
+        answer = self.checked(texts, set() if is_whole else paths, empty, proofs)
         strange = answer.strange(functions, empty) if functions and not answer.why else None
         if empties and (strange or answer.why):
             return self.try_group(group)

@@ -60,7 +60,7 @@ fn is_packet(outbox: &Outbox, at: usize, parts: &[Part]) -> bool {
 }
 
 /// Whether the outbox holds these packets.
-fn holds(outbox: &Outbox, packets: &[&[Part]]) -> bool {
+pub fn holds(outbox: &Outbox, packets: &[&[Part]]) -> bool {
     for (at, parts) in packets.iter().enumerate() {
         if !is_packet(outbox, at, parts) {
             return false;

@@ -1,6 +1,7 @@
 //! A small device: the longest datagram and the longest reply for which it has room.
 use super::super::{none_wrong, peer};
-use super::parts::{Part, bytes_of, is_of};
+use super::parts::{Part, bytes_of};
+use super::play::holds;
 use super::*;
 use oca_device::{DeviceOf, Outbox, SmallDevice};
 use oca_tree::{Kind, MuteState, Spec, Tree, TreeBuilder};
@@ -97,21 +98,6 @@ fn objects(alloc: Global) -> Option<Tree> {
         }
         Err(_) => None,
     }
-}
-
-/// Whether the outbox holds these packets.
-fn holds(outbox: &Outbox, packets: &[&[Part]]) -> bool {
-    for (at, parts) in packets.iter().enumerate() {
-        match outbox.get(at) {
-            Some(packet) => {
-                if !is_of(packet.as_slice(), parts) {
-                    return false;
-                }
-            }
-            None => return false,
-        }
-    }
-    outbox.len() == packets.len()
 }
 
 /// The first row of which something else comes, at a small device; the last number where there is none.

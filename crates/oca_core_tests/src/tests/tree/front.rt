@@ -318,8 +318,8 @@ const CHANGES_REFUSED: &[At] = &[
     ),
 ];
 
-/// The scripts.
-const SCRIPTS: &[Script] = &[
+/// Scripts of what is set.
+const SETS: &[Script] = &[
     Script {
         name: "the_front_sets",
         over: Bench,
@@ -340,6 +340,10 @@ const SCRIPTS: &[Script] = &[
         over: Bench,
         parts: LOCKED,
     },
+];
+
+/// Scripts of other changes, and of hardware.
+const OTHERS: &[Script] = &[
     Script {
         name: "the_front_labels_enables_and_unlocks",
         over: Bench,
@@ -406,8 +410,17 @@ const INTEGERS: &[OfInteger] = &[
 ];
 
 #[test]
-fn scripts(rt: HostRuntime) {
-    play(&rt, rt.alloc(), SCRIPTS);
+fn sets(rt: HostRuntime) {
+    play(&rt, rt.alloc(), SETS);
+}
+
+#[test]
+fn others(rt: HostRuntime) {
+    play(&rt, rt.alloc(), OTHERS);
+}
+
+#[test]
+fn states_and_integers(rt: HostRuntime) {
     none_wrong(
         &rt,
         "states and integers",
