@@ -19,6 +19,7 @@ pub mod Fixed
 pub mod Lawful
 pub mod RoundTrip
 pub mod GettingThrough
+pub mod Timed
 pub mod InTime
 pub mod ObjectsKept
 pub mod Saying

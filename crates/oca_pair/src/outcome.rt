@@ -11,8 +11,8 @@ pub enum Outcome {
     Submitted(Handle),
     /// `Submit`: the link refused the command, for this fault.
     Refused(ControlFault),
-    /// `Due`: the link sent a command or a keep-alive. `Beside`: a keep-alive was sent beside the link. It is the datagram of this number, from 0, of those that were
-    /// sent to the device.
+    /// `Due`: the link sent a command or a keep-alive. `Beside`: a keep-alive was sent beside the link. It is the
+    /// datagram of this number, from 0, of those that were sent to the device.
     Sent(usize),
     /// `Due`: nothing was due.
     Nothing,

@@ -101,7 +101,8 @@ const ALL_LOST: &[Row] = &[
     Gets(5_000, Seen::Refused(ControlFault::Lost)),
 ];
 
-/// A link is renewed, with a span of 1, and again, with the last handle. What was sent for the old link still arrives.
+/// A link is renewed, with a span of 1, and again, with the last handle. What was sent for the old link still arrives. A
+/// keep-alive is sent beside the link.
 const RENEWED: &[Row] = &[
     Gets(0, Seen::Submitted(1)),
     Gets(0, Seen::Submitted(2)),
@@ -117,6 +118,7 @@ const RENEWED: &[Row] = &[
     Gets(500, Seen::Refused(ControlFault::SpanFull)),
     Due(500, Seen::Sent(2)),
     ToDevice(2, 500, EXECUTED),
+    Beside(500, Seen::Sent(3)),
     ToLink(2, 500, ANSWERED),
     Takes(3, STATE),
     Takes(1, Seen::NoAnswer),
@@ -201,7 +203,7 @@ const CASES: &[Case] = &[
         parts: &[RENEWED],
         want: Ok(Ran {
             wrong: None,
-            to_device: 3,
+            to_device: 4,
             to_links: 3,
             last_byte: Some(1),
             sessions: 1,

@@ -100,6 +100,8 @@ pub enum Row {
     Takes(u32, Seen),
     /// The link is renewed, with a first handle and a span, at a moment.
     Renews(u32, u8, u64, Seen),
+    /// A keep-alive is sent beside the link, at a moment.
+    Beside(u64, Seen),
     /// Such steps, with the numbers from the first to below the second.
     All(Each, u32, u32),
 }
@@ -272,6 +274,7 @@ fn only_step(row: Row) -> (Step<'static>, Seen) {
         }
         Row::Takes(handle, want) => (take(handle), want),
         Row::Renews(first, size, now, want) => (renew(first, size, now), want),
+        Row::Beside(now, want) => (Step::Beside { link: 0, now }, want),
         Row::All(each, first, _) => step_of(each, first),
         other => front_step(other),
     }
