@@ -11,7 +11,8 @@ A peer keeps its session while its admitted datagrams come at most 120,000 ms ap
  only        that is the only execution for the peer under the handle, if the peer kept its session
  untaken     a delivered command that its link holds untaken gets one datagram with the reply of an execution of it, if
              2 * S + K <= W + 1, the peer kept its session, and the datagram finds room. S is the span of the link, and K
-             how many commands the links before it left unanswered
+             how many commands the links before it left unanswered. So it is of a link in time, whatever the device forgets, and
+             K then leaves out the links whose clock was read last more than 100,000 ms before the submit
  room        if at most as many peers as have room spoke in the last 120,000 ms, the latest finds room
  round trip  if that datagram comes to the link, which was not renewed meanwhile, the link has the answer; the datagram's,
              if the peer kept its session
@@ -93,11 +94,11 @@ class Given:
 class Link:
     """What is known of a link, and of the links that were renewed as it: its peer, its span, its clock, its commands by handle, the
     executions of them, each a command and its reply, the handle of its next command, how often it was renewed, and how many commands
-    the links before it left unanswered."""
+    each link before it left unanswered, with the last moment of that link's clock."""
 
     def __init__(self, peer, first, span):
         self.peer, self.clock, self.commands, self.executions, self.next = peer, 0, {}, [], first
-        self.is_lost, self.is_in_time, self.span, self.times, self.left = False, True, span, 0, 0
+        self.is_lost, self.is_in_time, self.span, self.times, self.left_off = False, True, span, 0, []
 
     @property
     def is_renewed(self):
@@ -106,9 +107,13 @@ class Link:
     def go_on(self, now):
         self.clock = max(self.clock, now)
 
+    def left(self, moment=0):
+        """How many commands the links before it left unanswered whose clocks were read last at most 100,000 ms before the moment."""
+        return sum(count for count, till in self.left_off if moment <= till + 100000)
+
     def renew(self, first, span, now):
+        self.left_off.append((sum(not (it.is_answered or it.is_gone) for it in self.commands.values()), self.clock))
         for it in self.commands.values():
-            self.left += not (it.is_answered or it.is_gone)
             it.is_gone = True
         self.next, self.span, self.clock, self.is_lost, self.times = first, span, now, False, self.times + 1
 
@@ -329,12 +334,16 @@ class Laws:
 
     def untaken_came(self, link, held, said, reply):
         """A copy came, and found room, of a command that the link holds untaken."""
-        if not self.fits(link.span, link.left) or link.peer in self.forgotten:
+        is_forgotten, fits_all = link.peer in self.forgotten, self.fits(link.span, link.left())
+        is_in_time = link.is_in_time and self.fits(link.span, link.left(held.since))
+        if not (is_in_time or (fits_all and not is_forgotten)):
             return
         handle = held.command.handle
         self.count["untaken"] += 1
         self.count["untaken, of a renewed link"] += link.is_renewed
-        self.count["untaken, of one whose links before left commands"] += link.left > 0
+        self.count["untaken, of one whose links before left commands"] += link.left() > 0
+        self.count["untaken, in time, of a forgotten peer"] += is_in_time and is_forgotten
+        self.count["untaken, in time, behind links that left more long before"] += is_in_time and not fits_all
         self.count["untaken, of more peers ever"] += len(self.came) > self.most
         if said == "served 0 1 0":
             self.places["untaken"].append(self.number)

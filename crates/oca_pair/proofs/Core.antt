@@ -178,12 +178,12 @@ IsOfLink f n late e = (e.command.handle < n) × ((f ≤ e.command.handle) ⊎ Is
 
 -- A handle at or above h has few after it.
 few_after : (f s w n h : ℕ) (late : List ℕ) → 2 * s + length late ≤ w + 1 → h < n → n ≤ h + s → (before : List Entry) (e : Entry) (es : List Entry) →
-    AllByRecursion (IsOfLink f n late) (e ∷ es) → Ordered f s before (e ∷ es) → h ≤ e.command.handle → length es < w
-few_after f s w n h late wide small near before e es own o above =
+    e.command.handle < n → AllByRecursion (IsOfLink f n late) es → Ordered f s before (e ∷ es) → h ≤ e.command.handle → length es < w
+few_after f s w n h late wide small near before e es below own o above =
     let near_all : AllByRecursion (IsNear (suc h - s)) (handles_of (e ∷ es)) =
     each_handle (IsNear (suc h - s)) (e ∷ es) (
-      inl (at e.command.handle above own.0.0),
-      each_both (λ z q r. at_later z.command.handle q.0 q.1 r) es own.1 (later_new_now es (later_new f s (before ++ e ∷ []) es o.2)),
+      inl (at e.command.handle above below),
+      each_both (λ z q r. at_later z.command.handle q.0 q.1 r) es own (later_new_now es (later_new f s (before ++ e ∷ []) es o.2)),
     ) in
     let few : length (handles_of (e ∷ es)) ≤ (2 * s - 1) + length late = crowd_and (2 * s - 1) (suc h - s) late (handles_of (e ∷ es)) (distinct f s before (e ∷ es) o) near_all in
     let few' : length (e ∷ es) ≤ (2 * s - 1) + length late = rw length-map at few in
@@ -207,6 +207,24 @@ few_after f s w n h late wide small near before e es own o above =
 
     later_new_now : (es : List Entry) → AllByRecursion (λ z. has z.command.handle (before ++ e ∷ []) ≡ false) es → AllByRecursion (λ z. has z.command.handle before ≡ false) es
     later_new_now es p = each_map (λ z q. (one_more z.command.handle before e q).0) es p
+
+-- After each of these commands that lies at or above h, those of the handles `late` that stand behind it are of the handles `few`.
+abbrev pub Trails : ℕ → List ℕ → List ℕ → List Entry → Type 0
+Trails h late few [] = Unit {0}
+Trails h late few (e ∷ es) = (h ≤ e.command.handle → AllByRecursion (λ x. IsIn x.command.handle late → IsIn x.command.handle few) es) × Trails h late few es
+
+pub trails_behind : (h : ℕ) (late few : List ℕ) (before es : List Entry) → Trails h late few (before ++ es) → Trails h late few es
+trails_behind h late few [] es t = t
+trails_behind h late few (e ∷ before) es t = trails_behind h late few before es t.1
+
+-- all of them are few
+pub trails_all : (h : ℕ) (late : List ℕ) (es : List Entry) → Trails h late late es
+trails_all h late [] = tt
+trails_all h late (e ∷ es) = ((λ above. each es), trails_all h late es)
+  where
+    each : (xs : List Entry) → AllByRecursion (λ x. IsIn x.command.handle late → IsIn x.command.handle late) xs
+    each [] = tt
+    each (x ∷ xs) = ((λ i. i), each xs)
 
 -- all of these lie below h
 abbrev pub AllBelow : ℕ → List Entry → Type 0
@@ -233,16 +251,19 @@ below_first h w e es head rest = elim (lt_or_le (length es) w) [
 ]
 
 -- Where h lies less than s below the next handle n, whatever is at or above h is among the last w.
-pub below_all : (f s w n h : ℕ) (late : List ℕ) → 2 * s + length late ≤ w + 1 → h < n → n ≤ h + s → (before es : List Entry) →
-    AllByRecursion (IsOfLink f n late) es → Ordered f s before es → AllBelow h (take (length es - w) es)
-below_all f s w n h late wide small near before [] own o = none_below (0 - w) h
-below_all f s w n h late wide small near before (e ∷ es) own o =
-    below_first h w e es head (below_all f s w n h late wide small near (before ++ e ∷ []) es own.1 o.2)
+pub below_all : (f s w n h : ℕ) (late few : List ℕ) → 2 * s + length few ≤ w + 1 → h < n → n ≤ h + s → (before es : List Entry) →
+    AllByRecursion (IsOfLink f n late) es → Ordered f s before es → Trails h late few es → AllBelow h (take (length es - w) es)
+below_all f s w n h late few wide small near before [] own o trails = none_below (0 - w) h
+below_all f s w n h late few wide small near before (e ∷ es) own o trails =
+    below_first h w e es head (below_all f s w n h late few wide small near (before ++ e ∷ []) es own.1 o.2 trails.1)
   where
+    of_few : (x : Entry) → IsOfLink f n late x → (IsIn x.command.handle late → IsIn x.command.handle few) → IsOfLink f n few x
+    of_few x q t = (q.0, elim q.1 [ inl mine ↦ inl mine | inr left ↦ inr (t left) ])
+
     head : w ≤ length es → nat_lt e.command.handle h ≡ true
     head long = elim (lt_or_le e.command.handle h) [
       | inl low ↦ lower e.command.handle h low
-      | inr high ↦ absurd (contra (few_after f s w n h late wide small near before e es own o high) long)
+      | inr high ↦ absurd (contra (few_after f s w n h few wide small near before e es own.0.0 (each_both of_few es own.1 (trails.0 high)) o high) long)
     ]
       where
         contra : {a b : ℕ} → a < b → b ≤ a → ⊥
@@ -254,6 +275,27 @@ pub below_whole : (h w : ℕ) (earlier es : List Entry) → AllByRecursion (λ e
 below_whole h w [] es low rest = rest
 below_whole h w (e ∷ earlier) es low rest =
     below_first h w e (earlier ++ es) (λ long. lower e.command.handle h low.0) (below_whole h w earlier es low.1 rest)
+
+-- the same of the last of them
+pub below_last : (h w : ℕ) (before es : List Entry) → AllBelow h (take (length (before ++ es) - w) (before ++ es)) → AllBelow h (take (length es - w) es)
+below_last h w [] es low = low
+below_last h w (e ∷ before) es low = elim (lt_or_le (length (before ++ es)) w) [
+  | inl short ↦
+      let fewer : length es ≤ length (before ++ es) = shorter before in
+      let all : length es - w ≡ 0 = omega arith in
+      ap (λ k. list_all (λ (e : Entry). nat_lt e.command.handle h) (take k es)) all
+  | inr long ↦
+      let one : length (e ∷ before ++ es) - w ≡ suc (length (before ++ es) - w) = omega arith in
+      below_last h w before es (second (nat_lt e.command.handle h) _ (sym (ap (λ k. list_all (λ (e : Entry). nat_lt e.command.handle h) (take k (e ∷ before ++ es))) one) ∙ low))
+]
+  where
+    shorter : (xs : List Entry) → length es ≤ length (xs ++ es)
+    shorter [] = omega arith
+    shorter (x ∷ xs) = let rest : length es ≤ length (xs ++ es) = shorter xs in omega arith
+
+    second : (a b : Bool) → (a && b) ≡ true → b ≡ true
+    second true b q = q
+    second false b q = cc
 
 -- what is under a handle that an entry has
 pub found : (h : ℕ) (es : List Entry) → has h es ≡ true → (e : Entry) × (entry_under h es ≡ Some e)

@@ -11,7 +11,7 @@ use Rattle.oca_device.specs.Events.{Datagram}
 use Rattle.oca_control.specs.Links.{Request}
 use Rattle.oca_pair.specs.Networks.{Network, PeerLink, SentDatagram}
 use Rattle.oca_pair.specs.Steps as steps
-use Rattle.oca_pair.specs.Steps.{Step, Submit, Due, ToDevice, ToLink, Other, Take, has_link, after_submit, after_due_step, after_delivery, hears_datagram, after_reception, after_take, Renew, Beside, after_beside, unanswered, renewed_link, is_no_lower, with_link, after_renewal, after_step, after_steps}
+use Rattle.oca_pair.specs.Steps.{Step, Submit, Due, ToDevice, ToLink, Other, Take, has_link, after_submit, after_due_step, after_delivery, hears_datagram, after_reception, after_take, Renew, Beside, after_beside, renewal_of, renewed_link, is_no_lower, with_link, after_renewal, after_step, after_steps}
 use Rattle.oca_pair.proofs.Lists.{same_some, mapped_at}
 use Rattle.oca_pair.proofs.Networks.{hears_peer}
 
@@ -50,7 +50,7 @@ fixed_kept (step ∷ es) n = fixed_kept es (after_step step n) ∙ one step
     by_renewal i first span now origin None = refl
     by_renewal i first span now origin (Some l) = by_test (is_no_lower first l.link.next)
       where
-        by_test : (b : Bool) → fixed (cond b (record n { links = with_link i l (renewed_link first span now l.link) n.links; renewed = (record { peer = l.peer; zero = origin; left = unanswered l.link.untaken }) ∷ n.renewed }) n) ≡ fixed n
+        by_test : (b : Bool) → fixed (cond b (record n { links = with_link i l (renewed_link first span now l.link) n.links; renewed = renewal_of l origin ∷ n.renewed }) n) ≡ fixed n
         by_test true = refl
         by_test false = refl
 
@@ -122,7 +122,7 @@ peers_step step n = one step
     by_renewal k first span now origin None e = refl
     by_renewal k first span now origin (Some l) e = by_test (is_no_lower first l.link.next)
       where
-        by_test : (b : Bool) → peers_of (let m : Network = cond b (record n { links = with_link k l (renewed_link first span now l.link) n.links; renewed = (record { peer = l.peer; zero = origin; left = unanswered l.link.untaken }) ∷ n.renewed }) n in m).links ≡ peers_of n.links
+        by_test : (b : Bool) → peers_of (let m : Network = cond b (record n { links = with_link k l (renewed_link first span now l.link) n.links; renewed = renewal_of l origin ∷ n.renewed }) n in m).links ≡ peers_of n.links
         by_test true = peers_put n.links k l _ e refl
         by_test false = refl
 

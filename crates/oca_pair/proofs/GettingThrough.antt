@@ -27,12 +27,12 @@ use Rattle.oca_control.proofs.InTime.{clock_from, sent_from, in_time_made}
 use Rattle.oca_pair.specs.declared.outcome.Outcome.TheVariants as outcomes
 use Rattle.oca_pair.specs.declared.start.Start.{Start}
 use Rattle.oca_pair.specs.Networks.{Network, PeerLink, SentDatagram, SubmittedCommand, TakenAnswer, Setup, Renewal, left_behind, started, opening}
-use Rattle.oca_pair.specs.Steps.{Step, Submit, Due, ToDevice, ToLink, Other, Take, has_link, with_link, submitted_by, after_submit, submit_outcome, given_by, after_due_step, after_delivery, content_read, hears_datagram, after_reception, after_take, Renew, Beside, after_beside, is_no_lower, unanswered, renewed_link, after_renewal, after_step, after_steps, on_link, outcome_of_step}
+use Rattle.oca_pair.specs.Steps.{Step, Submit, Due, ToDevice, ToLink, Other, Take, has_link, with_link, submitted_by, after_submit, submit_outcome, given_by, after_due_step, after_delivery, content_read, hears_datagram, after_reception, after_take, Renew, Beside, after_beside, is_no_lower, unanswered, renewal_of, renewed_link, after_renewal, after_step, after_steps, on_link, outcome_of_step}
 use Rattle.oca_pair.specs.Steps as steps
-use Rattle.oca_pair.specs.Laws.{IsNoRenewal}
-use Rattle.oca_pair.specs.Premises.{are_apart, Fit, SpanFits}
-use Rattle.oca_pair.specs.RoundTrip.{IsAnswerTo, GotItsAnswer, ComesBack, RoundTrips, meanwhile, RenewsNothing}
-use Rattle.oca_pair.specs.GettingThrough.{called, received_from, receiving, call_in, calls_in, IsLost, copy_of, WasSent, WaitsInTime, GetsThrough}
+use Rattle.oca_pair.specs.Laws.{IsNoRenewal, CarriesUntaken}
+use Rattle.oca_pair.specs.Premises.{are_apart, StepFits, Fit, SpanFits, KeepsItsSession, FindsRoom}
+use Rattle.oca_pair.specs.RoundTrip.{IsAnswerTo, GotItsAnswer, ComesBack, asked, meanwhile, RenewsNothing}
+use Rattle.oca_pair.specs.GettingThrough.{called, received_from, receiving, call_in, calls_in, IsLost, copy_of, WasSent, WaitsInTime, GetsThrough, ComesInSession}
 use Rattle.oca_pair.proofs.Lists.{IsIn, contains_in, in_contains, in_more, in_behind, in_last, each_at, each_in, equal_is, equal_self, mapped_at}
 use Rattle.oca_pair.proofs.Core.{each_map}
 use Rattle.oca_pair.proofs.Truths.{past, IsSubmitted, IsTrueAnswer}
@@ -207,7 +207,7 @@ runs_step first born s i p calls step n never g = one step never
     by_renewal k f span now origin (Some l) e never = by_test (is_no_lower f l.link.next) never
       where
         m : Network
-        m = record n { links = with_link k l (renewed_link f span now l.link) n.links; renewed = (record { peer = l.peer; zero = origin; left = unanswered l.link.untaken }) ∷ n.renewed }
+        m = record n { links = with_link k l (renewed_link f span now l.link) n.links; renewed = renewal_of l origin ∷ n.renewed }
 
         is_another : RenewsNothing p n m → nat_eq k i ≡ false
         is_another never = by_number (nat_eq k i) refl
@@ -216,7 +216,7 @@ runs_step first born s i p calls step n never g = one step never
             by_number true q =
                 let there : slice_get n.links i ≡ Some l = ap (λ (j : ℕ). slice_get n.links j) (sym (equal_is k i q)) ∙ e in
                 let same : l ≡ g.link = same_Some l g.link (sym there ∙ g.there) in
-                absurd (not_its_renewal p l.peer (record { peer = l.peer; zero = origin; left = unanswered l.link.untaken }) n.renewed refl never (ap (λ (z : PeerLink). z.peer) same ∙ g.peer))
+                absurd (not_its_renewal p l.peer (renewal_of l origin) n.renewed refl never (ap (λ (z : PeerLink). z.peer) same ∙ g.peer))
             by_number false q = refl
 
         by_test : (b : Bool) → RenewsNothing p n (cond b m n) → Runs first born s i p calls (cond b m n)
@@ -296,7 +296,7 @@ made_step i p step n devices g = one step
         y = record { peer = l.peer; link = renewed_link f span now l.link }
 
         m : Network
-        m = record n { links = with_link k l (renewed_link f span now l.link) n.links; renewed = (record { peer = l.peer; zero = origin; left = unanswered l.link.untaken }) ∷ n.renewed }
+        m = record n { links = with_link k l (renewed_link f span now l.link) n.links; renewed = renewal_of l origin ∷ n.renewed }
 
         by_number : (b : Bool) → nat_eq k i ≡ b → WasMade i p m
         by_number true q =
@@ -406,7 +406,12 @@ is_its s n l c a of sub t =
     let its = true_answer l.peer c.handle a n of.kept t in
     record { of_its_command = its; command = of.fair.unique its.execution.command c (contains_in _ n.submitted its.submitted) sub its.handle }
 
-module _ (spans : Peer → ℕ) (s first born i : ℕ) (some : 0 < s) (p : Peer) (before : List Call) (r : Request) (now ms : ℕ) (h : Handle) (calls : List Call) (n : Network) where
+-- Each delivery that so comes of a copy of the command, which the link of this number holds untaken, comes back.
+abbrev pub TripsOf : (ℕ → ℕ → Type 0) → ℕ → CommandFields → PeerLink → Network → Type 0
+TripsOf Comes i c l n = (k moment : ℕ) (between : List Step) (later : ℕ) → slice_get n.to_device k ≡ Some (copy_of l.peer c) → CarriesUntaken (copy_of l.peer c) l c → Comes k moment → AllByRecursion StepFits between →
+    RenewsNothing l.peer n (meanwhile k moment between n) → ComesBack k moment between later i c l.peer n
+
+module _ (Comes : ℕ → ℕ → Type 0) (spans : Peer → ℕ) (s first born i : ℕ) (some : 0 < s) (p : Peer) (before : List Call) (r : Request) (now ms : ℕ) (h : Handle) (calls : List Call) (n : Network) where
   abbrev c : CommandFields
   c = command_under h.0 r
 
@@ -457,19 +462,19 @@ module _ (spans : Peer → ℕ) (s first born i : ℕ) (some : 0 < s) (p : Peer)
       }
 
   -- it waits
-  waits : (g : Runs first born s i p all n) → Sound spans n → IsSubmitted p c n.submitted → RoundTrips i g.link n → sendings born h.0 before ≡ [] → IsAskedEvery ms since calls → IsWaiting n.address h.0 all →
-      WaitsInTime ms since i c p calls n
+  waits : (g : Runs first born s i p all n) → Sound spans n → IsSubmitted p c n.submitted → TripsOf Comes i c g.link n → sendings born h.0 before ≡ [] → IsAskedEvery ms since calls → IsWaiting n.address h.0 all →
+      WaitsInTime Comes ms since i c p calls n
   waits g sound sub trips none asked w = record {
     in_time = rw (clock_is, sent_is) at (in_time_made n.address first born s some before r now ms h calls g.link.link g.made asked w);
     copies = rw sent_is at copies;
-    enough = λ k moment between later there finds keeps fits never. subst (λ (q : Peer). ComesBack k moment between later i c q n) g.peer
-        (trips k moment (copy_of p c) c between later there (record {
-          peer = g.peer;
+    enough = λ k moment between later there comes fits never. subst (λ (q : Peer). ComesBack k moment between later i c q n) g.peer
+        (trips k moment between later (subst (λ (q : Peer). slice_get n.to_device k ≡ Some (copy_of q c)) (sym g.peer) there) (record {
+          peer = refl;
           untaken = u.0;
           held = in_contains u.0 g.link.link.untaken u.1;
           command = command_is;
           bytes = refl;
-        }) finds keeps fits (subst (λ (q : Peer). RenewsNothing q n (meanwhile k moment between n)) (sym g.peer) never));
+        }) comes fits (subst (λ (q : Peer). RenewsNothing q n (meanwhile k moment between n)) (sym g.peer) never));
   }
     where
       of : LinkSound spans n g.link
@@ -506,17 +511,20 @@ module _ (spans : Peer → ℕ) (s first born i : ℕ) (some : 0 < s) (p : Peer)
       copies : AllByRecursion (λ (y : Sending). WasSent p c y.bytes n) (sendings born h.0 all)
       copies = each_both copy (sendings born h.0 all) (g.sent h.0) (b.now.copies h.0)
 
-pub gets_through : WrittenIsReadBack → (w : DeviceSizes) (s : Setup) (tree : List Object) (starts : List Start) (before later : List Step) (i : ℕ) (l : PeerLink) (r : Request) (now ms : ℕ) (h : Handle) →
-    slice_get (after_steps before (opening w s tree starts)).links i ≡ Some l → SpanFits w l (after_steps before (opening w s tree starts)) → are_apart s.address starts ≡ true →
+-- a link of a schedule that took the command, and is not renewed from then on
+pub gets_through_by : WrittenIsReadBack → (Comes : ℕ → ℕ → Type 0) (w : DeviceSizes) (s : Setup) (tree : List Object) (starts : List Start) (before later : List Step) (i : ℕ) (l : PeerLink) (r : Request) (now ms : ℕ) (h : Handle) →
+    slice_get (after_steps before (opening w s tree starts)).links i ≡ Some l → 0 < l.link.span → are_apart s.address starts ≡ true →
     Fit starts (before ++ Submit i r now ∷ later) →
     outcome_of_step (Submit i r now) (after_steps before (opening w s tree starts)) ≡ outcomes.Submitted h ∷ [] →
     RenewsNothing l.peer (after_steps before (opening w s tree starts)) (after_steps later (after_step (Submit i r now) (after_steps before (opening w s tree starts)))) →
     IsAskedEvery ms (present_moment now l.link) (calls_in i later (after_step (Submit i r now) (after_steps before (opening w s tree starts)))) →
-    GetsThrough ms (present_moment now l.link) i (command_under h.0 r) l.peer
+    ((g : PeerLink) → slice_get (after_steps (before ++ Submit i r now ∷ later) (opening w s tree starts)).links i ≡ Some g → g.peer ≡ l.peer → g.link.span ≡ l.link.span →
+    TripsOf Comes i (command_under h.0 r) g (after_steps (before ++ Submit i r now ∷ later) (opening w s tree starts))) →
+    GetsThrough Comes ms (present_moment now l.link) i (command_under h.0 r) l.peer
     (calls_in i later (after_step (Submit i r now) (after_steps before (opening w s tree starts))))
     (after_steps later (after_step (Submit i r now) (after_steps before (opening w s tree starts))))
-gets_through law w s tree starts before later i l r now ms h own wide apart fit outcome never asked =
-    subst (λ (t : ℕ). GetsThrough ms t i c p calls n) (sym since_is) (by_lost (is_lost all) refl)
+gets_through_by law Comes w s tree starts before later i l r now ms h own wide apart fit outcome never asked tripping =
+    subst (λ (t : ℕ). GetsThrough Comes ms t i c p calls n) (sym since_is) (by_lost (is_lost all) refl)
   where
     start : Network
     start = opening w s tree starts
@@ -576,7 +584,7 @@ gets_through law w s tree starts before later i l r now ms h own wide apart fit 
     span_is = spans_made old.address f born s0 earlier l.link made_old
 
     some : 0 < s0
-    some = rw span_is at wide.some
+    some = rw span_is at wide
 
     since_is : present_moment now l.link ≡ max (clock_of_calls born earlier) now
     since_is = ap (λ m. max m now) (holds_after_calls old.address f born s0 earlier l.link some made_old).now.moment_is
@@ -605,22 +613,9 @@ gets_through law w s tree starts before later i l r now ms h own wide apart fit 
     sound : Sound s.span n
     sound = subst (Sound s.span) run_is (sound_after law w s tree starts (before ++ Submit i r now ∷ later) apart fit)
 
-    -- at the end it has the span that it had, and its earlier links left behind what they had left
-    wide_then : SpanFits w runs.link n
-    wide_then =
-        let span : l.link.span ≡ runs.link.link.span = span_is ∙ sym (spans_made n.address f born s0 all runs.link.link runs.made) in
-        let left : left_behind runs.link.peer n ≡ left_behind p old = ap (λ (q : Peer). left_behind q n) runs.peer ∙ left_steps p (Submit i r now ∷ later) old never in
-        record { some = also l.link.span runs.link.link.span span wide.some; wide = as_wide l.link.span runs.link.link.span (left_behind p old) (left_behind runs.link.peer n) span left wide.wide }
-      where
-        also : (a b : ℕ) → a ≡ b → 0 < a → 0 < b
-        also a b e k = omega arith
-
-        as_wide : (a b x y : ℕ) → a ≡ b → y ≡ x → 2 * a + x ≤ w.window + 1 → 2 * b + y ≤ w.window + 1
-        as_wide a b x y e f k = omega arith
-
-    trips : RoundTrips i runs.link n
-    trips = subst (RoundTrips i runs.link) run_is (round_trip_law law w s tree starts (before ++ Submit i r now ∷ later) i runs.link
-        (subst (λ (m : Network). slice_get m.links i ≡ Some runs.link) (sym run_is) runs.there) (subst (λ (m : Network). SpanFits w runs.link m) (sym run_is) wide_then) apart fit)
+    trips : TripsOf Comes i c runs.link n
+    trips = subst (TripsOf Comes i c runs.link) run_is (tripping runs.link (subst (λ (m : Network). slice_get m.links i ≡ Some runs.link) (sym run_is) runs.there) runs.peer
+        (spans_made n.address f born s0 all runs.link.link runs.made ∙ sym span_is))
 
     submitted_is : new.submitted ≡ old.submitted ++ (let it : SubmittedCommand = record { peer = p; command = c } in it) ∷ []
     submitted_is =
@@ -660,17 +655,61 @@ gets_through law w s tree starts before later i l r now ms h own wide apart fit 
     same_link = same_Some stands.link runs.link (sym stands.there ∙ runs.there)
 
     by_answer : is_lost all ≡ false → is_untaken h.0 all ≡ true → (o : Option AnswerFields) → first_of (answers_to n.address h.0 all) ≡ o →
-        GotItsAnswer i c p n ⊎ (IsLost i n ⊎ WaitsInTime ms (max (clock_of_calls born earlier) now) i c p calls n)
-    by_answer kept untaken (Some a) e = inl (has s.span s0 f born i some p earlier r now ms h calls n a runs sound sub
+        GotItsAnswer i c p n ⊎ (IsLost i n ⊎ WaitsInTime Comes ms (max (clock_of_calls born earlier) now) i c p calls n)
+    by_answer kept untaken (Some a) e = inl (has Comes s.span s0 f born i some p earlier r now ms h calls n a runs sound sub
         (answer_is h.0 (λ y. answers_to n.address y all) runs.link.link.untaken at_end.now.are_answered
         ∙ ap (λ (b : Bool). cond b (first_of (answers_to n.address h.0 all)) None) (at_end.now.held h.0 ∙ untaken) ∙ e))
-    by_answer kept untaken None e = inr (inr (waits s.span s0 f born i some p earlier r now ms h calls n runs sound sub trips none asked_since (record { untaken = untaken; unanswered = e; not_lost = kept })))
+    by_answer kept untaken None e = inr (inr (waits Comes s.span s0 f born i some p earlier r now ms h calls n runs sound sub trips none asked_since (record { untaken = untaken; unanswered = e; not_lost = kept })))
 
-    by_untaken : is_lost all ≡ false → (b : Bool) → is_untaken h.0 all ≡ b → GotItsAnswer i c p n ⊎ (IsLost i n ⊎ WaitsInTime ms (max (clock_of_calls born earlier) now) i c p calls n)
+    by_untaken : is_lost all ≡ false → (b : Bool) → is_untaken h.0 all ≡ b → GotItsAnswer i c p n ⊎ (IsLost i n ⊎ WaitsInTime Comes ms (max (clock_of_calls born earlier) now) i c p calls n)
     by_untaken kept true e = by_answer kept e (first_of (answers_to n.address h.0 all)) refl
-    by_untaken kept false e = inl (gave s.span s0 f born i some p earlier r now ms h calls n stands sound sub
+    by_untaken kept false e = inl (gave Comes s.span s0 f born i some p earlier r now ms h calls n stands sound sub
         (ap (λ (y : PeerLink). holds h.0 y.link.untaken) same_link ∙ at_end.now.held h.0 ∙ e))
 
-    by_lost : (b : Bool) → is_lost all ≡ b → GotItsAnswer i c p n ⊎ (IsLost i n ⊎ WaitsInTime ms (max (clock_of_calls born earlier) now) i c p calls n)
+    by_lost : (b : Bool) → is_lost all ≡ b → GotItsAnswer i c p n ⊎ (IsLost i n ⊎ WaitsInTime Comes ms (max (clock_of_calls born earlier) now) i c p calls n)
     by_lost true e = inr (inl (record { link = runs.link; there = runs.there; lost = at_end.others_are.lost_is ∙ e }))
     by_lost false e = by_untaken e (is_untaken h.0 all) refl
+
+pub gets_through : WrittenIsReadBack → (w : DeviceSizes) (s : Setup) (tree : List Object) (starts : List Start) (before later : List Step) (i : ℕ) (l : PeerLink) (r : Request) (now ms : ℕ) (h : Handle) →
+    slice_get (after_steps before (opening w s tree starts)).links i ≡ Some l → SpanFits w l (after_steps before (opening w s tree starts)) → are_apart s.address starts ≡ true →
+    Fit starts (before ++ Submit i r now ∷ later) →
+    outcome_of_step (Submit i r now) (after_steps before (opening w s tree starts)) ≡ outcomes.Submitted h ∷ [] →
+    RenewsNothing l.peer (after_steps before (opening w s tree starts)) (after_steps later (after_step (Submit i r now) (after_steps before (opening w s tree starts)))) →
+    IsAskedEvery ms (present_moment now l.link) (calls_in i later (after_step (Submit i r now) (after_steps before (opening w s tree starts)))) →
+    GetsThrough (ComesInSession l.peer (after_steps later (after_step (Submit i r now) (after_steps before (opening w s tree starts))))) ms (present_moment now l.link) i (command_under h.0 r) l.peer
+    (calls_in i later (after_step (Submit i r now) (after_steps before (opening w s tree starts))))
+    (after_steps later (after_step (Submit i r now) (after_steps before (opening w s tree starts))))
+gets_through law w s tree starts before later i l r now ms h own wide apart fit outcome never often =
+    gets_through_by law (ComesInSession l.peer (after_steps later (after_step (Submit i r now) old))) w s tree starts before later i l r now ms h own wide.some apart fit outcome never often
+    (subst (λ (m : Network). (g : PeerLink) → slice_get n.links i ≡ Some g → g.peer ≡ l.peer → g.link.span ≡ l.link.span → TripsOf (ComesInSession l.peer m) i c g n) (after_more before (Submit i r now ∷ later) start)
+    (λ g there peer span k moment between end sent carries comes fits still.
+        round_trip_law law w s tree starts all i g there (wide_then g peer span) apart fit k moment (copy_of g.peer c) c between end sent carries
+        (subst (λ (q : Peer). FindsRoom q moment n) (sym peer) comes.0) (subst (λ (q : Peer). KeepsItsSession q (asked k moment n)) (sym peer) comes.1) fits still))
+  where
+    start : Network
+    start = opening w s tree starts
+
+    old : Network
+    old = after_steps before start
+
+    all : List Step
+    all = before ++ Submit i r now ∷ later
+
+    n : Network
+    n = after_steps all start
+
+    c : CommandFields
+    c = command_under h.0 r
+
+    -- at the end it has the span that it had, and its earlier links left behind what they had left
+    wide_then : (g : PeerLink) → g.peer ≡ l.peer → g.link.span ≡ l.link.span → SpanFits w g n
+    wide_then g peer span =
+        let left : left_behind g.peer n ≡ left_behind l.peer old = ap (λ (q : Peer). left_behind q n) peer
+        ∙ ap (λ (m : Network). left_behind l.peer m) (after_more before (Submit i r now ∷ later) start) ∙ ap length (left_steps l.peer (Submit i r now ∷ later) old never) in
+        record { some = also g.link.span l.link.span span wide.some; wide = as_wide g.link.span l.link.span (left_behind g.peer n) (left_behind l.peer old) span left wide.wide }
+      where
+        also : (a b : ℕ) → a ≡ b → 0 < b → 0 < a
+        also a b e k = omega arith
+
+        as_wide : (a b x y : ℕ) → a ≡ b → x ≡ y → 2 * b + y ≤ w.window + 1 → 2 * a + x ≤ w.window + 1
+        as_wide a b x y e f k = omega arith

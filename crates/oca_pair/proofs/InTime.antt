@@ -27,7 +27,7 @@ use Rattle.oca_control.specs.Untaken.{Untaken, answer_under}
 use Rattle.oca_control.specs.Links.{Request, submission, after_submission, decision, gone_on, received, taken, present_moment}
 use Rattle.oca_pair.specs.declared.start.Start.{Start}
 use Rattle.oca_pair.specs.Networks.{Network, PeerLink, SentDatagram, SubmittedCommand, TakenAnswer, Setup, started, opening, zero_of}
-use Rattle.oca_pair.specs.Steps.{Step, Submit, Due, ToDevice, ToLink, Other, Take, has_link, after_submit, after_due_step, after_delivery, content_read, hears_datagram, after_reception, after_take, after_step, after_steps, Renew, Beside, after_beside, with_link, is_no_lower, unanswered, renewed_link, after_renewal}
+use Rattle.oca_pair.specs.Steps.{Step, Submit, Due, ToDevice, ToLink, Other, Take, has_link, after_submit, after_due_step, after_delivery, content_read, hears_datagram, after_reception, after_take, after_step, after_steps, Renew, Beside, after_beside, with_link, is_no_lower, renewal_of, renewed_link, after_renewal}
 use Rattle.oca_pair.specs.Steps as steps
 use Rattle.oca_pair.specs.Happenings.{happenings}
 use Rattle.oca_pair.specs.Premises.{are_apart, StepFits, Fit}
@@ -61,7 +61,7 @@ abbrev pub TimedAt : Setup → ℕ → List Departure → Network → Type 0
 TimedAt s i left n = (l : PeerLink) → slice_get n.links i ≡ Some l → Timed (zeros s n l.peer) l.peer (end_of l.link.next) l.link.moment l.link.untaken left n.to_device (state_of (past n)).notes
 
 -- a link of another number is of another peer
-apart_at : (xs : List PeerLink) (k i : ℕ) (x z : PeerLink) → Apart xs → slice_get xs k ≡ Some x → slice_get xs i ≡ Some z → nat_eq k i ≡ false → x.peer ≢ z.peer
+pub apart_at : (xs : List PeerLink) (k i : ℕ) (x z : PeerLink) → Apart xs → slice_get xs k ≡ Some x → slice_get xs i ≡ Some z → nat_eq k i ≡ false → x.peer ≢ z.peer
 apart_at [] k i x z a e f other = cc
 apart_at (y ∷ ys) zero zero x z a e f other = absurd (not_so other)
   where
@@ -75,26 +75,28 @@ apart_at (y ∷ ys) (suc k) (suc i) x z a e f other = apart_at ys k i x z a.1 e 
     fewer a b q = grind (arith, nat_tests)
 
 -- one link changes: what is so of it, and of the others
+pub at_put : (P : PeerLink → Type 0) (i k : ℕ) (x y : PeerLink) (links : List PeerLink) → slice_get links k ≡ Some x → (k ≡ i → slice_get links i ≡ Some x → P y) →
+    ((l : PeerLink) → nat_eq k i ≡ false → slice_get links i ≡ Some l → P l) → (l : PeerLink) → slice_get (slice_set links k y) i ≡ Some l → P l
+at_put P i k x y links e mine others l own = by_test (nat_eq k i) refl
+  where
+    here : k ≡ i → slice_get links i ≡ Some x
+    here q = ap (λ (j : ℕ). slice_get links j) (sym q) ∙ e
+
+    by_test : (b : Bool) → nat_eq k i ≡ b → P l
+    by_test true q =
+        let is : k ≡ i = equal_is k i q in
+        let same : y ≡ l = same_some y l (sym (put_here links i y x (here is)) ∙ ap (λ (j : ℕ). slice_get (slice_set links j y) i) (sym is) ∙ own) in
+        subst P same (mine is (here is))
+    by_test false q = others l q (sym (put_elsewhere links k i y q) ∙ own)
+
 timed_put : (s : Setup) (i k : ℕ) (x y : PeerLink) (left : List Departure) (n m : Network) → slice_get n.links k ≡ Some x → m.links ≡ slice_set n.links k y →
     (k ≡ i → slice_get n.links i ≡ Some x → Timed (zeros s m y.peer) y.peer (end_of y.link.next) y.link.moment y.link.untaken left m.to_device (state_of (past m)).notes) →
     ((l : PeerLink) → nat_eq k i ≡ false → slice_get n.links i ≡ Some l → Timed (zeros s m l.peer) l.peer (end_of l.link.next) l.link.moment l.link.untaken left m.to_device (state_of (past m)).notes) → TimedAt s i left m
-timed_put s i k x y left n m e links mine others l own = by_test (nat_eq k i) refl
-  where
-    own' : slice_get (slice_set n.links k y) i ≡ Some l
-    own' = ap (λ (xs : List PeerLink). slice_get xs i) (sym links) ∙ own
-
-    here : k ≡ i → slice_get n.links i ≡ Some x
-    here q = ap (λ (j : ℕ). slice_get n.links j) (sym q) ∙ e
-
-    by_test : (b : Bool) → nat_eq k i ≡ b → Timed (zeros s m l.peer) l.peer (end_of l.link.next) l.link.moment l.link.untaken left m.to_device (state_of (past m)).notes
-    by_test true q =
-        let is : k ≡ i = equal_is k i q in
-        let same : y ≡ l = same_some y l (sym (put_here n.links i y x (here is)) ∙ ap (λ (j : ℕ). slice_get (slice_set n.links j y) i) (sym is) ∙ own') in
-        subst (λ (z : PeerLink). Timed (zeros s m z.peer) z.peer (end_of z.link.next) z.link.moment z.link.untaken left m.to_device (state_of (past m)).notes) same (mine is (here is))
-    by_test false q = others l q (sym (put_elsewhere n.links k i y q) ∙ own')
+timed_put s i k x y left n m e links mine others l own = at_put (λ z. Timed (zeros s m z.peer) z.peer (end_of z.link.next) z.link.moment z.link.untaken left m.to_device (state_of (past m)).notes) i k x y n.links e mine others l
+    (ap (λ (xs : List PeerLink). slice_get xs i) (sym links) ∙ own)
 
 -- the commands of a link can be sent
-sendable_untaken : (s : Peer → ℕ) (n : Network) (l : PeerLink) → LinkSound s n l → AllByRecursion (λ (u : Untaken). IsSendable u.command) l.link.untaken
+pub sendable_untaken : (s : Peer → ℕ) (n : Network) (l : PeerLink) → LinkSound s n l → AllByRecursion (λ (u : Untaken). IsSendable u.command) l.link.untaken
 sendable_untaken s n l w = each_map (λ u h. (each_in _ _ n.submitted w.fair.sendable h.0 refl).0) l.link.untaken w.fair.untaken
 
 timed_step_submit : (s : Setup) (i k : ℕ) (r : Request) (now : ℕ) (left : List Departure) (n : Network) → TimedAt s i left n → (o : Option PeerLink) → slice_get n.links k ≡ o → TimedAt s i left (after_submit k r now o n)
@@ -118,7 +120,7 @@ timed_step_renewal s i k first span now origin left n sound g (Some x) e = by_te
     y = record { peer = x.peer; link = renewed_link first span now x.link }
 
     m : Network
-    m = record n { links = with_link k x (renewed_link first span now x.link) n.links; renewed = (record { peer = x.peer; zero = origin; left = unanswered x.link.untaken }) ∷ n.renewed }
+    m = record n { links = with_link k x (renewed_link first span now x.link) n.links; renewed = renewal_of x origin ∷ n.renewed }
 
     zero_by : (p : Peer) (b : Bool) → same_peer x.peer p ≡ b → zero_of s p m ≡ cond b origin (zero_of s p n)
     zero_by p b q = ap (λ c. cond c origin (zero_of s p n)) q
@@ -225,7 +227,7 @@ timed_steps law s i left [] n fits sound in_time g = g
 timed_steps law s i left (e ∷ es) n fits sound in_time g =
     timed_steps law s i (left ++ departures_in s e n) es (after_step e n) fits.1 (sound_step law s.span e n fits.0 sound) in_time.1 (timed_step law s i left e n sound in_time.0 g)
 
-timed_opening : (w : DeviceSizes) (s : Setup) (tree : List Object) (starts : List Start) (i : ℕ) → TimedAt s i [] (opening w s tree starts)
+pub timed_opening : (w : DeviceSizes) (s : Setup) (tree : List Object) (starts : List Start) (i : ℕ) → TimedAt s i [] (opening w s tree starts)
 unfolding IsDistinct
 timed_opening w s tree starts i l own =
     let z = mapped_at (started s) starts i l own in
@@ -271,7 +273,7 @@ answers_in_time law w s tree starts es i l h a apart fit in_time own which = eli
     }
 
 -- the last of the steps
-last_in_time : (s : Setup) (i : ℕ) (left : List Departure) (es : List Step) (step : Step) (n : Network) → AreInTime s i left (es ++ step ∷ []) n → AreInTime s i left es n × StepIsInTime s i (departed s left es n) step (after_steps es n)
+pub last_in_time : (s : Setup) (i : ℕ) (left : List Departure) (es : List Step) (step : Step) (n : Network) → AreInTime s i left (es ++ step ∷ []) n → AreInTime s i left es n × StepIsInTime s i (departed s left es n) step (after_steps es n)
 last_in_time s i left [] step n a = (tt, a.0)
 last_in_time s i left (e ∷ es) step n a = let rest = last_in_time s i (left ++ departures_in s e n) es step (after_step e n) a.1 in ((a.0, rest.0), rest.1)
 

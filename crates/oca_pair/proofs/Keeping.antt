@@ -1,5 +1,6 @@
--- What holds of a peer whose session is never forgotten: its accepted commands are all that were ever executed for it, each once.
-use Rattle.std.proofs.Common.{◌≡◌, ℕ, ◌-◌, Bool, true, false, cond, List, [], ◌∷◌, ◌++◌, refl, sym, ap, ◌∙◌, subst, arith, ◌⊎◌, inl, inr}
+-- What is accepted of a peer: of one whose session is never forgotten, that its accepted commands are all that were ever executed for it,
+-- each once; and of one whose commands were executed once, how they grow.
+use Rattle.std.proofs.Common.{append-nil, append_assoc, ◌≡◌, ℕ, ◌-◌, Bool, true, false, cond, List, [], ◌∷◌, ◌++◌, refl, sym, ap, ◌∙◌, subst, arith, ◌⊎◌, inl, inr}
 use Rattle.std.specs.Prelude.{nat_le, ◌||◌, map, Ok}
 use Rattle.std.specs.List.{list_any, AllByRecursion, IsDistinct}
 use Rattle.std.proofs.Math.Dec.{eqb}
@@ -12,13 +13,13 @@ use Rattle.oca_pdu.specs.declared.message.Form.{Form}
 use Rattle.oca_pdu.specs.Messages.{Msg, Command, KeepAlive}
 use Rattle.oca_pdu.specs.Reading.{read_datagram}
 use Rattle.oca_session.specs.Accepted.{Entry, has_handle, Judgement, Fresh, Duplicate, Reused, Old}
-use Rattle.oca_device.specs.Events.{Datagram}
-use Rattle.oca_device.specs.Notes.{Noted, Admitted, Heartbeat, Executed, Note, notes_of, unbroken, run, noted_peers, accepted, accepted_after}
+use Rattle.oca_device.specs.Events.{Event, Datagram, Tick, Local}
+use Rattle.oca_device.specs.Notes.{Noted, Admitted, Heartbeat, Executed, Note, notes_of, is_recent, unbroken, run, accepted, accepted_after}
 use Rattle.oca_device.specs.States.{State, noted, admits, judged_in, reply_of, after_command, after_message, after_reading, time_of}
 use Rattle.oca_device.specs.LawByEvents.{Arrival}
 use Rattle.oca_pair.specs.Laws.{Execution}
 use Rattle.oca_pair.proofs.Core.{each_map, has, none_passes}
-use Rattle.oca_pair.proofs.Lists.{IsIn, same_self}
+use Rattle.oca_pair.proofs.Lists.{IsIn, neither, same_self}
 use Rattle.oca_pair.proofs.Clocks.{Grows, grows_reading, notes_of_grown}
 use Rattle.oca_pair.proofs.Executions.{executed_in, executed_for}
 use Rattle.oca_pair.proofs.Truths.{Past, and_then, state_of}
@@ -31,7 +32,7 @@ use Rattle.oca_pair.proofs.Arrivals.{HasOneSession, one_own, IsKnownThen, known_
 abbrev pub handles_for : Peer → List Note → List ℕ
 handles_for p ns = map (λ x. x.command.handle) (executed_for p ns)
 
--- the commands that were accepted of the peer, where its session was never forgotten
+-- all commands that were accepted of the peer, in whichever session
 abbrev pub accepted_by : Peer → Past → List Entry
 accepted_by p g = accepted (notes_of p (state_of g).notes)
 
@@ -41,6 +42,10 @@ pub record KeptState (p : Peer) (ns : List Note) : Type 0 where
 
 abbrev pub Kept : Peer → Past → Type 0
 Kept p g = KeptState p (state_of g).notes
+
+-- No two executions for the peer were of one handle.
+abbrev pub Once : Peer → Past → Type 0
+Once p g = IsDistinct eqb (handles_for p (state_of g).notes)
 
 -- ---- what was executed is what was accepted
 
@@ -127,10 +132,6 @@ known_noted p x s = rw (notes_noted p x s) (now_within s.moment)
 abbrev pub IsGrown : Msg → List Entry → List Entry → Type 0
 IsGrown m A B = (B ≡ A) ⊎ ((c : CommandFields) × (r : Reply) × (m ≡ Command true c) × (has c.handle A ≡ false) × (let e : Entry = record { command = c; reply = r } in B ≡ A ++ e ∷ []))
 
-pub record Delivers (p : Peer) (m : Msg) (g g' : Past) : Type 0 where
-  pub kept : Kept p g'
-  pub grown : IsGrown m (accepted_by p g) (accepted_by p g')
-
 -- the peer is known when its datagram is admitted
 known_now : (p : Peer) (m : Msg) (bytes : List ℕ) (now : ℕ) (g : Past) → read_datagram bytes ≡ Ok (m ∷ []) → admits g.sizes (looked_at now g) p ≡ true →
     Keeps p (and_then (Datagram p bytes now) g) → IsKnownThen (looked_at now g).moment (notes_of p (looked_at now g).notes)
@@ -141,13 +142,10 @@ known_now p m bytes now g read room keeps =
 
 pub delivers : (p : Peer) (m : Msg) (bytes : List ℕ) (now : ℕ) (g : Past) → read_datagram bytes ≡ Ok (m ∷ []) →
     ((c : CommandFields) × (m ≡ Command true c)) ⊎ ((form : Form) × (m ≡ KeepAlive form)) →
-    Keeps p (and_then (Datagram p bytes now) g) → Kept p g → Delivers p m g (and_then (Datagram p bytes now) g)
+    Keeps p (and_then (Datagram p bytes now) g) → Kept p g → Kept p (and_then (Datagram p bytes now) g)
 unfolding IsDistinct
 delivers p m bytes now g read kind keeps k = by_room (admits g.sizes s1 p) refl
   where
-    g' : Past
-    g' = and_then (Datagram p bytes now) g
-
     s1 : State
     s1 = looked_at now g
 
@@ -160,23 +158,18 @@ delivers p m bytes now g read kind keeps k = by_room (admits g.sizes s1 p) refl
     known2 : IsKnownThen s2.moment (notes_of p s2.notes)
     known2 = known_noted p (Admitted (m ∷ [])) s1
 
-    accepted2 : accepted (notes_of p s2.notes) ≡ accepted_by p g
-    accepted2 = ap accepted (notes_noted p (Admitted (m ∷ [])) s1)
-
     -- what follows from the state
-    made : (s : State) → state_of g' ≡ s → KeptState p s.notes → IsGrown m (accepted_by p g) (accepted (notes_of p s.notes)) → Delivers p m g g'
-    made s is kept grown = record { kept = rw is kept; grown = rw is grown }
+    made : (s : State) → state_of (and_then (Datagram p bytes now) g) ≡ s → KeptState p s.notes → Kept p (and_then (Datagram p bytes now) g)
+    made s is kept = rw is kept
 
-    by_judgement : (c : CommandFields) → m ≡ Command true c → admits g.sizes s1 p ≡ true → (j : Judgement) → judged_in g.sizes s2 p c ≡ j →
-        state_of g' ≡ after_command j p c s2 → Delivers p m g g'
-    by_judgement c is room Fresh q state_is =
+    by_judgement : (c : CommandFields) → admits g.sizes s1 p ≡ true → (j : Judgement) → judged_in g.sizes s2 p c ≡ j →
+        state_of (and_then (Datagram p bytes now) g) ≡ after_command j p c s2 → Kept p (and_then (Datagram p bytes now) g)
+    by_judgement c room Fresh q state_is =
         let r : Reply = reply_of s2.tree p c in
-        let new : has c.handle (accepted_by p g) ≡ false =
-        sym (ap (has c.handle) (ap accepted (kept2 room).whole ∙ accepted2)) ∙ judged_fresh g.sizes.window (accepted (run p s2.notes)) c q in
-        let new2 : has c.handle (accepted (notes_of p s2.notes)) ≡ false = ap (has c.handle) accepted2 ∙ new in
+        let new : has c.handle (accepted (notes_of p s2.notes)) ≡ false =
+        sym (ap (has c.handle) (ap accepted (kept2 room).whole)) ∙ judged_fresh g.sizes.window (accepted (run p s2.notes)) c q in
         made (after_command Fresh p c s2) state_is
-        (kept_noted p (Executed s2.tree c r) s2' (kept2 room).whole known2 (fresh c.handle s2.notes new2, (kept2 room).once))
-        (inr (c, r, is, new, ap accepted (notes_noted p (Executed s2.tree c r) s2') ∙ ap (λ A. A ++ (let e : Entry = record { command = c; reply = r } in e) ∷ []) accepted2))
+        (kept_noted p (Executed s2.tree c r) s2' (kept2 room).whole known2 (fresh c.handle s2.notes new, (kept2 room).once))
       where
         s2' : State
         s2' = record { tree = s2.tree; moment = s2.moment; notes = s2.notes }
@@ -186,26 +179,132 @@ delivers p m bytes now g read kind keeps k = by_room (admits g.sizes s1 p) refl
 
         fresh : (h : ℕ) (ns : List Note) → has h (accepted (notes_of p ns)) ≡ false → AllByRecursion (λ y. eqb h y ≡ false) (handles_for p ns)
         fresh h ns e = each_map (λ y t. flipped y h t) (handles_for p ns) (none_passes (λ y. eqb y h) (handles_for p ns) (sym (has_executed h p ns) ∙ e))
-    by_judgement c is room (Duplicate r) q state_is = made s2 state_is (kept2 room) (inl accepted2)
-    by_judgement c is room Reused q state_is = made s2 state_is (kept2 room) (inl accepted2)
-    by_judgement c is room Old q state_is = made s2 state_is (kept2 room) (inl accepted2)
+    by_judgement c room (Duplicate r) q state_is = made s2 state_is (kept2 room)
+    by_judgement c room Reused q state_is = made s2 state_is (kept2 room)
+    by_judgement c room Old q state_is = made s2 state_is (kept2 room)
 
-    by_room : (b : Bool) → admits g.sizes s1 p ≡ b → Delivers p m g g'
+    by_room : (b : Bool) → admits g.sizes s1 p ≡ b → Kept p (and_then (Datagram p bytes now) g)
     by_room true room = elim kind [
-      | inl (c, is) ↦ by_judgement c is room (judged_in g.sizes s2 p c) refl (after_read g.sizes p m bytes now g true read room ∙ ap (λ x. after_message g.sizes p x s2) is)
+      | inl (c, is) ↦ by_judgement c room (judged_in g.sizes s2 p c) refl (after_read g.sizes p m bytes now g true read room ∙ ap (λ x. after_message g.sizes p x s2) is)
       | inr (form, is) ↦ made (noted p (Heartbeat (time_of form)) s2) (after_read g.sizes p m bytes now g true read room ∙ ap (λ x. after_message g.sizes p x s2) is)
           (kept_noted p (Heartbeat (time_of form)) s2 (kept2 room).whole known2 (kept2 room).once)
-          (inl (ap accepted (notes_noted p (Heartbeat (time_of form)) s2) ∙ accepted2))
     ]
-    by_room false room = made s1 (after_read g.sizes p m bytes now g false read room) (record { whole = k.whole; once = k.once }) (inl refl)
+    by_room false room = made s1 (after_read g.sizes p m bytes now g false read room) (record { whole = k.whole; once = k.once })
 
--- when a datagram of the peer is admitted, the accepted commands are as before
-pub accepted_let_in : (p : Peer) (m : Msg) (bytes : List ℕ) (now : ℕ) (g : Past) → read_datagram bytes ≡ Ok (m ∷ []) → admits g.sizes (looked_at now g) p ≡ true →
-    Keeps p (and_then (Datagram p bytes now) g) → Kept p g → accepted (run p (let_in p m now g).notes) ≡ accepted_by p g
-accepted_let_in p m bytes now g read room keeps k =
-    let s1 : State = looked_at now g in
-    let kept2 : KeptState p (let_in p m now g).notes = kept_noted p (Admitted (m ∷ [])) s1 k.whole (known_now p m bytes now g read room keeps) k.once in
-    ap accepted kept2.whole ∙ ap accepted (notes_noted p (Admitted (m ∷ [])) s1)
+-- how a datagram of the peer makes the accepted commands grow, where its commands were executed once
+pub grows_once : (p : Peer) (m : Msg) (bytes : List ℕ) (now : ℕ) (g : Past) → read_datagram bytes ≡ Ok (m ∷ []) →
+    ((c : CommandFields) × (m ≡ Command true c)) ⊎ ((form : Form) × (m ≡ KeepAlive form)) →
+    Once p (and_then (Datagram p bytes now) g) → IsGrown m (accepted_by p g) (accepted_by p (and_then (Datagram p bytes now) g))
+unfolding IsDistinct
+grows_once p m bytes now g read kind once = by_room (admits g.sizes (looked_at now g) p) refl
+  where
+    s2 : State
+    s2 = let_in p m now g
+
+    accepted2 : accepted (notes_of p s2.notes) ≡ accepted_by p g
+    accepted2 = ap accepted (notes_noted p (Admitted (m ∷ [])) (looked_at now g))
+
+    made : (s : State) → state_of (and_then (Datagram p bytes now) g) ≡ s → (IsDistinct eqb (handles_for p s.notes) → IsGrown m (accepted_by p g) (accepted (notes_of p s.notes))) →
+        IsGrown m (accepted_by p g) (accepted_by p (and_then (Datagram p bytes now) g))
+    made s is grown = rw is (grown (rw is at once))
+
+    by_judgement : (c : CommandFields) → m ≡ Command true c → (j : Judgement) → state_of (and_then (Datagram p bytes now) g) ≡ after_command j p c s2 →
+        IsGrown m (accepted_by p g) (accepted_by p (and_then (Datagram p bytes now) g))
+    by_judgement c is Fresh state_is = made (after_command Fresh p c s2) state_is (λ d. inr (
+      c,
+      r,
+      is,
+      new (subst (λ (xs : List Execution). IsDistinct eqb (map (λ (y : Execution). y.command.handle) xs)) executed_are d),
+      ap accepted (notes_noted p (Executed s2.tree c r) s2') ∙ ap (λ A. A ++ (let e : Entry = record { command = c; reply = r } in e) ∷ []) accepted2,
+    ))
+      where
+        r : Reply
+        r = reply_of s2.tree p c
+
+        s2' : State
+        s2' = record { tree = s2.tree; moment = s2.moment; notes = s2.notes }
+
+        x : Execution
+        x = record { objects = s2.tree; command = c; reply = r }
+
+        executed_are : executed_for p (noted p (Executed s2.tree c r) s2').notes ≡ x ∷ executed_for p (state_of g).notes
+        executed_are = executed_noted p (Executed s2.tree c r) s2' ∙ ap (λ (xs : List Execution). x ∷ xs) (executed_noted p (Admitted (m ∷ [])) (looked_at now g))
+
+        flipped : (a b : ℕ) → eqb a b ≡ false → eqb b a ≡ false
+        flipped a b e = grind (arith, nat_tests)
+
+        none : (xs : List ℕ) → AllByRecursion (λ y. eqb c.handle y ≡ false) xs → list_any (λ y. eqb y c.handle) xs ≡ false
+        none [] a = refl
+        none (y ∷ ys) a = neither (eqb y c.handle) (list_any (λ y. eqb y c.handle) ys) (flipped c.handle y a.0) (none ys a.1)
+
+        new : IsDistinct eqb (c.handle ∷ handles_for p (state_of g).notes) → has c.handle (accepted_by p g) ≡ false
+        new d = has_executed c.handle p (state_of g).notes ∙ none (handles_for p (state_of g).notes) d.0
+    by_judgement c is (Duplicate r) state_is = made s2 state_is (λ d. inl accepted2)
+    by_judgement c is Reused state_is = made s2 state_is (λ d. inl accepted2)
+    by_judgement c is Old state_is = made s2 state_is (λ d. inl accepted2)
+
+    by_room : (b : Bool) → admits g.sizes (looked_at now g) p ≡ b → IsGrown m (accepted_by p g) (accepted_by p (and_then (Datagram p bytes now) g))
+    by_room true room = elim kind [
+      | inl (c, is) ↦ by_judgement c is (judged_in g.sizes s2 p c) (after_read g.sizes p m bytes now g true read room ∙ ap (λ x. after_message g.sizes p x s2) is)
+      | inr (form, is) ↦ made (noted p (Heartbeat (time_of form)) s2) (after_read g.sizes p m bytes now g true read room ∙ ap (λ x. after_message g.sizes p x s2) is)
+          (λ d. inl (ap accepted (notes_noted p (Heartbeat (time_of form)) s2) ∙ accepted2))
+    ]
+    by_room false room = made (looked_at now g) (after_read g.sizes p m bytes now g false read room) (λ d. inl refl)
+
+distinct_behind : (xs ys : List ℕ) → IsDistinct eqb (xs ++ ys) → IsDistinct eqb ys
+unfolding IsDistinct
+distinct_behind [] ys d = d
+distinct_behind (x ∷ xs) ys d = distinct_behind xs ys d.1
+
+-- what was executed once had been so before
+pub once_before : (p : Peer) (e : Event) (g : Past) → Once p (and_then e g) → Once p g
+once_before p (Tick now) g d = d
+once_before p (Local ono change) g d = d
+once_before p (Datagram q bytes now) g d =
+    let grows : Grows q (looked_at now g).moment (looked_at now g).notes (state_of (and_then (Datagram q bytes now) g)).notes = grows_reading g.sizes q (read_datagram bytes) (looked_at now g) in
+    behind grows.more (rw grows.is at d)
+  where
+    mapped : (xs ys : List Execution) → map (λ (y : Execution). y.command.handle) (xs ++ ys) ≡ map (λ (y : Execution). y.command.handle) xs ++ map (λ (y : Execution). y.command.handle) ys
+    mapped [] ys = refl
+    mapped (x ∷ xs) ys = ap (λ (hs : List ℕ). x.command.handle ∷ hs) (mapped xs ys)
+
+    behind : (more : List Note) → IsDistinct eqb (handles_for p (more ++ (state_of g).notes)) → IsDistinct eqb (handles_for p (state_of g).notes)
+    behind [] d = d
+    behind (n ∷ more) d =
+        behind more (distinct_behind (map (λ (y : Execution). y.command.handle) here) (handles_for p (more ++ (state_of g).notes))
+        (subst (λ (hs : List ℕ). IsDistinct eqb hs) (mapped here (executed_for p (more ++ (state_of g).notes))) d))
+      where
+        here : List Execution
+        here = cond (same_peer n.peer p) (executed_in n.what) []
+
+-- ---- the commands of its session are the last of its accepted commands
+
+-- notes and those before them
+accepted_both : (ns ms : List Note) → accepted (ns ++ ms) ≡ accepted ms ++ accepted ns
+accepted_both [] ms = sym (append-nil (accepted ms))
+accepted_both (n ∷ ns) ms = ap (accepted_after n.what) (accepted_both ns ms) ∙ by_what n.what
+  where
+    by_what : (x : Noted) → accepted_after x (accepted ms ++ accepted ns) ≡ accepted ms ++ accepted_after x (accepted ns)
+    by_what (Admitted ms') = refl
+    by_what (Heartbeat t) = refl
+    by_what (Executed objects c r) = append_assoc (accepted ms) (accepted ns) ((let e : Entry = record { command = c; reply = r } in e) ∷ [])
+
+-- the notes of a session and those before it
+unbroken_first : (ns : List Note) → (before : List Note) × (ns ≡ unbroken ns ++ before)
+unbroken_first [] = ([], refl)
+unbroken_first (n ∷ ns) = by_test (is_recent n.at ns) (unbroken_first ns)
+  where
+    by_test : (b : Bool) → (before : List Note) × (ns ≡ unbroken ns ++ before) → (before : List Note) × (n ∷ ns ≡ n ∷ cond b (unbroken ns) [] ++ before)
+    by_test true (before, is) = (before, ap (λ (ms : List Note). n ∷ ms) is)
+    by_test false rest = (ns, refl)
+
+-- when a datagram of the peer is admitted
+pub accepted_let_in : (p : Peer) (m : Msg) (now : ℕ) (g : Past) → (before : List Entry) × (accepted_by p g ≡ before ++ accepted (run p (let_in p m now g).notes))
+accepted_let_in p m now g =
+    let first : (before : List Note) × (notes_of p (let_in p m now g).notes ≡ run p (let_in p m now g).notes ++ before) = unbroken_first (notes_of p (let_in p m now g).notes) in (
+      accepted first.0,
+      sym (ap accepted (notes_noted p (Admitted (m ∷ [])) (looked_at now g))) ∙ ap accepted first.1 ∙ accepted_both (run p (let_in p m now g).notes) first.0,
+    )
 
 -- ---- what else happens
 

@@ -1,5 +1,5 @@
 -- The laws of networks.
-use Rattle.std.proofs.Common.{◌≡◌, ℕ, ◌+◌, ◌*◌, ◌<◌, ◌≤◌, true, false, cond, List, [], ◌∷◌, ◌++◌, Option, Some, refl, sym, ap, ◌∙◌, subst, arith, ◌⊎◌, inl, inr}
+use Rattle.std.proofs.Common.{◌≡◌, ℕ, ◌+◌, ◌*◌, ◌<◌, ◌≤◌, true, false, cond, List, [], ◌∷◌, ◌++◌, length, Option, Some, refl, sym, ap, ◌∙◌, subst, arith, ◌⊎◌, inl, inr}
 use Rattle.std.specs.Prelude.{map, Ok}
 use Rattle.std.specs.List.{AllByRecursion, slice_get, list_any, IsDistinct}
 use Rattle.std.proofs.Math.Dec.{eqb}
@@ -13,7 +13,7 @@ use Rattle.oca_pdu.specs.Encoding.{pdu_encoding}
 use Rattle.oca_pdu.specs.Reading.{read_datagram}
 use Rattle.oca_pdu.specs.Laws.{WrittenIsReadBack}
 use Rattle.oca_tree.specs.declared.object.Object.{Object}
-use Rattle.oca_session.specs.Accepted.{Entry, window, entry_under, Judgement, Fresh, Duplicate, Reused, Old, judgement}
+use Rattle.oca_session.specs.Accepted.{Entry, window, outside, entry_under, Judgement, Fresh, Duplicate, Reused, Old, judgement}
 use Rattle.oca_device.specs.declared.verdict.Verdict.{Verdict}
 use Rattle.oca_device.specs.declared.verdict.Verdict.TheVariants as verdicts
 use Rattle.oca_device.specs.Events.{Event, Datagram, Tick}
@@ -25,13 +25,13 @@ use Rattle.oca_control.specs.Answers.{AnswerFields}
 use Rattle.oca_control.specs.Untaken.{Untaken}
 use Rattle.oca_pair.specs.declared.outcome.Outcome.TheVariants as outcomes
 use Rattle.oca_pair.specs.declared.start.Start.{Start}
-use Rattle.oca_pair.specs.Networks.{Network, PeerLink, SentDatagram, SubmittedCommand, TakenAnswer, Setup, Renewal, opening, left_behind}
+use Rattle.oca_pair.specs.Networks.{Network, PeerLink, SentDatagram, SubmittedCommand, TakenAnswer, Setup, Renewal, opening, left_by}
 use Rattle.oca_pair.specs.Steps.{Step, sendings_in, after_steps}
 use Rattle.oca_pair.specs.Happenings.{happenings}
 use Rattle.oca_pair.specs.Premises.{are_apart, Fit, KeepsItsSession, FindsRoom, SpanFits}
 use Rattle.oca_pair.specs.Laws.{Execution, executions_in, executions_for, executions_under, IsAnswerOfItsCommand, handles_of, EachToNext, AnswersItsCommands, CarriesUntaken, IsAnswered, AnswersUntaken, ExecutesOnce, OnlyRenewalsRenew, EveryFirstLinkIsAsSetUp}
 use Rattle.oca_pair.proofs.Fixed.{sizes_kept}
-use Rattle.oca_pair.proofs.Core.{IsServed}
+use Rattle.oca_pair.proofs.Core.{AllBelow, Trails, trails_all, IsServed}
 use Rattle.oca_pair.proofs.Lists.{IsIn, contains_in, in_contains, each_at, each_in, equal_is}
 use Rattle.oca_pair.proofs.Arrivals.{Keeps, keeps_before, looked_at, found_room}
 use Rattle.oca_pair.proofs.ByEvents.{stands_by}
@@ -40,8 +40,8 @@ use Rattle.oca_pair.proofs.Wire.{IsSendable, read_command}
 use Rattle.oca_pair.proofs.Truths.{Past, past, and_then, state_of, IsSubmitted, IsTrueAnswer, window_executed}
 use Rattle.oca_pair.proofs.Fair.{end_of, IsFair, AreOwn, Fair, owns_then, judged_duplicate}
 use Rattle.oca_pair.proofs.Delivering.{let_in, after_read, answers_read, held_answer}
-use Rattle.oca_pair.proofs.Keeping.{accepted_by, Kept, executed_noted, accepted_let_in}
-use Rattle.oca_pair.proofs.Span.{GoodSince, untaken_served}
+use Rattle.oca_pair.proofs.Keeping.{accepted_by, Kept, Once, executed_noted, accepted_let_in}
+use Rattle.oca_pair.proofs.Span.{GoodSince, untaken_low, untaken_served}
 use Rattle.oca_pair.proofs.Renewing.{renew_nothing, nothing_left}
 use Rattle.oca_pair.proofs.Networks.{one_or, LinkSound, Sound, sound_after}
 
@@ -134,12 +134,12 @@ once_law law w s tree starts es apart fit i l own keeps =
 -- ---- the law of commands in hand
 
 -- a delivery at the moment is answered
-answered_now : WrittenIsReadBack → (w : DeviceSizes) (s left : ℕ) (n : Network) (k now : ℕ) (d : SentDatagram) (next : Option ℕ) (us : List Untaken) (u : Untaken) (c : CommandFields) →
-    2 * s + left ≤ n.sizes.window + 1 → slice_get n.to_device k ≡ Some d → (fair : Fair d.peer next us (past n) n.to_device n.to_links n.taken) (kept : Kept d.peer (past n)) →
-    GoodSince s left d.peer next us n.submitted (accepted_by d.peer (past n)) → IsIn u us → u.command ≡ c → d.bytes ≡ pdu_encoding (Commands true (c ∷ [])) →
-    FindsRoom d.peer now n → Keeps d.peer (and_then (Datagram d.peer d.bytes now) (past n)) → IsAnswered k now n d c
-answered_now law w s left n k now d next us u c wide there fair kept good held command bytes finds keeps =
-    by_judgement (judged_in n.sizes s2 p c) refl (rw is_accepted served_by)
+answered_now : WrittenIsReadBack → (s : ℕ) (late few : List ℕ) (n : Network) (k now : ℕ) (d : SentDatagram) (next : Option ℕ) (us : List Untaken) (u : Untaken) (c : CommandFields) →
+    2 * s + length few ≤ n.sizes.window + 1 → slice_get n.to_device k ≡ Some d → (fair : Fair d.peer next us (past n) n.to_device n.to_links n.taken) →
+    Trails u.command.handle late few (accepted_by d.peer (past n)) → GoodSince s late d.peer next us n.submitted (accepted_by d.peer (past n)) →
+    IsIn u us → u.command ≡ c → d.bytes ≡ pdu_encoding (Commands true (c ∷ [])) → FindsRoom d.peer now n → IsAnswered k now n d c
+answered_now law s late few n k now d next us u c wide there fair trails good held command bytes finds =
+    by_judgement (judged_in n.sizes s2 p c) refl served_by
   where
     p : Peer
     p = d.peer
@@ -174,19 +174,24 @@ answered_now law w s left n k now d next us u c wide there fair kept good held c
     own2 : AreOwn p (and_then e g) s2.notes
     own2 = ((λ same. tt), owns_then p g e (state_of g).notes fair.own)
 
-    is_accepted : accepted (run p s2.notes) ≡ accepted_by p g
-    is_accepted = accepted_let_in p m d.bytes now g read room keeps kept
+    -- the commands of the peer's session are the last of all that were accepted
+    A : List Entry
+    A = accepted (run p s2.notes)
+
+    in_session : (before : List Entry) × (accepted_by p g ≡ before ++ A)
+    in_session = accepted_let_in p m now g
 
     -- what the window has under the handle is the command
-    same_command : (A : List Entry) → accepted (run p s2.notes) ≡ A → (x : Entry) → entry_under c.handle (window n.sizes.window A) ≡ Some x → x.command ≡ c
-    same_command A is x q =
-        let a = window_executed n.sizes p (and_then e g) c.handle x s2.notes own2 (rw is q) in
+    same_command : (x : Entry) → entry_under c.handle (window n.sizes.window A) ≡ Some x → x.command ≡ c
+    same_command x q =
+        let a = window_executed n.sizes p (and_then e g) c.handle x s2.notes own2 q in
         fair.unique x.command c a.0.honest.submitted sub (equal_is x.command.handle c.handle a.1)
 
-    served_by : IsServed (judgement n.sizes.window (accepted_by p g) c)
-    served_by =
-        rw command at (untaken_served n.sizes.window s left p next us n.submitted (accepted_by p g) u wide
-        (λ x q. same_command (accepted_by p g) is_accepted x (rw command at q) ∙ sym command) good held)
+    low : AllBelow u.command.handle (outside n.sizes.window A)
+    low = untaken_low n.sizes.window s late few p next us n.submitted in_session.0 A u wide (rw in_session.1 at trails) (rw in_session.1 at good) held
+
+    served_by : IsServed (judged_in n.sizes s2 p c)
+    served_by = rw command at (untaken_served n.sizes.window A u low (λ x q. same_command x (rw command at q) ∙ sym command))
 
     was : executions_for p n ≡ executed_for p (state_of g).notes
     was = executions_are n.sizes p n.tree n.events
@@ -245,20 +250,18 @@ answered_now law w s left n k now d next us u c wide there fair kept good held c
     by_judgement Reused q t = absurd t
     by_judgement Old q t = absurd t
 
-delivered : WrittenIsReadBack → (w : DeviceSizes) (s : Peer → ℕ) (n : Network) (k now : ℕ) (d : SentDatagram) (l : PeerLink) (c : CommandFields) → SpanFits n.sizes l n →
-    slice_get n.to_device k ≡ Some d → LinkSound s n l → CarriesUntaken d l c →
-    FindsRoom d.peer now n → Keeps d.peer (and_then (Datagram d.peer d.bytes now) (past n)) → IsAnswered k now n d c
-delivered law w s n k now d l c fits there of of_untaken finds keeps =
-    let As : Peer → Type 0 = λ x. Keeps x (past n) in
-    let before : Keeps l.peer (past n) = subst As (sym of_untaken.peer) (keeps_before d.peer (Datagram d.peer d.bytes now) (past n) keeps) in
+pub delivered : WrittenIsReadBack → (s : Peer → ℕ) (few : List ℕ) (n : Network) (k now : ℕ) (d : SentDatagram) (l : PeerLink) (c : CommandFields) → 0 < l.link.span → 2 * l.link.span + length few ≤ n.sizes.window + 1 →
+    slice_get n.to_device k ≡ Some d → LinkSound s n l → (of : CarriesUntaken d l c) → Trails of.untaken.command.handle (left_by n.renewed l.peer) few (accepted_by l.peer (past n)) → FindsRoom d.peer now n → Once l.peer (past n) →
+    IsAnswered k now n d c
+delivered law s few n k now d l c some wide there of of_untaken trails finds once =
     let FairAs : Peer → Type 0 = λ x. Fair x l.link.next l.link.untaken (past n) n.to_device n.to_links n.taken in
-    let KeptAs : Peer → Type 0 = λ x. Kept x (past n) in
-    let GoodAs : Peer → Type 0 = λ x. GoodSince (one_or l.link.span) (left_behind l.peer n) x l.link.next l.link.untaken n.submitted (accepted_by x (past n)) in
-    answered_now law w (one_or l.link.span) (left_behind l.peer n) n k now d l.link.next l.link.untaken of_untaken.untaken c (wide l.link.span (left_behind l.peer n) n.sizes.window fits.some fits.wide) there
-    (subst FairAs of_untaken.peer of.fair) (subst KeptAs of_untaken.peer (of.kept before)) (subst GoodAs of_untaken.peer (of.good before)) (contains_in of_untaken.untaken l.link.untaken of_untaken.held) of_untaken.command of_untaken.bytes finds keeps
+    let TrailsAs : Peer → Type 0 = λ x. Trails of_untaken.untaken.command.handle (left_by n.renewed l.peer) few (accepted_by x (past n)) in
+    let GoodAs : Peer → Type 0 = λ x. GoodSince (one_or l.link.span) (left_by n.renewed l.peer) x l.link.next l.link.untaken n.submitted (accepted_by x (past n)) in
+    answered_now law (one_or l.link.span) (left_by n.renewed l.peer) few n k now d l.link.next l.link.untaken of_untaken.untaken c (as_wide l.link.span (length few) n.sizes.window some wide) there
+    (subst FairAs of_untaken.peer of.fair) (subst TrailsAs of_untaken.peer trails) (subst GoodAs of_untaken.peer (of.good once)) (contains_in of_untaken.untaken l.link.untaken of_untaken.held) of_untaken.command of_untaken.bytes finds
   where
-    wide : (s left w : ℕ) → 0 < s → 2 * s + left ≤ w + 1 → 2 * one_or s + left ≤ w + 1
-    wide s left w p q = omega arith
+    as_wide : (s k w : ℕ) → 0 < s → 2 * s + k ≤ w + 1 → 2 * one_or s + k ≤ w + 1
+    as_wide s k w p q = omega arith
 
 pub never_old_law : WrittenIsReadBack → (w : DeviceSizes) (s : Setup) (tree : List Object) (starts : List Start) (es : List Step) (i : ℕ) (l : PeerLink) →
     slice_get (after_steps es (opening w s tree starts)).links i ≡ Some l → SpanFits w l (after_steps es (opening w s tree starts)) → are_apart s.address starts ≡ true → Fit starts es →
@@ -269,7 +272,10 @@ never_old_law law w s tree starts es i l own fits apart fit k now d c there of_u
     let of : LinkSound s.span n l = each_at (LinkSound s.span n) n.links i l sound.each own in
     let sizes : n.sizes ≡ w = sizes_kept es (opening w s tree starts) in
     let fits' : SpanFits n.sizes l n = subst (λ (x : DeviceSizes). SpanFits x l n) (sym sizes) fits in
-    delivered law w s.span n k now d l c fits' there of of_untaken finds (rw there at keeps)
+    let As : Peer → Type 0 = λ x. Keeps x (past n) in
+    let before : Keeps l.peer (past n) = subst As (sym of_untaken.peer) (keeps_before d.peer (Datagram d.peer d.bytes now) (past n) (rw there at keeps)) in
+    delivered law s.span (left_by n.renewed l.peer) n k now d l c fits'.some fits'.wide there of of_untaken (trails_all of_untaken.untaken.command.handle (left_by n.renewed l.peer) (accepted_by l.peer (past n)))
+    finds (of.kept before).once
 
 -- ---- what is left of these premises where a link was never renewed
 
@@ -282,4 +288,4 @@ first_links_are_as_set_up law w s tree starts es i l apart fit own never =
     let n : Network = after_steps es (opening w s tree starts) in
     let sound : Sound s.span n = sound_after law w s tree starts es apart fit in
     let of : LinkSound s.span n l = each_at (LinkSound s.span n) n.links i l sound.each own in
-    record { nothing_left = nothing_left l.peer n.renewed never; span = of.span never }
+    record { nothing_left = ap length (nothing_left l.peer n.renewed never); span = of.span never }

@@ -20,7 +20,9 @@ pub mod Lawful
 pub mod RoundTrip
 pub mod GettingThrough
 pub mod Timed
+pub mod Stragglers
 pub mod InTime
+pub mod AnsweredInTime
 pub mod ObjectsKept
 pub mod Saying
 pub mod SayingTyped

@@ -6,8 +6,9 @@ use Rattle.oca_types.specs.declared.words.Peer.{Peer}
 use Rattle.oca_types.specs.declared.words.Handle.{Handle}
 use Rattle.oca_types.specs.Peers.{same_peer, CommandFields}
 use Rattle.oca_types.specs.Sizes.{DeviceSizes}
+use Rattle.oca_pdu.specs.declared.message.Form.{Form}
 use Rattle.oca_pdu.specs.declared.message.Form.TheVariants.{Seconds}
-use Rattle.oca_pdu.specs.Messages.{Command, KeepAlive}
+use Rattle.oca_pdu.specs.Messages.{Msg, Command, KeepAlive}
 use Rattle.oca_pdu.specs.Reading.{read_datagram}
 use Rattle.oca_pdu.specs.Laws.{WrittenIsReadBack}
 use Rattle.oca_tree.specs.declared.object.Object.{Object}
@@ -20,9 +21,9 @@ use Rattle.oca_control.specs.Answers.{AnswerFields, answer_of_response}
 use Rattle.oca_control.specs.Untaken.{Untaken, answer_under, without_handle}
 use Rattle.oca_control.specs.Links.{LinkState, Request, submission, after_submission, Decision, GivesCommand, GivesKeepAlive, GivesNothing, IsLost, decision, after_due, gone_on, hears_content, received, taken, present_moment}
 use Rattle.oca_pair.specs.declared.start.Start.{Start}
-use Rattle.oca_pair.specs.Networks.{Network, PeerLink, SentDatagram, SubmittedCommand, TakenAnswer, Setup, started, opening, is_renewed, left_behind}
+use Rattle.oca_pair.specs.Networks.{Network, PeerLink, SentDatagram, SubmittedCommand, TakenAnswer, Setup, started, opening, is_renewed, left_by}
 use Rattle.oca_pair.specs.Laws.{handles_of, AreConsecutive}
-use Rattle.oca_pair.specs.Steps.{Step, Submit, Due, ToDevice, ToLink, Other, Take, Renew, Beside, after_beside, with_link, is_no_lower, unanswered, renewed_link, after_renewal, has_link, sendings_in, submitted_by, after_submit, given_by, after_due_step, after_delivery, content_read, hears_datagram, after_reception, after_take, after_step, after_steps}
+use Rattle.oca_pair.specs.Steps.{Step, Submit, Due, ToDevice, ToLink, Other, Take, Renew, Beside, after_beside, with_link, is_no_lower, unanswered, renewal_of, renewed_link, after_renewal, has_link, sendings_in, submitted_by, after_submit, given_by, after_due_step, after_delivery, content_read, hears_datagram, after_reception, after_take, after_step, after_steps}
 use Rattle.oca_pair.specs.Steps as steps
 use Rattle.oca_pair.specs.Premises.{is_of_another_peer, are_apart, RequestFits, StepFits, StartFits, Fit}
 use Rattle.oca_pair.proofs.Core.{each_map, none_passes, has}
@@ -33,7 +34,7 @@ use Rattle.oca_pair.proofs.Truths.{Past, past, and_then, state_of, IsSubmitted, 
 use Rattle.oca_pair.proofs.Fair.{end_of, IsOut, IsBack, IsHeld, Fair, fair_other, fair_tick, fair_local}
 use Rattle.oca_pair.proofs.Renewing.{above_next, fair_renewed, now_renewed, other_renewed}
 use Rattle.oca_pair.proofs.Delivering.{granted, handles_submit, handles_submitted_by, fair_command, fair_keep_alive, fair_submit, fair_submitted_by, fair_gone_on, fair_sent, fair_alive, fair_received, fair_taken, fair_taken_by, held_answer}
-use Rattle.oca_pair.proofs.Keeping.{Kept, accepted_by, IsGrown, delivers, kept_other, accepted_other, executed_has}
+use Rattle.oca_pair.proofs.Keeping.{Kept, Once, accepted_by, IsGrown, delivers, grows_once, once_before, kept_other, accepted_other, executed_has}
 use Rattle.oca_pair.proofs.Span.{GoodSince, IsKnown, since_by, room_each, good_renewed, good_submit, good_submitted, good_marked_sent, good_answered, good_without, good_grown}
 
 -- No two links have one peer.
@@ -86,7 +87,7 @@ pub record LinkSound (s : Peer → ℕ) (n : Network) (l : PeerLink) : Type 0 wh
   pub fair : Fair l.peer l.link.next l.link.untaken (past n) n.to_device n.to_links n.taken
   pub kept : Keeps l.peer (past n) → Kept l.peer (past n)
   pub consecutive : is_renewed l.peer n ≡ false → AreConsecutive (handles_of l.peer n.submitted ++ end_of l.link.next ∷ [])
-  pub good : Keeps l.peer (past n) → GoodSince (one_or l.link.span) (left_behind l.peer n) l.peer l.link.next l.link.untaken n.submitted (accepted_by l.peer (past n))
+  pub good : Once l.peer (past n) → GoodSince (one_or l.link.span) (left_by n.renewed l.peer) l.peer l.link.next l.link.untaken n.submitted (accepted_by l.peer (past n))
 
 pub record Sound (s : Peer → ℕ) (n : Network) : Type 0 where
   pub apart : Apart n.links
@@ -124,8 +125,8 @@ sound_submit s i r now n fits g (Some l) e = record {
       fair = fair_submitted_by z.peer l.peer r (submission r l.link) z.link.next z.link.untaken (past n) n.to_device n.to_links n.taken (λ same. other (sym same)) w.fair;
       kept = w.kept;
       consecutive = λ first. handles_submitted_by (λ x y. y ≡ x + 1) z.peer l.peer r (submission r l.link) (end_of z.link.next) n.submitted (λ same. other (sym same)) (w.consecutive first);
-      good = λ keeps. since_by (λ f late. good_submitted (one_or z.link.span) f late z.peer z.link.next z.link.untaken n.submitted (submitted_by l.peer r (submission r l.link)) (accepted_by z.peer (past n))
-          (not_his z.peer (submission r l.link) (λ same. other (sym same)))) (w.good keeps);
+      good = λ once. since_by (λ f. good_submitted (one_or z.link.span) f (left_by n.renewed z.peer) z.peer z.link.next z.link.untaken n.submitted (submitted_by l.peer r (submission r l.link)) (accepted_by z.peer (past n))
+          (not_his z.peer (submission r l.link) (λ same. other (sym same)))) (w.good once);
     }
 
     span_kept : (a : Result Handle ControlFault) → (after_submission a r now l.link).span ≡ l.link.span
@@ -133,14 +134,14 @@ sound_submit s i r now n fits g (Some l) e = record {
     span_kept (Err fault) = refl
 
     Of : LinkState → List SubmittedCommand → Type 0
-    Of x more = GoodSince (one_or x.span) (left_behind l.peer n) l.peer x.next x.untaken (n.submitted ++ more) (accepted_by l.peer (past n))
+    Of x more = GoodSince (one_or x.span) (left_by n.renewed l.peer) l.peer x.next x.untaken (n.submitted ++ more) (accepted_by l.peer (past n))
 
-    good_kept : (a : Result Handle ControlFault) → submission r l.link ≡ a → GoodSince (one_or l.link.span) (left_behind l.peer n) l.peer l.link.next l.link.untaken n.submitted (accepted_by l.peer (past n)) →
+    good_kept : (a : Result Handle ControlFault) → submission r l.link ≡ a → GoodSince (one_or l.link.span) (left_by n.renewed l.peer) l.peer l.link.next l.link.untaken n.submitted (accepted_by l.peer (past n)) →
         Of (after_submission a r now l.link) (submitted_by l.peer r a)
-    good_kept (Err fault) q w = since_by (λ f late. good_submitted (one_or l.link.span) f late l.peer l.link.next l.link.untaken n.submitted [] (accepted_by l.peer (past n)) tt) w
+    good_kept (Err fault) q w = since_by (λ f. good_submitted (one_or l.link.span) f (left_by n.renewed l.peer) l.peer l.link.next l.link.untaken n.submitted [] (accepted_by l.peer (past n)) tt) w
     good_kept (Ok h) q w =
         let t = granted r l.link h q in
-        since_by (λ f late. good_submit (one_or l.link.span) f late l.peer l.link.next l.link.untaken n.submitted (accepted_by l.peer (past n)) h.0 (present_moment now l.link) r (some l.link.span) t.0
+        since_by (λ f. good_submit (one_or l.link.span) f (left_by n.renewed l.peer) l.peer l.link.next l.link.untaken n.submitted (accepted_by l.peer (past n)) h.0 (present_moment now l.link) r (some l.link.span) t.0
         (each_map (λ u k. wider u.command.handle h.0 l.link.span k) l.link.untaken (room_each l.link.span h.0 l.link.untaken t.1))) w
       where
         some : (x : ℕ) → 0 < one_or x
@@ -155,7 +156,7 @@ sound_submit s i r now n fits g (Some l) e = record {
       fair = fair_submit l.peer r now l.link (past n) n.to_device n.to_links n.taken fits was.fair;
       kept = was.kept;
       consecutive = λ first. handles_submit (λ x y. y ≡ x + 1) (λ h. refl) l.peer r now l.link n.submitted (was.consecutive first);
-      good = λ keeps. good_kept (submission r l.link) refl (was.good keeps);
+      good = λ once. good_kept (submission r l.link) refl (was.good once);
     }
 
 -- ---- due
@@ -198,10 +199,10 @@ sound_due s i now n g (Some l) e = record {
     next_kept IsLost = refl
 
     Of : LinkState → Type 0
-    Of x = GoodSince (one_or x.span) (left_behind l.peer n) l.peer x.next x.untaken n.submitted (accepted_by l.peer (past n))
+    Of x = GoodSince (one_or x.span) (left_by n.renewed l.peer) l.peer x.next x.untaken n.submitted (accepted_by l.peer (past n))
 
     good_kept : (d : Decision) → Of l.link → Of (after_due d (present_moment now l.link) l.link)
-    good_kept (GivesCommand c) w = since_by (λ f late. good_marked_sent (one_or l.link.span) f late l.peer l.link.next l.link.untaken n.submitted (accepted_by l.peer (past n)) (present_moment now l.link) c.handle) w
+    good_kept (GivesCommand c) w = since_by (λ f. good_marked_sent (one_or l.link.span) f (left_by n.renewed l.peer) l.peer l.link.next l.link.untaken n.submitted (accepted_by l.peer (past n)) (present_moment now l.link) c.handle) w
     good_kept GivesKeepAlive w = w
     good_kept GivesNothing w = w
     good_kept IsLost w = w
@@ -212,7 +213,7 @@ sound_due s i now n g (Some l) e = record {
       fair = fair_gone_on l.peer now l.link (past n) n.to_device n.to_links n.taken was.fair;
       kept = was.kept;
       consecutive = λ first. subst (λ (o : Option ℕ). AreConsecutive (handles_of l.peer n.submitted ++ end_of o ∷ [])) (sym (next_kept (decision now l.link))) (was.consecutive first);
-      good = λ keeps. good_kept (decision now l.link) (was.good keeps);
+      good = λ once. good_kept (decision now l.link) (was.good once);
     }
 
 -- ---- a keep-alive beside a link
@@ -258,11 +259,11 @@ sound_take s i h n g (Some l) e = record {
     }
 
     Of : List Untaken → Type 0
-    Of us = GoodSince (one_or l.link.span) (left_behind l.peer n) l.peer l.link.next us n.submitted (accepted_by l.peer (past n))
+    Of us = GoodSince (one_or l.link.span) (left_by n.renewed l.peer) l.peer l.link.next us n.submitted (accepted_by l.peer (past n))
 
     good_kept : (o : Option AnswerFields) → IsHeld l.peer (past n) h o → Of l.link.untaken → Of (cond (is_some o) (without_handle h l.link.untaken) l.link.untaken)
     good_kept None held w = w
-    good_kept (Some a) held w = since_by (λ f late. good_without (one_or l.link.span) f late l.peer l.link.next l.link.untaken n.submitted (accepted_by l.peer (past n)) h (held_has l.peer (past n) h a held)) w
+    good_kept (Some a) held w = since_by (λ f. good_without (one_or l.link.span) f (left_by n.renewed l.peer) l.peer l.link.next l.link.untaken n.submitted (accepted_by l.peer (past n)) h (held_has l.peer (past n) h a held)) w
 
     mine : LinkSound s n' y
     mine = record {
@@ -270,7 +271,7 @@ sound_take s i h n g (Some l) e = record {
       fair = fair_taken l.peer h l.link (past n) n.to_device n.to_links n.taken was.fair;
       kept = was.kept;
       consecutive = was.consecutive;
-      good = λ keeps. good_kept (answer_under h l.link.untaken) (held_answer l.peer (past n) h l.link.untaken was.fair.untaken) (was.good keeps);
+      good = λ once. good_kept (answer_under h l.link.untaken) (held_answer l.peer (past n) h l.link.untaken was.fair.untaken) (was.good once);
     }
 
 -- ---- renew
@@ -283,7 +284,7 @@ sound_renewal s i first span now origin n low g (Some l) e = by_test (is_no_lowe
     y = record { peer = l.peer; link = renewed_link first span now l.link }
 
     n' : Network
-    n' = record n { links = with_link i l (renewed_link first span now l.link) n.links; renewed = (record { peer = l.peer; zero = origin; left = unanswered l.link.untaken }) ∷ n.renewed }
+    n' = record n { links = with_link i l (renewed_link first span now l.link) n.links; renewed = renewal_of l origin ∷ n.renewed }
 
     was : LinkSound s n l
     was = each_at (LinkSound s n) n.links i l g.each e
@@ -294,8 +295,8 @@ sound_renewal s i first span now origin n low g (Some l) e = by_test (is_no_lowe
       fair = w.fair;
       kept = w.kept;
       consecutive = λ never. w.consecutive (other_renewed z.peer l.peer (is_renewed z.peer n) never);
-      good = λ keeps. subst (λ (k : ℕ). GoodSince (one_or z.link.span) k z.peer z.link.next z.link.untaken n.submitted (accepted_by z.peer (past n)))
-          (sym (ap (λ b. cond b (unanswered l.link.untaken + left_behind z.peer n) (left_behind z.peer n)) (other_is l.peer z.peer (λ same. other (sym same))))) (w.good keeps);
+      good = λ once. subst (λ (late : List ℕ). GoodSince (one_or z.link.span) late z.peer z.link.next z.link.untaken n.submitted (accepted_by z.peer (past n)))
+          (sym (ap (λ b. cond b (unanswered l.link.untaken ++ left_by n.renewed z.peer) (left_by n.renewed z.peer)) (other_is l.peer z.peer (λ same. other (sym same))))) (w.good once);
     }
 
     -- what has an answer was accepted
@@ -309,10 +310,10 @@ sound_renewal s i first span now origin n low g (Some l) e = by_test (is_no_lowe
       fair = fair_renewed l.peer first l.link.next l.link.untaken (past n) n.to_device n.to_links n.taken low above was.fair;
       kept = was.kept;
       consecutive = λ never. absurd (now_renewed l.peer l.peer (is_renewed l.peer n) refl never);
-      good = λ keeps. subst (λ (k : ℕ). GoodSince (one_or span) k l.peer (Some first) [] n.submitted (accepted_by l.peer (past n)))
-          (sym (ap (λ b. cond b (unanswered l.link.untaken + left_behind l.peer n) (left_behind l.peer n)) (same_self l.peer)))
-          (good_renewed (one_or l.link.span) (one_or span) (left_behind l.peer n) l.peer l.link.next l.link.untaken n.submitted (accepted_by l.peer (past n)) first above
-          (each_map (λ u f some. answered_has u.command.handle u.answer f.1 some) l.link.untaken was.fair.untaken) (each_map (λ x f same. (f same).1) n.submitted was.fair.sendable) (was.good keeps));
+      good = λ once. subst (λ (late : List ℕ). GoodSince (one_or span) late l.peer (Some first) [] n.submitted (accepted_by l.peer (past n)))
+          (sym (ap (λ b. cond b (unanswered l.link.untaken ++ left_by n.renewed l.peer) (left_by n.renewed l.peer)) (same_self l.peer)))
+          (good_renewed (one_or l.link.span) (one_or span) (left_by n.renewed l.peer) l.peer l.link.next l.link.untaken n.submitted (accepted_by l.peer (past n)) first above
+          (each_map (λ u f some. answered_has u.command.handle u.answer f.1 some) l.link.untaken was.fair.untaken) (each_map (λ x f same. (f same).1) n.submitted was.fair.sendable) (was.good once));
     }
 
     by_test : (b : Bool) → is_no_lower first l.link.next ≡ b → Sound s (cond b n' n)
@@ -337,10 +338,10 @@ sound_reception s now n g d k e = record { apart = apart_hears n.address d now n
         y = record { peer = z.peer; link = received n.address (content_read d.bytes) now z.link }
 
         Of : List Untaken → Type 0
-        Of us = GoodSince (one_or z.link.span) (left_behind z.peer n) z.peer z.link.next us n.submitted (accepted_by z.peer (past n))
+        Of us = GoodSince (one_or z.link.span) (left_by n.renewed z.peer) z.peer z.link.next us n.submitted (accepted_by z.peer (past n))
 
         good_heard : IsBack z.peer (past n) d.bytes → Of z.link.untaken → Of (hears_content (content_read d.bytes) z.link.untaken)
-        good_heard (inl (r, t, read)) q = rw read (since_by (λ f late. good_answered (one_or z.link.span) f late z.peer z.link.next z.link.untaken n.submitted (accepted_by z.peer (past n)) r.handle (answer_of_response r)) q)
+        good_heard (inl (r, t, read)) q = rw read (since_by (λ f. good_answered (one_or z.link.span) f (left_by n.renewed z.peer) z.peer z.link.next z.link.untaken n.submitted (accepted_by z.peer (past n)) r.handle (answer_of_response r)) q)
         good_heard (inr read) q = rw read q
 
         good_received : (b : Bool) → IsBack z.peer (past n) d.bytes → Of z.link.untaken → Of (cond b (hears_content (content_read d.bytes) z.link.untaken) z.link.untaken)
@@ -353,7 +354,7 @@ sound_reception s now n g d k e = record { apart = apart_hears n.address d now n
           fair = fair_received n.address z.peer d.bytes now z.link (past n) n.to_device n.to_links n.taken back w.fair;
           kept = w.kept;
           consecutive = w.consecutive;
-          good = λ keeps. good_received (same_peer n.address z.link.device) back (w.good keeps);
+          good = λ once. good_received (same_peer n.address z.link.device) back (w.good once);
         }
 
         unheard : LinkSound s n' z
@@ -373,16 +374,16 @@ sound_reception s now n g d k e = record { apart = apart_hears n.address d now n
 sound_elsewhere : (s : Peer → ℕ) (n : Network) (q : Peer) (bytes : List ℕ) (now : ℕ) (packets : List (List ℕ)) (z : PeerLink) → same_peer q z.peer ≡ false → LinkSound s n z →
     Fair z.peer z.link.next z.link.untaken (and_then (Datagram q bytes now) (past n)) n.to_device (n.to_links ++ sendings_in q packets) n.taken
     × (Keeps z.peer (and_then (Datagram q bytes now) (past n)) → Kept z.peer (and_then (Datagram q bytes now) (past n)))
-    × (Keeps z.peer (and_then (Datagram q bytes now) (past n)) →
-    GoodSince (one_or z.link.span) (left_behind z.peer n) z.peer z.link.next z.link.untaken n.submitted (accepted_by z.peer (and_then (Datagram q bytes now) (past n))))
+    × (Once z.peer (and_then (Datagram q bytes now) (past n)) →
+    GoodSince (one_or z.link.span) (left_by n.renewed z.peer) z.peer z.link.next z.link.untaken n.submitted (accepted_by z.peer (and_then (Datagram q bytes now) (past n))))
 sound_elsewhere s n q bytes now packets z other w = (
   fair_other z.peer q z.link.next z.link.untaken (past n) n.to_device n.to_links n.taken bytes now packets (other_of q z.peer other) w.fair,
   (λ keeps. kept_other z.peer q bytes now (past n) other (w.kept (keeps_before z.peer (Datagram q bytes now) (past n) keeps))),
-  (λ keeps. moved (accepted_by z.peer (and_then (Datagram q bytes now) (past n))) (accepted_other z.peer q bytes now (past n) other) (w.good (keeps_before z.peer (Datagram q bytes now) (past n) keeps))),
+  (λ once. moved (accepted_by z.peer (and_then (Datagram q bytes now) (past n))) (accepted_other z.peer q bytes now (past n) other) (w.good (once_before z.peer (Datagram q bytes now) (past n) once))),
 )
   where
     Of : List Entry → Type 0
-    Of A = GoodSince (one_or z.link.span) (left_behind z.peer n) z.peer z.link.next z.link.untaken n.submitted A
+    Of A = GoodSince (one_or z.link.span) (left_by n.renewed z.peer) z.peer z.link.next z.link.untaken n.submitted A
 
     moved : (B : List Entry) → B ≡ accepted_by z.peer (past n) → Of (accepted_by z.peer (past n)) → Of B
     moved B e g = rw e g
@@ -398,61 +399,68 @@ own_fair law p next us g out back handed bytes now (inl (c, sub, is)) f =
     sendable_of c sub = (each_in (λ (x : SubmittedCommand). x.peer ≡ p → IsSendable x.command × (x.command.handle < end_of next)) _ g.submitted f.sendable sub refl).0
 own_fair law p next us g out back handed bytes now (inr is) f = rw is (fair_keep_alive law p next us g out back handed now f)
 
-own_kept : (law : WrittenIsReadBack) (s left : ℕ) (p : Peer) (next : Option ℕ) (us : List Untaken) (g : Past) (out back : List SentDatagram) (handed : List TakenAnswer) (bytes : List ℕ) (now : ℕ) →
-    IsOut p g.submitted bytes → Fair p next us g out back handed → Keeps p (and_then (Datagram p bytes now) g) → Kept p g →
-    Kept p (and_then (Datagram p bytes now) g)
-    × (GoodSince s left p next us g.submitted (accepted_by p g) → GoodSince s left p next us g.submitted (accepted_by p (and_then (Datagram p bytes now) g)))
-own_kept law s left p next us g out back handed bytes now (inl (c, sub, is)) fair keeps k =
+-- the bytes that a link sent are read as one message
+pub out_read : (law : WrittenIsReadBack) (p : Peer) (next : Option ℕ) (us : List Untaken) (g : Past) (out back : List SentDatagram) (handed : List TakenAnswer) (bytes : List ℕ) → IsOut p g.submitted bytes → Fair p next us g out back handed →
+    (m : Msg) × (read_datagram bytes ≡ Ok (m ∷ [])) × (((c : CommandFields) × (m ≡ Command true c)) ⊎ ((form : Form) × (m ≡ KeepAlive form)))
+    × ((c : CommandFields) → m ≡ Command true c → IsSubmitted p c g.submitted × (c.handle < end_of next))
+out_read law p next us g out back handed bytes (inl (c, sub, is)) fair =
     let its = each_in (λ (x : SubmittedCommand). x.peer ≡ p → IsSendable x.command × (x.command.handle < end_of next)) _ g.submitted fair.sendable sub refl in
-    let d = delivers p (Command true c) bytes now g (ap read_datagram is ∙ read_command law c its.0) (inl (c, refl)) keeps k in
-    (d.kept, λ good. grown (accepted_by p (and_then (Datagram p bytes now) g)) d.grown good its.1)
+    (Command true c, ap read_datagram is ∙ read_command law c its.0, inl (c, refl), λ d e. let same : c ≡ d = command_is c d e in let both : IsSubmitted p c g.submitted × (c.handle < end_of next) = (sub, its.1) in rw same at both)
   where
     command_is : (x y : CommandFields) → Command true x ≡ Command true y → x ≡ y
     command_is x y q = cc
-
-    of_link : (f : ℕ) (late : List ℕ) (h : ℕ) (A : List Entry) → has h A ≡ false → IsKnown f late A h → (f ≤ h) ⊎ IsIn h late
-    of_link f late h A new (inl mine) = inl mine
-    of_link f late h A new (inr (inl there)) = differs (sym there ∙ new)
-    of_link f late h A new (inr (inr left)) = inr left
-
-    grown : (B : List Entry) → IsGrown (Command true c) (accepted_by p g) B → GoodSince s left p next us g.submitted (accepted_by p g) → c.handle < end_of next → GoodSince s left p next us g.submitted B
-    grown B (inl same) good below = rw same good
-    grown B (inr (x, r, m_is, new, grows)) good below =
-        let same : c ≡ x = command_is c x m_is in
-        rw grows (since_by (λ f late q. good_grown s f late p next us g.submitted (accepted_by p g) (record { command = x; reply = r }) (
-          rw same at below,
-          rw same at (of_link f late c.handle (accepted_by p g) (ap (λ (y : CommandFields). has y.handle (accepted_by p g)) same ∙ new)
-              (each_in (λ (y : SubmittedCommand). y.peer ≡ p → IsKnown f late (accepted_by p g) y.command.handle) _ g.submitted q.from sub refl)),
-        ) new q) good)
-own_kept law s left p next us g out back handed bytes now (inr is) fair keeps k =
-    let d = delivers p (KeepAlive (Seconds 5)) bytes now g (ap read_datagram is ∙ read_keep_alive law) (inr (Seconds 5, refl)) keeps k in
-    (d.kept, λ good. grown (accepted_by p (and_then (Datagram p bytes now) g)) d.grown good)
+out_read law p next us g out back handed bytes (inr is) fair =
+    (KeepAlive (Seconds 5), ap read_datagram is ∙ read_keep_alive law, inr (Seconds 5, refl), λ d e. absurd (no_command d e))
   where
-    grown : (B : List Entry) → IsGrown (KeepAlive (Seconds 5)) (accepted_by p g) B → GoodSince s left p next us g.submitted (accepted_by p g) → GoodSince s left p next us g.submitted B
-    grown B (inl same) good = rw same good
-    grown B (inr (x, r, m_is, new, grows)) good = cc
+    no_command : (d : CommandFields) → KeepAlive (Seconds 5) ≡ Command true d → ⊥
+    no_command d e = cc
+
+own_kept : (law : WrittenIsReadBack) (p : Peer) (next : Option ℕ) (us : List Untaken) (g : Past) (out back : List SentDatagram) (handed : List TakenAnswer) (bytes : List ℕ) (now : ℕ) →
+    IsOut p g.submitted bytes → Fair p next us g out back handed → Keeps p (and_then (Datagram p bytes now) g) → Kept p g → Kept p (and_then (Datagram p bytes now) g)
+own_kept law p next us g out back handed bytes now is_out fair keeps k =
+    let (m, read, kind, of) = out_read law p next us g out back handed bytes is_out fair in
+    delivers p m bytes now g read kind keeps k
+
+own_good : (law : WrittenIsReadBack) (s : ℕ) (late : List ℕ) (p : Peer) (next : Option ℕ) (us : List Untaken) (g : Past) (out back : List SentDatagram) (handed : List TakenAnswer) (bytes : List ℕ) (now : ℕ) →
+    IsOut p g.submitted bytes → Fair p next us g out back handed → Once p (and_then (Datagram p bytes now) g) →
+    GoodSince s late p next us g.submitted (accepted_by p g) → GoodSince s late p next us g.submitted (accepted_by p (and_then (Datagram p bytes now) g))
+own_good law s late p next us g out back handed bytes now is_out fair once good =
+    let (m, read, kind, of) = out_read law p next us g out back handed bytes is_out fair in
+    grown m of (accepted_by p (and_then (Datagram p bytes now) g)) (grows_once p m bytes now g read kind once)
+  where
+    of_link : (f : ℕ) (h : ℕ) (A : List Entry) → has h A ≡ false → IsKnown f late A h → (f ≤ h) ⊎ IsIn h late
+    of_link f h A new (inl mine) = inl mine
+    of_link f h A new (inr (inl there)) = differs (sym there ∙ new)
+    of_link f h A new (inr (inr left)) = inr left
+
+    grown : (m : Msg) → ((c : CommandFields) → m ≡ Command true c → IsSubmitted p c g.submitted × (c.handle < end_of next)) →
+        (B : List Entry) → IsGrown m (accepted_by p g) B → GoodSince s late p next us g.submitted B
+    grown m of B (inl same) = rw same good
+    grown m of B (inr (c, r, m_is, new, grows)) =
+        let its = of c m_is in
+        rw grows (since_by (λ f q. good_grown s f late p next us g.submitted (accepted_by p g) (record { command = c; reply = r }) (
+          its.1,
+          of_link f c.handle (accepted_by p g) new (each_in (λ (y : SubmittedCommand). y.peer ≡ p → IsKnown f late (accepted_by p g) y.command.handle) _ g.submitted q.from its.0 refl),
+        ) new q) good)
 
 sound_own : (law : WrittenIsReadBack) (s : Peer → ℕ) (n : Network) (bytes : List ℕ) (now : ℕ) (z : PeerLink) → IsOut z.peer n.submitted bytes → LinkSound s n z →
     Fair z.peer z.link.next z.link.untaken (and_then (Datagram z.peer bytes now) (past n)) n.to_device (n.to_links ++ sendings_in z.peer (packets n.sizes n.tree n.events (Datagram z.peer bytes now))) n.taken
     × (Keeps z.peer (and_then (Datagram z.peer bytes now) (past n)) → Kept z.peer (and_then (Datagram z.peer bytes now) (past n)))
-    × (Keeps z.peer (and_then (Datagram z.peer bytes now) (past n)) →
-    GoodSince (one_or z.link.span) (left_behind z.peer n) z.peer z.link.next z.link.untaken n.submitted (accepted_by z.peer (and_then (Datagram z.peer bytes now) (past n))))
+    × (Once z.peer (and_then (Datagram z.peer bytes now) (past n)) →
+    GoodSince (one_or z.link.span) (left_by n.renewed z.peer) z.peer z.link.next z.link.untaken n.submitted (accepted_by z.peer (and_then (Datagram z.peer bytes now) (past n))))
 sound_own law s n bytes now z out w = (
   own_fair law z.peer z.link.next z.link.untaken (past n) n.to_device n.to_links n.taken bytes now out w.fair,
-  (λ keeps. (own_kept law (one_or z.link.span) (left_behind z.peer n) z.peer z.link.next z.link.untaken (past n) n.to_device n.to_links n.taken bytes now out w.fair keeps (w.kept (before keeps))).0),
-  (λ keeps. (own_kept law (one_or z.link.span) (left_behind z.peer n) z.peer z.link.next z.link.untaken (past n) n.to_device n.to_links n.taken bytes now out w.fair keeps (w.kept (before keeps))).1 (w.good (before keeps))),
+  (λ keeps. own_kept law z.peer z.link.next z.link.untaken (past n) n.to_device n.to_links n.taken bytes now out w.fair keeps (w.kept (keeps_before z.peer (Datagram z.peer bytes now) (past n) keeps))),
+  (λ once. own_good law (one_or z.link.span) (left_by n.renewed z.peer) z.peer z.link.next z.link.untaken (past n) n.to_device n.to_links n.taken bytes now out w.fair once (w.good (once_before z.peer (Datagram z.peer bytes now) (past n) once))),
 )
-  where
-    before : Keeps z.peer (and_then (Datagram z.peer bytes now) (past n)) → Keeps z.peer (past n)
-    before keeps = keeps_before z.peer (Datagram z.peer bytes now) (past n) keeps
 
 -- what is known of a link after a datagram of the peer q with these bytes came, and these packets were sent back
 abbrev AfterDatagram : (Peer → ℕ) → Network → PeerLink → Peer → List ℕ → ℕ → Type 0
 AfterDatagram s n z q bytes now =
     Fair z.peer z.link.next z.link.untaken (and_then (Datagram q bytes now) (past n)) n.to_device (n.to_links ++ sendings_in q (packets n.sizes n.tree n.events (Datagram q bytes now))) n.taken
     × (Keeps z.peer (and_then (Datagram q bytes now) (past n)) → Kept z.peer (and_then (Datagram q bytes now) (past n)))
-    × (Keeps z.peer (and_then (Datagram q bytes now) (past n)) →
-    GoodSince (one_or z.link.span) (left_behind z.peer n) z.peer z.link.next z.link.untaken n.submitted (accepted_by z.peer (and_then (Datagram q bytes now) (past n))))
+    × (Once z.peer (and_then (Datagram q bytes now) (past n)) →
+    GoodSince (one_or z.link.span) (left_by n.renewed z.peer) z.peer z.link.next z.link.untaken n.submitted (accepted_by z.peer (and_then (Datagram q bytes now) (past n))))
 
 sound_delivery : (law : WrittenIsReadBack) (s : Peer → ℕ) (now : ℕ) (n : Network) → Sound s n → (d : SentDatagram) (k : ℕ) → slice_get n.to_device k ≡ Some d → Sound s (after_delivery now (Some d) n)
 sound_delivery law s now n g d k e = record { apart = g.apart; each = each_map one n.links g.each }
@@ -577,11 +585,9 @@ sound_opening w s tree starts a fits = record { apart = apart starts a; each = e
         fair = record { fits = f.0; own = tt; outgoing = tt; incoming = tt; untaken = tt; was_taken = tt; sendable = tt; unique = λ c d i j e. absurd i; rising = tt };
         kept = λ keeps. record { whole = refl; once = tt };
         consecutive = λ never. tt;
-        good = λ keeps. record {
+        good = λ once. record {
           first = x.first_handle.0;
-          late = [];
-          few = omega arith;
-          good = record { start = omega arith; untaken = tt; taken = λ y p q free. nothing x.first_handle.0 y p q; earlier = []; since = []; accepted = refl; below = tt; own = tt; order = tt; from = tt };
+          good = record { start = omega arith; low = tt; untaken = tt; taken = λ y p q free. nothing x.first_handle.0 y p q; earlier = []; since = []; accepted = refl; below = tt; own = tt; order = tt; from = tt };
         };
       },
       each xs f.1,

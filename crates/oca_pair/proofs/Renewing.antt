@@ -8,9 +8,9 @@ use Rattle.oca_types.specs.Peers.{same_peer}
 use Rattle.oca_device.specs.Events.{Datagram}
 use Rattle.oca_control.specs.Untaken.{Untaken}
 use Rattle.oca_control.specs.Links.{Request}
-use Rattle.oca_pair.specs.Networks.{Network, PeerLink, SentDatagram, TakenAnswer, Renewal, times_renewed, left_by, left_behind}
+use Rattle.oca_pair.specs.Networks.{Network, PeerLink, SentDatagram, TakenAnswer, Renewal, times_renewed, left_by}
 use Rattle.oca_pair.specs.Steps as steps
-use Rattle.oca_pair.specs.Steps.{Step, Submit, Due, ToDevice, ToLink, Other, Take, Renew, Beside, after_beside, has_link, with_link, after_submit, after_due_step, after_delivery, after_reception, after_take, is_no_lower, unanswered, renewed_link, after_renewal, after_step, after_steps}
+use Rattle.oca_pair.specs.Steps.{Step, Submit, Due, ToDevice, ToLink, Other, Take, Renew, Beside, after_beside, has_link, with_link, after_submit, after_due_step, after_delivery, after_reception, after_take, is_no_lower, unanswered, renewal_of, renewed_link, after_renewal, after_step, after_steps}
 use Rattle.oca_pair.specs.Laws.{AreIncreasing, IsNoRenewal}
 use Rattle.oca_pair.specs.RoundTrip.{RenewsNothing}
 use Rattle.oca_pair.proofs.Core.{each_map, either_false}
@@ -124,13 +124,13 @@ no_fewer_step p step n = one step
     by_renewal k first span now origin (Some l) = by_test (is_no_lower first l.link.next)
       where
         x : Renewal
-        x = record { peer = l.peer; zero = origin; left = unanswered l.link.untaken }
+        x = renewal_of l origin
 
         longer : (b : Bool) (rs : List Renewal) → length rs ≤ length (cond b (x ∷ rs) rs)
         longer true rs = omega arith
         longer false rs = omega arith
 
-        by_test : (b : Bool) → Rises (cond b (record n { links = with_link k l (renewed_link first span now l.link) n.links; renewed = (record { peer = l.peer; zero = origin; left = unanswered l.link.untaken }) ∷ n.renewed }) n)
+        by_test : (b : Bool) → Rises (cond b (record n { links = with_link k l (renewed_link first span now l.link) n.links; renewed = renewal_of l origin ∷ n.renewed }) n)
         by_test true = longer (same_peer l.peer p) (filter (λ (x : Renewal). same_peer x.peer p) n.renewed)
         by_test false = omega arith
 
@@ -168,28 +168,26 @@ not_its_renewal p q x rs is e same = contra (length (filter (λ (x : Renewal). s
     contra : (n : ℕ) → suc n ≡ n → ⊥
     contra n e = omega arith
 
--- and nothing more is left behind
-left_step : (p : Peer) (step : Step) (n : Network) → RenewsNothing p n (after_step step n) → left_behind p (after_step step n) ≡ left_behind p n
-left_step p step n never = one step never
+-- and what is asked of the renewals of its peer stays so
+same_step : {X : Type 0} (p : Peer) (f : List Renewal → X) → ((x : Renewal) (rs : List Renewal) → same_peer x.peer p ≡ false → f (x ∷ rs) ≡ f rs) → (step : Step) (n : Network) → RenewsNothing p n (after_step step n) →
+    f (after_step step n).renewed ≡ f n.renewed
+same_step p f skips step n never = one step never
   where
     Stays : Network → Type 0
-    Stays m = left_behind p m ≡ left_behind p n
+    Stays m = f m.renewed ≡ f n.renewed
 
     goes_on : (step : Step) → IsNoRenewal step → Stays (after_step step n)
-    goes_on step none = ap (λ (rs : List Renewal). left_by rs p) (renews_nothing step n none)
+    goes_on step none = ap f (renews_nothing step n none)
 
     by_renewal : (k first span now origin : ℕ) (o : Option PeerLink) → RenewsNothing p n (after_renewal k first span now origin o n) → Stays (after_renewal k first span now origin o n)
     by_renewal k first span now origin None never = refl
     by_renewal k first span now origin (Some l) never = by_test (is_no_lower first l.link.next) never
       where
-        x : Renewal
-        x = record { peer = l.peer; zero = origin; left = unanswered l.link.untaken }
-
         m : Network
-        m = record n { links = with_link k l (renewed_link first span now l.link) n.links; renewed = (record { peer = l.peer; zero = origin; left = unanswered l.link.untaken }) ∷ n.renewed }
+        m = record n { links = with_link k l (renewed_link first span now l.link) n.links; renewed = renewal_of l origin ∷ n.renewed }
 
         by_test : (b : Bool) → RenewsNothing p n (cond b m n) → Stays (cond b m n)
-        by_test true never = ap (λ b. cond b (unanswered l.link.untaken + left_behind p n) (left_behind p n)) (other_is l.peer p (not_its_renewal p l.peer x n.renewed refl never))
+        by_test true never = skips (renewal_of l origin) n.renewed (other_is l.peer p (not_its_renewal p l.peer (renewal_of l origin) n.renewed refl never))
         by_test false never = refl
 
     one : (step : Step) → RenewsNothing p n (after_step step n) → Stays (after_step step n)
@@ -204,13 +202,18 @@ left_step p step n never = one step never
     one (Renew k first span now origin) never = by_renewal k first span now origin (slice_get n.links k) never
     one (Beside k now) never = goes_on (Beside k now) tt
 
-pub left_steps : (p : Peer) (es : List Step) (n : Network) → RenewsNothing p n (after_steps es n) → left_behind p (after_steps es n) ≡ left_behind p n
-left_steps p [] n never = refl
-left_steps p (x ∷ es) n never = let parts = nothing_in_parts p x es n never in left_steps p es (after_step x n) parts.1 ∙ left_step p x n parts.0
+pub same_renewals : {X : Type 0} (p : Peer) (f : List Renewal → X) → ((x : Renewal) (rs : List Renewal) → same_peer x.peer p ≡ false → f (x ∷ rs) ≡ f rs) → (es : List Step) (n : Network) → RenewsNothing p n (after_steps es n) →
+    f (after_steps es n).renewed ≡ f n.renewed
+same_renewals p f skips [] n never = refl
+same_renewals p f skips (x ∷ es) n never = let parts = nothing_in_parts p x es n never in same_renewals p f skips es (after_step x n) parts.1 ∙ same_step p f skips x n parts.0
+
+-- nothing more is left behind
+pub left_steps : (p : Peer) (es : List Step) (n : Network) → RenewsNothing p n (after_steps es n) → left_by (after_steps es n).renewed p ≡ left_by n.renewed p
+left_steps p es n never = same_renewals p (λ rs. left_by rs p) (λ x rs other. ap (λ b. cond b (x.left ++ left_by rs p) (left_by rs p)) other) es n never
 
 -- who was never renewed left nothing behind
-pub nothing_left : (p : Peer) (rs : List Renewal) → list_any (λ x. same_peer x.peer p) rs ≡ false → left_by rs p ≡ 0
+pub nothing_left : (p : Peer) (rs : List Renewal) → list_any (λ x. same_peer x.peer p) rs ≡ false → left_by rs p ≡ []
 nothing_left p [] e = refl
 nothing_left p (x ∷ rs) e =
     let parts = either_false (same_peer x.peer p) (list_any (λ (x : Renewal). same_peer x.peer p) rs) e in
-    ap (λ b. cond b (x.left + left_by rs p) (left_by rs p)) parts.0 ∙ nothing_left p rs parts.1
+    ap (λ b. cond b (x.left ++ left_by rs p) (left_by rs p)) parts.0 ∙ nothing_left p rs parts.1

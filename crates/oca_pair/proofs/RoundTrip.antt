@@ -24,7 +24,7 @@ use Rattle.oca_control.specs.Untaken.{Untaken, new_untaken, answered, hears_all,
 use Rattle.oca_control.specs.Links.{LinkState, Request, command_under, submission, after_submission, Decision, GivesCommand, GivesKeepAlive, GivesNothing, IsLost, decision, after_due, gone_on, hears_content, received, taken, present_moment}
 use Rattle.oca_pair.specs.declared.start.Start.{Start}
 use Rattle.oca_pair.specs.Networks.{Network, PeerLink, SentDatagram, SubmittedCommand, TakenAnswer, Setup, started, opening}
-use Rattle.oca_pair.specs.Steps.{Step, Submit, Due, ToDevice, ToLink, Other, Take, has_link, sendings_in, with_link, submitted_by, after_submit, after_due_step, after_delivery, messages_read, content_read, hears_datagram, after_reception, taken_by, after_take, Renew, Beside, after_beside, is_no_lower, unanswered, renewed_link, after_renewal, after_step, after_steps}
+use Rattle.oca_pair.specs.Steps.{Step, Submit, Due, ToDevice, ToLink, Other, Take, has_link, sendings_in, with_link, submitted_by, after_submit, after_due_step, after_delivery, messages_read, content_read, hears_datagram, after_reception, taken_by, after_take, Renew, Beside, after_beside, is_no_lower, renewal_of, renewed_link, after_renewal, after_step, after_steps}
 use Rattle.oca_pair.specs.Steps as steps
 use Rattle.oca_pair.specs.Premises.{are_apart, StepFits, Fit, SpanFits}
 use Rattle.oca_pair.specs.Laws.{Execution, executions_under, executions_for, answer_of, IsExecutedNow, WasExecuted, CarriesUntaken, IsAnswered}
@@ -89,7 +89,7 @@ grown_step step n = one step
     by_renewal i first span now origin None = grown_not n
     by_renewal i first span now origin (Some l) = by_test (is_no_lower first l.link.next)
       where
-        by_test : (b : Bool) → Grown n (cond b (record n { links = with_link i l (renewed_link first span now l.link) n.links; renewed = (record { peer = l.peer; zero = origin; left = unanswered l.link.untaken }) ∷ n.renewed }) n)
+        by_test : (b : Bool) → Grown n (cond b (record n { links = with_link i l (renewed_link first span now l.link) n.links; renewed = renewal_of l origin ∷ n.renewed }) n)
         by_test true = record { sent = []; to_links = none_sent; more = []; submitted = none_more }
         by_test false = grown_not n
 
@@ -193,7 +193,7 @@ to_device_step step n a = one step
     by_renewal i first span now origin None e = a
     by_renewal i first span now origin (Some l) e = by_test (is_no_lower first l.link.next)
       where
-        by_test : (b : Bool) → AreToDevice (cond b (record n { links = with_link i l (renewed_link first span now l.link) n.links; renewed = (record { peer = l.peer; zero = origin; left = unanswered l.link.untaken }) ∷ n.renewed }) n)
+        by_test : (b : Bool) → AreToDevice (cond b (record n { links = with_link i l (renewed_link first span now l.link) n.links; renewed = renewal_of l origin ∷ n.renewed }) n)
         by_test true = put i l (renewed_link first span now l.link) e refl
         by_test false = a
 
@@ -365,11 +365,11 @@ stands_step i h p step n never g = one step never
     by_renewal k first span now origin (Some l) e never = by_test (is_no_lower first l.link.next) never
       where
         m : Network
-        m = record n { links = with_link k l (renewed_link first span now l.link) n.links; renewed = (record { peer = l.peer; zero = origin; left = unanswered l.link.untaken }) ∷ n.renewed }
+        m = record n { links = with_link k l (renewed_link first span now l.link) n.links; renewed = renewal_of l origin ∷ n.renewed }
 
         by_test : (b : Bool) → RenewsNothing p n (cond b m n) → (let x : Network = cond b m n in Stands i p h x.links x.taken)
         by_test true never = as_before i h p (with_link k l (renewed_link first span now l.link) n.links) n.taken
-            (stands_put i k h p l (renewed_link first span now l.link) n.links n.taken [] e (λ q same. absurd (not_its_renewal p l.peer (record { peer = l.peer; zero = origin; left = unanswered l.link.untaken }) n.renewed refl never same)) g)
+            (stands_put i k h p l (renewed_link first span now l.link) n.links n.taken [] e (λ q same. absurd (not_its_renewal p l.peer (renewal_of l origin) n.renewed refl never same)) g)
         by_test false never = g
 
     by_beside : (o : Option PeerLink) → Stands i p h (after_beside o n).links (after_beside o n).taken
@@ -531,7 +531,7 @@ executed_steps p x (e ∷ es) n i = executed_steps p x es (after_step e n) (one 
     by_renewal k first span now origin None = i
     by_renewal k first span now origin (Some l) = by_test (is_no_lower first l.link.next)
       where
-        by_test : (b : Bool) → Has (cond b (record n { links = with_link k l (renewed_link first span now l.link) n.links; renewed = (record { peer = l.peer; zero = origin; left = unanswered l.link.untaken }) ∷ n.renewed }) n)
+        by_test : (b : Bool) → Has (cond b (record n { links = with_link k l (renewed_link first span now l.link) n.links; renewed = renewal_of l origin ∷ n.renewed }) n)
         by_test true = i
         by_test false = i
 
@@ -585,7 +585,7 @@ is_only h x y xs i e only = alone (subst (λ (zs : List Execution). IsIn x zs) o
 
 -- ---- there and back
 
-comes_back : WrittenIsReadBack → (s : Peer → ℕ) (n : Network) (k now i later : ℕ) (d : SentDatagram) (l : PeerLink) (c : CommandFields) (between : List Step) → Sound s n → AreToDevice n →
+pub comes_back : WrittenIsReadBack → (s : Peer → ℕ) (n : Network) (k now i later : ℕ) (d : SentDatagram) (l : PeerLink) (c : CommandFields) (between : List Step) → Sound s n → AreToDevice n →
     slice_get n.to_device k ≡ Some d → slice_get n.links i ≡ Some l → CarriesUntaken d l c → AllByRecursion StepFits between → RenewsNothing l.peer n (meanwhile k now between n) →
     IsAnswered k now n d c → ComesBack k now between later i c l.peer n
 comes_back law s n k now i later d l c between sound devices sent_to own carries fits never is_answered = record {

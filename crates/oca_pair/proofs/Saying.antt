@@ -30,7 +30,7 @@ use Rattle.oca_control.specs.Links.{Request, command_under, submission}
 use Rattle.oca_pair.specs.declared.outcome.Outcome.TheVariants as outcomes
 use Rattle.oca_pair.specs.declared.start.Start.{Start}
 use Rattle.oca_pair.specs.Networks.{Network, PeerLink, SentDatagram, SubmittedCommand, Setup, opening}
-use Rattle.oca_pair.specs.Steps.{Step, Submit, Due, ToDevice, ToLink, Other, Take, has_link, submitted_by, submit_outcome, after_submit, after_due_step, after_delivery, after_reception, after_take, after_step, after_steps, on_link, delivery_outcome, outcome_of_step, Renew, Beside, after_beside, with_link, is_no_lower, unanswered, renewed_link, after_renewal}
+use Rattle.oca_pair.specs.Steps.{Step, Submit, Due, ToDevice, ToLink, Other, Take, has_link, submitted_by, submit_outcome, after_submit, after_due_step, after_delivery, after_reception, after_take, after_step, after_steps, on_link, delivery_outcome, outcome_of_step, Renew, Beside, after_beside, with_link, is_no_lower, renewal_of, renewed_link, after_renewal}
 use Rattle.oca_pair.specs.Steps as steps
 use Rattle.oca_pair.specs.Happenings.{happenings}
 use Rattle.oca_pair.specs.Premises.{are_apart, StepFits, Fit}
@@ -219,7 +219,7 @@ does_step law s i l step n sound own = one step
     by_renewal k first span now origin None = inl refl
     by_renewal k first span now origin (Some z) = by_test (is_no_lower first z.link.next)
       where
-        by_test : (b : Bool) → Does p (Renew k first span now origin) n (cond b (record n { links = with_link k z (renewed_link first span now z.link) n.links; renewed = (record { peer = z.peer; zero = origin; left = unanswered z.link.untaken }) ∷ n.renewed }) n)
+        by_test : (b : Bool) → Does p (Renew k first span now origin) n (cond b (record n { links = with_link k z (renewed_link first span now z.link) n.links; renewed = (renewal_of z origin) ∷ n.renewed }) n)
         by_test true = inl refl
         by_test false = inl refl
 

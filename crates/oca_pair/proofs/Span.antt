@@ -1,22 +1,21 @@
--- What holds of one link whose peer's session is never forgotten: what it holds lies within the span, and its commands were accepted in
--- nearly rising order.
+-- What holds of one link whose commands were executed once: what it holds lies within the span, and its commands were accepted in nearly
+-- rising order.
 use Rattle.std.proofs.Common.{append-nil, ◌≡◌, ℕ, ◌+◌, ◌-◌, ◌*◌, ◌<◌, ◌≤◌, ◌≢◌, Bool, true, false, cond, List, [], ◌∷◌, ◌++◌, length, take, Option, Some, refl, sym, ap, ◌∙◌, arith, append_assoc, ◌⊎◌, inl, inr}
 use Rattle.std.specs.Prelude.{nat_eq, nat_lt, not, ◌&&◌, ◌||◌, map, filter, is_none}
 use Rattle.std.specs.List.{AllByRecursion}
 use Rattle.std.proofs.Math.Dec.{eqb}
-use Rattle.std.proofs.lemmas.List.{length-map, length-append}
 use Rattle.std.proofs.lemmas.List.Folds.{list_any-append}
 use Rattle.std.proofs.lemmas.Bool.Decides.{nat_tests}
 use Rattle.std.specs.Cmp.Lexicographic.{pointwise}
 use Rattle.oca_types.specs.declared.words.Peer.{Peer}
 use Rattle.oca_types.specs.Peers.{CommandFields}
-use Rattle.oca_session.specs.Accepted.{Entry, window, has_handle, entry_under, asks_the_same, judgement}
+use Rattle.oca_session.specs.Accepted.{Entry, window, outside, has_handle, entry_under, asks_the_same, judgement}
 use Rattle.oca_control.specs.Answers.{AnswerFields}
 use Rattle.oca_control.specs.Untaken.{Untaken, new_untaken, span_has_room, marked_sent, answered, without_handle, holds}
 use Rattle.oca_control.specs.Links.{Request, command_under, handle_after}
 use Rattle.oca_pair.specs.Networks.{SubmittedCommand}
 use Rattle.oca_pair.specs.Steps.{unanswered}
-use Rattle.oca_pair.proofs.Core.{has, Ordered, IsOfLink, AllBelow, each_map, each_both, each_append, either_false, below_all, below_whole, never_old, IsServed}
+use Rattle.oca_pair.proofs.Core.{has, Ordered, IsOfLink, AllBelow, Trails, trails_behind, each_map, each_both, each_append, either_false, below_all, below_whole, below_last, never_old, IsServed}
 use Rattle.oca_pair.proofs.Lists.{IsIn, in_more, in_behind, neither, equal_is, equal_self}
 use Rattle.oca_pair.proofs.Fair.{end_of}
 use Rattle.oca_pair.proofs.Delivering.{end_after}
@@ -30,10 +29,11 @@ pub record Near (s f n : ℕ) (u : Untaken) : Type 0 where
 abbrev pub IsKnown : ℕ → List ℕ → List Entry → ℕ → Type 0
 IsKnown f late A h = (f ≤ h) ⊎ ((has h A ≡ true) ⊎ IsIn h late)
 
--- of the peer's accepted commands `earlier` were accepted before the link was made, `since` after it; of these some are of
--- earlier links, whose handles are `late`
+-- of all commands that were accepted of the peer `earlier` were accepted before the link was made, `since` after it; of these
+-- some are of earlier links, whose handles are `late`
 pub record Good (s f : ℕ) (late : List ℕ) (p : Peer) (next : Option ℕ) (us : List Untaken) (submitted : List SubmittedCommand) (A : List Entry) : Type 0 where
   pub start : f ≤ end_of next
+  pub low : AllByRecursion (λ h. h < f) late
   pub untaken : AllByRecursion (Near s f (end_of next)) us
   pub taken : (x : ℕ) → f ≤ x → x < end_of next → holds x us ≡ false → has x A ≡ true
   pub earlier : List Entry
@@ -44,16 +44,14 @@ pub record Good (s f : ℕ) (late : List ℕ) (p : Peer) (next : Option ℕ) (us
   pub order : Ordered f s earlier since
   pub from : AllByRecursion (λ x. x.peer ≡ p → IsKnown f late A x.command.handle) submitted
 
--- the same of a link whose earlier ones left so many behind
-pub record GoodSince (s left : ℕ) (p : Peer) (next : Option ℕ) (us : List Untaken) (submitted : List SubmittedCommand) (A : List Entry) : Type 0 where
+-- the same of a link with some first handle
+pub record GoodSince (s : ℕ) (late : List ℕ) (p : Peer) (next : Option ℕ) (us : List Untaken) (submitted : List SubmittedCommand) (A : List Entry) : Type 0 where
   pub first : ℕ
-  pub late : List ℕ
-  pub few : length late ≤ left
   pub good : Good s first late p next us submitted A
 
-pub since_by : {s left : ℕ} {p : Peer} {next next' : Option ℕ} {us us' : List Untaken} {submitted submitted' : List SubmittedCommand} {A A' : List Entry} →
-    ((f : ℕ) (late : List ℕ) → Good s f late p next us submitted A → Good s f late p next' us' submitted' A') → GoodSince s left p next us submitted A → GoodSince s left p next' us' submitted' A'
-since_by go g = record { first = g.first; late = g.late; few = g.few; good = go g.first g.late g.good }
+pub since_by : {s : ℕ} {late : List ℕ} {p : Peer} {next next' : Option ℕ} {us us' : List Untaken} {submitted submitted' : List SubmittedCommand} {A A' : List Entry} →
+    ((f : ℕ) → Good s f late p next us submitted A → Good s f late p next' us' submitted' A') → GoodSince s late p next us submitted A → GoodSince s late p next' us' submitted' A'
+since_by go g = record { first = g.first; good = go g.first g.good }
 
 -- ---- the link submits
 
@@ -81,6 +79,7 @@ good_submit s f late p next us submitted A h at r some next_is room g =
     let new : SubmittedCommand = record { peer = p; command = command_under h r } in
     record {
       start = omega arith;
+      low = g.low;
       untaken = each_append _ us (u' ∷ [])
           (each_both (λ u a (b : h < u.command.handle + s). let a1 = a.from in let a2 = a.below in record { from = a1; below = below_more u.command.handle a2 more; near = nearer u.command.handle is b })
           us g.untaken room)
@@ -116,6 +115,7 @@ pub good_submitted : (s f : ℕ) (late : List ℕ) (p : Peer) (next : Option ℕ
     AllByRecursion (λ (x : SubmittedCommand). x.peer ≡ p → ⊥) more → Good s f late p next us submitted A → Good s f late p next us (submitted ++ more) A
 good_submitted s f late p next us submitted more A none g = record {
   start = g.start;
+  low = g.low;
   untaken = g.untaken;
   taken = g.taken;
   earlier = g.earlier;
@@ -134,6 +134,7 @@ pub good_same : (s f : ℕ) (late : List ℕ) (p : Peer) (next : Option ℕ) (us
     AllByRecursion (Near s f (end_of next)) vs → ((x : ℕ) → holds x vs ≡ holds x us) → Good s f late p next us submitted A → Good s f late p next vs submitted A
 good_same s f late p next us vs submitted A near same g = record {
   start = g.start;
+  low = g.low;
   untaken = near;
   taken = λ x a b free. g.taken x a b (sym (same x) ∙ free);
   earlier = g.earlier;
@@ -201,6 +202,7 @@ pub good_without : (s f : ℕ) (late : List ℕ) (p : Peer) (next : Option ℕ) 
     Good s f late p next us submitted A → Good s f late p next (without_handle h us) submitted A
 good_without s f late p next us submitted A h there g = record {
   start = g.start;
+  low = g.low;
   untaken = near_without s f (end_of next) h us g.untaken;
   taken = λ x from below free. elim (holds_without h x us free) [ inl same ↦ rw same at there | inr none ↦ g.taken x from below none ];
   earlier = g.earlier;
@@ -230,6 +232,7 @@ pub good_grown : (s f : ℕ) (late : List ℕ) (p : Peer) (next : Option ℕ) (u
     IsOfLink f (end_of next) late e → has e.command.handle A ≡ false → Good s f late p next us submitted A → Good s f late p next us submitted (A ++ e ∷ [])
 good_grown s f late p next us submitted A e own new g = record {
   start = g.start;
+  low = g.low;
   untaken = g.untaken;
   taken = λ x a b free. has_more x A e (g.taken x a b free);
   earlier = g.earlier;
@@ -258,32 +261,27 @@ good_grown s f late p next us submitted A e own new g = record {
 
 -- ---- the link is renewed
 
--- the handles of the commands without an answer
-abbrev pub unanswered_handles : List Untaken → List ℕ
-unanswered_handles us = map (λ u. u.command.handle) (filter (λ u. is_none u.answer) us)
-
 -- what is untaken was accepted, or has no answer
 held_or_left : (A : List Entry) (x : ℕ) (us : List Untaken) → AllByRecursion (λ u. is_none u.answer ≡ false → has u.command.handle A ≡ true) us → holds x us ≡ true →
-    (has x A ≡ true) ⊎ IsIn x (unanswered_handles us)
+    (has x A ≡ true) ⊎ IsIn x (unanswered us)
 held_or_left A x [] own e = cc
 held_or_left A x (u ∷ us) own e = by_test (held_or_left A x us own.1) (eqb u.command.handle x) refl e (is_none u.answer) refl
   where
-    by_test : (holds x us ≡ true → (has x A ≡ true) ⊎ IsIn x (unanswered_handles us)) → (b : Bool) → eqb u.command.handle x ≡ b → (b || holds x us) ≡ true → (c : Bool) → is_none u.answer ≡ c →
+    by_test : (holds x us ≡ true → (has x A ≡ true) ⊎ IsIn x (unanswered us)) → (b : Bool) → eqb u.command.handle x ≡ b → (b || holds x us) ≡ true → (c : Bool) → is_none u.answer ≡ c →
         (has x A ≡ true) ⊎ IsIn x (map (λ (u : Untaken). u.command.handle) (cond c (u ∷ filter (λ (u : Untaken). is_none u.answer) us) (filter (λ (u : Untaken). is_none u.answer) us)))
     by_test rest true same e true none = inr (inl (equal_is u.command.handle x same))
     by_test rest true same e false some = let there : has u.command.handle A ≡ true = own.0 some in inl (rw (equal_is u.command.handle x same) at there)
     by_test rest false other e true none = elim (rest e) [ inl there ↦ inl there | inr left ↦ inr (inr left) ]
     by_test rest false other e false some = rest e
 
-pub good_renewed : (s s' left : ℕ) (p : Peer) (next : Option ℕ) (us : List Untaken) (submitted : List SubmittedCommand) (A : List Entry) (first : ℕ) → end_of next ≤ first →
+pub good_renewed : (s s' : ℕ) (late : List ℕ) (p : Peer) (next : Option ℕ) (us : List Untaken) (submitted : List SubmittedCommand) (A : List Entry) (first : ℕ) → end_of next ≤ first →
     AllByRecursion (λ u. is_none u.answer ≡ false → has u.command.handle A ≡ true) us → AllByRecursion (λ x. x.peer ≡ p → x.command.handle < end_of next) submitted →
-    GoodSince s left p next us submitted A → GoodSince s' (unanswered us + left) p (Some first) [] submitted A
-good_renewed s s' left p next us submitted A first above taken_in low g = record {
+    GoodSince s late p next us submitted A → GoodSince s' (unanswered us ++ late) p (Some first) [] submitted A
+good_renewed s s' late p next us submitted A first above taken_in low g = record {
   first = first;
-  late = unanswered_handles us ++ g.late;
-  few = few;
   good = record {
     start = omega arith;
+    low = each_append _ (unanswered us) late (left_low us good.untaken) (each_map (λ h q. lower h q) late good.low);
     untaken = tt;
     taken = λ x a b free. absurd (contra x a b);
     earlier = A;
@@ -296,15 +294,8 @@ good_renewed s s' left p next us submitted A first above taken_in low g = record
   };
 }
   where
-    good : Good s g.first g.late p next us submitted A
+    good : Good s g.first late p next us submitted A
     good = g.good
-
-    few : length (unanswered_handles us ++ g.late) ≤ unanswered us + left
-    few =
-        let whole : length (unanswered_handles us ++ g.late) ≡ length (unanswered_handles us) + length g.late = length-append (unanswered_handles us) g.late in
-        let mapped : length (unanswered_handles us) ≡ unanswered us = length-map (filter (λ (u : Untaken). is_none u.answer) us) (λ (u : Untaken). u.command.handle) in
-        let old : length g.late ≤ left = g.few in
-        omega arith
 
     contra : (x : ℕ) → first ≤ x → x < first → ⊥
     contra x a b = omega arith
@@ -318,14 +309,23 @@ good_renewed s s' left p next us submitted A first above taken_in low g = record
     higher : (x : ℕ) → x < end_of next → x < first
     higher x q = omega arith
 
-    by_held : (h : ℕ) → g.first ≤ h → h < end_of next → (b : Bool) → holds h us ≡ b → IsKnown first (unanswered_handles us ++ g.late) A h
-    by_held h a b true q = elim (held_or_left A h us taken_in q) [ inl there ↦ inr (inl there) | inr left ↦ inr (inr (in_more h (unanswered_handles us) g.late left)) ]
+    left_low : (us : List Untaken) → AllByRecursion (Near s g.first (end_of next)) us → AllByRecursion (λ h. h < first) (unanswered us)
+    left_low [] a = tt
+    left_low (u ∷ us) a = by_test (is_none u.answer) (left_low us a.1)
+      where
+        by_test : (b : Bool) → AllByRecursion (λ h. h < first) (unanswered us) →
+            AllByRecursion (λ h. h < first) (map (λ (u : Untaken). u.command.handle) (cond b (u ∷ filter (λ (u : Untaken). is_none u.answer) us) (filter (λ (u : Untaken). is_none u.answer) us)))
+        by_test true rest = (higher u.command.handle a.0.below, rest)
+        by_test false rest = rest
+
+    by_held : (h : ℕ) → g.first ≤ h → h < end_of next → (b : Bool) → holds h us ≡ b → IsKnown first (unanswered us ++ late) A h
+    by_held h a b true q = elim (held_or_left A h us taken_in q) [ inl there ↦ inr (inl there) | inr left ↦ inr (inr (in_more h (unanswered us) late left)) ]
     by_held h a b false q = inr (inl (good.taken h a b q))
 
-    by_known : (h : ℕ) → IsKnown g.first g.late A h → h < end_of next → IsKnown first (unanswered_handles us ++ g.late) A h
+    by_known : (h : ℕ) → IsKnown g.first late A h → h < end_of next → IsKnown first (unanswered us ++ late) A h
     by_known h (inl mine) b = by_held h mine b (holds h us) refl
     by_known h (inr (inl there)) b = inr (inl there)
-    by_known h (inr (inr left)) b = inr (inr (in_behind h (unanswered_handles us) g.late left))
+    by_known h (inr (inr left)) b = inr (inr (in_behind h (unanswered us) late left))
 
 -- ---- no untaken command is too old
 
@@ -346,17 +346,42 @@ asks_itself c =
     five : (a b c d e : Bool) → a ≡ true → b ≡ true → c ≡ true → d ≡ true → e ≡ true → ((((a && b) && c) && d) && e) ≡ true
     five a b c d e p q r s t = cc
 
-pub untaken_served : (w s left : ℕ) (p : Peer) (next : Option ℕ) (us : List Untaken) (submitted : List SubmittedCommand) (A : List Entry) (u : Untaken) → 2 * s + left ≤ w + 1 →
-    ((e : Entry) → entry_under u.command.handle (window w A) ≡ Some e → e.command ≡ u.command) →
-    GoodSince s left p next us submitted A → IsIn u us → IsServed (judgement w A u.command)
-untaken_served w s left p next us submitted A u wide same g i =
-    let good : Good s g.first g.late p next us submitted A = g.good in
+-- Nothing at or above the handle of an untaken command is outside the window, where few of those that earlier links left
+-- behind were accepted after one that is: of the peer's commands, and of those of its session, which are the last of them.
+pub untaken_low : (w s : ℕ) (late few : List ℕ) (p : Peer) (next : Option ℕ) (us : List Untaken) (submitted : List SubmittedCommand) (before A : List Entry) (u : Untaken) → 2 * s + length few ≤ w + 1 →
+    Trails u.command.handle late few (before ++ A) → GoodSince s late p next us submitted (before ++ A) → IsIn u us → AllBelow u.command.handle (outside w A)
+untaken_low w s late few p next us submitted before A u wide trails g i =
+    let good : Good s g.first late p next us submitted (before ++ A) = g.good in
     let n = near_of s g.first (end_of next) u us good.untaken i in
-    let few : length g.late ≤ left = g.few in
-    let low : AllBelow u.command.handle (take (length (good.earlier ++ good.since) - w) (good.earlier ++ good.since)) =
+    let behind : Trails u.command.handle late few good.since = trails_behind u.command.handle late few good.earlier good.since (rw good.accepted at trails) in
+    let low : AllBelow u.command.handle (outside w (good.earlier ++ good.since)) =
     below_whole u.command.handle w good.earlier good.since (each_map (λ e q. lower e.command.handle q n.0) good.earlier good.below)
-    (below_all g.first s w (end_of next) u.command.handle g.late (omega arith) n.1 n.2 good.earlier good.since good.own good.order) in
-    never_old w u.command A (rw (← good.accepted) at low) (λ e q. rw (same e q) (asks_itself u.command))
+    (below_all g.first s w (end_of next) u.command.handle late few wide n.1 n.2 good.earlier good.since good.own good.order behind) in
+    below_last u.command.handle w before A (rw (← good.accepted) at low)
   where
     lower : (x : ℕ) → x < g.first → g.first ≤ u.command.handle → x < u.command.handle
     lower x a b = omega arith
+
+-- the peer's accepted commands have handles that its link gave
+pub below_next : {s : ℕ} {late : List ℕ} {p : Peer} {next : Option ℕ} {us : List Untaken} {submitted : List SubmittedCommand} {A : List Entry} → GoodSince s late p next us submitted A →
+    AllByRecursion (λ e. e.command.handle < end_of next) A
+below_next {next} g =
+    let start : g.first ≤ end_of next = g.good.start in
+    rw g.good.accepted (each_append _ g.good.earlier g.good.since (each_map (λ e q. lower e.command.handle start q) g.good.earlier g.good.below) (each_map (λ e q. q.0) g.good.since g.good.own))
+  where
+    lower : (x : ℕ) → g.first ≤ end_of next → x < g.first → x < end_of next
+    lower x a b = omega arith
+
+-- and what earlier links left behind has handles below those of the link
+pub low_handles : {s : ℕ} {late : List ℕ} {p : Peer} {next : Option ℕ} {us : List Untaken} {submitted : List SubmittedCommand} {A : List Entry} (u : Untaken) → GoodSince s late p next us submitted A → IsIn u us →
+    AllByRecursion (λ h. h < u.command.handle) late
+low_handles {s} {late} {next} {us} u g i =
+    let n = near_of s g.first (end_of next) u us g.good.untaken i in
+    each_map (λ h q. lower h q n.0) late g.good.low
+  where
+    lower : (x : ℕ) → x < g.first → g.first ≤ u.command.handle → x < u.command.handle
+    lower x a b = omega arith
+
+pub untaken_served : (w : ℕ) (A : List Entry) (u : Untaken) → AllBelow u.command.handle (outside w A) →
+    ((e : Entry) → entry_under u.command.handle (window w A) ≡ Some e → e.command ≡ u.command) → IsServed (judgement w A u.command)
+untaken_served w A u low same = never_old w u.command A low (λ e q. rw (same e q) (asks_itself u.command))

@@ -26,7 +26,7 @@ use Rattle.oca_control.specs.Limits.{longest_life}
 use Rattle.oca_control.specs.Untaken.{Untaken, new_untaken, is_due, is_late, first_due, marked_sent, answered, hears_all, answer_under, without_handle}
 use Rattle.oca_control.specs.Links.{LinkState, Request, command_under, submission, handle_after, after_submission, Decision, GivesCommand, GivesKeepAlive, GivesNothing, IsLost, decision_among, decision, after_due, gone_on, hears_content, received, taken, present_moment, late_at}
 use Rattle.oca_pair.specs.Networks.{SentDatagram}
-use Rattle.oca_pair.specs.Steps.{sendings_in, given_by, unanswered}
+use Rattle.oca_pair.specs.Steps.{sendings_in, given_by}
 use Rattle.oca_pair.specs.Laws.{Execution}
 use Rattle.oca_pair.specs.InTime.{Departure, longest_delay, ArrivesInTime}
 use Rattle.oca_pair.proofs.Core.{each_map, each_append, has, none_passes}
@@ -158,7 +158,7 @@ of_decision_are p t GivesKeepAlive = refl
 of_decision_are p t GivesNothing = refl
 of_decision_are p t IsLost = refl
 
-first_due_in : (t : ℕ) (us : List Untaken) (u : Untaken) → first_due t us ≡ Some u → IsIn u us × (is_due t u ≡ true)
+pub first_due_in : (t : ℕ) (us : List Untaken) (u : Untaken) → first_due t us ≡ Some u → IsIn u us × (is_due t u ≡ true)
 first_due_in t [] u e = cc
 first_due_in t (x ∷ xs) u e = by_test (first_due_in t xs u) (is_due t x) refl e
   where

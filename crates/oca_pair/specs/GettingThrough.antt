@@ -86,21 +86,27 @@ pub record WasSent (p : Peer) (c : CommandFields) (bytes : List ℕ) (n : Networ
   pub bytes_are : bytes ≡ (copy_of p c).bytes
   pub sent : Contains n.to_device (copy_of p c)
 
--- The command waits for its answer. By the calls since its submit it was sent in time, each time as a copy.
-pub record WaitsInTime (ms since i : ℕ) (c : CommandFields) (p : Peer) (calls : List Call) (n : Network) : Type 0 where
+-- The command waits for its answer. By the calls since its submit it was sent in time, each time as a copy. `Comes k now`
+-- says under which premises a copy comes to the device.
+pub record WaitsInTime (Comes : ℕ → ℕ → Type 0) (ms since i : ℕ) (c : CommandFields) (p : Peer) (calls : List Call)
+    (n : Network) : Type 0 where
   pub in_time : IsSentInTime ms since (clock_of_calls since calls) (sendings since c.handle calls)
   pub copies : AllByRecursion (λ x. WasSent p c x.bytes n) (sendings since c.handle calls)
-  -- One copy that is delivered now, under the premises of the law of untaken commands, and the one datagram that the
-  -- device then sends, whenever that is delivered, are enough where the link is not renewed till then: the round trip of
-  -- `ComesBack`.
+  -- One copy that is delivered now and so comes, and the one datagram that the device then sends, whenever that is
+  -- delivered, are enough where the link is not renewed till then: the round trip of `ComesBack`.
   pub enough : (k now : ℕ) (between : List Step) (later : ℕ) →
-      slice_get n.to_device k ≡ Some (copy_of p c) → FindsRoom p now n → KeepsItsSession p (asked k now n) →
-      AllByRecursion StepFits between → RenewsNothing p n (meanwhile k now between n) →
-      ComesBack k now between later i c p n
+      slice_get n.to_device k ≡ Some (copy_of p c) → Comes k now → AllByRecursion StepFits between →
+      RenewsNothing p n (meanwhile k now between n) → ComesBack k now between later i c p n
 
 -- The link got the command's answer, or is lost, or the command is waiting, and was sent in time.
-abbrev pub GetsThrough : ℕ → ℕ → ℕ → CommandFields → Peer → List Call → Network → Type 0
-GetsThrough ms since i c p calls n = GotItsAnswer i c p n ⊎ (IsLost i n ⊎ WaitsInTime ms since i c p calls n)
+abbrev pub GetsThrough : (ℕ → ℕ → Type 0) → ℕ → ℕ → ℕ → CommandFields → Peer → List Call → Network → Type 0
+GetsThrough Comes ms since i c p calls n =
+    GotItsAnswer i c p n ⊎ (IsLost i n ⊎ WaitsInTime Comes ms since i c p calls n)
+
+-- A delivery of this datagram now finds room, and the peer kept its session, this delivery counted: the premises of the
+-- law of untaken commands.
+abbrev pub ComesInSession : Peer → Network → ℕ → ℕ → Type 0
+ComesInSession p n k now = FindsRoom p now n × KeepsItsSession p (asked k now n)
 
 -- Over every schedule, for all sizes and each link whose span fits the window: so it is of each command that the link
 -- submitted in a step, where from this step on the link is asked every so many ms, and is not renewed.
@@ -115,4 +121,5 @@ EveryCommandGetsThrough =
     Fit starts (before ++ Submit i request now ∷ later) →
     outcome_of_step (Submit i request now) old ≡ outcomes.Submitted h ∷ [] →
     RenewsNothing l.peer old (after_steps later new) → IsAskedEvery ms since (calls_in i later new) →
-    GetsThrough ms since i (command_under h.0 request) l.peer (calls_in i later new) (after_steps later new)
+    let end : Network = after_steps later new in
+    GetsThrough (ComesInSession l.peer end) ms since i (command_under h.0 request) l.peer (calls_in i later new) end

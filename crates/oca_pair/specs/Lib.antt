@@ -6,6 +6,7 @@ pub mod Laws
 pub mod RoundTrip
 pub mod GettingThrough
 pub mod InTime
+pub mod AnsweredInTime
 pub mod Saying
 pub mod Transcripts
 pub mod PrivateRunning

@@ -2,7 +2,7 @@
 -- sent between them. No list of a network ever loses a member, so a datagram can be delivered late, again, in any
 -- order, or never. Of events the latest stands first; of datagrams, submitted commands and taken answers the latest
 -- stands last.
-use Rattle.std.specs.Prelude.{ℕ, ◌+◌, Bool, if◌then◌else◌, List, [], ◌∷◌, map, filter, length}
+use Rattle.std.specs.Prelude.{ℕ, Bool, if◌then◌else◌, List, [], ◌∷◌, ◌++◌, map, filter, length}
 use Rattle.std.specs.List.{list_any}
 use Rattle.oca_types.specs.declared.words.Peer.{Peer}
 use Rattle.oca_types.specs.Peers.{CommandFields, same_peer}
@@ -44,12 +44,13 @@ pub record TakenAnswer : Type 0 where
   pub handle : ℕ
   pub answer : AnswerFields
 
--- a new link in the place of another one: its peer, the moment of the common clock at which its clock showed 0, and how
--- many commands the other one left behind: those that had no answer
+-- a new link in the place of another one: its peer, the moment of the common clock at which its clock showed 0; the
+-- handles of the commands that the other one left behind, which had no answer; and what the other one's clock showed last
 pub record Renewal : Type 0 where
   pub peer : Peer
   pub zero : ℕ
-  pub left : ℕ
+  pub left : List ℕ
+  pub till : ℕ
 
 -- The device's address, its sizes, its objects at first and what happened to it; the links; the datagrams that were
 -- sent to the device and to links; what was submitted and taken; and the renewals of links, the latest first.
@@ -73,13 +74,13 @@ is_renewed p n = list_any (λ x. same_peer x.peer p) n.renewed
 abbrev pub times_renewed : Peer → Network → ℕ
 times_renewed p n = length (filter (λ x. same_peer x.peer p) n.renewed)
 
--- how many commands all earlier links of this peer left behind
-abbrev pub left_by : List Renewal → Peer → ℕ
-left_by [] p = 0
-left_by (x ∷ more) p = if same_peer x.peer p then x.left + left_by more p else left_by more p
+-- the commands that all earlier links of this peer left behind, by their handles; and how many they are
+abbrev pub left_by : List Renewal → Peer → List ℕ
+left_by [] p = []
+left_by (x ∷ more) p = if same_peer x.peer p then x.left ++ left_by more p else left_by more p
 
 abbrev pub left_behind : Peer → Network → ℕ
-left_behind p n = left_by n.renewed p
+left_behind p n = length (left_by n.renewed p)
 
 -- when the clock of the peer's link showed 0, by the common clock: as in the latest renewal of the link, or as set up
 abbrev pub zero_after : List Renewal → Peer → ℕ → ℕ

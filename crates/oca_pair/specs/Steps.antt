@@ -26,7 +26,7 @@ use Rattle.oca_control.specs.Links.{GivesCommand, GivesKeepAlive, GivesNothing, 
 use Rattle.oca_control.specs.Links.{reception, received, taken}
 use Rattle.oca_pair.specs.declared.outcome.Outcome.{Outcome}
 use Rattle.oca_pair.specs.declared.outcome.Outcome.TheVariants as outcomes
-use Rattle.oca_pair.specs.Networks.{Network, PeerLink, SentDatagram, SubmittedCommand, TakenAnswer}
+use Rattle.oca_pair.specs.Networks.{Network, PeerLink, SentDatagram, SubmittedCommand, TakenAnswer, Renewal}
 
 -- Links and datagrams are named by their number in their list, from 0. Moments are in milliseconds.
 pub data Step : Type 0 where
@@ -178,16 +178,21 @@ is_no_lower first (Some next) = nat_le next first
 abbrev pub renewed_link : ℕ → ℕ → ℕ → LinkState → LinkState
 renewed_link first span now l = new_link l.device first now span
 
--- how many of the commands have no answer
-abbrev pub unanswered : List Untaken → ℕ
-unanswered us = length (filter (λ u. is_none u.answer) us)
+-- the handles of the commands without an answer
+abbrev pub unanswered : List Untaken → List ℕ
+unanswered us = map (λ u. u.command.handle) (filter (λ u. is_none u.answer) us)
+
+-- what is noted of a link that is renewed, by when the new link's clock showed 0
+abbrev pub renewal_of : PeerLink → ℕ → Renewal
+renewal_of l origin =
+    record { peer = l.peer; zero = origin; left = unanswered l.link.untaken; till = l.link.moment }
 
 abbrev pub after_renewal : ℕ → ℕ → ℕ → ℕ → ℕ → Option PeerLink → Network → Network
 after_renewal i first span now origin None n = n
 after_renewal i first span now origin (Some l) n =
     if is_no_lower first l.link.next then record n {
       links = with_link i l (renewed_link first span now l.link) n.links;
-      renewed = (record { peer = l.peer; zero = origin; left = unanswered l.link.untaken }) ∷ n.renewed;
+      renewed = renewal_of l origin ∷ n.renewed;
     } else n
 
 -- whether the link was renewed

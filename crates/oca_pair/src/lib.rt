@@ -13,8 +13,8 @@ mod step;
 
 pub use fault::PairFault;
 pub use law::{
-    law_answers, law_getting_through, law_never_old, law_of_what_is_said, law_once_in_time,
-    law_round_trip,
+    law_answered_in_time, law_answers, law_getting_through, law_never_old, law_of_what_is_said,
+    law_once_in_time, law_round_trip,
 };
 pub use outcome::Outcome;
 pub use pair::{Transcript, run_pair, run_pair_with_sizes};

@@ -12,7 +12,7 @@ use Rattle.oca_control.specs.Untaken.{answer_under}
 use Rattle.oca_control.specs.Links.{LinkState, Request, submission, submitted, gone_on, received, taken, GivesKeepAlive, due_bytes}
 use Rattle.oca_pair.specs.Networks.{Network, PeerLink, SentDatagram, TakenAnswer}
 use Rattle.oca_pair.specs.declared.outcome.Outcome.TheVariants as outcomes
-use Rattle.oca_pair.specs.Steps.{Step, Submit, Due, ToDevice, ToLink, Other, Take, has_link, content_read, hears_datagram, after_submit, after_due_step, after_delivery, after_reception, taken_by, after_take, after_step, after_steps, on_link, submit_outcome, outcome_of_step, Renew, Beside, after_beside, with_link, is_no_lower, unanswered, renewed_link, after_renewal}
+use Rattle.oca_pair.specs.Steps.{Step, Submit, Due, ToDevice, ToLink, Other, Take, has_link, content_read, hears_datagram, after_submit, after_due_step, after_delivery, after_reception, taken_by, after_take, after_step, after_steps, on_link, submit_outcome, outcome_of_step, Renew, Beside, after_beside, with_link, is_no_lower, renewal_of, renewed_link, after_renewal}
 use Rattle.oca_pair.specs.Steps as steps
 use Rattle.oca_pair.specs.InTime.{leaving_beside}
 use Rattle.oca_pair.proofs.Lists.{same_self, IsIn, in_more, in_last, each_at}
@@ -57,7 +57,7 @@ take_there i p l h n e =
 pub renew_there : (i : ℕ) (p : Peer) (l : LinkState) (first span now origin : ℕ) (n : Network) → is_no_lower first l.next ≡ true → IsLinkOf i p l n → IsLinkOf i p (renewed_link first span now l) (after_step (Renew i first span now origin) n)
 renew_there i p l first span now origin n above e =
     let x : PeerLink = record { peer = p; link = l } in
-    let m : Network = record n { links = with_link i x (renewed_link first span now l) n.links; renewed = (record { peer = p; zero = origin; left = unanswered l.untaken }) ∷ n.renewed } in
+    let m : Network = record n { links = with_link i x (renewed_link first span now l) n.links; renewed = renewal_of x origin ∷ n.renewed } in
     ap (λ (o : Option PeerLink). slice_get (after_renewal i first span now origin o n).links i) e
     ∙ ap (λ (b : Bool). let y : Network = if b then m else n in slice_get y.links i) above
     ∙ set_there n.links i x (record { peer = p; link = renewed_link first span now l }) e
@@ -198,7 +198,7 @@ taken_stays p h a step n is = one step
     by_renewal i first span now origin None = is
     by_renewal i first span now origin (Some l) = by_test (is_no_lower first l.link.next)
       where
-        by_test : (b : Bool) → HasTaken p h a (let m : Network = if b then record n { links = with_link i l (renewed_link first span now l.link) n.links; renewed = (record { peer = l.peer; zero = origin; left = unanswered l.link.untaken }) ∷ n.renewed } else n in m)
+        by_test : (b : Bool) → HasTaken p h a (let m : Network = if b then record n { links = with_link i l (renewed_link first span now l.link) n.links; renewed = renewal_of l origin ∷ n.renewed } else n in m)
         by_test true = is
         by_test false = is
 

@@ -6,8 +6,8 @@ use super::{A, B, DEVICE, GET};
 use crate::tests::play;
 use oca_control::{ControlFault, Reception};
 use oca_pair::{
-    PairFault, law_answers, law_getting_through, law_never_old, law_of_what_is_said,
-    law_once_in_time, law_round_trip,
+    PairFault, law_answered_in_time, law_answers, law_getting_through, law_never_old,
+    law_of_what_is_said, law_once_in_time, law_round_trip,
 };
 use oca_promise::{law_of_calls, law_of_flights};
 
@@ -18,6 +18,7 @@ fn laws() {
     law_round_trip();
     law_getting_through();
     law_once_in_time();
+    law_answered_in_time();
 }
 
 /// The laws of what is said, likewise.
