@@ -14,15 +14,13 @@ use Rattle.oca_pdu.specs.Messages.{Msg, Command, KeepAlive}
 use Rattle.oca_pdu.specs.Reading.{read_datagram}
 use Rattle.oca_pdu.specs.Laws.{WrittenIsReadBack}
 use Rattle.oca_tree.specs.declared.object.Object.{Object}
-use Rattle.oca_tree.specs.LocalChanges.{LocalChange}
 use Rattle.oca_session.specs.Accepted.{Entry}
 use Rattle.oca_device.specs.Events.{Datagram}
-use Rattle.oca_device.specs.States.{State}
 use Rattle.oca_control.specs.declared.fault.ControlFault.{ControlFault}
 use Rattle.oca_control.specs.Answers.{AnswerFields}
 use Rattle.oca_control.specs.Untaken.{Untaken, new_untaken, first_due, marked_sent, answer_under, without_handle}
 use Rattle.oca_control.specs.Answering.{IsAskedEvery}
-use Rattle.oca_control.specs.Links.{LinkState, Request, command_under, submission, after_submission, handle_after, Decision, GivesCommand, GivesKeepAlive, GivesNothing, IsLost, decision_among, decision, due_bytes, after_due, gone_on, received, taken, present_moment}
+use Rattle.oca_control.specs.Links.{LinkState, Request, command_under, submission, after_submission, handle_after, Decision, GivesCommand, GivesKeepAlive, GivesNothing, IsLost, decision_among, decision, after_due, gone_on, received, taken, present_moment}
 use Rattle.oca_pair.specs.declared.outcome.Outcome.TheVariants as outcomes
 use Rattle.oca_pair.specs.declared.start.Start.{Start}
 use Rattle.oca_pair.specs.Networks.{Network, PeerLink, SentDatagram, Renewal, Setup, started, opening, zero_after, zero_of, left_by}
@@ -30,7 +28,7 @@ use Rattle.oca_pair.specs.Steps.{Step, Submit, Due, ToDevice, ToLink, Other, Tak
 use Rattle.oca_pair.specs.Steps as steps
 use Rattle.oca_pair.specs.Premises.{are_apart, StepFits, Fit, FindsRoom}
 use Rattle.oca_pair.specs.Laws.{CarriesUntaken}
-use Rattle.oca_pair.specs.RoundTrip.{meanwhile, RenewsNothing, ComesBack}
+use Rattle.oca_pair.specs.RoundTrip.{RenewsNothing}
 use Rattle.oca_pair.specs.GettingThrough.{calls_in, copy_of, GetsThrough}
 use Rattle.oca_pair.specs.InTime.{Departure, leaving, leaving_beside, departures_in, clock_at, ArrivesInTime, longest_delay, StepIsInTime, AreInTime}
 use Rattle.oca_pair.specs.AnsweredInTime.{left_off, left_since, SpanFitsSince, AnswersUntakenInTime, RoundTripsInTime, ComesWithRoom}
@@ -50,9 +48,9 @@ use Rattle.oca_pair.proofs.Networks.{one_or, LinkSound, Sound, out_read, sound_s
 use Rattle.oca_pair.proofs.Lawful.{delivered}
 use Rattle.oca_pair.proofs.RoundTrip.{to_device_steps, to_device_opening, comes_back}
 use Rattle.oca_pair.proofs.GettingThrough.{TripsOf, after_more, took, gets_through_by}
-use Rattle.oca_pair.proofs.Timed.{TimedBytes, TimedDeparture, Zeros, Timed, first_due_in}
+use Rattle.oca_pair.proofs.Timed.{TimedBytes, TimedDeparture, Timed, first_due_in}
 use Rattle.oca_pair.proofs.Stragglers.{stamps, stamps_marked_sent, stamps_received, stamps_more, in_stamps, each_stamp, without_stamps, Left, LeftSo, Straggling, straggling_later, straggling_taken, straggling_submit, straggling_more, leaves_now, straggling_renewed, straggling_other, straggling_passes, straggling_accepted}
-use Rattle.oca_pair.proofs.InTime.{zeros, TimedAt, at_put, apart_at, sendable_untaken, clock_is, departed, timed_step, timed_steps, timed_opening, last_in_time}
+use Rattle.oca_pair.proofs.InTime.{zeros, TimedAt, at_put, apart_at, sendable_untaken, clock_is, departed, timed_step, timed_steps, timed_opening}
 
 -- ---- the network
 

@@ -1,5 +1,5 @@
 -- Where a link and the network are in time, no command is executed twice.
-use Rattle.std.proofs.Common.{append-nil, ◌≡◌, ℕ, ◌+◌, ◌-◌, ◌<◌, ◌≤◌, ◌≢◌, Bool, true, false, cond, List, [], ◌∷◌, ◌++◌, Option, Some, None, refl, sym, ap, ◌∙◌, subst, arith, zero, suc, ◌⊎◌, inl, inr}
+use Rattle.std.proofs.Common.{append-nil, ◌≡◌, ℕ, ◌+◌, ◌<◌, ◌≤◌, ◌≢◌, Bool, true, false, cond, List, [], ◌∷◌, ◌++◌, Option, Some, None, refl, sym, ap, ◌∙◌, subst, arith, zero, suc, ◌⊎◌, inl, inr}
 use Rattle.std.specs.Prelude.{nat_eq, ◌||◌, map, Result, Ok}
 use Rattle.std.specs.List.{list_any, AllByRecursion, slice_get, slice_set, IsDistinct}
 use Rattle.std.proofs.Math.Dec.{eqb}

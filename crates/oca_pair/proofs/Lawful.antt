@@ -13,7 +13,7 @@ use Rattle.oca_pdu.specs.Encoding.{pdu_encoding}
 use Rattle.oca_pdu.specs.Reading.{read_datagram}
 use Rattle.oca_pdu.specs.Laws.{WrittenIsReadBack}
 use Rattle.oca_tree.specs.declared.object.Object.{Object}
-use Rattle.oca_session.specs.Accepted.{Entry, window, outside, entry_under, Judgement, Fresh, Duplicate, Reused, Old, judgement}
+use Rattle.oca_session.specs.Accepted.{Entry, window, outside, entry_under, Judgement, Fresh, Duplicate, Reused, Old}
 use Rattle.oca_device.specs.declared.verdict.Verdict.{Verdict}
 use Rattle.oca_device.specs.declared.verdict.Verdict.TheVariants as verdicts
 use Rattle.oca_device.specs.Events.{Event, Datagram, Tick}

@@ -1,5 +1,5 @@
 -- A command that came to the device comes back to its link as an answer.
-use Rattle.std.proofs.Common.{append-nil, append_assoc, ◌≡◌, ℕ, ◌+◌, ◌<◌, ◌^◌, Bool, true, false, cond, List, [], ◌∷◌, ◌++◌, length, Option, Some, None, refl, sym, ap, ◌∙◌, subst, zero, suc, ◌⊎◌, inl, inr}
+use Rattle.std.proofs.Common.{append-nil, append_assoc, ◌≡◌, ℕ, ◌<◌, ◌^◌, Bool, true, false, cond, List, [], ◌∷◌, ◌++◌, length, Option, Some, None, refl, sym, ap, ◌∙◌, subst, zero, suc, ◌⊎◌, inl, inr}
 use Rattle.std.specs.Prelude.{nat_eq, ◌&&◌, ◌||◌, map, is_some, is_none, Result, Ok, Err}
 use Rattle.std.specs.List.{AllByRecursion, slice_get, slice_set}
 use Rattle.std.proofs.lemmas.List.Folds.{list_any-append}

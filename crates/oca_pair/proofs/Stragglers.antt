@@ -1,30 +1,24 @@
 -- What earlier links of a peer left behind comes to the device at most 100,000 ms after its link left off, where the link is in time. So
 -- few of it stands behind a command that was submitted later.
-use Rattle.std.proofs.Common.{◌≡◌, ℕ, ◌+◌, ◌<◌, ◌≤◌, ◌≢◌, Bool, true, false, cond, List, [], ◌∷◌, ◌++◌, length, Option, Some, None, refl, sym, ap, ◌∙◌, subst, arith, ◌⊎◌, inl, inr}
-use Rattle.std.specs.Prelude.{nat_eq, nat_lt, nat_le, max, not, ◌&&◌, map, filter, is_none, is_some, Result, Ok, Err}
-use Rattle.std.specs.List.{AllByRecursion, slice_get}
+use Rattle.std.proofs.Common.{◌≡◌, ℕ, ◌+◌, ◌<◌, ◌≤◌, Bool, true, false, cond, List, [], ◌∷◌, ◌++◌, length, Option, Some, None, refl, sym, ap, ◌∙◌, subst, arith, inl, inr}
+use Rattle.std.specs.Prelude.{nat_eq, nat_le, not, ◌&&◌, map, filter, is_none, Ok}
+use Rattle.std.specs.List.{AllByRecursion}
 use Rattle.std.proofs.lemmas.List.{length-append}
 use Rattle.std.proofs.lemmas.Bool.Decides.{nat_tests}
 use Rattle.oca_types.specs.declared.words.Peer.{Peer}
-use Rattle.oca_types.specs.declared.words.Handle.{Handle}
 use Rattle.oca_types.specs.Peers.{same_peer, CommandFields}
-use Rattle.oca_pdu.specs.declared.fault.PduFault.{PduFault}
-use Rattle.oca_pdu.specs.declared.message.Form.{Form}
-use Rattle.oca_pdu.specs.declared.message.Form.TheVariants.{Seconds}
 use Rattle.oca_pdu.specs.Messages.{Msg, Command, Response, KeepAlive}
 use Rattle.oca_pdu.specs.Reading.{read_datagram}
-use Rattle.oca_pdu.specs.Laws.{WrittenIsReadBack}
 use Rattle.oca_session.specs.Accepted.{Entry}
-use Rattle.oca_control.specs.declared.fault.ControlFault.{ControlFault}
 use Rattle.oca_control.specs.Answers.{AnswerFields, answer_of_response}
-use Rattle.oca_control.specs.Untaken.{Untaken, new_untaken, first_due, marked_sent, answered, hears_all, without_handle}
-use Rattle.oca_control.specs.Links.{command_under, hears_content}
-use Rattle.oca_pair.specs.Networks.{Network, Renewal, Setup, left_by, left_behind}
+use Rattle.oca_control.specs.Untaken.{Untaken, marked_sent, answered, hears_all, without_handle}
+use Rattle.oca_control.specs.Links.{hears_content}
+use Rattle.oca_pair.specs.Networks.{Renewal, Setup, left_by}
 use Rattle.oca_pair.specs.Steps.{unanswered}
 use Rattle.oca_pair.specs.InTime.{Departure, longest_delay}
 use Rattle.oca_pair.specs.AnsweredInTime.{left_off, left_since, FewerMayStillCome}
 use Rattle.oca_pair.proofs.Core.{Trails, each_map, each_both, each_append}
-use Rattle.oca_pair.proofs.Lists.{IsIn, in_more, in_behind, in_parts, each_in, differs}
+use Rattle.oca_pair.proofs.Lists.{IsIn, in_more, in_behind, in_parts, differs}
 use Rattle.oca_pair.proofs.Timed.{Zeros}
 
 -- ---- untaken commands by their handles and their submits
