@@ -518,8 +518,8 @@ gets_through_in_time law w s tree starts before later i l r now ms h own wide ap
     gets_through_by law (ComesWithRoom l.peer (after_steps later new)) w s tree starts before later i l r now ms h own wide.some apart fit outcome never often
     (subst (λ (m : Network). (g : PeerLink) → slice_get n.links i ≡ Some g → g.peer ≡ l.peer → g.link.span ≡ l.link.span → TripsOf (ComesWithRoom l.peer m) i c g n) run_is
     (λ g there peer span k moment between end sent carries comes fits still.
-        round_trips_in_time law w s tree starts all i g apart fit in_time there k moment (copy_of g.peer c) c between end sent carries (wide_then g there peer span carries)
-        (subst (λ (q : Peer). FindsRoom q moment n) (sym peer) comes) fits still))
+    round_trips_in_time law w s tree starts all i g apart fit in_time there k moment (copy_of g.peer c) c between end sent carries (wide_then g there peer span carries)
+    (subst (λ (q : Peer). FindsRoom q moment n) (sym peer) comes) fits still))
   where
     start : Network
     start = opening w s tree starts

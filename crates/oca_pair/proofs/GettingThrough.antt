@@ -683,8 +683,8 @@ gets_through law w s tree starts before later i l r now ms h own wide apart fit 
     gets_through_by law (ComesInSession l.peer (after_steps later (after_step (Submit i r now) old))) w s tree starts before later i l r now ms h own wide.some apart fit outcome never often
     (subst (λ (m : Network). (g : PeerLink) → slice_get n.links i ≡ Some g → g.peer ≡ l.peer → g.link.span ≡ l.link.span → TripsOf (ComesInSession l.peer m) i c g n) (after_more before (Submit i r now ∷ later) start)
     (λ g there peer span k moment between end sent carries comes fits still.
-        round_trip_law law w s tree starts all i g there (wide_then g peer span) apart fit k moment (copy_of g.peer c) c between end sent carries
-        (subst (λ (q : Peer). FindsRoom q moment n) (sym peer) comes.0) (subst (λ (q : Peer). KeepsItsSession q (asked k moment n)) (sym peer) comes.1) fits still))
+    round_trip_law law w s tree starts all i g there (wide_then g peer span) apart fit k moment (copy_of g.peer c) c between end sent carries
+    (subst (λ (q : Peer). FindsRoom q moment n) (sym peer) comes.0) (subst (λ (q : Peer). KeepsItsSession q (asked k moment n)) (sym peer) comes.1) fits still))
   where
     start : Network
     start = opening w s tree starts
