@@ -191,7 +191,7 @@ pub fn law_once_in_time()
 /// `2 * s + k <= w + 1`. Here `k` is 0 if the link was never *renewed* (a new link takes its place). Otherwise `k` is how
 /// many commands the earlier links of the peer left unanswered, but without those of a link that left off more than
 /// 100,000 ms before the submit. A link *leaves off* when its clock was read last. So `k` is at most that of
-/// [`law_never_old`] (`fewer`), and 0 for a command that is submitted more than 100,000 ms after the last loss.
+/// [`law_never_old`] (`fewer`), and 0 if all earlier links left off more than 100,000 ms before the submit.
 ///
 /// The conclusions:
 /// - Answered: if a datagram with a command in flight is delivered and finds room ([`law_never_old`] explains these
