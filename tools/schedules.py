@@ -327,14 +327,15 @@ def take_others(schedule, pinned, order):
             schedule.add("take", 0, u[0].handle)
 
 
-def directed(window, span, r=None, left=0):
+def directed(window, span, r=None, left=0, gap=0):
     """The last command of a span overtakes the others, and a copy of it comes behind as many more; and behind so many of a link before,
-    which left them unanswered."""
+    which left them unanswered so long before."""
     schedule = Schedule(window, span, [(peer(0), r.choice([1, 1, 1000]) if r else 1)])
     network, mixed = schedule.network, (lambda xs: r.sample(xs, len(xs))) if r else list
     late = marked_sent(schedule, left, r)
     if left:
         schedule.timed("renew", 0, network.links[0][1].next, span)
+    schedule.now += gap
     for _ in range(r.choice([1, 1, 2]) if r and span < 20 else 1):
         first, untaken = marked_sent(schedule, span, r), network.links[0][1].untaken
         if not first or not untaken:

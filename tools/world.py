@@ -28,7 +28,7 @@ A peer keeps its session while its admitted datagrams come at most 120,000 ms ap
  second      the transcript is, byte for byte, that of the second implementation
  premises    some schedules are within the premises, and lose, double and overtake datagrams
  sizes       with W = 2 * S - 2 a schedule breaks 'untaken', at each of the 31 pairs; random ones at (2, 2) and (4, 3); and behind
-             S commands of a link before one does with W = 3 * S - 2, but none with one more
+             S commands of a link before one does with W = 3 * S - 2, but none with one more; so it does 100,000 ms behind that link
  lines       bad lines are refused with their number
  wrong       the laws alone refuse the second implementation with one rule changed
  altered     a transcript in which one answer, or what a copy led to, was altered is refused by the law that it breaks
@@ -47,6 +47,7 @@ from schedules import PAIRS, crowd, directed, fronts, lossy, slow, visitors, wan
 from tables import data
 
 BATCH, DATA = 40, data("world")
+STILL = 100000  # the milliseconds for which what a link left behind may still come
 # ---- the laws, on a transcript
 # the get method of a class and its set method (AES70-2, the profile's numbers)
 READS = {"mute": (4, 1), "polarity": (4, 1), "switch": (4, 1), **dict.fromkeys(["boolean", *oca.WIDTHS], (5, 1))}
@@ -109,7 +110,7 @@ class Link:
 
     def left(self, moment=0):
         """How many commands the links before it left unanswered whose clocks were read last at most 100,000 ms before the moment."""
-        return sum(count for count, till in self.left_off if moment <= till + 100000)
+        return sum(count for count, till in self.left_off if moment <= till + STILL)
 
     def renew(self, first, span, now):
         self.left_off.append((sum(not (it.is_answered or it.is_gone) for it in self.commands.values()), self.clock))
@@ -289,6 +290,7 @@ class Laws:
         p, data = self.sent["to-device"][k]
         self.note_delivery("to-device", k)
         finds_room, link = self.came_from(p, now, data, said), self.of_peer[p]
+        was_in_time = link.is_in_time
         link.is_in_time &= self.left[k] <= self.clock <= self.left[k] + 100000
         (message,) = oca.check(data)
         executed, kept = {"served 1 0 0": (1, 0), "served 0 1 0": (0, 1)}.get(said, (0, 0))
@@ -305,7 +307,7 @@ class Laws:
         if executed:
             self.executes(link, held, message[2], reply)
         if finds_room and not held.is_gone and data == oca.pdu(1, [held.command.body()]):
-            self.untaken_came(link, held, said, reply)
+            self.untaken_came(link, held, said, reply, was_in_time)
 
     def executes(self, link, held, command, reply):
         """A command of a link is executed; noted is what its object gives to a get method, or None, and what it is set to."""
@@ -332,10 +334,10 @@ class Laws:
         self.answers_sent += 1
         return messages[0][1:] if len(messages) == 1 and messages[0][0] == "response" else None
 
-    def untaken_came(self, link, held, said, reply):
-        """A copy came, and found room, of a command that the link holds untaken."""
+    def untaken_came(self, link, held, said, reply, was_in_time):
+        """A copy came, and found room, of a command that the link holds untaken. The link was in time before it came, or not."""
         is_forgotten, fits_all = link.peer in self.forgotten, self.fits(link.span, link.left())
-        is_in_time = link.is_in_time and self.fits(link.span, link.left(held.since))
+        is_in_time = was_in_time and self.fits(link.span, link.left(held.since))
         if not (is_in_time or (fits_all and not is_forgotten)):
             return
         handle = held.command.handle
@@ -375,6 +377,7 @@ class Laws:
             return
         self.count["round trips"] += 1
         self.count["round trips, of a renewed link"] += link.is_renewed
+        self.count["round trips, of a forgotten peer"] += link.peer in self.forgotten
         if held.is_gone:
             return
         self.count["round trips of a command that is still untaken"] += 1
@@ -528,13 +531,19 @@ def sizes(program, seed):
     behind = [[span for span in range(1, 22) if first_broken(program, [directed(window(span), span, left=span)])[1]]
               for window in (lambda span: 3 * span - 2, lambda span: 3 * span - 1)]
     print(f"behind S commands of a link before, windows of 3 * S - 2: {len(behind[0])} of 21 break it; of 3 * S - 1: {len(behind[1])}")
+    later = [directed(3 * span - 2, span, left=span, gap=100000) for span in range(1, 22)]
+    still = []
+    for moments in (99999, 100000):
+        with patch.object(sys.modules[__name__], "STILL", moments):
+            still.append(sum(broken(laws, *run) is not None for run in zip(later, transcripts(program, later))))
+    print(f"of a link lost 100,000 ms before, if such commands came for 99,999 ms: {still[0]} of 21 break it; for 100,000: {still[1]}")
     random_found = 0
     for window, span in ((2, 2), (4, 3)):
         r = random.Random(f"{seed} {window}")
         _, fault = first_broken(program, [wander(r, window, span) if n % 2 else directed(window, span, r) for n in range(400)])
         random_found += fault is not None
         print(f"window {window}, span {span}: {f'a random schedule breaks at step {fault.at}' if fault else 'none breaks'}")
-    return (len(found), *map(len, behind), random_found) == (31, 21, 0, 2)
+    return (len(found), *map(len, behind), *still, random_found) == (31, 21, 0, 21, 0, 2)
 
 
 # Each bad line with its word; the first one stands alone.

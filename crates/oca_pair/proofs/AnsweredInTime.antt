@@ -400,7 +400,7 @@ answered_in_time law w s tree starts es i l apart fit in_time own k now d c ther
 
 pub round_trips_in_time : WrittenIsReadBack → (w : DeviceSizes) (s : Setup) (tree : List Object) (starts : List Start) (es : List Step) (i : ℕ) (l : PeerLink) → are_apart s.address starts ≡ true → Fit starts es →
     AreInTime s i [] es (opening w s tree starts) → slice_get (after_steps es (opening w s tree starts)).links i ≡ Some l → RoundTripsInTime w s i l (after_steps es (opening w s tree starts))
-round_trips_in_time law w s tree starts es i l apart fit in_time own k now d c between later there of wide finds fits never =
+round_trips_in_time law w s tree starts es i l apart fit in_time own k now d c between later there of finds wide fits never =
     let start : Network = opening w s tree starts in
     comes_back law s.span (after_steps es start) k now i later d l c between (sound_after law w s tree starts es apart fit) (to_device_steps es start (to_device_opening w s tree starts)) there own of fits never
     (answered_in_time law w s tree starts es i l apart fit in_time own k now d c there of wide finds)
@@ -518,8 +518,8 @@ gets_through_in_time law w s tree starts before later i l r now ms h own wide ap
     gets_through_by law (ComesWithRoom l.peer (after_steps later new)) w s tree starts before later i l r now ms h own wide.some apart fit outcome never often
     (subst (λ (m : Network). (g : PeerLink) → slice_get n.links i ≡ Some g → g.peer ≡ l.peer → g.link.span ≡ l.link.span → TripsOf (ComesWithRoom l.peer m) i c g n) run_is
     (λ g there peer span k moment between end sent carries comes fits still.
-    round_trips_in_time law w s tree starts all i g apart fit in_time there k moment (copy_of g.peer c) c between end sent carries (wide_then g there peer span carries)
-    (subst (λ (q : Peer). FindsRoom q moment n) (sym peer) comes) fits still))
+    round_trips_in_time law w s tree starts all i g apart fit in_time there k moment (copy_of g.peer c) c between end sent carries (subst (λ (q : Peer). FindsRoom q moment n) (sym peer) comes)
+    (wide_then g there peer span carries) fits still))
   where
     start : Network
     start = opening w s tree starts

@@ -13,12 +13,12 @@ use Rattle.oca_session.specs.Accepted.{Entry}
 use Rattle.oca_control.specs.Answers.{AnswerFields, answer_of_response}
 use Rattle.oca_control.specs.Untaken.{Untaken, marked_sent, answered, hears_all, without_handle}
 use Rattle.oca_control.specs.Links.{hears_content}
-use Rattle.oca_pair.specs.Networks.{Renewal, Setup, left_by}
-use Rattle.oca_pair.specs.Steps.{unanswered}
+use Rattle.oca_pair.specs.Networks.{Network, PeerLink, Renewal, Setup, zero_after, zero_of, left_by}
+use Rattle.oca_pair.specs.Steps.{Renew, with_link, renewed_link, unanswered, renewal_of, after_renewal, after_step}
 use Rattle.oca_pair.specs.InTime.{Departure, longest_delay}
-use Rattle.oca_pair.specs.AnsweredInTime.{left_off, left_since, FewerMayStillCome}
+use Rattle.oca_pair.specs.AnsweredInTime.{left_off, left_since, FewerMayStillCome, EveryRenewalIsNoted}
 use Rattle.oca_pair.proofs.Core.{Trails, each_map, each_both, each_append}
-use Rattle.oca_pair.proofs.Lists.{IsIn, in_more, in_behind, in_parts, differs}
+use Rattle.oca_pair.proofs.Lists.{IsIn, in_more, in_behind, in_parts, differs, same_self}
 use Rattle.oca_pair.proofs.Timed.{Zeros}
 
 -- ---- untaken commands by their handles and their submits
@@ -300,3 +300,35 @@ fewer_may_still_come s t p n = fewer n.renewed
             omega arith
         by_test true false rest = let b : length (x.left ++ left_by rs p) ≡ length x.left + length (left_by rs p) = length-append x.left (left_by rs p) in omega arith
         by_test false c rest = rest
+
+-- ---- what is noted of a renewal
+
+pub renewals_are_noted : EveryRenewalIsNoted
+renewals_are_noted s n i first span now origin t l own above = (
+  ap (λ (rs : List Renewal). zero_after rs l.peer (s.zero l.peer)) is ∙ ap (λ b. cond b origin (zero_after n.renewed l.peer (s.zero l.peer))) (same_self l.peer),
+  (λ past. ap (λ (rs : List Renewal). left_since s t l.peer rs) is ∙ ap (λ b. cond (b && soon) (unanswered us ++ rest) rest) (same_self l.peer) ∙ ap (λ b. cond b (unanswered us ++ rest) rest) (over (zero_of s l.peer n + l.link.moment) past)),
+  (λ all. ap (λ (rs : List Renewal). length (left_by rs l.peer)) is ∙ ap (λ b. length (cond b (unanswered us ++ left_by n.renewed l.peer) (left_by n.renewed l.peer))) (same_self l.peer)
+      ∙ ap (λ (hs : List ℕ). length (hs ++ left_by n.renewed l.peer)) (none us all)),
+)
+  where
+    us : List Untaken
+    us = l.link.untaken
+
+    rest : List ℕ
+    rest = left_since s t l.peer n.renewed
+
+    soon : Bool
+    soon = nat_le t (zero_of s l.peer n + l.link.moment + longest_delay)
+
+    m : Network
+    m = record n { links = with_link i l (renewed_link first span now l.link) n.links; renewed = renewal_of l origin ∷ n.renewed }
+
+    is : (after_step (Renew i first span now origin) n).renewed ≡ renewal_of l origin ∷ n.renewed
+    is = ap (λ (o : Option PeerLink). (after_renewal i first span now origin o n).renewed) own ∙ ap (λ b. (let x : Network = cond b m n in x).renewed) above
+
+    over : (x : ℕ) → x + 100000 < t → nat_le t (x + longest_delay) ≡ false
+    over x q = grind (arith, nat_tests)
+
+    none : (us : List Untaken) → AllByRecursion (λ u. is_none u.answer ≡ false) us → unanswered us ≡ []
+    none [] a = refl
+    none (u ∷ us) a = ap (λ b. map (λ (u : Untaken). u.command.handle) (cond b (u ∷ filter (λ (u : Untaken). is_none u.answer) us) (filter (λ (u : Untaken). is_none u.answer) us))) a.0 ∙ none us a.1

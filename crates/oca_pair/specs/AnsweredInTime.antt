@@ -2,7 +2,7 @@
 -- flight is answered when a copy of it finds room, whatever the device forgot meanwhile. Of the commands that earlier links
 -- of the peer left behind, only those take room in the window whose link left off at most 100,000 ms before the submit.
 use Rattle.std.specs.Prelude.{◌≡◌, ℕ, ◌+◌, ◌*◌, ◌<◌, ◌≤◌, nat_le, true, ◌&&◌, if◌then◌else◌}
-use Rattle.std.specs.Prelude.{List, [], ◌∷◌, ◌++◌, length, Some}
+use Rattle.std.specs.Prelude.{false, is_none, List, [], ◌∷◌, ◌++◌, length, Some}
 use Rattle.std.specs.List.{slice_get, AllByRecursion}
 use Rattle.oca_types.specs.declared.words.Peer.{Peer}
 use Rattle.oca_types.specs.declared.words.Handle.{Handle}
@@ -15,7 +15,7 @@ use Rattle.oca_pair.specs.declared.outcome.Outcome.TheVariants as outcomes
 use Rattle.oca_pair.specs.declared.start.Start.{Start}
 use Rattle.oca_pair.specs.Networks.{Network, PeerLink, SentDatagram, Renewal, Setup, opening, zero_after, zero_of}
 use Rattle.oca_pair.specs.Networks.{left_behind}
-use Rattle.oca_pair.specs.Steps.{Step, Submit, after_step, after_steps, outcome_of_step}
+use Rattle.oca_pair.specs.Steps.{Step, Submit, Renew, is_no_lower, after_step, after_steps, outcome_of_step}
 use Rattle.oca_pair.specs.Premises.{are_apart, StepFits, Fit, FindsRoom}
 use Rattle.oca_pair.specs.Laws.{CarriesUntaken, IsAnswered}
 use Rattle.oca_pair.specs.RoundTrip.{meanwhile, RenewsNothing, ComesBack}
@@ -24,8 +24,8 @@ use Rattle.oca_pair.specs.InTime.{longest_delay, AreInTime}
 
 -- ---- what may still come of what earlier links left behind
 
--- when a link left off that was renewed, by the common clock: when its own clock was read last; behind its renewal stand
--- those before it
+-- when a link left off that was renewed, by the common clock: when its own clock was read last; `before` are the renewals
+-- before this one
 abbrev pub left_off : Setup → Peer → Renewal → List Renewal → ℕ
 left_off s p x before = zero_after before p (s.zero p) + x.till
 
@@ -48,6 +48,18 @@ pub record SpanFitsSince (w : DeviceSizes) (s : Setup) (t : ℕ) (l : PeerLink) 
 abbrev pub FewerMayStillCome : Type 0
 FewerMayStillCome =
     (s : Setup) (t : ℕ) (p : Peer) (n : Network) → length (left_since s t p n.renewed) ≤ left_behind p n
+
+-- A renewal is noted: from when on the new link's clock counts; that nothing comes of the old link any more when it left off
+-- more than 100,000 ms before; and that a link whose commands all have answers leaves none behind.
+abbrev pub EveryRenewalIsNoted : Type 0
+EveryRenewalIsNoted =
+    (s : Setup) (n : Network) (i first span now origin t : ℕ) (l : PeerLink) →
+    slice_get n.links i ≡ Some l → is_no_lower first l.link.next ≡ true →
+    let m : Network = after_step (Renew i first span now origin) n in
+    (zero_of s l.peer m ≡ origin)
+    × (zero_of s l.peer n + l.link.moment + 100000 < t →
+    left_since s t l.peer m.renewed ≡ left_since s t l.peer n.renewed)
+    × (AllByRecursion (λ u. is_none u.answer ≡ false) l.link.untaken → left_behind l.peer m ≡ left_behind l.peer n)
 
 -- ---- an untaken command is answered
 
@@ -73,9 +85,9 @@ EveryUntakenCommandInTimeIsAnswered =
 -- each such delivery comes back, where the link is not renewed before the response is delivered
 abbrev pub RoundTripsInTime : DeviceSizes → Setup → ℕ → PeerLink → Network → Type 0
 RoundTripsInTime w s i l n = (k now : ℕ) (d : SentDatagram) (c : CommandFields) (between : List Step) (later : ℕ) →
-    slice_get n.to_device k ≡ Some d → (of : CarriesUntaken d l c) →
-    SpanFitsSince w s (zero_of s l.peer n + of.untaken.submitted) l n → FindsRoom d.peer now n →
-    AllByRecursion StepFits between → RenewsNothing l.peer n (meanwhile k now between n) →
+    slice_get n.to_device k ≡ Some d → (of : CarriesUntaken d l c) → FindsRoom d.peer now n →
+    SpanFitsSince w s (zero_of s l.peer n + of.untaken.submitted) l n → AllByRecursion StepFits between →
+    RenewsNothing l.peer n (meanwhile k now between n) →
     ComesBack k now between later i c l.peer n
 
 -- Over every schedule, for all sizes, of each link that is in time:

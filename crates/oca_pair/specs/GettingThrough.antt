@@ -87,7 +87,7 @@ pub record WasSent (p : Peer) (c : CommandFields) (bytes : List ℕ) (n : Networ
   pub sent : Contains n.to_device (copy_of p c)
 
 -- The command waits for its answer. By the calls since its submit it was sent in time, each time as a copy. `Comes k now`
--- says under which premises a copy comes to the device.
+-- is what is asked of a delivery of datagram k at this moment.
 pub record WaitsInTime (Comes : ℕ → ℕ → Type 0) (ms since i : ℕ) (c : CommandFields) (p : Peer) (calls : List Call)
     (n : Network) : Type 0 where
   pub in_time : IsSentInTime ms since (clock_of_calls since calls) (sendings since c.handle calls)
