@@ -46,7 +46,7 @@ once-more device n d e f tells taken one =
     (subst IsTrue (sym one.receives.telling) told, taken-more device n d.taken e.taken f.taken one.keeps.0 (one.receives.taken told ∙ kept.taken tells) taken)
 
 so-far : {device : Peer} {n : ℕ} {before after : EndState} → CallsSoOften device n before after → IsTrue before.tells → IsTrue after.tells × Taken device n before.taken after.taken
-so-far {device} (NotCalled {e = e}) told = (told, 0, omega arith, sym (append-nil e.taken))
+so-far {device} (NotCalled {e = e}) told = (told, (0, omega arith, sym (append-nil e.taken)))
 so-far {device} (CalledAgain {n = n} {d = d} {e = e} {f = f} more one) told = let h = so-far more told in once-more device n d e f h.0 h.1 one
 
 pub takes_keep_alives : (device : Peer) (before after : EndState) → AsksIfThere device before after → TakesKeepAlives device before after

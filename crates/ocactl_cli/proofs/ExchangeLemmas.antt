@@ -137,11 +137,18 @@ answer-came true params status = refl
 answer-came false params status = refl
 
 -- no answer came, where one was waited for
-none-came : (h n : ℕ) (l k : LinkState) (o : Outcome) (d e : EndState) → Waits h n l o k d e → is_lost_or_unanswered o ≡ (outcome_status o == 3)
+none-came : (h n : ℕ) (l k : LinkState) (o : Outcome) (d e : EndState) → WaitsWhile h n l o k d e → is_lost_or_unanswered o ≡ (outcome_status o == 3)
 none-came h n l k (outcomes.Answered a) d e w = answer-came (a.status == 0) a.params.items a.status
-none-came h n l k (outcomes.Refused fault) d e w = absurd w
+none-came h n l k (outcomes.Refused fault) d e w = absurd w.waits
 none-came h n l k outcomes.Lost d e w = refl
 none-came h n l k outcomes.Unanswered d e w = refl
+
+-- nor where it was known
+none-known : (h : ℕ) (l k : LinkState) (o : Outcome) (d e : EndState) → Waits h 0 l o k d e → is_lost_or_unanswered o ≡ (outcome_status o == 3)
+none-known h l k (outcomes.Answered a) d e w = answer-came (a.status == 0) a.params.items a.status
+none-known h l k (outcomes.Refused fault) d e w = absurd w
+none-known h l k outcomes.Lost d e w = refl
+none-known h l k outcomes.Unanswered d e w = refl
 
 -- nothing was received where it was known
 asks-none : (h : ℕ) (o : Outcome) (l k : LinkState) (d e : EndState) → Waits h 0 l o k d e → ReceivesInAWait d.receives e.receives
@@ -178,7 +185,7 @@ first-awaited came queue rest old new ahead refused socket is_open at_hand befor
     subst (λ (n : ℕ). WaitsWhile h.0 n old.link came.1 new.link old.end_state new.end_state) time h.2.waits in
     subst (λ (x : SessionState). AwaitsFirst x (session_of new rest ahead refused socket is_open at_hand) came.1) e
     (awaited-one h.0 came.1 queue rest old new ahead refused socket is_open at_hand h.1 (inl waits)
-    (received_in_wait h.0 _ old.link new.link old.end_state new.end_state came.1 waits.waits) (none-came h.0 _ old.link new.link came.1 old.end_state new.end_state waits.waits) h.2.unanswered)
+    (received_in_wait h.0 _ old.link new.link old.end_state new.end_state came.1 waits.waits) (none-came h.0 line_wait old.link new.link came.1 old.end_state new.end_state waits) h.2.unanswered)
 
 pub first-settled : (came : Unit {0} × Outcome) (queue rest : List (ℕ × Unit {0})) (old new : PanelState) (ahead : ℕ) (refused : Bool) (socket : Option ℤ) (is_open : Bool) (at_hand : Option ℕ) (before : SessionState)
     → session_of old queue ahead refused socket is_open at_hand ≡ before → SettlesFirst (Some came) queue rest old new
@@ -186,7 +193,7 @@ pub first-settled : (came : Unit {0} × Outcome) (queue rest : List (ℕ × Unit
 first-settled came queue rest old new ahead refused socket is_open at_hand before e h =
     subst (λ (x : SessionState). AwaitsFirst x (session_of new rest ahead refused socket is_open at_hand) came.1) e
     (awaited-one h.0 came.1 queue rest old new ahead refused socket is_open at_hand h.1 (inr h.2.waits)
-    (asks-none h.0 came.1 old.link new.link old.end_state new.end_state h.2.waits) (none-came h.0 0 old.link new.link came.1 old.end_state new.end_state h.2.waits) h.2.unanswered)
+    (asks-none h.0 came.1 old.link new.link old.end_state new.end_state h.2.waits) (none-known h.0 old.link new.link came.1 old.end_state new.end_state h.2.waits) h.2.unanswered)
 
 -- it is not known how the first came out
 pub first-unknown : (queue rest : List (ℕ × Unit {0})) (old new : PanelState) (ahead : ℕ) (refused : Bool) (socket : Option ℤ) (is_open : Bool) (at_hand : Option ℕ) (before : SessionState)
@@ -262,6 +269,9 @@ pub serves-command : (request : RequestFields) (left : ℕ) (v z : Result Unit W
     → left ≡ old.ahead - 1 → AndPrints (AwaitsUntil left old s) (Ok tt) v a b → AndPrints (SendsOrRefuses request s new) v z b c → AndPrints (DoesTakenUp old (Send request) new) (Ok tt) z a c
 serves-command request left v z old s new a b c is h k =
     and-then (Ok tt) v z a b c k.text h k.prints (λ text does. (s, text, k.text, k.does.0, subst (λ (n : ℕ). AwaitsUntil n old s text) is does, k.does.1, refl))
+
+pub as-line : (old new : SessionState) (l m : LineAsked) (z : Result Unit WriteFailed) (a c : Output) → m ≡ l → AndPrints (DoesTakenUp old l new) (Ok tt) z a c → AndPrints (DoesTakenUp old m new) (Ok tt) z a c
+as-line old new l m z a c e h = subst (λ (x : LineAsked). AndPrints (DoesTakenUp old x new) (Ok tt) z a c) (sym e) h
 
 pub does-line : (old s new : SessionState) (l : LineAsked) (z : Result Unit WriteFailed) (a c : Output) → TakesUp old s → AndPrints (DoesTakenUp s l new) (Ok tt) z a c → AndPrints (DoesLine old l new) (Ok tt) z a c
 does-line old s new l z a c taken h = record { text = h.text; does = (s, taken, h.does); prints = h.prints }

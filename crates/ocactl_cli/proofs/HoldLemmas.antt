@@ -1,7 +1,7 @@
 -- Locks that are kept.
 use Rattle.std.proofs.Common.{◌≡◌, ◌⊎◌, Bool, true, inl, inr, drop, Result, Ok, Err, ℕ, ◌+◌, ◌<◌, ◌≤◌, List, [], ◌∷◌, ◌++◌, length, take, get_or, refl, sym, ap, ◌∙◌, subst, false, arith}
 use Rattle.std.specs.Prelude.{map, IfErr, IfOk, OnOk, ◌==◌}
-use Rattle.std.proofs.lemmas.List.{flat_map_more}
+use Rattle.std.proofs.lemmas.List.{flat_map_more, take_all}
 use Rattle.oca_types.specs.declared.words.Ono.{Ono}
 use Rattle.oca_script.specs.Ends.{Input, Output}
 use Rattle.oca_script.specs.Printing.{PrintsAll}
@@ -12,7 +12,7 @@ use Rattle.oca_program.specs.declared.fault.RunFault.TheVariants.{NoMemory, Writ
 use Rattle.oca_panel.specs.Panels.{PanelState}
 use Rattle.ocactl_cli.specs.Objects.{LocksInTime, HoldsInTime, HoldsAll, IsWrittenLocked, StopsLocking, KeepsHeld, KeepsLocks, LooksAlways, LooksWhileHeld, Locks, held_if, held_of, held_one}
 use Rattle.ocactl_cli.specs.PrivateObjects.{ListsHeld, LocksEach, LocksNextOr, ReportsOne, ono_number}
-use Rattle.ocactl_cli.proofs.ObjectLemmas.{asked-more, asked-none, asked-until, until-next}
+use Rattle.ocactl_cli.proofs.ObjectLemmas.{asked-more, asked-none, asked-until, map-take, until-next}
 
 -- one more was locked, and listed or not
 pub listed-or : (target : ℕ) (s t : PanelState) (status own : ℕ) (r : Result ℕ Failure) (held more : List Ono) (a b : Output)
@@ -25,7 +25,7 @@ listed-or target s t status own (Err failure) held more a b reports lists fails 
 pub locked-none : (held : List Ono) (s : PanelState) (a b : Output) → held ≡ [] → PrintsAll a b [] → b.held ≡ [] → LocksEach [] s s 0 held a b
 locked-none held s a b none h empty = record { asks = asked-none (Locks true) s a b h empty; listed = ap (map ono_number) none }
 
-pub locked-more : (targets : List ℕ) (target status now own : ℕ) (held more : List Ono) (r s t : PanelState) (a b c : Output)
+locked-more : (targets : List ℕ) (target status now own : ℕ) (held more : List Ono) (r s t : PanelState) (a b c : Output)
     → LocksEach targets r s status held a b → ReportsOne (Locks true) target s t (Ok own) b c → ListsHeld target own status now held more → LocksEach (targets ++ target ∷ []) r t now more a c
 locked-more targets target status now own held more r s t a b c h k lists = record {
   asks = asked-more (Locks true) targets target status own now r s t a b c h.asks k lists.worst;
@@ -34,6 +34,19 @@ locked-more targets target status now own held more r s t a b c h k lists = reco
       ∙ ap (λ (n : ℕ). held_of h.asks.lines ++ held_if target n) k.writes.0
       ∙ flat_map_more held_one [] h.asks.lines (target, k.line);
 }
+
+-- the first objects and the next one
+pub locked-next : (onos : List Ono) (i : ℕ) (d : Ono) (status now : ℕ) (held more : List Ono) (r s t : PanelState) (a b c : Output) → i < length onos
+    → LocksEach (map ono_number (take i onos)) r s status held a b → LocksNextOr (ono_number (get_or onos i d)) s t status (Ok now) held more b c
+    → LocksEach (map ono_number (take (i + 1) onos)) r t now more a c
+locked-next onos i d status now held more r s t a b c h x y =
+    subst (λ (ns : List ℕ). LocksEach ns r t now more a c) (sym (map-take ono_number onos i d h))
+    (locked-more (map ono_number (take i onos)) (ono_number (get_or onos i d)) status now y.0 held more r s t a b c x y.1 y.2)
+
+-- all of them
+pub all-locked : (onos : List Ono) (i status : ℕ) (held : List Ono) (r s : PanelState) (a b : Output) → length onos ≤ i
+    → LocksEach (map ono_number (take i onos)) r s status held a b → LocksEach (map ono_number onos) r s status held a b
+all-locked onos i status held r s a b end x = subst (λ (os : List Ono). LocksEach (map ono_number os) r s status held a b) (take_all i onos end) x
 
 -- some locks were kept
 pub kept-some : (held : List Ono) (before : ℕ) (ended : Result ℕ RunFault) (s t : PanelState) (i j : Input) (a b : Output) → (length held == 0) ≡ false

@@ -25,8 +25,8 @@ use Rattle.ocactl_cli.specs.declared.objects.Search.{Search}
 use Rattle.ocactl_cli.specs.declared.setting.Assignment.{Assignment}
 use Rattle.ocactl_cli.specs.declared.object_line.ObjectLine.{ObjectLine}
 use Rattle.ocactl_cli.specs.declared.object_line.ObjectLine.TheVariants as shown
-use Rattle.ocactl_cli.specs.Objects.{FindsValue, FindsAll, NoneSought, OneFound, OneMissed, OnlyFinds, GivesUp, SetCommand, BeginsSet, IsAwaited, NoneBegun, OneBegun, OneEnded, Reports, ReportsAll, SetsObjects, OneAsked, NoneAsked, AsksAll, AsksPart, AsksUntil, IsUnwritten, WritesLine, assignment_in, reported_by, reported_line, reported_status, max_severity, is_refused, last_refused, line_of_object, object_status}
-use Rattle.ocactl_cli.specs.PrivateObjects.{ono_number, pair_of, assignment_of, set_command, set_in_flight, is_none, AddsFound, AllAwaited, EndsRefused, FindsAllTo, FindsOneTo, MakesPlace, SetsEachTo, SetsOn, SetsOnlyIf, SoFar, ReportsNext, ReportsText, ReportsOne, WaitsForFirst, WaitsOn}
+use Rattle.ocactl_cli.specs.Objects.{LocksInTime, OneLocked, FindsValue, FindsAll, NoneSought, OneFound, OneMissed, OnlyFinds, GivesUp, SetCommand, BeginsSet, IsAwaited, NoneBegun, OneBegun, OneEnded, Reports, ReportsAll, SetsObjects, OneAsked, NoneAsked, AsksAll, AsksPart, AsksUntil, IsUnwritten, WritesLine, assignment_in, reported_by, reported_line, reported_status, max_severity, is_refused, last_refused, line_of_object, object_status}
+use Rattle.ocactl_cli.specs.PrivateObjects.{LocksOneBehind, ono_number, pair_of, assignment_of, set_command, set_in_flight, is_none, AddsFound, AllAwaited, EndsRefused, FindsAllTo, FindsOneTo, MakesPlace, SetsEachTo, SetsOn, SetsOnlyIf, SoFar, ReportsNext, ReportsText, ReportsOne, WaitsForFirst, WaitsOn}
 use Rattle.ocactl_cli.proofs.TurnLemmas.{in-turn}
 
 module _ {A B : Type 0} (f : A → B) where
@@ -43,13 +43,6 @@ module _ {A B : Type 0} (f : A → B) where
       ap (map f) (sym (take-append-drop (i + 1) xs)) ∙ map-append f (take (i + 1) xs) (drop (i + 1) xs)
       ∙ ap (λ (l : List B). l ++ map f (drop (i + 1) xs)) (map-take xs i d h)
       ∙ append_assoc (map f (take i xs)) (f (get_or xs i d) ∷ []) (map f (drop (i + 1) xs))
-
-  -- what is said of the first items and the next one; and of all
-  pub next-of : (P : List B → Type 0) (xs : List A) (i : ℕ) (d : A) → i < length xs → P (map f (take i xs) ++ f (get_or xs i d) ∷ []) → P (map f (take (i + 1) xs))
-  next-of P xs i d h x = rw (map-take xs i d h) x
-
-  pub all-of : (P : List B → Type 0) (xs : List A) (i : ℕ) → length xs ≤ i → P (map f (take i xs)) → P (map f xs)
-  all-of P xs i end x = subst (λ (ys : List A). P (map f ys)) (take_all i xs end) x
 
 -- ---- what is written
 
@@ -285,6 +278,13 @@ sets-refused ahead w since moment f r s t u x mid none status now (Ok n) a b c p
     rw empty (refused-next ahead w since moment f r s t u x mid status now n a b c p begins ends)
 sets-refused ahead w since moment f r s t u x mid none status now (Err e) a b c p begins ends empty = tt
 
+-- the first assignments and the next one
+pub set-so-far : (ahead : ℕ) (ws : List Assignment) (i : ℕ) (d : Assignment) (since moment : ℕ) (r s t : PanelState) (x y : List SetCommand) (m n : ℕ) (a b c : Output) → i < length ws
+    → SoFar ahead (map assignment_of ws) r a (map assignment_of (take i ws)) since s x m b → SetsOn ahead (assignment_of (get_or ws i d)) since moment s t x y m n b c
+    → SoFar ahead (map assignment_of ws) r a (map assignment_of (take (i + 1) ws)) moment t y n c
+set-so-far ahead ws i d since moment r s t x y m n a b c h so next =
+    subst (λ (xs : List (ℕ × Value)). SoFar ahead (map assignment_of ws) r a xs moment t y n c) (sym (map-take assignment_of ws i d h)) (next.on (map assignment_of ws) r a (map assignment_of (take i ws)) so)
+
 -- all were waited for
 pub set-done : (ahead : ℕ) (ws : List Assignment) (i since : ℕ) (r s t : PanelState) (x : List SetCommand) (m n : ℕ) (a b c : Output)
     → length ws ≤ i → SoFar ahead (map assignment_of ws) r a (map assignment_of (take i ws)) since s x m b → WaitsOn s t x [] m n b c → SetsEachTo ahead (map assignment_of ws) n r t a c
@@ -338,19 +338,43 @@ sets-all ahead pairs assignments search r s t q a b c h e =
     sets-found h.missed ahead pairs assignments search.status q r s t a b c h.finds h.reports
     (subst (λ (all : Bool). SetsOnlyIf all ahead (map assignment_of assignments) search.status s t q b c) h.all e)
 
+-- ---- commands that lock in time
+
+-- the first objects and the next one
+pub locked-in-time : (locks : Bool) (onos : List Ono) (i : ℕ) (d : Ono) (since now : ℕ) (r s t : PanelState) → i < length onos
+    → LocksInTime locks (map ono_number (take i onos)) since r s → LocksOneBehind since now locks (ono_number (get_or onos i d)) s t
+    → LocksInTime locks (map ono_number (take (i + 1) onos)) now r t
+locked-in-time locks onos i d since now r s t h x one =
+    subst (λ (ns : List ℕ). LocksInTime locks ns now r t) (sym (map-take ono_number onos i d h))
+    (OneLocked (ono_number (get_or onos i d)) now one.0 x one.1)
+
+-- all of them
+pub all-in-time : (locks : Bool) (onos : List Ono) (i since : ℕ) (r s : PanelState) → length onos ≤ i
+    → LocksInTime locks (map ono_number (take i onos)) since r s → (at : ℕ) × LocksInTime locks (map ono_number onos) at r s
+all-in-time locks onos i since r s end x =
+    (since, subst (λ (os : List Ono). LocksInTime locks (map ono_number os) since r s) (take_all i onos end) x)
+
 -- ---- objects that are read or locked
 
 module _ (One : ℕ → PanelState → PanelState → ObjectLine → Type 0) where
-  pub asked-none : (s : PanelState) (a b : Output) → PrintsAll a b [] → b.held ≡ [] → AsksAll One [] s s 0 a b
+  abbrev pub asked-none : (s : PanelState) (a b : Output) → PrintsAll a b [] → b.held ≡ [] → AsksAll One [] s s 0 a b
   asked-none s a b h empty = record { lines = []; turns = NoneAsked; reports = reports-none reported_line reported_status a b (writes-none a b h empty) }
 
-  pub asked-more : (targets : List ℕ) (target status own now : ℕ) (r s t : PanelState) (a b c : Output)
+  abbrev pub asked-more : (targets : List ℕ) (target status own now : ℕ) (r s t : PanelState) (a b c : Output)
       → AsksAll One targets r s status a b → ReportsOne One target s t (Ok own) b c → now ≡ max_severity status own → AsksAll One (targets ++ target ∷ []) r t now a c
   asked-more targets target status own now r s t a b c h k worst = record {
     lines = h.lines ++ (target, k.line) ∷ [];
     turns = OneAsked target k.line h.turns k.asks;
     reports = reports-next reported_line reported_status h.lines (target, k.line) status now a b c h.reports (line-reported target k.line status own now b c k.writes worst);
   }
+
+  -- the first objects and the next one
+  pub asked-next : (onos : List Ono) (i : ℕ) (d : Ono) (status own now : ℕ) (r s t : PanelState) (a b c : Output) → i < length onos
+      → AsksAll One (map ono_number (take i onos)) r s status a b → ReportsOne One (ono_number (get_or onos i d)) s t (Ok own) b c → now ≡ max_severity status own
+      → AsksAll One (map ono_number (take (i + 1) onos)) r t now a c
+  asked-next onos i d status own now r s t a b c h x y worst =
+      subst (λ (ns : List ℕ). AsksAll One ns r t now a c) (sym (map-take ono_number onos i d h))
+      (asked-more (map ono_number (take i onos)) (ono_number (get_or onos i d)) status own now r s t a b c x y worst)
 
   -- nothing was asked
   pub asked-nothing : (targets : List ℕ) (r : Result ℕ WriteFailed) (s : PanelState) (a b : Output) → PrintsPart a b []

@@ -1,6 +1,6 @@
 -- How a run ends, by what its last call gave.
 use Rattle.std.proofs.Common.{◌≡◌, ◌∙◌, inl, ℕ, false, List, Result, Ok, Err, refl, sym, ap, subst}
-use Rattle.std.specs.Prelude.{ℤ, Option, if◌then◌else◌}
+use Rattle.std.specs.Prelude.{ℤ, Option, IfOk, IfErr, if◌then◌else◌}
 use Rattle.clap.specs.declared.parser.matches.ArgMatches.{ArgMatches}
 use Rattle.oca_types.specs.Peers.{RequestFields}
 use Rattle.oca_types.specs.Sizes.{span_size}
@@ -13,7 +13,8 @@ use Rattle.oca_script.specs.declared.fault.WriteFailed.{WriteFailed}
 use Rattle.oca_script.specs.Ends.{Input, Output}
 use Rattle.oca_script.specs.Replaying.{NeverIdles, Outcome}
 use Rattle.oca_program.specs.Endings.{when_replayed}
-use Rattle.oca_program.specs.Faults.{run_fault}
+use Rattle.oca_program.specs.Faults.{fault_in, run_fault}
+use Rattle.oca_program.specs.declared.fault.Failure.{Failure}
 use Rattle.oca_program.specs.declared.fault.RunFault.{RunFault}
 use Rattle.ocactl_replay.specs.Requests.{asked_call}
 use Rattle.ocactl_replay.specs.Replaying.{ServesCall as CallsLink}
@@ -22,6 +23,7 @@ use Rattle.ocactl_cli.specs.Beside.{AsksIfThere}
 use Rattle.ocactl_cli.specs.Exchanges.{AsksOnce, SendsLines, SessionState}
 use Rattle.ocactl_cli.proofs.BesideLemmas.{not_asked}
 use Rattle.oca_panel.specs.Panels.{PanelState}
+use Rattle.ocactl_cli.specs.Objects.{GivesUp, IsDone}
 use Rattle.ocactl_cli.specs.Asked.{OptionsAsk}
 use Rattle.ocactl_cli.specs.Runs.{DoesByOptions, DoesRequest, DoesTask, DoesThenNotes, ReplaysScript, RunsFrom, SendsOne, ended_by_send, new_panel, new_session, time_of_turns}
 use Rattle.ocactl_cli.specs.Sockets.{link_begun, link_for}
@@ -68,6 +70,11 @@ runs_part device session after behind e why had has was is same end_same h =
 pub notes_behind : (what : Task) (device : Peer) (old after : PanelState) (behind : EndState) (how : Result ℕ RunFault) (had has : Input) (was is : Output)
     → DoesTask what old after how had has was is → AsksIfThere device after.end_state behind → DoesThenNotes what device old behind how had has was is
 notes_behind what device old after behind how had has was is does asks = record { after = after; does = does; beside = asks }
+
+-- what was done or given up, as its call says it
+pub done-so : (Done : ℕ → Type 0) (r : Result ℕ Failure) (is : Output) → IfOk r Done → IfErr r (λ failure. GivesUp failure.fault is) → IsDone Done (fault_in r) is
+done-so Done (Ok status) is h k = h
+done-so Done (Err failure) is h k = k
 
 -- ---- what was asked for
 

@@ -1,13 +1,13 @@
 //! The objects of a device, printed as a tree.
-ghost use Rattle.std.specs.Prelude.{◌≡◌, ◌+◌, ◌++◌, ◌≤◌, [], length};
+ghost use Rattle.std.specs.Prelude.{◌≡◌, ◌+◌, ◌++◌, ◌≤◌, [], length, IfOk, IfErr};
 ghost use Rattle.oca_script.specs.Ends.{output};
 ghost use Rattle.oca_script.specs.Printing.{WritesOut};
 ghost use Rattle.oca_panel.specs.Walks.{begun_walk};
-ghost use Rattle.oca_program.specs.Faults.{fault_in};
-ghost use Rattle.ocactl_cli.specs.Objects.{IsDone, WritesLine};
+ghost use Rattle.ocactl_cli.specs.Objects.{GivesUp, WritesLine};
 ghost use Rattle.ocactl_cli.specs.Trees.{PrintsTree, described_text, found_status};
 ghost use Rattle.ocactl_cli.specs.Trees.{visit_status, visit_text};
 ghost use Rattle.ocactl_cli.specs.PrivateTrees.{ReportsLeft, VisitsOne};
+ghost use Rattle.std.specs.Prelude.{codes};
 
 use super::object_line::{ObjectLine, max_severity, put_object, put_place, status_of};
 use oca_net::End;
@@ -29,8 +29,8 @@ pub fn walk<E: End, W: Sink>(
     panel: &mut Panel<E>,
     printer: &mut Printer<W>,
 ) -> Result<u8, Failure>
-    ensures { IsDone (λ status. PrintsTree panel.old panel.new status printer.old printer.new) (fault_in result)
-        printer.new }
+    ensures tree { IfOk result (λ status. PrintsTree panel.old panel.new status printer.old printer.new) }
+    ensures fails { IfErr result (λ failure. GivesUp failure.fault printer.new) }
 {
     match Walk::new(alloc) {
         Ok(mut walk) => walk_on(&mut walk, panel, printer),
@@ -45,8 +45,8 @@ fn walk_on<E: End, W: Sink>(
     printer: &mut Printer<W>,
 ) -> Result<u8, Failure>
     requires { walk.old ≡ begun_walk }
-    ensures { IsDone (λ status. PrintsTree panel.old panel.new status printer.old printer.new) (fault_in result)
-        printer.new }
+    ensures tree { IfOk result (λ status. PrintsTree panel.old panel.new status printer.old printer.new) }
+    ensures fails { IfErr result (λ failure. GivesUp failure.fault printer.new) }
 {
     printer.flush()?;
     let mut status = 0;
@@ -150,15 +150,14 @@ fn report_left<W: Sink>(walk: &Walk, status: u8, printer: &mut Printer<W>) -> Re
     if !walk.is_unfinished() {
         return Ok(status);
     }
-    write_text(b"more than 4096 objects\n", printer)?;
+    write_left(printer)?;
     Ok(max_severity(status, 4))
 }
 
-/// Prints a text, and flushes it.
-#[tactic(auto, using(oca_script::proofs::PrintLemmas::writing))]
-fn write_text<W: Sink>(text: &[u8], printer: &mut Printer<W>) -> Result<(), WriteFailed>
-    ensures { WritesOut result printer.old printer.new text.now }
+/// Prints that places are left.
+fn write_left<W: Sink>(printer: &mut Printer<W>) -> Result<(), WriteFailed>
+    ensures { WritesOut result printer.old printer.new (codes "more than 4096 objects\n") }
 {
-    printer.print(text)?;
+    printer.print(b"more than 4096 objects\n")?;
     printer.flush()
 }

@@ -1,14 +1,16 @@
-use Rattle.std.proofs.Common.{arith}
-use Rattle.ocactl_cli.proofs.ExchangeLemmas.{does-line, serves-command}
+use Rattle.std.proofs.Common.{arith, ap}
+use Rattle.ocactl_cli.specs.PrivateExchanges.{line_in}
+use Rattle.ocactl_cli.proofs.ExchangeLemmas.{does-line, serves-command, as-line}
 use Rattle.ocactl_cli.proofs.commands.serve.Goals as goal
 
 pub returns-in-Send : goal.returns-in-Send
 returns-in-Send g c =
-    rw c.in-Send.is (does-line _ _ _ _ _ _ _ c.take_up.ensures
+    does-line _ _ _ _ _ _ _ c.take_up.ensures
+    (as-line _ _ _ _ _ _ _ (ap line_in c.in-Send.is)
     (serves-command _ c.left-left.result _ _ _ _ _ _ _ _ c.left-left.ensures.value c.await_until-written.ensures c.send.ensures))
 
 pub returns-in-Wait : goal.returns-in-Wait
-returns-in-Wait g c = rw c.in-Wait.is (does-line _ _ _ _ _ _ _ c.take_up.ensures c.await_until.ensures)
+returns-in-Wait g c = does-line _ _ _ _ _ _ _ c.take_up.ensures (as-line _ _ _ _ _ _ _ (ap line_in c.in-Wait.is) c.await_until.ensures)
 
 pub send-requires : goal.send-requires
 send-requires g c = let few = c.await_until-written.ensures.does.1 in omega (arith, few, c.left-left.ensures.most)

@@ -1,10 +1,9 @@
 use Rattle.std.proofs.Common.{inl, refl, true}
 use Rattle.std.proofs.lemmas.Result.{err_from_is_err_and}
 use Rattle.oca_script.proofs.PrintLemmas.{front}
-use Rattle.ocactl_cli.specs.Objects.{LocksInTime, NoneLocked, OneLocked}
-use Rattle.ocactl_cli.specs.PrivateObjects.{LocksEach, ono_number}
-use Rattle.ocactl_cli.proofs.ObjectLemmas.{all-of, next-of}
-use Rattle.ocactl_cli.proofs.HoldLemmas.{locked-more, locked-none, locking-stopped}
+use Rattle.ocactl_cli.specs.Objects.{NoneLocked}
+use Rattle.ocactl_cli.proofs.ObjectLemmas.{locked-in-time, all-in-time}
+use Rattle.ocactl_cli.proofs.HoldLemmas.{all-locked, locked-none, locked-next, locking-stopped}
 use Rattle.ocactl_cli.proofs.holding.lock_each.Goals as goal
 
 pub loop-ono-init : goal.loop-ono-init
@@ -15,10 +14,9 @@ loop-ono-init g c = record {
 
 pub loop-ono-preserved : goal.loop-ono-preserved
 loop-ono-preserved g c = record {
-  locks = next-of ono_number (λ ns. LocksEach ns _ _ _ _ _ _) c.args.onos.now c.loop-ono.ono-index _ c.loop-ono-test.true
-      (locked-more _ _ _ _ _ _ _ _ _ _ _ _ _ c.loop-ono.invariant.locks c.in_ok-status.ensures.locks.1 c.in_ok-status.ensures.locks.2);
-  in_time = next-of ono_number (λ ns. LocksInTime true ns _ _ _) c.args.onos.now c.loop-ono.ono-index _ c.loop-ono-test.true
-      (OneLocked _ _ c.in_ok-status.ensures.in_time.0 c.loop-ono.invariant.in_time c.in_ok-status.ensures.in_time.1);
+  locks =
+      locked-next c.args.onos.now c.loop-ono.ono-index _ _ _ _ _ _ _ _ _ _ _ c.loop-ono-test.true c.loop-ono.invariant.locks c.in_ok-status.ensures.locks;
+  in_time = locked-in-time true c.args.onos.now c.loop-ono.ono-index _ _ _ _ _ _ c.loop-ono-test.true c.loop-ono.invariant.in_time c.in_ok-status.ensures.in_time;
 }
 
 pub returns-in_err-flush-clause-stops : goal.returns-in_err-flush-clause-stops
@@ -34,7 +32,7 @@ returns-in_err-status-clause-stops g c =
 
 pub returns-clause-in_time : goal.returns-clause-in_time
 returns-clause-in_time g c =
-    (_, all-of ono_number (λ ns. LocksInTime true ns _ _ _) c.args.onos.now c.loop-ono.ono-index c.loop-ono-test.false c.loop-ono.invariant.in_time)
+    all-in-time true c.args.onos.now c.loop-ono.ono-index _ _ _ c.loop-ono-test.false c.loop-ono.invariant.in_time
 
 pub returns-clause-locks : goal.returns-clause-locks
-returns-clause-locks g c = all-of ono_number (λ ns. LocksEach ns _ _ _ _ _ _) c.args.onos.now c.loop-ono.ono-index c.loop-ono-test.false c.loop-ono.invariant.locks
+returns-clause-locks g c = all-locked c.args.onos.now c.loop-ono.ono-index _ _ _ _ _ _ c.loop-ono-test.false c.loop-ono.invariant.locks

@@ -1,6 +1,5 @@
-use Rattle.ocactl_cli.specs.Objects.{AsksAll, Gets}
-use Rattle.ocactl_cli.specs.PrivateObjects.{ono_number}
-use Rattle.ocactl_cli.proofs.ObjectLemmas.{asked-more, asked-none, asked-nothing, asked-until, next-of}
+use Rattle.ocactl_cli.specs.Objects.{Gets}
+use Rattle.ocactl_cli.proofs.ObjectLemmas.{asked-none, asked-next, asked-nothing, asked-until}
 use Rattle.ocactl_cli.proofs.objects.get_all.Goals as goal
 
 pub loop-ono-init : goal.loop-ono-init
@@ -8,8 +7,7 @@ loop-ono-init g c = asked-none Gets _ _ _ c.in_ok-flush.ensures.prints c.in_ok-f
 
 pub loop-ono-preserved : goal.loop-ono-preserved
 loop-ono-preserved g c =
-    next-of ono_number (λ ns. AsksAll Gets ns _ _ _ _ _) c.args.onos.now c.loop-ono.ono-index _ c.loop-ono-test.true
-    (asked-more Gets _ _ _ _ _ _ _ _ _ _ _ c.loop-ono.invariant c.in_ok-get_one.ensures c.max_severity-status.ensures)
+    asked-next Gets c.args.onos.now c.loop-ono.ono-index _ _ _ _ _ _ _ _ _ _ c.loop-ono-test.true c.loop-ono.invariant c.in_ok-get_one.ensures c.max_severity-status.ensures
 
 pub returns-in_err-flush-clause-part : goal.returns-in_err-flush-clause-part
 returns-in_err-flush-clause-part g c = asked-nothing Gets _ _ _ _ _ c.in_err-flush.ensures.prints

@@ -1,4 +1,5 @@
 use Rattle.std.proofs.Common.{refl}
+use Rattle.ocactl_cli.proofs.RunLemmas.{done-so}
 use Rattle.ocactl_cli.proofs.run.do_task.Goals as goal
 
 pub returns-in-Set : goal.returns-in-Set
@@ -8,4 +9,4 @@ pub returns-in-Hold : goal.returns-in-Hold
 returns-in-Hold g c = rw (c.in-Hold.is, ← c.as_slice-in-Hold.ensures.value) c.hold.ensures.holds
 
 pub returns-in-Tree : goal.returns-in-Tree
-returns-in-Tree g c = rw c.in-Tree.is (c.walk.ensures, refl)
+returns-in-Tree g c = rw c.in-Tree.is (done-so _ c.walk.result _ c.walk.ensures.tree c.walk.ensures.fails, refl)

@@ -1,8 +1,8 @@
 use Rattle.std.proofs.Common.{◌≡◌, ap, arith, length}
 use Rattle.std.proofs.lemmas.List.{length-map}
 use Rattle.std.proofs.lemmas.Result.{IfOk-weaker}
-use Rattle.ocactl_cli.specs.PrivateObjects.{SoFar, assignment_of, set_in_flight}
-use Rattle.ocactl_cli.proofs.ObjectLemmas.{next-of, set-done, set-none}
+use Rattle.ocactl_cli.specs.PrivateObjects.{set_in_flight}
+use Rattle.ocactl_cli.proofs.ObjectLemmas.{set-done, set-none, set-so-far}
 use Rattle.ocactl_cli.proofs.setting.set_assignments.Goals as goal
 
 pub loop-assignment-init : goal.loop-assignment-init
@@ -15,8 +15,7 @@ loop-assignment-init g c =
 
 pub loop-assignment-preserved : goal.loop-assignment-preserved
 loop-assignment-preserved g c = record {
-  so_far = next-of assignment_of (λ ws. SoFar _ _ _ _ ws _ _ _ _ _) c.args.assignments.now c.loop-assignment.assignment-index _ c.loop-assignment-test.true
-      (c.in_ok-status.ensures.sets.on _ _ _ _ c.loop-assignment.invariant.so_far);
+  so_far = set-so-far _ c.args.assignments.now c.loop-assignment.assignment-index _ _ _ _ _ _ _ _ _ _ _ _ _ c.loop-assignment-test.true c.loop-assignment.invariant.so_far c.in_ok-status.ensures.sets;
   few = omega (arith, c.in_ok-status.ensures.sets.few, length-map c.set_next.new.waiting set_in_flight);
 }
 
