@@ -26,16 +26,11 @@ asked_often device before after h = record { rounds = 4; most = omega arith; cal
 -- ---- by an end that tells
 
 -- so many keep-alives at most were taken, and nothing else
-Taken : Peer → ℕ → (was now : List Sent) → Type 0
+abbrev Taken : Peer → ℕ → (was now : List Sent) → Type 0
 Taken device n was now = (k : ℕ) × (k ≤ n) × (now ≡ was ++ replicate k (keep_alive_for device))
-
-taken-none : (device : Peer) (was : List Sent) → Taken device 0 was was
-unfolding Taken
-taken-none device was = (0, omega arith, sym (append-nil was))
 
 taken-more : (device : Peer) (n : ℕ) (was now all : List Sent) (sent : Bool) → all ≡ taken_after sent device (keep_alive_for device).bytes now → Taken device n was now
     → Taken device (n + 1) was all
-unfolding Taken
 taken-more device n was now all true e (k, few, t) =
     let x = keep_alive_for device in (
       k + 1,
@@ -44,30 +39,18 @@ taken-more device n was now all true e (k, few, t) =
     )
 taken-more device n was now all false e (k, few, t) = (k, omega (arith, few), e ∙ t)
 
-record SoFar (device : Peer) (n : ℕ) (before after : EndState) : Type 0 where
-  tells : IsTrue after.tells
-  taken : Taken device n before.taken after.taken
-
-once-more : (device : Peer) (n : ℕ) (d e f : EndState) → SoFar device n d e → CallsDevice device e f → SoFar device (n + 1) d f
-once-more device n d e f s one =
+once-more : (device : Peer) (n : ℕ) (d e f : EndState) → IsTrue e.tells → Taken device n d.taken e.taken → CallsDevice device e f → IsTrue f.tells × Taken device (n + 1) d.taken f.taken
+once-more device n d e f tells taken one =
     let kept = one.keeps.1 in
-    let told : IsTrue one.between.tells = subst IsTrue (sym kept.telling) s.tells in
-    record {
-      tells = subst IsTrue (sym one.receives.telling) told;
-      taken = taken-more device n d.taken e.taken f.taken one.keeps.0 (one.receives.taken told ∙ kept.taken s.tells) s.taken;
-    }
+    let told : IsTrue one.between.tells = subst IsTrue (sym kept.telling) tells in
+    (subst IsTrue (sym one.receives.telling) told, taken-more device n d.taken e.taken f.taken one.keeps.0 (one.receives.taken told ∙ kept.taken tells) taken)
 
-so-far : {device : Peer} {n : ℕ} {before after : EndState} → CallsSoOften device n before after → IsTrue before.tells → SoFar device n before after
-so-far {device} (NotCalled {e = e}) told = record { tells = told; taken = taken-none device e.taken }
-so-far {device} (CalledAgain {n = n} {d = d} {e = e} {f = f} more one) told = once-more device n d e f (so-far more told) one
-
-at-most : (device : Peer) (n : ℕ) (before after : EndState) → n ≤ 4 → SoFar device n before after
-    → (k : ℕ) × (k ≤ 4) × (after.taken ≡ before.taken ++ replicate k (keep_alive_for device))
-unfolding Taken
-at-most device n before after few s = (s.taken.0, omega (arith, few, s.taken.1), s.taken.2)
+so-far : {device : Peer} {n : ℕ} {before after : EndState} → CallsSoOften device n before after → IsTrue before.tells → IsTrue after.tells × Taken device n before.taken after.taken
+so-far {device} (NotCalled {e = e}) told = (told, (0, omega arith, sym (append-nil e.taken)))
+so-far {device} (CalledAgain {n = n} {d = d} {e = e} {f = f} more one) told = let h = so-far more told in once-more device n d e f h.0 h.1 one
 
 pub takes_keep_alives : (device : Peer) (before after : EndState) → AsksIfThere device before after → TakesKeepAlives device before after
-takes_keep_alives device before after asks told = at-most device asks.rounds before after asks.most (so-far asks.calls told)
+takes_keep_alives device before after asks told = let t = (so-far asks.calls told).1 in (t.0, omega (arith, asks.most, t.1), t.2)
 
 -- ---- the panel beside which is sent
 

@@ -9,33 +9,28 @@ use Rattle.oca_net.specs.EndStates.{EndState}
 use Rattle.oca_script.specs.declared.fault.ReplayFault.{ReplayFault}
 use Rattle.oca_script.specs.declared.fault.WriteFailed.{WriteFailed}
 use Rattle.oca_script.specs.Ends.{Output}
-use Rattle.oca_script.specs.Printing.{Prints, PrintsAll, PrintsPart, WritesOut}
-use Rattle.oca_script.proofs.PrintLemmas.{PrintsAll-nil, PrintsPart-then, prints-then, prints-less, written-out, front}
+use Rattle.oca_script.specs.Printing.{Prints, WritesOut}
+use Rattle.oca_script.proofs.PrintLemmas.{PrintsAll-nil, prints-then, prints-less, written-out, front}
 use Rattle.oca_control.specs.declared.fault.ControlFault.{ControlFault}
 use Rattle.oca_control.specs.declared.fault.ControlFault.TheVariants.{Lost}
 use Rattle.oca_control.specs.declared.outcome.Outcome.{Outcome}
 use Rattle.oca_control.specs.declared.outcome.Outcome.TheVariants as outcomes
-use Rattle.oca_panel.specs.declared.trouble.Trouble.{Trouble}
 use Rattle.oca_panel.specs.declared.trouble.Trouble.TheVariants as trouble
-use Rattle.oca_panel.specs.Outcomes.{done_or_trouble, done_answered}
+use Rattle.oca_panel.specs.Outcomes.{done_or_trouble}
 use Rattle.oca_panel.specs.Panels.{PanelState, BeginsIn, is_lost_or_unanswered}
 use Rattle.oca_panel.specs.InFlight.{BeginsBehind, BeginsUnless, FinishesFirst, FirstIsUnknown, SettlesFirst, put_behind}
 use Rattle.oca_control.proofs.Asks.{waits_asked}
 use Rattle.oca_control.proofs.Waits.{received_in_wait}
-use Rattle.ocactl_cli.specs.Objects.{trouble_status}
-use Rattle.ocactl_cli.specs.Trees.{listed_status}
+use Rattle.ocactl_cli.specs.Objects.{done_status}
 use Rattle.oca_control.specs.Limits.{longest_life}
 use Rattle.oca_control.specs.Links.{LinkState}
 use Rattle.oca_control.specs.Asking.{refused_by, Begins, Waits, ReceivesSoOften, IsPresent}
 use Rattle.oca_control.specs.Waiting.{ReceivesInAWait, WaitsWhile}
 use Rattle.ocactl_cli.specs.Requests.{LineAsked, Send}
-use Rattle.ocactl_cli.specs.Exchanges.{SessionState, FirstIsOpen, TakesOne, Idles, IdledNot, OneTurned, OnePrinted, AwaitsFirst, Awaits, NoneAwaited, OneAwaited, AwaitsUntil, DoesLine, DoesTakenUp, SubmitsCommand, Refuses, Concludes, FinishesUnless, is_write_failure, ended_by, line_wait, outcome_line, outcome_status, WritesOutcome, TakesUp, since}
+use Rattle.ocactl_cli.specs.Exchanges.{SessionState, FirstIsOpen, TakesOne, Idles, IdledNot, OneTurned, OnePrinted, AwaitsFirst, Awaits, NoneAwaited, OneAwaited, AwaitsUntil, DoesLine, DoesTakenUp, SubmitsCommand, Refuses, Concludes, FinishesUnless, is_write_failure, ended_by, line_wait, outcome_line, outcome_status, TakesUp, since}
 use Rattle.ocactl_cli.specs.PrivateExchanges.{PrintsUnlessFailed, AndPrints, SendsOrRefuses, Submitted, TakesFirst}
 
 -- ---- printing, unless a write has failed
-
-not-ok : {A E : Type 0} (x : A) (e : E) → Ok x ≡ Err e → ⊥
-not-ok x e h = cc h
 
 pub goes-nil : (w : Result Unit WriteFailed) (a : Output) → PrintsUnlessFailed w w a a []
 goes-nil (Ok u) a = PrintsAll-nil a
@@ -44,20 +39,12 @@ goes-nil (Err e) a = (refl, refl)
 pub goes-on : (w r s : Result Unit WriteFailed) (a b c : Output) (x y : List ℕ) → PrintsUnlessFailed w r a b x → PrintsUnlessFailed r s b c y → PrintsUnlessFailed w s a c (x ++ y)
 goes-on (Ok u) (Ok v) s a b c x y h k = prints-then s a b c x y h k
 goes-on (Ok u) (Err e) s a b c x y h k = subst (λ (o : Output). Prints s a o (x ++ y)) (sym k.1) (prints-less s e a b x y k.0 h)
-goes-on (Err e) (Ok v) s a b c x y h k = absurd (not-ok v e h.0)
+goes-on (Err e) (Ok v) s a b c x y h k = absurd (cc h.0)
 goes-on (Err e) (Err f) s a b c x y h k = (k.0 ∙ h.0, k.1 ∙ h.1)
 
 -- what was printed was flushed
 pub goes_flushed : (w v z : Result Unit WriteFailed) (a b c : Output) (text : List ℕ) → PrintsUnlessFailed w v a b text → PrintsUnlessFailed v z b c [] → PrintsUnlessFailed w z a c text
 goes_flushed w v z a b c text h k = subst (PrintsUnlessFailed w z a c) (append-nil text) (goes-on w v z a b c text [] h k)
-
--- a front of an outcome's line was written
-pub wrote-part : (o : Outcome) (r : Result ℕ WriteFailed) (e : WriteFailed) (a b : Output) → r ≡ Err e → PrintsPart a b (outcome_line o) → WritesOutcome o r a b
-wrote-part o r e a b is h = subst (λ (z : Result ℕ WriteFailed). WritesOutcome o z a b) (sym is) (front a b (outcome_line o) h)
-
--- a text was printed, and then a write failed
-pub part-flushed : (a b c : Output) (text : List ℕ) → PrintsAll a b text → PrintsPart b c [] → PrintsPart a c text
-part-flushed a b c text h k = subst (PrintsPart a c) (append-nil text) (PrintsPart-then a b c text [] h k)
 
 -- ---- commands in flight on a panel
 
@@ -102,15 +89,12 @@ submits request returned h queue more old new ahead refused socket is_open at_ha
     subst (λ (x : SessionState). SubmitsCommand request h x (session_of new more ahead refused socket true (Some now))) e
     (record {
       begins = subst (λ (z : Result Handle ControlFault). Begins request z old.link new.link old.end_state new.end_state) is b.begins;
-      in_flight = ap (map (λ (c : ℕ × Unit {0}). c.0)) behind ∙ map-append (λ (c : ℕ × Unit {0}). c.0) queue ((h.0, tt) ∷ []);
-      ahead = refl;
-      unanswered = ap (λ (x : Bool). refused || x) b.unanswered;
-      socket = refl;
-      is_open = refl;
       now = now;
       present = present;
       in_time = in_time;
-      at_hand = refl;
+      in_flight = ap (map (λ (c : ℕ × Unit {0}). c.0)) behind ∙ map-append (λ (c : ℕ × Unit {0}). c.0) queue ((h.0, tt) ∷ []);
+      same = ap (λ (x : Bool). record (session_of new more ahead refused socket true (Some now)) { unanswered = refused || x }) b.unanswered;
+      opens = refl;
     })
 
 -- what is refused changes nothing
@@ -148,20 +132,20 @@ came-late request f queue p ahead refused socket is_open at_hand before now e pr
     (inl (record { now = now; present = present; late = late; counts = counts }))
 
 -- an answer came
-answer-came : (b : Bool) → false ≡ ((if b then 0 else 4) == 3)
-answer-came true = refl
-answer-came false = refl
+answer-came : (b : Bool) (params : List ℕ) (status : ℕ) → false ≡ (done_status (done_or_trouble (if b then Ok params else Err (trouble.Refused status))) == 3)
+answer-came true params status = refl
+answer-came false params status = refl
 
 -- no answer came, where one was waited for
 none-came : (h n : ℕ) (l k : LinkState) (o : Outcome) (d e : EndState) → WaitsWhile h n l o k d e → is_lost_or_unanswered o ≡ (outcome_status o == 3)
-none-came h n l k (outcomes.Answered a) d e w = answer-came (a.status == 0)
+none-came h n l k (outcomes.Answered a) d e w = answer-came (a.status == 0) a.params.items a.status
 none-came h n l k (outcomes.Refused fault) d e w = absurd w.waits
 none-came h n l k outcomes.Lost d e w = refl
 none-came h n l k outcomes.Unanswered d e w = refl
 
 -- nor where it was known
 none-known : (h : ℕ) (l k : LinkState) (o : Outcome) (d e : EndState) → Waits h 0 l o k d e → is_lost_or_unanswered o ≡ (outcome_status o == 3)
-none-known h l k (outcomes.Answered a) d e w = answer-came (a.status == 0)
+none-known h l k (outcomes.Answered a) d e w = answer-came (a.status == 0) a.params.items a.status
 none-known h l k (outcomes.Refused fault) d e w = absurd w
 none-known h l k outcomes.Lost d e w = refl
 none-known h l k outcomes.Unanswered d e w = refl
@@ -189,11 +173,8 @@ awaited-one h o queue rest old new ahead refused socket is_open at_hand first wa
   first = ap (map (λ (c : ℕ × Unit {0}). c.0)) first;
   waits = waits;
   asks = asks;
-  ahead = refl;
   unanswered = none-so-far refused old.unanswered new.unanswered (is_lost_or_unanswered o) (outcome_status o == 3) unanswered none;
-  socket = refl;
-  is_open = refl;
-  at_hand = refl;
+  same = refl;
 }
 
 pub first-awaited : (came : Unit {0} × Outcome) (queue rest : List (ℕ × Unit {0})) (old new : PanelState) (ahead : ℕ) (refused : Bool) (socket : Option ℤ) (is_open : Bool) (at_hand : Option ℕ) (before : SessionState)
@@ -227,20 +208,19 @@ first-unknown queue rest old new ahead refused socket is_open at_hand before e h
     open-as [] l u = tt
     open-as (c ∷ q) l u = u
 
--- ---- waiting
+-- ---- what is done, and printed
 
-pub awaited-more : (left : ℕ) (r s t : SessionState) (w v z : Result Unit WriteFailed) (a b c : Output) (o : Outcome)
-    → ((text : List ℕ) × Awaits left r s text × PrintsUnlessFailed w v a b text) → left < length s.in_flight → AwaitsFirst s t o → PrintsUnlessFailed v z b c (outcome_line o)
-    → (text : List ℕ) × Awaits left r t text × PrintsUnlessFailed w z a c text
-awaited-more left r s t w v z a b c o h more first k =
-    (h.0 ++ outcome_line o, OneAwaited o h.1 more first, goes-on w v z a b c h.0 (outcome_line o) h.2 k)
+-- more was done and printed
+pub and-then : {Does Then : List ℕ → Type 0} (w v z : Result Unit WriteFailed) (a b c : Output) (line : List ℕ)
+    → AndPrints Does w v a b → PrintsUnlessFailed v z b c line → ((text : List ℕ) → Does text → Then (text ++ line)) → AndPrints Then w z a c
+and-then w v z a b c line h k step = record { text = h.text ++ line; does = step h.text h.does; prints = goes-on w v z a b c h.text line h.prints k }
+
+-- what was printed so far was flushed
+pub and-flushed : {Does : List ℕ → Type 0} (w v z : Result Unit WriteFailed) (a b c : Output) → AndPrints Does w v a b → PrintsUnlessFailed v z b c [] → AndPrints Does w z a c
+and-flushed w v z a b c h k = record { text = h.text; does = h.does; prints = goes_flushed w v z a b c h.text h.prints k }
 
 pub fewer : (s t : SessionState) (o : Outcome) → AwaitsFirst s t o → length s.in_flight ≡ length t.in_flight + 1
 fewer s t o h = ap length h.first ∙ omega arith
-
-pub awaited : (left : ℕ) (r s : SessionState) (w v : Result Unit WriteFailed) (a b : Output)
-    → ((text : List ℕ) × Awaits left r s text × PrintsUnlessFailed w v a b text) → length s.in_flight ≤ left → AndPrints (AwaitsUntil left r s) w v a b
-awaited left r s w v a b h few = record { text = h.0; does = (h.1, few); prints = h.2 }
 
 -- ---- idling
 
@@ -250,51 +230,23 @@ idles-then r s t x y h (OneTurned {s = m} k waits one) = OneTurned (idles-then r
 idles-then r s t x y h (OnePrinted {s = m} {text = z} o k first) =
     subst (Idles r t) (append_assoc x z (outcome_line o)) (OnePrinted o (idles-then r s m x z h k) first)
 
-pub idles-awaited : (left : ℕ) (r s : SessionState) (x : List ℕ) → Awaits left r s x → Idles r s x
+idles-awaited : (left : ℕ) (r s : SessionState) (x : List ℕ) → Awaits left r s x → Idles r s x
 idles-awaited left r s x NoneAwaited = IdledNot
 idles-awaited left r s x (OneAwaited {s = m} {text = z} o h more first) = OnePrinted o (idles-awaited left r m z h) first
 
 -- idled twice, and printed
 pub idles-and : (r s t : SessionState) (o : Unit {0}) (w : Result Unit WriteFailed) (a b c : Output) → AndPrints (Idles r s) (Ok tt) (Ok o) a b → AndPrints (Idles s t) (Ok tt) w b c → AndPrints (Idles r t) (Ok tt) w a c
-idles-and r s t o w a b c h k = record {
-  text = h.text ++ k.text;
-  does = idles-then r s t h.text k.text h.does k.does;
-  prints = prints-then w a b c h.text k.text h.prints k.prints;
-}
+idles-and r s t o w a b c h k = and-then (Ok tt) (Ok o) w a b c k.text h k.prints (λ text does. idles-then r s t text k.text does k.does)
 
 pub idles-not : (s : SessionState) (o : Unit {0}) (a : Output) → AndPrints (Idles s s) (Ok tt) (Ok o) a a
 idles-not s o a = record { text = []; does = IdledNot; prints = PrintsAll-nil a }
 
-pub idles-as : (r s : SessionState) (w v : Result Unit WriteFailed) (a b : Output) → w ≡ v → AndPrints (Idles r s) (Ok tt) w a b → AndPrints (Idles r s) (Ok tt) v a b
-idles-as r s w v a b e h = subst (λ (z : Result Unit WriteFailed). AndPrints (Idles r s) (Ok tt) z a b) e h
-
 pub idles-turned : (r s t : SessionState) (o u : Unit {0}) (a b : Output) → AndPrints (Idles r s) (Ok tt) (Ok o) a b → FirstIsOpen s.link s.in_flight → TakesOne s t → AndPrints (Idles r t) (Ok tt) (Ok u) a b
 idles-turned r s t o u a b h waits one = record { text = h.text; does = OneTurned h.does waits one; prints = h.prints }
 
-pub first-from : (s t : SessionState) → t ≡ s → FirstIsOpen s.link s.in_flight → FirstIsOpen t.link t.in_flight
-first-from s t e h = subst (λ (x : SessionState). FirstIsOpen x.link x.in_flight) (sym e) h
-
--- what was printed so far was flushed
-pub idles-handed : (r s : SessionState) (v z : Result Unit WriteFailed) (a b c : Output)
-    → ((text : List ℕ) × Idles r s text × PrintsUnlessFailed (Ok tt) v a b text) → PrintsUnlessFailed v z b c [] → AndPrints (Idles r s) (Ok tt) z a c
-idles-handed r s v z a b c h k = record {
-  text = h.0;
-  does = h.1;
-  prints = subst (Prints z a c) (append-nil h.0) (goes-on (Ok tt) v z a b c h.0 [] h.2 k);
-}
-
-pub idles-from : (r s t : SessionState) (v : Result Unit WriteFailed) (a b : Output) → t ≡ s → AndPrints (Idles r s) (Ok tt) v a b → AndPrints (Idles r t) (Ok tt) v a b
-idles-from r s t v a b e h = subst (λ (x : SessionState). AndPrints (Idles r x) (Ok tt) v a b) (sym e) h
-
 pub idles_rest : (left : ℕ) (r s : SessionState) (v z : Result Unit WriteFailed) (a b c : Output)
     → AndPrints (AwaitsUntil left r s) (Ok tt) v a b → PrintsUnlessFailed v z b c [] → AndPrints (Idles r s) (Ok tt) z a c
-idles_rest left r s v z a b c h k = idles-handed r s v z a b c (h.text, idles-awaited left r s h.text h.does.0, h.prints) k
-
-pub idles-more : (r s t : SessionState) (v z : Result Unit WriteFailed) (a b c : Output) (o : Outcome)
-    → ((text : List ℕ) × Idles r s text × PrintsUnlessFailed (Ok tt) v a b text) → AwaitsFirst s t o → PrintsUnlessFailed v z b c (outcome_line o)
-    → (text : List ℕ) × Idles r t text × PrintsUnlessFailed (Ok tt) z a c text
-idles-more r s t v z a b c o h first k =
-    (h.0 ++ outcome_line o, OnePrinted o h.1 first, goes-on (Ok tt) v z a b c h.0 (outcome_line o) h.2 k)
+idles_rest left r s v z a b c h k = and-flushed (Ok tt) v z a b c (record { text = h.text; does = idles-awaited left r s h.text h.does.0; prints = h.prints }) k
 
 -- ---- a line
 
@@ -302,7 +254,7 @@ pub sends-one : (request : RequestFields) (answer : Result Handle ControlFault) 
     → answer ≡ Ok h → Submitted request answer old s → left ≡ s.ahead - 1 → AndPrints (AwaitsUntil left s new) w v a b → AndPrints (SendsOrRefuses request old new) w v a b
 sends-one request answer h left w v old s new a b is submits same k =
     let one : SubmitsCommand request h old s = subst (λ (z : Result Handle ControlFault). Submitted request z old s) is submits in
-    let all_but_one : left ≡ old.ahead - 1 = same ∙ ap (λ (n : ℕ). n - 1) one.ahead in
+    let all_but_one : left ≡ old.ahead - 1 = same ∙ ap (λ (x : SessionState). x.ahead - 1) one.same in
     record { text = k.text; does = (Ok h, (s, one, subst (λ (n : ℕ). AwaitsUntil n s new k.text) all_but_one k.does)); prints = k.prints }
 
 pub sends-none : (request : RequestFields) (answer : Result Handle ControlFault) (fault : ControlFault) (o : Outcome) (w v z : Result Unit WriteFailed) (old s t new : SessionState) (a b c : Output)
@@ -310,20 +262,13 @@ pub sends-none : (request : RequestFields) (answer : Result Handle ControlFault)
     → AndPrints (SendsOrRefuses request old new) w z a c
 sends-none request answer fault o w v z old s t new a b c is submits k noted by p =
     let same : (s ≡ old) × Refuses request fault old = subst (λ (y : Result Handle ControlFault). Submitted request y old s) is submits in
-    let awaits : AwaitsUntil 0 old t k.text = subst (λ (x : SessionState). AwaitsUntil 0 x t k.text) same.0 k.does in
-    record {
-      text = k.text ++ outcome_line o;
-      does = (Err fault, (t, k.text, same.1, awaits, noted, ap (λ (x : Outcome). k.text ++ outcome_line x) by));
-      prints = goes-on w v z a b c k.text (outcome_line o) k.prints p;
-    }
+    and-then w v z a b c (outcome_line o) k p
+    (λ text does. (Err fault, (t, text, same.1, subst (λ (x : SessionState). AwaitsUntil 0 x t text) same.0 does, noted, ap (λ (x : Outcome). text ++ outcome_line x) by)))
 
 pub serves-command : (request : RequestFields) (left : ℕ) (v z : Result Unit WriteFailed) (old s new : SessionState) (a b c : Output)
     → left ≡ old.ahead - 1 → AndPrints (AwaitsUntil left old s) (Ok tt) v a b → AndPrints (SendsOrRefuses request s new) v z b c → AndPrints (DoesTakenUp old (Send request) new) (Ok tt) z a c
-serves-command request left v z old s new a b c is h k = record {
-  text = h.text ++ k.text;
-  does = (s, h.text, k.text, k.does.0, subst (λ (n : ℕ). AwaitsUntil n old s h.text) is h.does, k.does.1, refl);
-  prints = goes-on (Ok tt) v z a b c h.text k.text h.prints k.prints;
-}
+serves-command request left v z old s new a b c is h k =
+    and-then (Ok tt) v z a b c k.text h k.prints (λ text does. (s, text, k.text, k.does.0, subst (λ (n : ℕ). AwaitsUntil n old s text) is does, k.does.1, refl))
 
 pub as-line : (old new : SessionState) (l m : LineAsked) (z : Result Unit WriteFailed) (a c : Output) → m ≡ l → AndPrints (DoesTakenUp old l new) (Ok tt) z a c → AndPrints (DoesTakenUp old m new) (Ok tt) z a c
 as-line old new l m z a c e h = subst (λ (x : LineAsked). AndPrints (DoesTakenUp old x new) (Ok tt) z a c) (sym e) h
@@ -355,22 +300,3 @@ concludes ended result old new v z a b c h k none is = record {
   writes = written-last v z a b c h.text h.prints k none;
   ends = is;
 }
-
--- ---- the exit status of a command
-
-by-status : (b : Bool) (params : List ℕ) (s : ℕ) (d : Result Unit Trouble) → d ≡ done_or_trouble (if b then Ok params else Err (trouble.Refused s))
-    → (if b then 0 else 4) ≡ listed_status d
-by-status true params s d is = sym (ap listed_status is)
-by-status false params s d is = sym (ap listed_status is)
-
-status-done : (o : Outcome) (d : Result Unit Trouble) → d ≡ done_answered o → outcome_status o ≡ listed_status d
-status-done (outcomes.Answered a) d is = by-status (a.status == 0) a.params.items a.status d is
-status-done (outcomes.Refused fault) d is = sym (ap listed_status is)
-status-done outcomes.Lost d is = sym (ap listed_status is)
-status-done outcomes.Unanswered d is = sym (ap listed_status is)
-
-pub carried_out : (o : Outcome) (u : Unit {0}) → Ok u ≡ done_answered o → 0 ≡ outcome_status o
-carried_out o u is = sym (status-done o (Ok u) is)
-
-pub not_carried_out : (o : Outcome) (why : Trouble) → Err why ≡ done_answered o → trouble_status why ≡ outcome_status o
-not_carried_out o why is = sym (status-done o (Err why) is)

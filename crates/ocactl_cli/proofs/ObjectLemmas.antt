@@ -1,6 +1,6 @@
 -- Several objects.
 use Rattle.std.proofs.Common.{◌≡◌, inl, inr, ℕ, zero, suc, ◌+◌, ◌<◌, ◌≤◌, Bool, true, false, List, [], ◌∷◌, ◌++◌, length, take, drop, get_or, Result, Ok, Err, refl, sym, ap, ◌∙◌, subst, arith, append-nil}
-use Rattle.std.specs.Prelude.{map, fold, IfOk, IfErr, OnOk, OnErr}
+use Rattle.std.specs.Prelude.{map, fold, flat_map, IfOk, OnOk, OnErr}
 use Rattle.std.proofs.lemmas.List.{append_assoc, length-append, map-append, length-map, flat_map_more, take_all, take-append-drop}
 use Rattle.std.proofs.lemmas.List.Sums.{fold-append}
 use Rattle.std.specs.Io.KnownBytes.{Appends}
@@ -11,6 +11,7 @@ use Rattle.oca_script.specs.declared.fault.WriteFailed.{WriteFailed}
 use Rattle.oca_script.specs.Ends.{Output}
 use Rattle.oca_script.specs.Printing.{PrintsAll, PrintsPart, WritesWhole}
 use Rattle.oca_script.proofs.PrintLemmas.{whole, front as front_written}
+use Rattle.oca_program.specs.Faults.{fault_in}
 use Rattle.oca_program.specs.declared.fault.Failure.{Failure}
 use Rattle.oca_control.specs.Asking.{IsPresent}
 use Rattle.oca_control.specs.declared.fault.ControlFault.{ControlFault}
@@ -24,8 +25,8 @@ use Rattle.ocactl_cli.specs.declared.objects.Search.{Search}
 use Rattle.ocactl_cli.specs.declared.setting.Assignment.{Assignment}
 use Rattle.ocactl_cli.specs.declared.object_line.ObjectLine.{ObjectLine}
 use Rattle.ocactl_cli.specs.declared.object_line.ObjectLine.TheVariants as shown
-use Rattle.ocactl_cli.specs.Objects.{LocksInTime, OneLocked, FindsValue, FindsAll, NoneSought, OneFound, OneMissed, OnlyFinds, GivesUp, SetsNoneUnfound, SetCommand, BeginsSet, IsAwaited, NoneBegun, OneBegun, OneEnded, SetsAll, OneAsked, NoneAsked, AsksAll, AsksPart, assignment_in, reported_by, reported_line, reported_lines, max_severity, is_refused, last_refused, line_of_object, object_status}
-use Rattle.ocactl_cli.specs.PrivateObjects.{LocksOneBehind, ono_number, pair_of, assignment_of, set_command, set_in_flight, is_none, AddsFound, AllAwaited, EndsRefused, FindsAllTo, FindsOneTo, GivesUpFinding, MakesPlace, SetsEachTo, SetsOn, SetsOnlyIf, SoFar, ReportsAll, ReportsNext, ReportsOne, WaitsForFirst, WaitsOn, WritesLine}
+use Rattle.ocactl_cli.specs.Objects.{LocksInTime, OneLocked, FindsValue, FindsAll, NoneSought, OneFound, OneMissed, OnlyFinds, GivesUp, SetCommand, BeginsSet, IsAwaited, NoneBegun, OneBegun, OneEnded, Reports, ReportsAll, SetsObjects, OneAsked, NoneAsked, AsksAll, AsksPart, AsksUntil, IsUnwritten, WritesLine, assignment_in, reported_by, reported_line, reported_status, max_severity, is_refused, last_refused, line_of_object, object_status}
+use Rattle.ocactl_cli.specs.PrivateObjects.{LocksOneBehind, ono_number, pair_of, assignment_of, set_command, set_in_flight, is_none, AddsFound, AllAwaited, EndsRefused, FindsAllTo, FindsOneTo, MakesPlace, SetsEachTo, SetsOn, SetsOnlyIf, SoFar, ReportsNext, ReportsText, ReportsOne, WaitsForFirst, WaitsOn}
 use Rattle.ocactl_cli.proofs.TurnLemmas.{in-turn}
 
 module _ {A B : Type 0} (f : A → B) where
@@ -71,17 +72,18 @@ is_none-more : (missed : List (ℕ × ObjectLine)) (one : ℕ × ObjectLine) →
 is_none-more [] one = refl
 is_none-more (m ∷ missed) one = refl
 
-pub reports-none : (a b : Output) → WritesWhole a b [] → ReportsAll [] 0 a b
-reports-none a b h = record { worst = refl; writes = h }
+module _ {X : Type 0} (text_of : X → List ℕ) (status_of : X → ℕ) where
+  pub reports-none : (a b : Output) → WritesWhole a b [] → Reports text_of status_of [] 0 a b
+  reports-none a b h = record { worst = refl; writes = h }
 
-pub reports-next : (lines : List (ℕ × ObjectLine)) (one : ℕ × ObjectLine) (status now : ℕ) (a b c : Output)
-    → ReportsAll lines status a b → ReportsNext one status now b c → ReportsAll (lines ++ one ∷ []) now a c
-reports-next lines one status now a b c h k = record {
-  worst =
-      k.worst ∙ ap (λ (n : ℕ). max_severity n (object_status one.1)) h.worst
-      ∙ sym (fold-append (λ (n : ℕ) (f : ℕ × ObjectLine). max_severity n (object_status f.1)) 0 lines (one ∷ []));
-  writes = subst (WritesWhole a c) (flat_map_more reported_line [] lines one) (writes-then a b c (reported_lines lines) (reported_line one) h.writes k.writes);
-}
+  pub reports-next : (done : List X) (one : X) (status now : ℕ) (a b c : Output)
+      → Reports text_of status_of done status a b → ReportsText (status_of one) (text_of one) status now b c → Reports text_of status_of (done ++ one ∷ []) now a c
+  reports-next done one status now a b c h k = record {
+    worst =
+        k.worst ∙ ap (λ (n : ℕ). max_severity n (status_of one)) h.worst
+        ∙ sym (fold-append (λ (n : ℕ) (x : X). max_severity n (status_of x)) 0 done (one ∷ []));
+    writes = subst (WritesWhole a c) (flat_map_more text_of [] done one) (writes-then a b c (flat_map text_of done) (text_of one) h.writes k.writes);
+  }
 
 -- a line was written behind others
 pub line-reported : (target : ℕ) (line : ObjectLine) (status own now : ℕ) (a b : Output) → WritesLine (object_status line) (line_of_object target line) (Ok own) a b → now ≡ max_severity status own
@@ -94,7 +96,7 @@ pub finds-none : (search : Search) (assignments : List Assignment) (s : PanelSta
     → FindsAllTo [] assignments search s s a b
 finds-none search assignments s a b none all status writes =
     subst (λ (ws : List Assignment). FindsAllTo [] ws search s s a b) (sym none)
-    (record { missed = []; finds = NoneSought; all = all; reports = subst (λ (n : ℕ). ReportsAll [] n a b) (sym status) (reports-none a b writes) })
+    (record { missed = []; finds = NoneSought; all = all; reports = subst (λ (n : ℕ). ReportsAll [] n a b) (sym status) (reports-none reported_line reported_status a b writes) })
 
 found-one : (found : Result Value Trouble) (pairs : List (ℕ × List ℕ)) (assignments more : List Assignment) (sought now : Search) (target : ℕ) (word : List ℕ) (r s t : PanelState) (a b c : Output)
     → FindsAllTo pairs assignments sought r s a b → FindsValue target word s t found → AddsFound found target assignments sought more (Ok now) b c
@@ -111,7 +113,7 @@ found-one (Err e) pairs assignments more sought now target word r s t a b c h k 
   finds = subst (λ (ws : List Assignment). FindsAll (pairs ++ (target, word) ∷ []) (map assignment_of ws) (h.missed ++ (target, shown.Failed e) ∷ []) r t) (sym x.1)
       (OneMissed target word e h.finds k);
   all = x.0.0 ∙ sym (is_none-more h.missed (target, shown.Failed e));
-  reports = reports-next h.missed (target, shown.Failed e) sought.status now.status a b c h.reports x.0.1;
+  reports = reports-next reported_line reported_status h.missed (target, shown.Failed e) sought.status now.status a b c h.reports x.0.1;
 }
 
 next-pair : (ps : List Pair) (i : ℕ) (item : Pair) → i < length ps → item ≡ get_or ps i item → map pair_of (take (i + 1) ps) ≡ map pair_of (take i ps) ++ pair_of item ∷ []
@@ -124,43 +126,30 @@ finds-next ps i item assignments more search now r s t a b c h is x y =
     (found-one y.found (map pair_of (take i ps)) assignments more search now (pair_of item).0 (pair_of item).1 r s t a b c x y.finds y.adds)
 
 -- the search was given up at once
-pub gives-up-first : (pairs : List (ℕ × List ℕ)) (failure : Failure) (s : PanelState) (a : Output) → GivesUp failure a → GivesUpFinding pairs failure s s a
-gives-up-first pairs failure s a h = (h, record { front = []; rest = pairs; assignments = []; missed = []; whole = refl; finds = NoneSought })
+pub gives-up-first : (pairs : List (ℕ × List ℕ)) (s : PanelState) → OnlyFinds pairs s s
+gives-up-first pairs s = record { front = []; rest = pairs; assignments = []; missed = []; whole = refl; finds = NoneSought }
 
 gave-up : (found : Result Value Trouble) (target : ℕ) (assignments more : List Assignment) (search : Search) (failure : Failure) (a b : Output)
-    → AddsFound found target assignments search more (Err failure) a b → GivesUp failure b
+    → AddsFound found target assignments search more (Err failure) a b → GivesUp failure.fault b
 gave-up (Ok v) target assignments more search failure a b h = inr h.0
 gave-up (Err e) target assignments more search failure a b h = inl h.0
 
-found-front : (found : Result Value Trouble) (pairs rest : List (ℕ × List ℕ)) (all : List (ℕ × List ℕ)) (target : ℕ) (word : List ℕ) (assignments : List (ℕ × Value)) (missed : List (ℕ × ObjectLine)) (r s t : PanelState)
-    → all ≡ (pairs ++ (target, word) ∷ []) ++ rest → FindsAll pairs assignments missed r s → FindsValue target word s t found → OnlyFinds all r t
-found-front (Ok v) pairs rest all target word assignments missed r s t e h k = record {
-  front = pairs ++ (target, word) ∷ [];
-  rest = rest;
-  assignments = assignments ++ (target, v) ∷ [];
-  missed = missed;
-  whole = e;
-  finds = OneFound target word v h k;
-}
-found-front (Err why) pairs rest all target word assignments missed r s t e h k = record {
-  front = pairs ++ (target, word) ∷ [];
-  rest = rest;
-  assignments = assignments;
-  missed = missed ++ (target, shown.Failed why) ∷ [];
-  whole = e;
-  finds = OneMissed target word why h k;
-}
+-- one more was sought
+found-more : (found : Result Value Trouble) (pairs : List (ℕ × List ℕ)) (target : ℕ) (word : List ℕ) (assignments : List (ℕ × Value)) (missed : List (ℕ × ObjectLine)) (r s t : PanelState)
+    → FindsAll pairs assignments missed r s → FindsValue target word s t found → (more : List (ℕ × Value)) × (others : List (ℕ × ObjectLine)) × FindsAll (pairs ++ (target, word) ∷ []) more others r t
+found-more (Ok v) pairs target word assignments missed r s t h k = (assignments ++ (target, v) ∷ [], missed, OneFound target word v h k)
+found-more (Err why) pairs target word assignments missed r s t h k = (assignments, missed ++ (target, shown.Failed why) ∷ [], OneMissed target word why h k)
 
 -- the search was given up at one of the objects
 pub gives-up-at : (ps : List Pair) (i : ℕ) (item : Pair) (assignments more : List Assignment) (search : Search) (failure : Failure) (r s t : PanelState) (a b c : Output) → i < length ps → item ≡ get_or ps i item
-    → FindsAllTo (map pair_of (take i ps)) assignments search r s a b → FindsOneTo (pair_of item) assignments search s more (Err failure) t b c → GivesUpFinding (map pair_of ps) failure r t c
+    → FindsAllTo (map pair_of (take i ps)) assignments search r s a b → FindsOneTo (pair_of item) assignments search s more (Err failure) t b c → GivesUp failure.fault c × OnlyFinds (map pair_of ps) r t
 gives-up-at ps i item assignments more search failure r s t a b c h is x y =
-    let split : map pair_of ps ≡ map pair_of (take (i + 1) ps) ++ map pair_of (drop (i + 1) ps) =
-    ap (map pair_of) (sym (take-append-drop (i + 1) ps)) ∙ map-append pair_of (take (i + 1) ps) (drop (i + 1) ps) in
-    let front : map pair_of ps ≡ (map pair_of (take i ps) ++ pair_of item ∷ []) ++ map pair_of (drop (i + 1) ps) =
-    split ∙ ap (λ (l : List (ℕ × List ℕ)). l ++ map pair_of (drop (i + 1) ps)) (next-pair ps i item h is) in (
+    let rest : List (ℕ × List ℕ) = map pair_of (drop (i + 1) ps) in
+    let parted : map pair_of ps ≡ (map pair_of (take i ps) ++ pair_of item ∷ []) ++ rest =
+    ap (map pair_of) (sym (take-append-drop (i + 1) ps)) ∙ map-append pair_of (take (i + 1) ps) (drop (i + 1) ps) ∙ ap (λ (l : List (ℕ × List ℕ)). l ++ rest) (next-pair ps i item h is) in
+    let f = found-more y.found (map pair_of (take i ps)) (pair_of item).0 (pair_of item).1 (map assignment_of assignments) x.missed r s t x.finds y.finds in (
       gave-up y.found (pair_of item).0 assignments more search failure b c y.adds,
-      found-front y.found (map pair_of (take i ps)) (map pair_of (drop (i + 1) ps)) (map pair_of ps) (pair_of item).0 (pair_of item).1 (map assignment_of assignments) x.missed r s t front x.finds y.finds,
+      record { front = map pair_of (take i ps) ++ pair_of item ∷ []; rest = rest; assignments = f.0; missed = f.1; whole = parted; finds = f.2 },
     )
 
 -- ---- set commands
@@ -178,16 +167,13 @@ all-accepted waiting = accepted-from false waiting refl
 
 -- the last one that stands behind some was refused
 refused-behind : (waiting behind : List SetCommand) → last_refused behind ≡ true → last_refused (waiting ++ behind) ≡ true
-refused-behind waiting [] h = absurd (not-true h)
-  where
-    not-true : false ≡ true → ⊥
-    not-true x = cc x
+refused-behind waiting [] h = absurd (cc h)
 refused-behind waiting (c ∷ behind) h = fold-append (λ (before : Bool) (command : SetCommand). is_refused command.returned) false waiting (c ∷ behind) ∙ h
 
 pub set-none : (ahead : ℕ) (assignments : List (ℕ × Value)) (s : PanelState) (a : Output) (left : List (ℕ × Assignment)) (now : ℕ) → a.held ≡ [] → left ≡ [] → IsPresent now s.end_state
     → SoFar ahead assignments s a [] now s (map set_in_flight left) 0 a
 set-none ahead assignments s a left now empty e present = subst (λ (cs : List (ℕ × Assignment)). SoFar ahead assignments s a [] now s (map set_in_flight cs) 0 a) (sym e)
-    (record { lines = []; sets = NoneBegun now present; reports = reports-none a a (writes-nothing a empty) })
+    (record { lines = []; sets = NoneBegun now present; reports = reports-none reported_line reported_status a a (writes-nothing a empty) })
 
 first-ended : (ahead : ℕ) (assignments : List (ℕ × Value)) (start : PanelState) (before : Output) (begun : List (ℕ × Value)) (since : ℕ) (c : SetCommand) (more : List SetCommand) (old new : PanelState) (o : Outcome) (status now : ℕ) (a b : Output)
     → IsAwaited ahead assignments begun (c ∷ more) → EndsIn c.returned old new o → ReportsNext (reported_by c o) status now a b
@@ -195,7 +181,7 @@ first-ended : (ahead : ℕ) (assignments : List (ℕ × Value)) (start : PanelSt
 first-ended ahead assignments start before begun since c more old new o status now a b why ends line h = record {
   lines = h.lines ++ reported_by c o ∷ [];
   sets = OneEnded c o h.sets why ends;
-  reports = reports-next h.lines (reported_by c o) status now before a b h.reports line;
+  reports = reports-next reported_line reported_status h.lines (reported_by c o) status now before a b h.reports line;
 }
 
 -- the first of several is awaited where all are
@@ -227,16 +213,7 @@ waits-next r s t x y z l m n a b c h w = record {
       (waits-first s t y z m n b c w).on ahead assignments start before begun since behind due (h.on ahead assignments start before begun since behind due so);
 }
 
--- room is there, or was made
-pub place-left : (ahead : ℕ) (s : PanelState) (waiting : List (ℕ × Assignment)) (status : ℕ) (a : Output) → length waiting < ahead
-    → MakesPlace ahead s s (map set_in_flight waiting) (map set_in_flight waiting) status status a a
-place-left ahead s waiting status a few =
-    let size : length (map set_in_flight waiting) ≡ length waiting = length-map waiting set_in_flight in
-    record {
-      on = λ (assignments : List (ℕ × Value)) (start : PanelState) (before : Output) (begun : List (ℕ × Value)) (since : ℕ) (h : SoFar ahead assignments start before begun since s (map set_in_flight waiting) status a). h;
-      few = omega (arith, size, few);
-    }
-
+-- room was made
 pub place-made : (ahead : ℕ) (old new : PanelState) (waiting more : List (ℕ × Assignment)) (status now : ℕ) (a b : Output) → length waiting ≤ ahead → ahead ≤ length waiting
     → WaitsForFirst old new waiting more status now a b → MakesPlace ahead old new (map set_in_flight waiting) (map set_in_flight more) status now a b
 place-made ahead old new waiting more status now a b most full w =
@@ -253,34 +230,14 @@ place-made ahead old new waiting more status now a b most full w =
       few = omega (arith, size, less, most, full);
     })
 
-pub place-made-if : (ahead : ℕ) (old new : PanelState) (waiting more : List (ℕ × Assignment)) (status : ℕ) (q : Result ℕ WriteFailed) (a b : Output) → length waiting ≤ ahead → ahead ≤ length waiting
-    → IfOk q (λ now. WaitsForFirst old new waiting more status now a b)
-    → IfOk q (λ now. MakesPlace ahead old new (map set_in_flight waiting) (map set_in_flight more) status now a b)
-place-made-if ahead old new waiting more status (Ok now) a b most full w = place-made ahead old new waiting more status now a b most full w
-place-made-if ahead old new waiting more status (Err e) a b most full w = tt
-
--- the first is in flight no longer
-pub fewer-wait : (ahead : ℕ) (old new : PanelState) (waiting more : List (ℕ × Assignment)) (status : ℕ) (q : Result ℕ WriteFailed) (a b : Output) → length waiting ≤ ahead → ahead ≤ 32
-    → IfOk q (λ now. WaitsForFirst old new waiting more status now a b) → OnOk q (length more < 32)
-fewer-wait ahead old new waiting more status (Ok now) a b most few w = let less : length waiting ≡ length more + 1 = ap length w.first ∙ omega arith in omega (arith, less, most, few)
-fewer-wait ahead old new waiting more status (Err e) a b most few w = tt
-
-begun-one : (ahead : ℕ) (assignments : List (ℕ × Value)) (start : PanelState) (before : Output) (begun : List (ℕ × Value)) (since moment : ℕ) (c : SetCommand) (waiting : List SetCommand) (old new : PanelState) (status : ℕ) (a : Output)
-    → length waiting < ahead → last_refused waiting ≡ false → BeginsSet since moment c old new → SoFar ahead assignments start before begun since old waiting status a
-    → SoFar ahead assignments start before (begun ++ assignment_in c ∷ []) moment new (waiting ++ c ∷ []) status a
-begun-one ahead assignments start before begun since moment c waiting old new status a few accepted begins h = record {
-  lines = h.lines;
-  sets = OneBegun c moment h.sets few accepted begins;
-  reports = h.reports;
-}
-
 -- whatever was submitted so far, one more was, and stands behind those in flight
 begins-next : (ahead : ℕ) (w : Assignment) (since moment : ℕ) (returned : Result Handle ControlFault) (r s t : PanelState) (x : List SetCommand) (mid : List (ℕ × Assignment)) (status now : ℕ) (a b : Output)
     → MakesPlace ahead r s x (map set_in_flight mid) status now a b → BeginsSet since moment (set_command w returned) s t
     → (assignments : List (ℕ × Value)) (start : PanelState) (before : Output) (begun : List (ℕ × Value)) → SoFar ahead assignments start before begun since r x status a
     → SoFar ahead assignments start before (begun ++ assignment_of w ∷ []) moment t (map set_in_flight mid ++ set_command w returned ∷ []) now b
 begins-next ahead w since moment returned r s t x mid status now a b p begins assignments start before begun h =
-    begun-one ahead assignments start before begun since moment (set_command w returned) (map set_in_flight mid) s t now b p.few (all-accepted mid) begins (p.on assignments start before begun since h)
+    let so : SoFar ahead assignments start before begun since s (map set_in_flight mid) now b = p.on assignments start before begun since h in
+    record { lines = so.lines; sets = OneBegun (set_command w returned) moment so.sets p.few (all-accepted mid) begins; reports = so.reports }
 
 -- it was accepted
 pub sets-next : (ahead : ℕ) (w : Assignment) (since moment : ℕ) (h : Handle) (r s t : PanelState) (x : List SetCommand) (mid more : List (ℕ × Assignment)) (status now : ℕ) (a b : Output)
@@ -318,8 +275,7 @@ pub sets-refused : (ahead : ℕ) (w : Assignment) (since moment : ℕ) (f : Cont
     → IfOk q (λ n. EndsRefused w f t u (map set_in_flight mid) now n b c) → OnOk q (none ≡ [])
     → IfOk q (λ n. SetsOn ahead (assignment_of w) since moment r u x (map set_in_flight none) status n a c)
 sets-refused ahead w since moment f r s t u x mid none status now (Ok n) a b c p begins ends empty =
-    subst (λ (cs : List (ℕ × Assignment)). SetsOn ahead (assignment_of w) since moment r u x (map set_in_flight cs) status n a c) (sym empty)
-    (refused-next ahead w since moment f r s t u x mid status now n a b c p begins ends)
+    rw empty (refused-next ahead w since moment f r s t u x mid status now n a b c p begins ends)
 sets-refused ahead w since moment f r s t u x mid none status now (Err e) a b c p begins ends empty = tt
 
 -- the first assignments and the next one
@@ -329,88 +285,58 @@ pub set-so-far : (ahead : ℕ) (ws : List Assignment) (i : ℕ) (d : Assignment)
 set-so-far ahead ws i d since moment r s t x y m n a b c h so next =
     subst (λ (xs : List (ℕ × Value)). SoFar ahead (map assignment_of ws) r a xs moment t y n c) (sym (map-take assignment_of ws i d h)) (next.on (map assignment_of ws) r a (map assignment_of (take i ws)) so)
 
--- so many are in flight
-pub few-commands : (waiting : List (ℕ × Assignment)) (ahead : ℕ) → length (map set_in_flight waiting) ≤ ahead → length waiting ≤ ahead
-few-commands waiting ahead few = let size : length (map set_in_flight waiting) ≡ length waiting = length-map waiting set_in_flight in omega (arith, size, few)
-
 -- all were waited for
-set-each : (ahead : ℕ) (assignments : List (ℕ × Value)) (since : ℕ) (r t : PanelState) (n : ℕ) (a c : Output) → SoFar ahead assignments r a assignments since t [] n c → SetsEachTo ahead assignments n r t a c
-set-each ahead assignments since r t n a c h = record {
-  lines = h.lines;
-  sets = record { last = since; sets = h.sets; one_at_a_time = λ (one : ahead ≡ 1). in-turn ahead assignments h.lines since r t h.sets one };
-  reports = h.reports;
-}
-
-pub set-done : (ahead : ℕ) (ws : List Assignment) (i since : ℕ) (r s t : PanelState) (x : List SetCommand) (m : ℕ) (z : Result ℕ WriteFailed) (a b c : Output)
-    → length ws ≤ i → SoFar ahead (map assignment_of ws) r a (map assignment_of (take i ws)) since s x m b → IfOk z (λ n. WaitsOn s t x [] m n b c)
-    → IfOk z (λ n. SetsEachTo ahead (map assignment_of ws) n r t a c)
-set-done ahead ws i since r s t x m (Ok n) a b c end so w =
+pub set-done : (ahead : ℕ) (ws : List Assignment) (i since : ℕ) (r s t : PanelState) (x : List SetCommand) (m n : ℕ) (a b c : Output)
+    → length ws ≤ i → SoFar ahead (map assignment_of ws) r a (map assignment_of (take i ws)) since s x m b → WaitsOn s t x [] m n b c → SetsEachTo ahead (map assignment_of ws) n r t a c
+set-done ahead ws i since r s t x m n a b c end so w =
     let all : map assignment_of (take i ws) ≡ map assignment_of ws = ap (map assignment_of) (take_all i ws end) in
-    let left : SoFar ahead (map assignment_of ws) r a (map assignment_of (take i ws)) since s (x ++ []) m b = subst (λ (cs : List SetCommand). SoFar ahead (map assignment_of ws) r a (map assignment_of (take i ws)) since s cs m b) (sym (append-nil x)) so in
-    let done : SoFar ahead (map assignment_of ws) r a (map assignment_of (take i ws)) since t [] n c = w.on ahead (map assignment_of ws) r a (map assignment_of (take i ws)) since [] (inl all) left in
-    set-each ahead (map assignment_of ws) since r t n a c (subst (λ (xs : List (ℕ × Value)). SoFar ahead (map assignment_of ws) r a xs since t [] n c) all done)
-set-done ahead ws i since r s t x m (Err e) a b c end so w = tt
+    let left : SoFar ahead (map assignment_of ws) r a (map assignment_of (take i ws)) since s (x ++ []) m b = rw append-nil so in
+    let done : SoFar ahead (map assignment_of ws) r a (map assignment_of ws) since t [] n c =
+    subst (λ (xs : List (ℕ × Value)). SoFar ahead (map assignment_of ws) r a xs since t [] n c) all (w.on ahead (map assignment_of ws) r a (map assignment_of (take i ws)) since [] (inl all) left) in
+    record {
+      lines = done.lines;
+      sets = record { last = since; sets = done.sets; one_at_a_time = in-turn ahead (map assignment_of ws) done.lines since r t done.sets };
+      reports = done.reports;
+    }
 
 -- ---- all of it
 
-ok-same : (q : Result ℕ Failure) (x y : ℕ) → q ≡ Ok x → q ≡ Ok y → x ≡ y
-ok-same q x y h k = cc (h, k)
+sets-found : (missed : List (ℕ × ObjectLine)) (ahead : ℕ) (pairs : List (ℕ × List ℕ)) (assignments : List Assignment) (before : ℕ) (q : Result ℕ Failure) (r s t : PanelState) (a b c : Output)
+    → FindsAll pairs (map assignment_of assignments) missed r s → ReportsAll missed before a b → SetsOnlyIf (is_none missed) ahead (map assignment_of assignments) before s t q b c
+    → SetsObjects ahead pairs r t (fault_in q) a c
+sets-found [] ahead pairs assignments before (Ok status) r s t a b c finds line e = (
+  record {
+    assignments = map assignment_of assignments;
+    missed = [];
+    lines = e.lines;
+    between = s;
+    finds = finds;
+    sets = e.sets;
+    reports = record { worst = e.reports.worst; writes = writes-then a b c [] (flat_map reported_line e.lines) line.writes e.reports.writes };
+  },
+  tt,
+)
+sets-found [] ahead pairs assignments before (Err failure) r s t a b c finds line e = (inl e, inr (map assignment_of assignments, s, finds))
+sets-found (m ∷ missed) ahead pairs assignments before (Ok status) r s t a b c finds line e =
+    let same : status ≡ before = cc e.0 in (
+      record {
+        assignments = map assignment_of assignments;
+        missed = m ∷ missed;
+        lines = m ∷ missed;
+        between = s;
+        finds = finds;
+        sets = (refl, e.1);
+        reports = rw (same, e.2) line;
+      },
+      tt,
+    )
+sets-found (m ∷ missed) ahead pairs assignments before (Err failure) r s t a b c finds line e = absurd (cc e.0)
 
-not-ok : (f : Failure) (n : ℕ) → Err f ≡ Ok n → ⊥
-not-ok f n h = cc h
-
-found-all : (ahead : ℕ) (pairs : List (ℕ × List ℕ)) (assignments : List Assignment) (missed : List (ℕ × ObjectLine)) (before status : ℕ) (r s t : PanelState) (a b c : Output)
-    → FindsAll pairs (map assignment_of assignments) missed r s → ReportsAll missed before a b → SetsOnlyIf (is_none missed) ahead (map assignment_of assignments) before s t (Ok status) b c → SetsAll ahead pairs r t status a c
-found-all ahead pairs assignments [] before status r s t a b c finds line e = record {
-  assignments = map assignment_of assignments;
-  missed = [];
-  lines = e.lines;
-  between = s;
-  finds = finds;
-  sets = e.sets;
-  worst = e.reports.worst;
-  writes = writes-then a b c [] (reported_lines e.lines) line.writes e.reports.writes;
-}
-found-all ahead pairs assignments (m ∷ missed) before status r s t a b c finds line e =
-    let same : status ≡ before = ok-same (Ok status) status before refl e.0 in
-    record {
-      assignments = map assignment_of assignments;
-      missed = m ∷ missed;
-      lines = m ∷ missed;
-      between = s;
-      finds = finds;
-      sets = (refl, e.1);
-      worst = same ∙ line.worst;
-      writes = subst (λ (o : Output). WritesWhole a o (reported_lines (m ∷ missed))) (sym e.2) line.writes;
-    }
-
-gave-up-setting : (ahead : ℕ) (pairs : List (ℕ × List ℕ)) (assignments : List Assignment) (missed : List (ℕ × ObjectLine)) (before : ℕ) (failure : Failure) (r s t : PanelState) (b c : Output)
-    → FindsAll pairs (map assignment_of assignments) missed r s → SetsOnlyIf (is_none missed) ahead (map assignment_of assignments) before s t (Err failure) b c
-    → GivesUp failure c × SetsNoneUnfound pairs r t
-gave-up-setting ahead pairs assignments [] before failure r s t b c finds e = (inl e, inr (record { assignments = map assignment_of assignments; between = s; finds = finds }))
-gave-up-setting ahead pairs assignments (m ∷ missed) before failure r s t b c finds e = absurd (not-ok failure before e.0)
-
-as-found : (ahead : ℕ) (pairs : List (ℕ × List ℕ)) (assignments : List Assignment) (search : Search) (r s t : PanelState) (q : Result ℕ Failure) (a b c : Output)
-    → (h : FindsAllTo pairs assignments search r s a b) → SetsOnlyIf search.all ahead (map assignment_of assignments) search.status s t q b c → SetsOnlyIf (is_none h.missed) ahead (map assignment_of assignments) search.status s t q b c
-as-found ahead pairs assignments search r s t q a b c h e = subst (λ (all : Bool). SetsOnlyIf all ahead (map assignment_of assignments) search.status s t q b c) h.all e
-
-pub sets-found : (ahead : ℕ) (pairs : List (ℕ × List ℕ)) (assignments : List Assignment) (search : Search) (r s t : PanelState) (q : Result ℕ Failure) (a b c : Output)
-    → FindsAllTo pairs assignments search r s a b → SetsOnlyIf search.all ahead (map assignment_of assignments) search.status s t q b c → IfOk q (λ status. SetsAll ahead pairs r t status a c)
-sets-found ahead pairs assignments search r s t (Ok status) a b c h e =
-    found-all ahead pairs assignments h.missed search.status status r s t a b c h.finds h.reports (as-found ahead pairs assignments search r s t (Ok status) a b c h e)
-sets-found ahead pairs assignments search r s t (Err failure) a b c h e = tt
-
-pub sets-failed : (ahead : ℕ) (pairs : List (ℕ × List ℕ)) (assignments : List Assignment) (search : Search) (r s t : PanelState) (q : Result ℕ Failure) (a b c : Output)
-    → FindsAllTo pairs assignments search r s a b → SetsOnlyIf search.all ahead (map assignment_of assignments) search.status s t q b c → IfErr q (λ failure. GivesUp failure c)
-sets-failed ahead pairs assignments search r s t (Ok status) a b c h e = tt
-sets-failed ahead pairs assignments search r s t (Err failure) a b c h e =
-    (gave-up-setting ahead pairs assignments h.missed search.status failure r s t b c h.finds (as-found ahead pairs assignments search r s t (Err failure) a b c h e)).0
-
-pub sets-unset : (ahead : ℕ) (pairs : List (ℕ × List ℕ)) (assignments : List Assignment) (search : Search) (r s t : PanelState) (q : Result ℕ Failure) (a b c : Output)
-    → FindsAllTo pairs assignments search r s a b → SetsOnlyIf search.all ahead (map assignment_of assignments) search.status s t q b c → OnErr q (SetsNoneUnfound pairs r t)
-sets-unset ahead pairs assignments search r s t (Ok status) a b c h e = tt
-sets-unset ahead pairs assignments search r s t (Err failure) a b c h e =
-    (gave-up-setting ahead pairs assignments h.missed search.status failure r s t b c h.finds (as-found ahead pairs assignments search r s t (Err failure) a b c h e)).1
+pub sets-all : (ahead : ℕ) (pairs : List (ℕ × List ℕ)) (assignments : List Assignment) (search : Search) (r s t : PanelState) (q : Result ℕ Failure) (a b c : Output)
+    → FindsAllTo pairs assignments search r s a b → SetsOnlyIf search.all ahead (map assignment_of assignments) search.status s t q b c → SetsObjects ahead pairs r t (fault_in q) a c
+sets-all ahead pairs assignments search r s t q a b c h e =
+    sets-found h.missed ahead pairs assignments search.status q r s t a b c h.finds h.reports
+    (subst (λ (all : Bool). SetsOnlyIf all ahead (map assignment_of assignments) search.status s t q b c) h.all e)
 
 -- ---- commands that lock in time
 
@@ -431,21 +357,16 @@ all-in-time locks onos i since r s end x =
 -- ---- objects that are read or locked
 
 module _ (One : ℕ → PanelState → PanelState → ObjectLine → Type 0) where
-  pub asked-none : (s : PanelState) (a b : Output) → PrintsAll a b [] → b.held ≡ [] → AsksAll One [] s s 0 a b
-  asked-none s a b h empty = record { lines = []; turns = NoneAsked; worst = refl; writes = writes-none a b h empty }
+  abbrev pub asked-none : (s : PanelState) (a b : Output) → PrintsAll a b [] → b.held ≡ [] → AsksAll One [] s s 0 a b
+  asked-none s a b h empty = record { lines = []; turns = NoneAsked; reports = reports-none reported_line reported_status a b (writes-none a b h empty) }
 
-  asked-more : (targets : List ℕ) (target status own now : ℕ) (r s t : PanelState) (a b c : Output)
+  abbrev pub asked-more : (targets : List ℕ) (target status own now : ℕ) (r s t : PanelState) (a b c : Output)
       → AsksAll One targets r s status a b → ReportsOne One target s t (Ok own) b c → now ≡ max_severity status own → AsksAll One (targets ++ target ∷ []) r t now a c
-  asked-more targets target status own now r s t a b c h k worst =
-      let line : ReportsNext (target, k.line) status now b c = line-reported target k.line status own now b c k.writes worst in
-      let all : ReportsAll (h.lines ++ (target, k.line) ∷ []) now a c =
-      reports-next h.lines (target, k.line) status now a b c (record { worst = h.worst; writes = h.writes }) line in
-      record {
-        lines = h.lines ++ (target, k.line) ∷ [];
-        turns = OneAsked target k.line h.turns k.asks;
-        worst = all.worst;
-        writes = all.writes;
-      }
+  asked-more targets target status own now r s t a b c h k worst = record {
+    lines = h.lines ++ (target, k.line) ∷ [];
+    turns = OneAsked target k.line h.turns k.asks;
+    reports = reports-next reported_line reported_status h.lines (target, k.line) status now a b c h.reports (line-reported target k.line status own now b c k.writes worst);
+  }
 
   -- the first objects and the next one
   pub asked-next : (onos : List Ono) (i : ℕ) (d : Ono) (status own now : ℕ) (r s t : PanelState) (a b c : Output) → i < length onos
@@ -461,19 +382,23 @@ module _ (One : ℕ → PanelState → PanelState → ObjectLine → Type 0) whe
   asked-nothing targets (Ok status) s a b h = tt
   asked-nothing targets (Err e) s a b h = inl (refl, front_written a b [] h)
 
-  -- the line of an object was not written
-  pub asked-until : (onos : List Ono) (i : ℕ) (d : Ono) (status : ℕ) (e : WriteFailed) (q : Result ℕ WriteFailed) (r s t : PanelState)
-      (a b c : Output) → i < length onos → AsksAll One (map ono_number (take i onos)) r s status a b
-      → ReportsOne One (ono_number (get_or onos i d)) s t (Err e) b c → OnErr q (AsksPart One (map ono_number onos) r t a c)
-  asked-until onos i d status e (Ok n) r s t a b c h x y = tt
-  asked-until onos i d status e (Err f) r s t a b c h x y = inr (record {
+  -- it ended at the next one
+  pub until-next : (Stops : ObjectLine → List ℕ → Output → Output → Type 0) (onos : List Ono) (i : ℕ) (d : Ono) (status : ℕ) (line : ObjectLine) (r s t : PanelState) (a b c : Output) → i < length onos
+      → AsksAll One (map ono_number (take i onos)) r s status a b → One (ono_number (get_or onos i d)) s t line → Stops line (line_of_object (ono_number (get_or onos i d)) line) b c
+      → AsksUntil One Stops (map ono_number onos) r t a c
+  until-next Stops onos i d status line r s t a b c h x asks stops = record {
     asked = map ono_number (take i onos);
     rest = ono_number (get_or onos i d) ∷ map ono_number (drop (i + 1) onos);
-    lines = x.lines;
+    status = status;
     before = s;
     between = b;
     whole = map-split ono_number onos i d h;
-    turns = x.turns;
-    writes = x.writes;
-    stops = (y.line, y.asks, y.writes);
-  })
+    asks = x;
+    stops = (line, asks, stops);
+  }
+
+  -- the line of an object was not written
+  pub asked-until : (onos : List Ono) (i : ℕ) (d : Ono) (status : ℕ) (e : WriteFailed) (q : Result ℕ WriteFailed) (r s t : PanelState) (a b c : Output) → i < length onos
+      → AsksAll One (map ono_number (take i onos)) r s status a b → ReportsOne One (ono_number (get_or onos i d)) s t (Err e) b c → OnErr q (AsksPart One (map ono_number onos) r t a c)
+  asked-until onos i d status e (Ok n) r s t a b c h x y = tt
+  asked-until onos i d status e (Err f) r s t a b c h x y = inr (until-next IsUnwritten onos i d status y.line r s t a b c h x y.asks y.writes)

@@ -2,33 +2,21 @@
 use Rattle.std.proofs.Common.{◌≡◌, inl, inr, ℕ, ◌+◌, ◌≤◌, Bool, true, false, List, [], ◌∷◌, ◌++◌, length, Option, Some, None, Result, Ok, Err, refl, sym, ap, ◌∙◌, subst, arith}
 use Rattle.std.specs.Prelude.{nat_lt, codes, IfOk, IfErr}
 use Rattle.std.proofs.lemmas.Bool.{lt-ltb, le-ltb}
-use Rattle.std.proofs.lemmas.List.{length-append, flat_map_more}
-use Rattle.std.proofs.lemmas.List.Sums.{fold-append}
+use Rattle.std.proofs.lemmas.List.{length-append}
 use Rattle.oca_script.specs.Ends.{Output}
 use Rattle.oca_script.specs.Printing.{WritesWhole}
 use Rattle.oca_program.specs.declared.fault.Failure.{Failure}
 use Rattle.oca_panel.specs.declared.walk.Place.{Place}
 use Rattle.oca_panel.specs.declared.walk.Visit.{Visit}
 use Rattle.oca_panel.specs.Panels.{PanelState}
-use Rattle.oca_panel.specs.Walks.{WalkState, VisitsPlace, StepsToPlace, begun_walk, most_places}
+use Rattle.oca_panel.specs.Walks.{WalkState, StepsToPlace, begun_walk, most_places}
 use Rattle.ocactl_cli.specs.Objects.{GivesUp, max_severity}
 use Rattle.ocactl_cli.specs.Trees.{NoneVisited, OneVisited, IsOver, PrintsTree, left_text, status_with_left, visit_status, visit_text, visits_text}
-use Rattle.ocactl_cli.specs.PrivateTrees.{ReportsVisit, ReportsFound, TakesStep, WalkedTo, ReportsLeft}
-use Rattle.ocactl_cli.proofs.ObjectLemmas.{writes-then, writes-nothing}
+use Rattle.ocactl_cli.specs.PrivateTrees.{ReportsFound, TakesStep, WalkedTo, ReportsLeft}
+use Rattle.ocactl_cli.proofs.ObjectLemmas.{reports-next, reports-none, writes-then, writes-nothing}
 
 pub walked-none : (start : WalkState) (s : PanelState) (a b : Output) → WritesWhole a b [] → WalkedTo start s a start s 0 b
-walked-none start s a b h = record { visits = []; walks = NoneVisited; worst = refl; writes = h }
-
-walked-more : (start w x : WalkState) (r s t : PanelState) (status now : ℕ) (visit : Visit) (a b c : Output)
-    → WalkedTo start r a w s status b → VisitsPlace w s t visit x → ReportsVisit visit status now b c → WalkedTo start r a x t now c
-walked-more start w x r s t status now visit a b c h v k = record {
-  visits = h.visits ++ visit ∷ [];
-  walks = OneVisited visit h.walks v;
-  worst =
-      k.worst ∙ ap (λ (n : ℕ). max_severity n (visit_status visit)) h.worst
-      ∙ sym (fold-append (λ (n : ℕ) (v : Visit). max_severity n (visit_status v)) 0 h.visits (visit ∷ []));
-  writes = subst (WritesWhole a c) (flat_map_more visit_text [] h.visits visit) (writes-then a b c (visits_text h.visits) (visit_text visit) h.writes k.writes);
-}
+walked-none start s a b h = record { visits = []; walks = NoneVisited; reports = reports-none visit_text visit_status a b h }
 
 not-none : (r : Result (Option ℕ) Failure) (n : ℕ) → r ≡ Ok (Some n) → r ≡ Ok None → ⊥
 not-none r n h k = cc (h, k)
@@ -36,7 +24,11 @@ not-none r n h k = cc (h, k)
 -- one more place was visited
 pub walked-on : (found : Option Visit) (start w x : WalkState) (r s t : PanelState) (status now : ℕ) (a b c : Output)
     → WalkedTo start r a w s status b → StepsToPlace w s t found x → ReportsFound found status (Ok (Some now)) b c → WalkedTo start r a x t now c
-walked-on (Some visit) start w x r s t status now a b c h v k = walked-more start w x r s t status now visit a b c h v k
+walked-on (Some visit) start w x r s t status now a b c h v k = record {
+  visits = h.visits ++ visit ∷ [];
+  walks = OneVisited visit h.walks v;
+  reports = reports-next visit_text visit_status h.visits visit status now a b c h.reports k;
+}
 walked-on None start w x r s t status now a b c h v k = absurd (not-none (Ok (Some now)) now refl k.0)
 
 pub one-more : (found : Option Visit) (w x : WalkState) (s t : PanelState) (status now : ℕ) (b c : Output)
@@ -63,8 +55,8 @@ tree-printed w r s status now a b c h over worst writes = record {
   walk = w;
   walks = h.walks;
   over = over;
-  worst = worst ∙ ap (status_with_left w.waiting) h.worst;
-  writes = writes-then a b c (visits_text h.visits) (left_text w.waiting) h.writes writes;
+  worst = worst ∙ ap (status_with_left w.waiting) h.reports.worst;
+  writes = writes-then a b c (visits_text h.visits) (left_text w.waiting) h.reports.writes writes;
 }
 
 -- where as many places were visited as are at most
@@ -91,7 +83,7 @@ tree-over found start w x r s t status (Err f) a b c d from h v k l = tt
 pub none-held : (found : Option Visit) (start w x : WalkState) (r s t : PanelState) (status : ℕ) (a b c : Output)
     → WalkedTo start r a w s status b → StepsToPlace w s t found x → ReportsFound found status (Ok None) b c → c.held ≡ []
 none-held found start w x r s t status a b c h v k =
-    let e = ended found w x s t status b c v k in ap (λ (o : Output). o.held) e.output ∙ h.writes.none_held
+    let e = ended found w x s t status b c v k in ap (λ (o : Output). o.held) e.output ∙ h.reports.writes.none_held
 
 apart : (x : Bool) → x ≡ true → x ≡ false → ⊥
 apart x h k = cc (h, k)
@@ -135,6 +127,6 @@ none-held-step start w x r s t status next a b c is h k =
     none-held k.found start w x r s t status a b c h k.steps line
 
 -- it was given up since the sink failed
-pub left-failed : (places : List Place) (status : ℕ) (q : Result ℕ Failure) (a b : Output) → ReportsLeft places status q a b → IfErr q (λ failure. GivesUp failure b)
+pub left-failed : (places : List Place) (status : ℕ) (q : Result ℕ Failure) (a b : Output) → ReportsLeft places status q a b → IfErr q (λ failure. GivesUp failure.fault b)
 left-failed places status (Ok now) a b h = tt
 left-failed places status (Err f) a b h = inl h

@@ -21,8 +21,10 @@ use Rattle.oca_script.specs.declared.fault.ReplayFault.{ReplayFault}
 use Rattle.oca_script.specs.declared.fault.ReplayFault.TheVariants.{Line, Read, Write, TooMuch}
 use Rattle.oca_script.specs.declared.fault.WriteFailed.{WriteFailed}
 use Rattle.oca_script.specs.Ends.{Input, Output}
-use Rattle.oca_script.specs.Printing.{WritesOut, WritesWhole, WritesFront}
+use Rattle.oca_script.specs.Printing.{WritesOut}
 use Rattle.oca_script.specs.Replaying.{Replays, Outcome as ReadsLines}
+use Rattle.oca_panel.specs.Outcomes.{done_answered}
+use Rattle.ocactl_cli.specs.Objects.{WritesLine, done_status}
 use Rattle.ocactl_cli.specs.Requests.{LineAsked, Send, Wait, asked_line}
 use Rattle.ocactl_replay.specs.Printing.{answer_text, refusal_text}
 
@@ -35,22 +37,14 @@ outcome_line outcomes.Unanswered = codes "no answer\n"
 
 -- the exit status: 0 for an answer with the status 0, 4 for another, 3 where there is none
 abbrev pub outcome_status : Outcome → ℕ
-outcome_status (outcomes.Answered a) = if a.status == 0 then 0 else 4
-outcome_status (outcomes.Refused fault) = 3
-outcome_status outcomes.Lost = 3
-outcome_status outcomes.Unanswered = 3
-
--- What was written of an outcome, and the exit status, or a write failed.
-abbrev pub WritesOutcome : Outcome → Result ℕ WriteFailed → Output → Output → Type 0
-WritesOutcome outcome (Ok status) was is = (status ≡ outcome_status outcome) × WritesWhole was is (outcome_line outcome)
-WritesOutcome outcome (Err e) was is = WritesFront was is (outcome_line outcome)
+outcome_status outcome = done_status (done_answered outcome)
 
 -- ONE COMMAND was asked over an end, and its outcome was written.
 pub record AsksOnce (request : RequestFields) (turns : ℕ) (old new : LinkState) (before after : EndState)
     (result : Result ℕ WriteFailed) (was is : Output) : Type 0 where
   pub outcome : Outcome
   pub asks : Asks request turns old outcome new before after
-  pub writes : WritesOutcome outcome result was is
+  pub writes : WritesLine (outcome_status outcome) (outcome_line outcome) result was is
 
 -- ---- commands of lines
 
@@ -108,11 +102,8 @@ pub record AwaitsFirst (old new : SessionState) (outcome : Outcome) : Type 0 whe
   pub waits : WaitsWhile handle line_wait old.link outcome new.link old.end_state new.end_state
       ⊎ Waits handle 0 old.link outcome new.link old.end_state new.end_state
   pub asks : ReceivesInAWait old.end_state.receives new.end_state.receives
-  pub ahead : new.ahead ≡ old.ahead
   pub unanswered : new.unanswered ≡ (old.unanswered || outcome_status outcome == 3)
-  pub socket : new.socket ≡ old.socket
-  pub is_open : new.is_open ≡ old.is_open
-  pub at_hand : new.at_hand ≡ old.at_hand
+  pub same : new ≡ record new { ahead = old.ahead; socket = old.socket; is_open = old.is_open; at_hand = old.at_hand }
 
 -- Commands in flight were waited for, one after another, while more than `left` were; how each came out is printed.
 pub data Awaits (left : ℕ) : (old new : SessionState) (text : List ℕ) → Type 0 where
@@ -134,12 +125,7 @@ FirstIsOpen l (h ∷ hs) = (answer_under h l.untaken ≡ None) × (l.lost ≡ fa
 pub record TakesOne (old new : SessionState) : Type 0 where
   pub report : DriveReport
   pub turns : Turns old.link new.link old.end_state new.end_state report
-  pub in_flight : new.in_flight ≡ old.in_flight
-  pub ahead : new.ahead ≡ old.ahead
-  pub unanswered : new.unanswered ≡ old.unanswered
-  pub socket : new.socket ≡ old.socket
-  pub is_open : new.is_open ≡ old.is_open
-  pub at_hand : new.at_hand ≡ old.at_hand
+  pub same : new ≡ record old { link = new.link; end_state = new.end_state }
 
 -- WHILE INPUT IS AWAITED turns are taken, and it is printed how commands came out, in the order of their lines. A turn
 -- is taken only where the first command in flight has not come out yet.
@@ -171,15 +157,12 @@ pub record TakesUp (old new : SessionState) : Type 0 where
 -- longer than a command may take to leave.
 pub record SubmitsCommand (request : RequestFields) (handle : Handle) (old new : SessionState) : Type 0 where
   pub begins : Begins request (Ok handle) old.link new.link old.end_state new.end_state
-  pub in_flight : new.in_flight ≡ old.in_flight ++ handle.0 ∷ []
-  pub ahead : new.ahead ≡ old.ahead
-  pub unanswered : new.unanswered ≡ old.unanswered
-  pub socket : new.socket ≡ old.socket
-  pub is_open : new.is_open ≡ true
   pub now : ℕ
   pub present : IsPresent now old.end_state
   pub in_time : now ≤ since old.at_hand now + longest_life
-  pub at_hand : new.at_hand ≡ Some now
+  pub in_flight : new.in_flight ≡ old.in_flight ++ handle.0 ∷ []
+  pub same : new ≡ record new { ahead = old.ahead; unanswered = old.unanswered; socket = old.socket }
+  pub opens : new ≡ record new { is_open = true; at_hand = Some now }
 
 -- The line was at hand for longer than that: its command counts as one of a link that is lost.
 pub record ComesLate (fault : ControlFault) (s : SessionState) : Type 0 where

@@ -13,4 +13,3 @@ pub mod Sockets
 pub mod Runs
 pub mod CommandLine
 pub mod Matching
-pub mod PrivateSockets

@@ -1,6 +1,6 @@
 -- What is asked of objects in words, and the lines that are printed of them (AES70-2; the words are the profile's).
 use Rattle.std.specs.Prelude.{◌≡◌, ◌⊎◌, ◌+◌, ◌<◌, ◌≤◌, ℕ, Bool, true, false, ◌==◌, ◌||◌, if◌then◌else◌, List, [], ◌∷◌, ◌++◌}
-use Rattle.std.specs.Prelude.{length, codes, decimal, Option, Some, None, Result, Ok, Err}
+use Rattle.std.specs.Prelude.{length, codes, decimal, Option, Some, None, Result, Ok, Err, OnErr}
 use Rattle.std.specs.List.{position, flat_map, fold}
 use Rattle.std.specs.Str.{bytes_eq}
 use Rattle.oca_types.specs.declared.class.Class.{Class}
@@ -10,10 +10,10 @@ use Rattle.oca_script.specs.Escapes.{escaped}
 use Rattle.oca_script.specs.Fields.{number_of}
 use Rattle.oca_script.specs.Ends.{Input, Output, Remembers}
 use Rattle.oca_script.specs.declared.fault.ReadFailed.{ReadFailed}
+use Rattle.oca_script.specs.declared.fault.WriteFailed.{WriteFailed}
 use Rattle.std.specs.Io.KnownBytes.{ReadConsumes}
 use Rattle.oca_net.specs.Ends.{last_u64}
 use Rattle.oca_script.specs.Printing.{WritesFront, WritesWhole}
-use Rattle.oca_program.specs.declared.fault.Failure.{Failure}
 use Rattle.oca_program.specs.declared.fault.RunFault.{RunFault}
 use Rattle.oca_program.specs.declared.fault.RunFault.TheVariants as runs
 use Rattle.oca_control.specs.Asking.{IsPresent}
@@ -136,6 +136,11 @@ trouble_status (trouble.NotSubmitted fault) = 3
 trouble_status trouble.Lost = 3
 trouble_status trouble.Unanswered = 3
 
+-- 0 where it was done
+abbrev pub done_status : Result Unit Trouble → ℕ
+done_status (Ok u) = 0
+done_status (Err why) = trouble_status why
+
 abbrev pub object_status : ObjectLine → ℕ
 object_status (shown.Value value) = 0
 object_status (shown.Position n name) = 0
@@ -151,17 +156,28 @@ max_severity a b =
     else if (a == 4) || (b == 4) then 4
     else 0
 
+-- a line was written, and this is its status; or a write failed
+abbrev pub WritesLine : (status : ℕ) (line : List ℕ) → Result ℕ WriteFailed → Output → Output → Type 0
+WritesLine status line (Ok s) was is = (s ≡ status) × WritesWhole was is line
+WritesLine status line (Err e) was is = WritesFront was is line
+
 -- ---- several objects
 
 -- the line of an object and what it shows
 abbrev pub reported_line : ℕ × ObjectLine → List ℕ
 reported_line line = line_of_object line.0 line.1
 
-abbrev pub reported_lines : List (ℕ × ObjectLine) → List ℕ
-reported_lines lines = flat_map reported_line lines
+abbrev pub reported_status : ℕ × ObjectLine → ℕ
+reported_status line = object_status line.1
 
-abbrev pub most_severe : List (ℕ × ObjectLine) → ℕ
-most_severe lines = fold (λ worst one. max_severity worst (object_status one.1)) 0 lines
+-- The text of each of these was written, in their order, and the exit status is the most severe.
+pub record Reports {X : Type 0} (text_of : X → List ℕ) (status_of : X → ℕ) (done : List X) (status : ℕ)
+    (was is : Output) : Type 0 where
+  pub worst : status ≡ fold (λ worst one. max_severity worst (status_of one)) 0 done
+  pub writes : WritesWhole was is (flat_map text_of done)
+
+abbrev pub ReportsAll : List (ℕ × ObjectLine) → (status : ℕ) → Output → Output → Type 0
+ReportsAll lines status was is = Reports reported_line reported_status lines status was is
 
 -- this line where it was done, else why it was not
 abbrev pub done_line : ObjectLine → Result Unit Trouble → ObjectLine
@@ -296,8 +312,7 @@ pub record SetsAll (ahead : ℕ) (pairs : List (ℕ × List ℕ)) (old new : Pan
   pub between : PanelState
   pub finds : FindsAll pairs assignments missed old between
   pub sets : SetsWhere ahead assignments missed lines between new
-  pub worst : status ≡ most_severe lines
-  pub writes : WritesWhole was is (reported_lines lines)
+  pub reports : ReportsAll lines status was is
 
 -- the values of the first of these objects were sought, and nothing else was asked
 pub record OnlyFinds (pairs : List (ℕ × List ℕ)) (old new : PanelState) : Type 0 where
@@ -308,19 +323,25 @@ pub record OnlyFinds (pairs : List (ℕ × List ℕ)) (old new : PanelState) : T
   pub whole : pairs ≡ front ++ rest
   pub finds : FindsAll front assignments missed old new
 
--- a value was found for each of these objects
-pub record FindsForEach (pairs : List (ℕ × List ℕ)) (old : PanelState) : Type 0 where
-  pub assignments : List (ℕ × Value)
-  pub between : PanelState
-  pub finds : FindsAll pairs assignments [] old between
-
--- NOTHING WAS SET WHERE A VALUE IS MISSING, also where setting was given up.
+-- NOTHING WAS SET WHERE A VALUE IS MISSING, also where setting was given up: there was a value for each of these objects,
+-- or only values were sought.
 abbrev pub SetsNoneUnfound : List (ℕ × List ℕ) → PanelState → PanelState → Type 0
-SetsNoneUnfound pairs old new = OnlyFinds pairs old new ⊎ FindsForEach pairs old
+SetsNoneUnfound pairs old new =
+    OnlyFinds pairs old new ⊎ ((found : List (ℕ × Value)) × (between : PanelState) × FindsAll pairs found [] old between)
 
 -- It was given up since the sink failed, or memory was refused.
-abbrev pub GivesUp : Failure → Output → Type 0
-GivesUp failure is = ((failure.fault ≡ runs.Write) × (is.failed ≡ true)) ⊎ (failure.fault ≡ runs.NoMemory)
+abbrev pub GivesUp : RunFault → Output → Type 0
+GivesUp why is = ((why ≡ runs.Write) × (is.failed ≡ true)) ⊎ (why ≡ runs.NoMemory)
+
+-- It was done, with this status; or it was given up.
+abbrev pub IsDone : (ℕ → Type 0) → Result ℕ RunFault → Output → Type 0
+IsDone Done (Ok status) is = Done status
+IsDone Done (Err why) is = GivesUp why is
+
+-- they were set, so many at once, or none was
+abbrev pub SetsObjects : ℕ → List (ℕ × List ℕ) → PanelState → PanelState → Result ℕ RunFault → Output → Output → Type 0
+SetsObjects ahead pairs old new ended was is =
+    IsDone (λ status. SetsAll ahead pairs old new status was is) ended is × OnErr ended (SetsNoneUnfound pairs old new)
 
 -- ---- objects that are read or locked
 
@@ -385,38 +406,44 @@ pub record AsksAll (One : ℕ → PanelState → PanelState → ObjectLine → T
     (status : ℕ) (was is : Output) : Type 0 where
   pub lines : List (ℕ × ObjectLine)
   pub turns : InTurn One targets lines old new
-  pub worst : status ≡ most_severe lines
-  pub writes : WritesWhole was is (reported_lines lines)
+  pub reports : ReportsAll lines status was is
 
--- the next one of these was asked, and its line was not written, but for a front of it
-abbrev pub StopsAtNext : (ℕ → PanelState → PanelState → ObjectLine → Type 0) → List ℕ → PanelState → PanelState → Output
-    → Output → Type 0
-StopsAtNext One [] old new was is = ⊥
-StopsAtNext One (target ∷ rest) old new was is =
-    (line : ObjectLine) × One target old new line × WritesFront was is (line_of_object target line)
+-- the next one of these was asked, and that ended so at its line
+abbrev pub StopsAtNext : (ℕ → PanelState → PanelState → ObjectLine → Type 0)
+    → (ObjectLine → List ℕ → Output → Output → Type 0) → List ℕ → PanelState → PanelState → Output → Output → Type 0
+StopsAtNext One Stops [] old new was is = ⊥
+StopsAtNext One Stops (target ∷ rest) old new was is =
+    (line : ObjectLine) × One target old new line × Stops line (line_of_object target line) was is
 
--- Of the first of these objects it was asked so, one after another, until the line of one could not be written.
-pub record AsksUntil (One : ℕ → PanelState → PanelState → ObjectLine → Type 0) (targets : List ℕ) (old new : PanelState)
+-- Of the first of these objects it was asked so, one after another, until that ended at the line of one.
+pub record AsksUntil (One : ℕ → PanelState → PanelState → ObjectLine → Type 0)
+    (Stops : ObjectLine → List ℕ → Output → Output → Type 0) (targets : List ℕ) (old new : PanelState)
     (was is : Output) : Type 0 where
   pub asked : List ℕ
   pub rest : List ℕ
-  pub lines : List (ℕ × ObjectLine)
+  pub status : ℕ
   pub before : PanelState
   pub between : Output
   pub whole : targets ≡ asked ++ rest
-  pub turns : InTurn One asked lines old before
-  pub writes : WritesWhole was between (reported_lines lines)
-  pub stops : StopsAtNext One rest before new between is
+  pub asks : AsksAll One asked old before status was between
+  pub stops : StopsAtNext One Stops rest before new between is
 
--- nothing was asked, since what was held before could not be written
-abbrev pub AsksNone : PanelState → PanelState → Output → Output → Type 0
-AsksNone old new was is = (new ≡ old) × WritesFront was is []
+-- it was not written, but for a front of it
+abbrev pub IsUnwritten : ObjectLine → List ℕ → Output → Output → Type 0
+IsUnwritten line text was is = WritesFront was is text
 
 -- OBJECTS WERE ASKED UNTIL A WRITE FAILED: just those, in their order, and none behind the one whose line was not
--- written.
+-- written; or nothing was asked, since what was held before could not be written.
 abbrev pub AsksPart : (ℕ → PanelState → PanelState → ObjectLine → Type 0) → List ℕ → PanelState → PanelState → Output
     → Output → Type 0
-AsksPart One targets old new was is = AsksNone old new was is ⊎ AsksUntil One targets old new was is
+AsksPart One targets old new was is =
+    ((new ≡ old) × WritesFront was is []) ⊎ AsksUntil One IsUnwritten targets old new was is
+
+-- of each of these objects this was asked, or a write failed
+abbrev pub AsksEach : (ℕ → PanelState → PanelState → ObjectLine → Type 0) → List ℕ → PanelState → PanelState
+    → Result ℕ RunFault → Output → Output → Type 0
+AsksEach One targets old new (Ok status) was is = AsksAll One targets old new status was is
+AsksEach One targets old new (Err why) was is = (why ≡ runs.Write) × AsksPart One targets old new was is
 
 -- ---- locks that are kept
 
@@ -495,31 +522,37 @@ LooksWhileHeld [] ready input_of old had has = has ≡ had
 LooksWhileHeld (target ∷ held) ready input_of old had has =
     (kept : PanelState) × LooksAlways ready input_of old kept had has
 
--- Their locks were kept until the input ended, and then taken off; the exit status is the worse one.
-pub record KeepsLocks (held : List ℕ) (before : ℕ) (old new : PanelState) (status : ℕ) (had has : Input)
+-- the worse of two statuses, where the second is one
+abbrev pub worse_of : ℕ → Result ℕ RunFault → Result ℕ RunFault
+worse_of before (Ok after) = Ok (max_severity before after)
+worse_of before (Err why) = Err why
+
+-- Their locks were kept until the input ended, and then taken off; the exit status is the worse one. Or a write failed
+-- while they were taken off.
+pub record KeepsLocks (held : List ℕ) (before : ℕ) (old new : PanelState) (ended : Result ℕ RunFault) (had has : Input)
     (was is : Output) : Type 0 where
   pub kept : PanelState
-  pub after : ℕ
+  pub after : Result ℕ RunFault
   pub keeps : KeepsUntilEnd old kept had has
-  pub unlocks : AsksAll (Locks false) held kept new after was is
-  pub worst : status ≡ max_severity before after
+  pub unlocks : AsksEach (Locks false) held kept new after was is
+  pub worst : ended ≡ worse_of before after
 
 -- where there are any
-abbrev pub KeepsHeld : List ℕ → (before : ℕ) → PanelState → PanelState → (status : ℕ) → Input → Input → Output → Output
-    → Type 0
-KeepsHeld [] before old new status had has was is = (status ≡ before) × (new ≡ old) × (has ≡ had) × (is ≡ was)
-KeepsHeld (target ∷ held) before old new status had has was is =
-    KeepsLocks (target ∷ held) before old new status had has was is
+abbrev pub KeepsHeld : List ℕ → (before : ℕ) → PanelState → PanelState → Result ℕ RunFault → Input → Input → Output
+    → Output → Type 0
+KeepsHeld [] before old new ended had has was is = (ended ≡ Ok before) × (new ≡ old) × (has ≡ had) × (is ≡ was)
+KeepsHeld (target ∷ held) before old new ended had has was is =
+    KeepsLocks (target ∷ held) before old new ended had has was is
 
--- ALL OBJECTS WERE LOCKED, and those that are locked kept so until the input ended, and unlocked then.
-pub record HoldsAll (targets : List ℕ) (old new : PanelState) (status : ℕ) (had has : Input)
+-- ALL OBJECTS WERE LOCKED, and those that are locked kept so until the input ended, and unlocked then, until a write
+-- failed.
+pub record HoldsAll (targets : List ℕ) (old new : PanelState) (ended : Result ℕ RunFault) (had has : Input)
     (was is : Output) : Type 0 where
-  pub lines : List (ℕ × ObjectLine)
+  pub before : ℕ
   pub locked : PanelState
   pub between : Output
-  pub locks : InTurn (Locks true) targets lines old locked
-  pub writes : WritesWhole was between (reported_lines lines)
-  pub keeps : KeepsHeld (held_of lines) (most_severe lines) locked new status had has between is
+  pub locks : AsksAll (Locks true) targets old locked before was between
+  pub keeps : KeepsHeld (held_of locks.lines) before locked new ended had has between is
 
 -- OBJECTS WERE LOCKED, and while those that are locked were kept so the input was looked at.
 pub record HoldsLooking {R : Type 0} (targets : List ℕ) (ready : R → Bool) (input_of : R → Input) (old : PanelState)
@@ -533,45 +566,22 @@ pub record HoldsLooking {R : Type 0} (targets : List ℕ) (ready : R → Bool) (
 abbrev pub HoldsInTime : List ℕ → PanelState → Type 0
 HoldsInTime targets old = (locked : PanelState) × (since : ℕ) × LocksInTime true targets since old locked
 
--- The first of these objects were asked for their locks, and the line of each was written; the last one of them is
--- locked.
-pub record LocksSome (targets : List ℕ) (old new : PanelState) (was is : Output) : Type 0 where
-  pub asked : List ℕ
-  pub last : ℕ
-  pub line : ObjectLine
-  pub rest : List ℕ
-  pub lines : List (ℕ × ObjectLine)
-  pub whole : targets ≡ asked ++ last ∷ rest
-  pub locks : InTurn (Locks true) (asked ++ last ∷ []) (lines ++ (last, line) ∷ []) old new
-  pub locked : object_status line ≡ 0
-  pub writes : WritesWhole was is (reported_lines (lines ++ (last, line) ∷ []))
+-- the line was written, and the object is locked
+abbrev pub IsWrittenLocked : ObjectLine → List ℕ → Output → Output → Type 0
+IsWrittenLocked line text was is = (object_status line ≡ 0) × WritesWhole was is text
 
 -- Locking stopped: a write failed, or there was no memory to list the object that was locked last. None is unlocked.
 abbrev pub StopsLocking : List ℕ → RunFault → PanelState → PanelState → Output → Output → Type 0
 StopsLocking targets why old new was is =
     ((why ≡ runs.Write) × AsksPart (Locks true) targets old new was is)
-    ⊎ ((why ≡ runs.NoMemory) × LocksSome targets old new was is)
+    ⊎ ((why ≡ runs.NoMemory) × AsksUntil (Locks true) IsWrittenLocked targets old new was is)
 
--- the locks of these were kept until the input ended, and taken off until a write failed
-pub record StopsUnlocking (held : List ℕ) (old new : PanelState) (had has : Input) (was is : Output) : Type 0 where
-  pub kept : PanelState
-  pub keeps : KeepsUntilEnd old kept had has
-  pub unlocks : AsksPart (Locks false) held kept new was is
-
--- all objects were asked for their locks, and a write failed while those that are locked were unlocked
-pub record HoldsPart (targets : List ℕ) (old new : PanelState) (had has : Input) (was is : Output) : Type 0 where
-  pub lines : List (ℕ × ObjectLine)
-  pub locked : PanelState
-  pub between : Output
-  pub locks : InTurn (Locks true) targets lines old locked
-  pub writes : WritesWhole was between (reported_lines lines)
-  pub stops : StopsUnlocking (held_of lines) locked new had has between is
-
--- HOLDING STOPPED while the objects were locked, before any input was read; or while they were unlocked.
-abbrev pub StopsHolding : List ℕ → RunFault → PanelState → PanelState → Input → Input → Output → Output → Type 0
-StopsHolding targets why old new had has was is =
-    ((has ≡ had) × StopsLocking targets why old new was is)
-    ⊎ ((why ≡ runs.Write) × HoldsPart targets old new had has was is)
+-- OBJECTS WERE HELD: all were locked, and those that are locked kept so; or locking stopped, before any input was read.
+abbrev pub HoldsObjects : List ℕ → PanelState → PanelState → Result ℕ RunFault → Input → Input → Output → Output
+    → Type 0
+HoldsObjects targets old new ended had has was is =
+    HoldsAll targets old new ended had has was is
+    ⊎ ((has ≡ had) × (why : RunFault) × (ended ≡ Err why) × StopsLocking targets why old new was is)
 
 -- ---- the words of the command line
 

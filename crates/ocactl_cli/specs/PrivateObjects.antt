@@ -3,7 +3,7 @@ use Rattle.std.specs.Prelude.{◌≡◌, ◌⊎◌, ◌<◌, ◌≤◌, ℕ, Boo
 use Rattle.std.specs.Prelude.{Ok, Err}
 use Rattle.oca_types.specs.declared.words.Ono.{Ono}
 use Rattle.oca_script.specs.declared.fault.WriteFailed.{WriteFailed}
-use Rattle.oca_script.specs.Ends.{Input, Output}
+use Rattle.oca_script.specs.Ends.{Output}
 use Rattle.oca_script.specs.Printing.{WritesWhole, WritesFront}
 use Rattle.oca_program.specs.declared.fault.Failure.{Failure}
 use Rattle.oca_program.specs.declared.fault.RunFault.TheVariants.{NoMemory, Write}
@@ -20,11 +20,9 @@ use Rattle.ocactl_cli.specs.declared.objects.Search.{Search}
 use Rattle.ocactl_cli.specs.declared.setting.Assignment.{Assignment}
 use Rattle.ocactl_cli.specs.declared.object_line.ObjectLine.{ObjectLine}
 use Rattle.ocactl_cli.specs.declared.object_line.ObjectLine.TheVariants as shown
-use Rattle.ocactl_cli.specs.Objects.{AsksAll, KeepsHeld, StopsUnlocking, Locks, held_if, held_of}
-use Rattle.ocactl_cli.specs.Objects.{LocksBehind}
-use Rattle.ocactl_cli.specs.Objects.{FindsValue, FindsAll, OnlyFinds, GivesUp, SetCommand, SetsUpTo, SetsEach}
-use Rattle.ocactl_cli.specs.Objects.{done_line, reported_line, reported_lines, most_severe, max_severity}
-use Rattle.ocactl_cli.specs.Objects.{last_refused, line_of_object, object_status}
+use Rattle.ocactl_cli.specs.Objects.{AsksAll, FindsAll, FindsValue, Locks, LocksBehind, ReportsAll, SetCommand, SetsEach}
+use Rattle.ocactl_cli.specs.Objects.{SetsUpTo, WritesLine, done_line, held_if, held_of, last_refused, line_of_object, max_severity}
+use Rattle.ocactl_cli.specs.Objects.{object_status, reported_line, reported_status}
 
 abbrev pub pair_of : Pair → ℕ × List ℕ
 pair_of p = (p.ono.0, p.word)
@@ -43,11 +41,6 @@ set_command w returned = record { target = w.ono.0; value = w.value; returned = 
 abbrev pub set_in_flight : ℕ × Assignment → SetCommand
 set_in_flight command = set_command command.1 (Ok (record { 0 = command.0 }))
 
--- a line was written, and this is its status; or a write failed
-abbrev pub WritesLine : (status : ℕ) (line : List ℕ) → Result ℕ WriteFailed → Output → Output → Type 0
-WritesLine status line (Ok s) was is = (s ≡ status) × WritesWhole was is line
-WritesLine status line (Err e) was is = WritesFront was is line
-
 -- one object was asked so, and its line was written, or a write failed
 pub record ReportsOne (One : ℕ → PanelState → PanelState → ObjectLine → Type 0) (target : ℕ) (old new : PanelState)
     (result : Result ℕ WriteFailed) (was is : Output) : Type 0 where
@@ -59,15 +52,13 @@ pub record ReportsOne (One : ℕ → PanelState → PanelState → ObjectLine �
 abbrev pub LocksOneBehind : (since now : ℕ) → (locks : Bool) → (target : ℕ) → PanelState → PanelState → Type 0
 LocksOneBehind since now locks target old new = (line : ObjectLine) × LocksBehind since now locks target old new line
 
--- the line of one more was written
-pub record ReportsNext (line : ℕ × ObjectLine) (status now : ℕ) (was is : Output) : Type 0 where
-  pub worst : now ≡ max_severity status (object_status line.1)
-  pub writes : WritesWhole was is (reported_line line)
+-- one more text was written, whose status is this
+pub record ReportsText (own : ℕ) (text : List ℕ) (status now : ℕ) (was is : Output) : Type 0 where
+  pub worst : now ≡ max_severity status own
+  pub writes : WritesWhole was is text
 
--- all lines that were written so far
-pub record ReportsAll (lines : List (ℕ × ObjectLine)) (status : ℕ) (was is : Output) : Type 0 where
-  pub worst : status ≡ most_severe lines
-  pub writes : WritesWhole was is (reported_lines lines)
+abbrev pub ReportsNext : ℕ × ObjectLine → (status now : ℕ) → Output → Output → Type 0
+ReportsNext line status now was is = ReportsText (reported_status line) (reported_line line) status now was is
 
 -- ---- values that are sought
 
@@ -81,10 +72,6 @@ pub record FindsAllTo (pairs : List (ℕ × List ℕ)) (assignments : List Assig
   pub finds : FindsAll pairs (map assignment_of assignments) missed old new
   pub all : search.all ≡ is_none missed
   pub reports : ReportsAll missed search.status was is
-
--- it was given up, and nothing was set
-abbrev pub GivesUpFinding : List (ℕ × List ℕ) → Failure → PanelState → PanelState → Output → Type 0
-GivesUpFinding pairs failure old new is = GivesUp failure is × OnlyFinds pairs old new
 
 -- what was found is behind what was found before, or memory was refused; the line of what was not found is written, and
 -- there is not a value for each then, or the sink failed
@@ -194,24 +181,11 @@ pub record ListsHeld (target own status now : ℕ) (held more : List Ono) : Type
   pub worst : now ≡ max_severity status own
   pub listed : map ono_number more ≡ map ono_number held ++ held_if target own
 
--- one more was locked, and its line was written
-pub record LocksNext (target : ℕ) (old new : PanelState) (status now : ℕ) (held more : List Ono)
-    (was is : Output) : Type 0 where
-  pub own : ℕ
-  pub reports : ReportsOne (Locks true) target old new (Ok own) was is
-  pub lists : ListsHeld target own status now held more
-
 -- one more was locked; or the sink failed, or there was no memory to list the object, which was locked then
 abbrev pub LocksNextOr : (target : ℕ) → PanelState → PanelState → (status : ℕ) → Result ℕ Failure
     → (held more : List Ono) → Output → Output → Type 0
-LocksNextOr target old new status (Ok now) held more was is = LocksNext target old new status now held more was is
+LocksNextOr target old new status (Ok now) held more was is =
+    (own : ℕ) × ReportsOne (Locks true) target old new (Ok own) was is × ListsHeld target own status now held more
 LocksNextOr target old new status (Err failure) held more was is =
     ((failure.fault ≡ Write) × (e : WriteFailed) × ReportsOne (Locks true) target old new (Err e) was is)
     ⊎ ((failure.fault ≡ NoMemory) × ReportsOne (Locks true) target old new (Ok 0) was is)
-
--- what was held is kept and taken off, or a write failed meanwhile
-abbrev pub KeepsOrFails : List ℕ → ℕ → PanelState → PanelState → Result ℕ Failure → Input → Input → Output → Output
-    → Type 0
-KeepsOrFails held before old new (Ok status) had has was is = KeepsHeld held before old new status had has was is
-KeepsOrFails held before old new (Err failure) had has was is =
-    (failure.fault ≡ Write) × StopsUnlocking held old new had has was is

@@ -8,18 +8,14 @@ use Rattle.oca_panel.specs.declared.walk.Place.{Place}
 use Rattle.oca_panel.specs.declared.walk.Visit.{Visit}
 use Rattle.oca_panel.specs.Panels.{PanelState}
 use Rattle.oca_panel.specs.Walks.{WalkState, StepsToPlace}
-use Rattle.ocactl_cli.specs.Objects.{GivesUp, max_severity}
-use Rattle.ocactl_cli.specs.Trees.{Walks, most_severe_visit, left_text, status_with_left, visit_status, visit_text}
-use Rattle.ocactl_cli.specs.Trees.{visits_text}
-
--- the lines of a place were written behind those before
-pub record ReportsVisit (visit : Visit) (status now : ℕ) (was is : Output) : Type 0 where
-  pub worst : now ≡ max_severity status (visit_status visit)
-  pub writes : WritesWhole was is (visit_text visit)
+use Rattle.ocactl_cli.specs.Objects.{GivesUp, Reports}
+use Rattle.ocactl_cli.specs.PrivateObjects.{ReportsText}
+use Rattle.ocactl_cli.specs.Trees.{Walks, left_text, status_with_left, visit_status, visit_text}
 
 -- the lines of a visit are written, where there was one; or the sink failed
 abbrev pub ReportsFound : Option Visit → (status : ℕ) → Result (Option ℕ) Failure → Output → Output → Type 0
-ReportsFound (Some visit) status (Ok (Some now)) was is = ReportsVisit visit status now was is
+ReportsFound (Some visit) status (Ok (Some now)) was is =
+    ReportsText (visit_status visit) (visit_text visit) status now was is
 ReportsFound (Some visit) status (Ok None) was is = ⊥
 ReportsFound (Some visit) status (Err failure) was is = (failure.fault ≡ Write) × (is.failed ≡ true)
 ReportsFound None status result was is = (result ≡ Ok None) × (is ≡ was)
@@ -34,15 +30,14 @@ pub record TakesStep (status : ℕ) (result : Result (Option ℕ) Failure) (walk
 abbrev pub VisitsOne : (status : ℕ) → Result (Option ℕ) Failure → WalkState → PanelState → Output → WalkState
     → PanelState → Output → Type 0
 VisitsOne status (Ok now) walk old was further new is = TakesStep status (Ok now) walk old was further new is
-VisitsOne status (Err failure) walk old was further new is = GivesUp failure is
+VisitsOne status (Err failure) walk old was further new is = GivesUp failure.fault is
 
 -- all that was visited, and the lines that were written so far
 pub record WalkedTo (start : WalkState) (old : PanelState) (was : Output) (walk : WalkState) (new : PanelState)
     (status : ℕ) (is : Output) : Type 0 where
   pub visits : List Visit
   pub walks : Walks start old visits walk new
-  pub worst : status ≡ most_severe_visit visits
-  pub writes : WritesWhole was is (visits_text visits)
+  pub reports : Reports visit_text visit_status visits status was is
 
 -- that places are left is printed, where some are; or the sink failed
 abbrev pub ReportsLeft : List Place → (status : ℕ) → Result ℕ Failure → Output → Output → Type 0

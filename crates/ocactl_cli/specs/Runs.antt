@@ -1,6 +1,6 @@
 -- What a run of the program does, by its words (*profile*).
 use Rattle.std.specs.Prelude.{◌≡◌, ◌⊎◌, ◌*◌, min, ℕ, ℤ, Bool, true, false, if◌then◌else◌, List, [], map}
-use Rattle.std.specs.Prelude.{Option, None, Some, Result, Ok, Err, OnErr}
+use Rattle.std.specs.Prelude.{Option, None, Some, Result, Ok, Err}
 use Rattle.clap.specs.declared.parser.matches.ArgMatches.{ArgMatches}
 use Rattle.oca_types.specs.Sizes.{span_size}
 use Rattle.oca_net.specs.EndStates.{EndState}
@@ -19,8 +19,7 @@ use Rattle.ocactl_replay.specs.Replaying.{ServesCall as CallsLink}
 use Rattle.ocactl_cli.specs.Asked.{OptionsAsk, IsRefusal}
 use Rattle.ocactl_cli.specs.Beside.{AsksIfThere}
 use Rattle.ocactl_cli.specs.Exchanges.{AsksOnce, SendsLines, SessionState}
-use Rattle.ocactl_cli.specs.Objects.{AsksAll, AsksPart, HoldsAll, StopsHolding, Gets, Locks, SetsAll, SetsNoneUnfound}
-use Rattle.ocactl_cli.specs.Objects.{is_locking}
+use Rattle.ocactl_cli.specs.Objects.{AsksEach, Gets, HoldsObjects, IsDone, Locks, SetsObjects, is_locking}
 use Rattle.ocactl_cli.specs.PrivateObjects.{ono_number, pair_of}
 use Rattle.ocactl_cli.specs.CommandLine.{own_app}
 use Rattle.ocactl_cli.specs.Matching.{matched_words}
@@ -32,7 +31,6 @@ use Rattle.oca_types.specs.declared.words.Peer.{Peer}
 use Rattle.oca_net.specs.Sockets.{IsBoundFrom}
 use Rattle.ocactl_cli.specs.Trees.{PrintsTree}
 use Rattle.ocactl_cli.specs.Words.{sending_fields}
-use Rattle.ocactl_cli.specs.declared.object_line.ObjectLine.{ObjectLine}
 use Rattle.ocactl_cli.specs.declared.tasks.Task.{Task}
 use Rattle.ocactl_cli.specs.declared.tasks.Task.TheVariants as task
 use Rattle.ocactl_cli.specs.declared.words.Asked.{Asked}
@@ -140,32 +138,6 @@ abbrev pub RunsAt : Reach → ℕ → Result ℕ RunFault → Input → Input �
 RunsAt reach ahead ended had has was is = RunsLines reach ahead ended had has was is ⊎ Unreached ended had has was is
 
 -- ---- objects
-
--- the sink failed, or memory was refused
-abbrev pub IsGivenUp : RunFault → Output → Type 0
-IsGivenUp why is = ((why ≡ fault.Write) × (is.failed ≡ true)) ⊎ (why ≡ fault.NoMemory)
-
--- It was done, with this status; or it was given up.
-abbrev pub IsDone : (ℕ → Type 0) → Result ℕ RunFault → Output → Type 0
-IsDone Done (Ok status) is = Done status
-IsDone Done (Err why) is = IsGivenUp why is
-
--- of each of these objects this was asked, or a write failed
-abbrev pub AsksEach : (ℕ → PanelState → PanelState → ObjectLine → Type 0) → List ℕ → PanelState → PanelState
-    → Result ℕ RunFault → Output → Output → Type 0
-AsksEach One targets old new (Ok status) was is = AsksAll One targets old new status was is
-AsksEach One targets old new (Err why) was is = (why ≡ fault.Write) × AsksPart One targets old new was is
-
--- they were set, so many at once, or none was
-abbrev pub SetsObjects : ℕ → List (ℕ × List ℕ) → PanelState → PanelState → Result ℕ RunFault → Output → Output → Type 0
-SetsObjects ahead pairs old new ended was is =
-    IsDone (λ status. SetsAll ahead pairs old new status was is) ended is × OnErr ended (SetsNoneUnfound pairs old new)
-
--- they were locked, and kept so until the input ended; or that stopped
-abbrev pub HoldsObjects : List ℕ → PanelState → PanelState → Result ℕ RunFault → Input → Input → Output → Output
-    → Type 0
-HoldsObjects targets old new (Ok status) had has was is = HoldsAll targets old new status had has was is
-HoldsObjects targets old new (Err why) had has was is = StopsHolding targets why old new had has was is
 
 -- A TASK was done over a panel. All but the keeping of locks leaves standard input as it is.
 abbrev pub DoesTask : Task → PanelState → PanelState → Result ℕ RunFault → Input → Input → Output → Output → Type 0

@@ -12,7 +12,7 @@ use Rattle.oca_panel.specs.declared.walk.Visit.{Visit}
 use Rattle.oca_panel.specs.Panels.{PanelState}
 use Rattle.oca_panel.specs.Walks.{WalkState, VisitsPlace, begun_walk, most_places}
 use Rattle.ocactl_cli.specs.declared.object_line.ObjectLine.TheVariants.{Failed}
-use Rattle.ocactl_cli.specs.Objects.{max_severity, line_of_object, place_text, trouble_status}
+use Rattle.ocactl_cli.specs.Objects.{done_status, line_of_object, max_severity, place_text, trouble_status}
 
 -- ---- a place
 
@@ -36,13 +36,9 @@ abbrev pub visit_text : Visit → List ℕ
 visit_text visit = found_text visit.place visit.found
 
 -- the exit status
-abbrev pub listed_status : Result Unit Trouble → ℕ
-listed_status (Ok u) = 0
-listed_status (Err why) = trouble_status why
-
 abbrev pub found_status : Found → ℕ
 found_status (found.Object d) = 0
-found_status (found.Block d listed) = listed_status listed
+found_status (found.Block d listed) = done_status listed
 found_status (found.Undescribed why) = trouble_status why
 found_status found.Again = 0
 

@@ -1,8 +1,7 @@
 -- What the options of the controller's program say (*profile*).
-use Rattle.std.specs.Prelude.{◌≡◌, ℕ, ◌/◌, ◌==◌, Bool, false, List, [], ◌∷◌, codes, length, map, nat_lt, if◌then◌else◌}
+use Rattle.std.specs.Prelude.{◌≡◌, ℕ, ◌/◌, ◌==◌, Bool, List, [], ◌∷◌, codes, length, map, nat_lt, if◌then◌else◌}
 use Rattle.std.specs.Prelude.{Option, Some, None}
 use Rattle.std.specs.Option.{option_map}
-use Rattle.std.specs.Str.{bytes_eq}
 use Rattle.clap.specs.Words.{found_of, matched_of, raw_values}
 use Rattle.clap.specs.declared.parser.matches.ArgMatches.{ArgMatches}
 use Rattle.arrayvec.specs.ArrayVec.{ArrayVec}
@@ -10,7 +9,7 @@ use Rattle.oca_types.specs.declared.words.Peer.{Peer}
 use Rattle.oca_types.specs.Sizes.{span_size}
 use Rattle.oca_script.specs.Fields.{number_of, peer_of, hex_of, then_in}
 use Rattle.oca_types.specs.Peers.{RequestFields}
-use Rattle.oca_program.specs.Options.{given, read_as, read_or, read_if, sized, host_of, own_of}
+use Rattle.oca_program.specs.Options.{given, read_as, read_or, read_if, sized, host_of, is_true, own_of}
 use Rattle.ocactl_cli.specs.declared.words.Linking.{Linking}
 use Rattle.ocactl_cli.specs.declared.words.Reach.{Reach}
 use Rattle.ocactl_cli.specs.declared.words.Sending.{Sending}
@@ -136,12 +135,8 @@ abbrev pub behind_options : ArgMatches → List (List ℕ)
 behind_options words = or_none (option_map raw_values (matched_of (found_of words) (codes "ONO")))
 
 -- whether locks are to be kept until the input ends
-abbrev pub is_flag_set : Option (List ℕ) → Bool
-is_flag_set None = false
-is_flag_set (Some text) = bytes_eq text (codes "true")
-
 abbrev pub hold_flag : ArgMatches → Bool
-hold_flag words = is_flag_set (given words (codes "hold"))
+hold_flag words = is_true (given words (codes "hold"))
 
 -- One number a word, all of them, in their order.
 abbrev pub AreNumbers : List (List ℕ) → List ℕ → Type 0

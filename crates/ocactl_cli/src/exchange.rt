@@ -1,7 +1,7 @@
 //! A command and its outcome: asked over an end, and printed.
 ghost use Rattle.std.specs.Prelude.{◌≡◌};
 ghost use Rattle.oca_types.specs.Peers.{request_of};
-ghost use Rattle.oca_script.specs.Printing.{Prints};
+ghost use Rattle.oca_script.specs.Printing.{Prints, WritesOut};
 ghost use Rattle.ocactl_cli.specs.Exchanges.{AsksOnce, outcome_line, outcome_status};
 
 use super::object_line::status_of;
@@ -14,7 +14,6 @@ use ocactl_replay::line::{Line, print_line};
 
 /// The exit status for the outcome of a command. 0 if it was answered with OK, 4 if it was answered with another
 /// status. 3 if no answer came, or the link is lost or refuses the command.
-#[tactic(auto, using(crate::proofs::ExchangeLemmas::carried_out, crate::proofs::ExchangeLemmas::not_carried_out))]
 pub fn outcome_status(outcome: &Outcome) -> u8
     ensures { result ≡ outcome_status outcome.now }
 {
@@ -55,7 +54,15 @@ pub fn ask_once<E: End, W: Sink>(
         printer.old printer.new }
 {
     let outcome = ask(link, end, request, turns);
-    print_outcome(&outcome, printer)?;
-    printer.flush()?;
+    write_outcome(&outcome, printer)?;
     Ok(outcome_status(&outcome))
+}
+
+/// Prints a command's outcome, and flushes it.
+#[tactic(auto, using(oca_script::proofs::PrintLemmas::writing))]
+fn write_outcome<W: Sink>(outcome: &Outcome, printer: &mut Printer<W>) -> Result<(), WriteFailed>
+    ensures { WritesOut result printer.old printer.new (outcome_line outcome.now) }
+{
+    print_outcome(outcome, printer)?;
+    printer.flush()
 }

@@ -1,12 +1,12 @@
 //! Locks that are kept until the input ends.
 ghost use Rattle.std.specs.Prelude.{◌≡◌, ℕ, [], IfErr, IfOk, OnOk, true, map};
+ghost use Rattle.oca_program.specs.Faults.{fault_in};
 ghost use Rattle.oca_program.specs.declared.fault.RunFault.TheVariants.{NoMemory};
 ghost use Rattle.oca_script.specs.Ends.{input};
-ghost use Rattle.ocactl_cli.specs.Objects.{HoldsAll, HoldsInTime, HoldsLooking, KeepsUntilEnd};
+ghost use Rattle.ocactl_cli.specs.Objects.{HoldsInTime, HoldsLooking, HoldsObjects, KeepsHeld, KeepsUntilEnd};
 ghost use Rattle.ocactl_cli.specs.Objects.{LocksInTime, LooksAlways, LooksAtInput};
-ghost use Rattle.ocactl_cli.specs.Objects.{LooksWhileHeld, ReadsWhereReady, StopsHolding, StopsLocking, ends_input};
-ghost use Rattle.ocactl_cli.specs.PrivateObjects.{KeepsOrFails, ListsHeld, LocksEach, LocksNextOr, LocksOneBehind};
-ghost use Rattle.ocactl_cli.specs.PrivateObjects.{ono_number};
+ghost use Rattle.ocactl_cli.specs.Objects.{LooksWhileHeld, ReadsWhereReady, StopsLocking, ends_input};
+ghost use Rattle.ocactl_cli.specs.PrivateObjects.{ListsHeld, LocksEach, LocksNextOr, LocksOneBehind, ono_number};
 
 use super::in_time::present;
 use super::object_line::max_severity;
@@ -36,12 +36,9 @@ pub fn hold<E: End, R: Source, W: Sink>(
     reader: &mut R,
     printer: &mut Printer<W>,
 ) -> Result<u8, Failure>
-    ensures holds { IfOk result (λ status. HoldsAll (map ono_number onos.now) panel.old panel.new status
+    ensures holds { HoldsObjects (map ono_number onos.now) panel.old panel.new (fault_in result)
         (input (R.remaining reader.old) (R.failed reader.old))
-        (input (R.remaining reader.new) (R.failed reader.new)) printer.old printer.new) }
-    ensures stops { IfErr result (λ failure. StopsHolding (map ono_number onos.now) failure.fault panel.old panel.new
-        (input (R.remaining reader.old) (R.failed reader.old))
-        (input (R.remaining reader.new) (R.failed reader.new)) printer.old printer.new) }
+        (input (R.remaining reader.new) (R.failed reader.new)) printer.old printer.new }
     ensures looks { IfOk result (λ _. HoldsLooking (map ono_number onos.now) R.ready
         (λ r. input (R.remaining r) (R.failed r)) panel.old reader.old reader.new) }
     ensures in_time { OnOk result (HoldsInTime (map ono_number onos.now) panel.old) }
@@ -114,7 +111,7 @@ fn keep_held<E: End, R: Source, W: Sink>(
     reader: &mut R,
     printer: &mut Printer<W>,
 ) -> Result<u8, Failure>
-    ensures keeps { KeepsOrFails (map ono_number held.now) status panel.old panel.new result
+    ensures keeps { KeepsHeld (map ono_number held.now) status panel.old panel.new (fault_in result)
         (input (R.remaining reader.old) (R.failed reader.old))
         (input (R.remaining reader.new) (R.failed reader.new)) printer.old printer.new }
     ensures looks { LooksWhileHeld (map ono_number held.now) R.ready (λ r. input (R.remaining r) (R.failed r))

@@ -6,10 +6,9 @@ ghost use Rattle.oca_script.specs.Printing.{WritesOut};
 ghost use Rattle.oca_model.specs.declared.value.Value.TheVariants.{Switch};
 ghost use Rattle.oca_model.specs.Statuses.{status_name_of};
 ghost use Rattle.oca_model.specs.Words.{word_of};
-ghost use Rattle.ocactl_cli.specs.Objects.{or_number, refused_text, trouble_text, shown_text, line_of_object};
+ghost use Rattle.ocactl_cli.specs.Objects.{WritesLine, or_number, refused_text, trouble_text, shown_text, line_of_object};
 ghost use Rattle.ocactl_cli.specs.Objects.{dotted_fields, class_text, place_text, trouble_status, object_status};
 ghost use Rattle.ocactl_cli.specs.Objects.{done_line, max_severity};
-ghost use Rattle.ocactl_cli.specs.PrivateObjects.{WritesLine};
 
 use oca_control::ControlFault;
 use oca_model::{Value, status_name, word_of};

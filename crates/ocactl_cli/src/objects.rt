@@ -1,11 +1,11 @@
 //! Several objects: read, set, locked, unlocked. Each has its line.
 ghost use Rattle.std.specs.Prelude.{◌≡◌, ℕ, [], map, IfOk, IfErr, OnOk, OnErr};
 ghost use Rattle.oca_types.specs.Sizes.{span_size};
-ghost use Rattle.ocactl_cli.specs.Objects.{AsksAll, AsksLock, AsksPart, Gets, Locks, LocksBehind};
-ghost use Rattle.ocactl_cli.specs.Objects.{LocksInTime, SetsAll};
-ghost use Rattle.ocactl_cli.specs.Objects.{SetsNoneUnfound, GivesUp};
+ghost use Rattle.oca_program.specs.Faults.{fault_in};
+ghost use Rattle.ocactl_cli.specs.Objects.{AsksAll, AsksLock, AsksPart, Gets, GivesUp, Locks, LocksBehind};
+ghost use Rattle.ocactl_cli.specs.Objects.{LocksInTime, OnlyFinds, SetsObjects};
 ghost use Rattle.ocactl_cli.specs.PrivateObjects.{ono_number, pair_of, assignment_of, FindsAllTo, FindsOneTo};
-ghost use Rattle.ocactl_cli.specs.PrivateObjects.{GivesUpFinding, LocksOneBehind, ReportsOne, SetsOnlyIf};
+ghost use Rattle.ocactl_cli.specs.PrivateObjects.{LocksOneBehind, ReportsOne, SetsOnlyIf};
 
 use super::in_time::{is_in_time, present};
 use super::object_line::{ObjectLine, done_line, max_severity, report_object};
@@ -87,10 +87,8 @@ pub fn set_all<E: End, W: Sink>(
     ahead: Span,
     printer: &mut Printer<W>,
 ) -> Result<u8, Failure>
-    ensures all { IfOk result (λ status. SetsAll (span_size ahead) (map pair_of pairs.now) panel.old panel.new status
-        printer.old printer.new) }
-    ensures fails { IfErr result (λ failure. GivesUp failure printer.new) }
-    ensures unset { OnErr result (SetsNoneUnfound (map pair_of pairs.now) panel.old panel.new) }
+    ensures { SetsObjects (span_size ahead) (map pair_of pairs.now) panel.old panel.new (fault_in result) printer.old
+        printer.new }
 {
     let mut assignments = Vec::new(alloc);
     match find_assignments(panel, pairs, &mut assignments, printer) {
@@ -135,8 +133,8 @@ fn find_assignments<E: End, W: Sink>(
     requires { assignments.old.items ≡ [] }
     ensures finds { IfOk result (λ s. FindsAllTo (map pair_of pairs.now) assignments.new.items s panel.old panel.new
         printer.old printer.new) }
-    ensures fails { IfErr result (λ failure. GivesUpFinding (map pair_of pairs.now) failure panel.old panel.new
-        printer.new) }
+    ensures fails { IfErr result (λ failure. GivesUp failure.fault printer.new
+        × OnlyFinds (map pair_of pairs.now) panel.old panel.new) }
 {
     printer.flush()?;
     let mut search = Search {

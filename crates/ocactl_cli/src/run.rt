@@ -7,12 +7,11 @@ ghost use Rattle.oca_script.specs.Ends.{input};
 ghost use Rattle.oca_program.specs.Endings.{DoesMatched};
 ghost use Rattle.oca_program.specs.Faults.{fault_in};
 ghost use Rattle.oca_net.specs.Sockets.{IsBoundFrom, new_socket};
-ghost use Rattle.ocactl_cli.specs.Objects.{Gets, Locks};
+ghost use Rattle.ocactl_cli.specs.Objects.{AsksEach, Gets, Locks};
 ghost use Rattle.ocactl_cli.specs.PrivateObjects.{ono_number, pair_of};
 ghost use Rattle.ocactl_cli.specs.Runs.{RunsProgram, DoesByOptions};
 ghost use Rattle.ocactl_cli.specs.Runs.{ReplaysScript, SendsAt, SendsOne, RunsAt, RunsFrom, DoesAt, DoesTask};
-ghost use Rattle.ocactl_cli.specs.Runs.{DoesThenNotes};
-ghost use Rattle.ocactl_cli.specs.Runs.{AsksEach, new_panel, new_session, time_of_turns};
+ghost use Rattle.ocactl_cli.specs.Runs.{DoesThenNotes, new_panel, new_session, time_of_turns};
 ghost use Rattle.ocactl_cli.specs.Sockets.{IsUnreached, link_begun, port_or_any};
 
 use super::bound_end::BoundEnd;
@@ -415,10 +414,7 @@ fn get_each<E: End, W: Sink>(
 ) -> Result<u8, Failure>
     ensures { AsksEach Gets (map ono_number onos.now) panel.old panel.new (fault_in result) printer.old printer.new }
 {
-    match get_all(panel, onos, printer) {
-        Ok(status) => Ok(status),
-        Err(failed) => Err(Failure::from(failed)),
-    }
+    Ok(get_all(panel, onos, printer)?)
 }
 
 /// Locks objects, or takes their locks off. Returns the exit status.
@@ -431,8 +427,5 @@ fn lock_each<E: End, W: Sink>(
     ensures { AsksEach (Locks locks) (map ono_number onos.now) panel.old panel.new
         (fault_in result) printer.old printer.new }
 {
-    match lock_all(panel, onos, locks, printer) {
-        Ok(status) => Ok(status),
-        Err(failed) => Err(Failure::from(failed)),
-    }
+    Ok(lock_all(panel, onos, locks, printer)?)
 }

@@ -3,10 +3,9 @@ ghost use Rattle.std.specs.Prelude.{◌≡◌, ◌+◌, ◌++◌, ◌≤◌, [],
 ghost use Rattle.oca_script.specs.Ends.{output};
 ghost use Rattle.oca_script.specs.Printing.{WritesOut};
 ghost use Rattle.oca_panel.specs.Walks.{begun_walk};
-ghost use Rattle.ocactl_cli.specs.Objects.{GivesUp};
+ghost use Rattle.ocactl_cli.specs.Objects.{GivesUp, WritesLine};
 ghost use Rattle.ocactl_cli.specs.Trees.{PrintsTree, described_text, found_status};
 ghost use Rattle.ocactl_cli.specs.Trees.{visit_status, visit_text};
-ghost use Rattle.ocactl_cli.specs.PrivateObjects.{WritesLine};
 ghost use Rattle.ocactl_cli.specs.PrivateTrees.{ReportsLeft, VisitsOne};
 ghost use Rattle.std.specs.Prelude.{codes};
 
@@ -31,7 +30,7 @@ pub fn walk<E: End, W: Sink>(
     printer: &mut Printer<W>,
 ) -> Result<u8, Failure>
     ensures tree { IfOk result (λ status. PrintsTree panel.old panel.new status printer.old printer.new) }
-    ensures fails { IfErr result (λ failure. GivesUp failure printer.new) }
+    ensures fails { IfErr result (λ failure. GivesUp failure.fault printer.new) }
 {
     match Walk::new(alloc) {
         Ok(mut walk) => walk_on(&mut walk, panel, printer),
@@ -47,7 +46,7 @@ fn walk_on<E: End, W: Sink>(
 ) -> Result<u8, Failure>
     requires { walk.old ≡ begun_walk }
     ensures tree { IfOk result (λ status. PrintsTree panel.old panel.new status printer.old printer.new) }
-    ensures fails { IfErr result (λ failure. GivesUp failure printer.new) }
+    ensures fails { IfErr result (λ failure. GivesUp failure.fault printer.new) }
 {
     printer.flush()?;
     let mut status = 0;

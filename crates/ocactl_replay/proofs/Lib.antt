@@ -1,2 +1,1 @@
 pub mod FieldLemmas
-pub mod ServeLemmas

@@ -3,4 +3,3 @@ pub mod TotalLemmas
 pub mod ReadingLemmas
 pub mod TreeLemmas
 pub mod RunLemmas
-pub mod ItemLemmas

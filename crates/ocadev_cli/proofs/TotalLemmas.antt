@@ -8,9 +8,7 @@ use Rattle.oca_device.specs.Reports.{added, capped, no_turns}
 use Rattle.oca_device.specs.Replies.{ServesEnd}
 use Rattle.oca_device.specs.Following.{ElectronicsState, ServesEndWith}
 use Rattle.oca_device.proofs.Turns.{with_none, with_more}
-use Rattle.oca_device.specs.Keeping.{StoreState}
-use Rattle.oca_device.proofs.Keepings.{keeps_none, keeps_more}
-use Rattle.ocadev_cli.specs.Totals.{StoresOn, ServesOn}
+use Rattle.ocadev_cli.specs.Totals.{ServesOn}
 
 abbrev cap : ℕ → ℕ
 cap n = min n last_u64
@@ -24,11 +22,8 @@ capped-more t b = simp cap-more
 abbrev silent : ElectronicsState
 silent = record { tells = false; followed = [] }
 
-not-true : false ≡ true → ⊥
-not-true h = cc h
-
 with-silent : (a b : DeviceState) (e f : EndState) (r : Report) → ServesEnd a b e f r → ServesEndWith a b e f silent silent r
-with-silent a b e f r h = record { serves = h; telling = refl; followed = λ told w tree events rep. absurd (not-true told) }
+with-silent a b e f r h = record { serves = h; telling = refl; followed = λ told w tree events rep. absurd (cc told) }
 
 -- no round
 pub on-none : (d : DeviceState) (e : EndState) (p : Report) → p ≡ no_turns → ServesOn d d e e p
@@ -48,10 +43,3 @@ cap-fits a b t n is more fits = omega arith
 -- after so many turns, and so many more
 pub turns-more : (t n : ℕ) (p r s : Report) → s ≡ capped (added p r) → p.turns ≡ t → r.turns ≡ n → t + n ≤ last_u64 → s.turns ≡ t + n
 turns-more t n p r s is had more fits = ap (λ (q : Report). q.turns) is ∙ cap-fits p.turns r.turns t n had more fits
-
--- no round, and one round more
-pub kept-none : (b : Bool) (d : DeviceState) (e : EndState) (s : StoreState) (r : Report) → r ≡ no_turns → StoresOn b b d d e e s s r
-kept-none b d e s r is = keeps_none b d e silent s r is
-
-pub kept-more : (p q o : Bool) (a b c : DeviceState) (e f g : EndState) (s t u : StoreState) (m n r : Report) → StoresOn p q a b e f s t m → StoresOn q o b c f g t u n → r ≡ capped (added m n) → StoresOn p o a c e g s u r
-kept-more p q o a b c e f g s t u m n r h k is = keeps_more r h k is

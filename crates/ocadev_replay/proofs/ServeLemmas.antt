@@ -9,18 +9,15 @@ use Rattle.oca_device.specs.declared.verdict.Verdict.{Verdict}
 use Rattle.oca_device.specs.Devices.{DeviceState, Represents}
 use Rattle.oca_device.specs.Events.{Event, Datagram, Tick}
 use Rattle.oca_device.specs.Answers.{packets, verdict}
-use Rattle.oca_script.specs.declared.fault.LineFault.{LineFault}
 use Rattle.oca_script.specs.declared.fault.ReplayFault.{ReplayFault}
 use Rattle.oca_script.specs.declared.fault.ReplayFault.TheVariants.{Line, Read, Write, TooMuch}
-use Rattle.oca_script.specs.declared.fault.Stop.TheVariants as stop
 use Rattle.oca_script.specs.declared.fault.WriteFailed.{WriteFailed}
 use Rattle.oca_script.specs.Ends.{Input, Output}
-use Rattle.oca_script.specs.Printing.{Prints, PrintsAll, PrintsPart, WritesWhole}
+use Rattle.oca_script.specs.Printing.{Prints, WritesWhole}
 use Rattle.oca_script.specs.Script.{Script}
-use Rattle.oca_script.specs.Replaying.{Runs, NoneLeft, OneServed, OneIdled, NeverIdles, ServesLine, Writes, BeginsWithRequests, known_bytes, Replays as ReplaysScript, Outcome as ScriptOutcome}
+use Rattle.oca_script.specs.Replaying.{Runs, NoneLeft, OneServed, OneIdled, NeverIdles, Writes, BeginsWithRequests, known_bytes, Replays as ReplaysScript, Outcome as ScriptOutcome}
 use Rattle.ocadev_replay.specs.declared.request.ScriptEvent.{ScriptEvent}
 use Rattle.ocadev_replay.specs.declared.request.ScriptEvent.TheVariants as asks
-use Rattle.oca_script.proofs.PrintLemmas.{prints-then, prints-less}
 use Rattle.ocadev_replay.specs.Requests.{asked_event}
 use Rattle.ocadev_replay.specs.PrivateRequests.{event_of}
 use Rattle.ocadev_replay.specs.Printing.{verdict_text, packet_text, event_text, events_text, events_then}
@@ -40,7 +37,7 @@ tick-served a b now request r u v e h prints =
       prints = prints;
     })
 
-datagram-serves : (a b : DeviceState) (from : Peer) (bytes : List ℕ) (now : ℕ) (v : Verdict) (ps : List (List ℕ))
+pub datagram-serves : (a b : DeviceState) (from : Peer) (bytes : List ℕ) (now : ℕ) (v : Verdict) (ps : List (List ℕ))
     → ((w : DeviceSizes) (tree : List Object) (events : List Event) → Represents w a tree events → Represents w b tree (Datagram from bytes now ∷ events))
     → ((w : DeviceSizes) (tree : List Object) (events : List Event) → Represents w a tree events → ps ≡ packets w tree events (Datagram from bytes now))
     → ((w : DeviceSizes) (tree : List Object) (events : List Event) → Represents w a tree events → v ≡ verdict w tree events from bytes now)
@@ -52,49 +49,6 @@ datagram-serves a b from bytes now v ps h sent said = record {
       ap (λ x. verdict_text x ++ flat_map packet_text ps) (said w tree events at_a)
       ∙ ap (λ (xs : List (List ℕ)). verdict_text (verdict w tree events from bytes now) ++ flat_map packet_text xs) (sent w tree events at_a);
 }
-
--- the verdict was printed, and the packets as far as r says
-pub datagram-served : (a b : DeviceState) (from : Peer) (bytes : List ℕ) (now : ℕ) (v : Verdict) (ps : List (List ℕ)) (r : Result Unit WriteFailed) (k l m : Output)
-    → ((w : DeviceSizes) (tree : List Object) (events : List Event) → Represents w a tree events → Represents w b tree (Datagram from bytes now ∷ events))
-    → ((w : DeviceSizes) (tree : List Object) (events : List Event) → Represents w a tree events → ps ≡ packets w tree events (Datagram from bytes now))
-    → ((w : DeviceSizes) (tree : List Object) (events : List Event) → Represents w a tree events → v ≡ verdict w tree events from bytes now)
-    → PrintsAll k l (verdict_text v) → Prints r l m (flat_map packet_text ps) → ServesEventAndPrints a (Datagram from bytes now) b r k m
-datagram-served a b from bytes now v ps r k l m h sent said first more = record {
-  text = verdict_text v ++ flat_map packet_text ps;
-  serves = datagram-serves a b from bytes now v ps h sent said;
-  prints = prints-then r k l m (verdict_text v) (flat_map packet_text ps) first more;
-}
-
--- the verdict was printed in part
-pub datagram-cut : (a b : DeviceState) (from : Peer) (bytes : List ℕ) (now : ℕ) (v : Verdict) (ps : List (List ℕ)) (r : Result Unit WriteFailed) (x : WriteFailed) (k l : Output)
-    → ((w : DeviceSizes) (tree : List Object) (events : List Event) → Represents w a tree events → Represents w b tree (Datagram from bytes now ∷ events))
-    → ((w : DeviceSizes) (tree : List Object) (events : List Event) → Represents w a tree events → ps ≡ packets w tree events (Datagram from bytes now))
-    → ((w : DeviceSizes) (tree : List Object) (events : List Event) → Represents w a tree events → v ≡ verdict w tree events from bytes now)
-    → r ≡ Err x → PrintsPart k l (verdict_text v) → ServesEventAndPrints a (Datagram from bytes now) b r k l
-datagram-cut a b from bytes now v ps r x k l h sent said is first = record {
-  text = verdict_text v ++ flat_map packet_text ps;
-  serves = datagram-serves a b from bytes now v ps h sent said;
-  prints = prints-less r x k l (verdict_text v) (flat_map packet_text ps) is first;
-}
-
--- ---- a line
-
-pub line-served : (a b : DeviceState) (r : Result Unit WriteFailed) (u : Unit {0}) (was is : Output) (x : Result Event LineFault) (request : ScriptEvent)
-    → r ≡ Ok u → Ok (event_of request) ≡ x → ServesEventAndPrints a (event_of request) b r was is → ServesLine x ServesEvent a b (Ok tt) was is
-line-served a b r u was is x request e asked h =
-    subst (λ (z : Result Event LineFault). ServesLine z ServesEvent a b (Ok tt) was is) asked
-    (record { text = h.text; serves_it = h.serves; prints = subst (λ (z : Result Unit WriteFailed). Prints z was is h.text) e h.prints })
-
-pub line-failed : (a b : DeviceState) (r : Result Unit WriteFailed) (f : WriteFailed) (was is : Output) (x : Result Event LineFault) (request : ScriptEvent)
-    → r ≡ Err f → Ok (event_of request) ≡ x → ServesEventAndPrints a (event_of request) b r was is → ServesLine x ServesEvent a b (Err stop.Write) was is
-line-failed a b r f was is x request e asked h =
-    subst (λ (z : Result Event LineFault). ServesLine z ServesEvent a b (Err stop.Write) was is) asked
-    (record { text = h.text; serves_it = h.serves; prints = subst (λ (z : Result Unit WriteFailed). Prints z was is h.text) e h.prints })
-
-pub line-refused : (a : DeviceState) (was : Output) (x : Result Event LineFault) (fault : LineFault)
-    → Err fault ≡ x → ServesLine x ServesEvent a a (Err (stop.Line fault)) was was
-line-refused a was x fault e =
-    subst (λ (z : Result Event LineFault). ServesLine z ServesEvent a a (Err (stop.Line fault)) was was) e (refl, refl, refl)
 
 -- ---- a run of events
 

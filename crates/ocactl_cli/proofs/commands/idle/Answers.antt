@@ -1,5 +1,5 @@
 use Rattle.std.proofs.Common.{refl, ◌∙◌}
-use Rattle.ocactl_cli.proofs.ExchangeLemmas.{idles-not, idles-and, idles-as}
+use Rattle.ocactl_cli.proofs.ExchangeLemmas.{idles-not, idles-and}
 use Rattle.ocactl_cli.proofs.commands.idle.Goals as goal
 
 pub loop-turn-init : goal.loop-turn-init
@@ -9,7 +9,7 @@ pub loop-turn-preserved : goal.loop-turn-preserved
 loop-turn-preserved g c =
     let once = c.idle_once-goes_on.ensures in
     record {
-      idles = idles-and _ c.loop-turn.session _ tt _ _ c.loop-turn.printer _ c.loop-turn.invariant.idles (idles-as _ _ _ _ _ _ (once.goes_on c.if-not-goes_on.false) once.idles);
+      idles = idles-and _ c.loop-turn.session _ tt _ _ c.loop-turn.printer _ c.loop-turn.invariant.idles (rw (once.goes_on c.if-not-goes_on.false) at once.idles);
       source = once.source ∙ c.loop-turn.invariant.source;
     }
 

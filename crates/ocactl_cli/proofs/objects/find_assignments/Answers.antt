@@ -13,7 +13,7 @@ loop-pair-preserved g c =
 pub returns-in_err-flush-clause-fails : goal.returns-in_err-flush-clause-fails
 returns-in_err-flush-clause-fails g c =
     let p = err_from_is_err_and c.from_residual.result c.from_residual.ensures.1 in
-    rw p.1 (gives-up-first _ p.0 _ c.flush.new.self (inl (p.2.0, c.in_err-flush.ensures.prints.failed)))
+    rw p.1 (inl (p.2.0, c.in_err-flush.ensures.prints.failed), gives-up-first _ _)
 
 pub returns-in_err-search-clause-fails : goal.returns-in_err-search-clause-fails
 returns-in_err-search-clause-fails g c =

@@ -1,5 +1,5 @@
-use Rattle.ocactl_replay.proofs.ServeLemmas.{datagram-served}
+use Rattle.std.proofs.Common.{refl}
 use Rattle.ocactl_replay.proofs.replay.datagram.Goals as goal
 
 pub returns : goal.returns
-returns g c = datagram-served _ _ _ _ _ c.datagram-reception.result _ _ _ c.datagram-reception.ensures.receives c.print_line.ensures
+returns g c = record { text = _; serves = (c.datagram-reception.result, c.datagram-reception.ensures.receives, refl); prints = c.print_line.ensures }

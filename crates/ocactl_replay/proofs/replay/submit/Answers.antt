@@ -1,5 +1,8 @@
-use Rattle.ocactl_replay.proofs.ServeLemmas.{submit-served}
+use Rattle.std.proofs.Common.{ap}
+use Rattle.ocactl_replay.specs.Printing.{submission_text}
 use Rattle.ocactl_replay.proofs.replay.submit.Goals as goal
 
 pub returns : goal.returns
-returns g c = submit-served _ _ _ _ c.submit-answer.result _ _ _ c.submit-answer.ensures.answer c.submit-answer.ensures.link c.print_line.ensures
+returns g c =
+    let s = c.submit-answer in
+    record { text = submission_text s.result; serves = (s.ensures.link, ap submission_text s.ensures.answer); prints = c.print_line.ensures }
