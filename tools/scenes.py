@@ -59,7 +59,7 @@ def verbs_of_peer(scene):
         "trims twice": lambda value: answer_of(scene.peer.trims(value, copies=2)),
         "trims again": lambda value, copies=0: answer_of(scene.peer.again(scene.peer.gain, 5, 2, struct.pack(">h", value), copies=copies)),
         "trim": lambda: scene.peer.trim(),
-        "asks": lambda *asked: answer_of(scene.peer.ask(*asked[:3], *map(bytes.fromhex, asked[3:]))),
+        "asks": lambda *asked: answer_of(scene.peer.ask(*asked[:3], *(bytes.fromhex(it) for it in asked[3:] if it))),
         "handle": lambda handle: setattr(scene.peer, "handle", handle),
         "patience": lambda seconds: scene.peer.socket.settimeout(seconds)}
 
