@@ -2,6 +2,7 @@
 they try, and that each of their functions is called."""
 import ast
 import contextlib
+import functools
 import os
 import re
 import sys
@@ -19,11 +20,12 @@ import fuzz
 import keep
 import lossy
 import neighbours
+import scenes
 import snippets
 import unreliable
-from tables import data
+from tables import as_it_stands, data
 
-DATA = data("gate_of_tools")
+DATA, ROWS_OF_SCENES = data("gate_of_tools"), as_it_stands("gate_of_tools")["scenes"]
 
 # What the prover says where a proof names what is no more.
 GONE = "error: `x` is not in scope"
@@ -208,6 +210,24 @@ def judges_neighbours(_):
     return count > 1 and all(found)
 
 
+def played(steps):
+    """How many checks a scene over a list passes and fails, or that it breaks off."""
+    its, there, calls = checks.Checks(), [], []
+    verbs = {"adds": there.append, "all": lambda: there, "first": lambda: there[0] if there else None, "same": lambda it: it,
+             "bytes": lambda: there[0].encode(), "late": lambda: calls.append(0) or len(calls), "table": lambda: {"one": "a", "two": None}}
+    try:
+        said(scenes.Scene(its, verbs, name="name").play, steps)
+    except (KeyError, TypeError):
+        return ["breaks off"]
+    return [its.passed, its.failed]
+
+
+def plays_scenes(_):
+    """A scene fails where what a verb gives is not what its row says, waits for what comes, and breaks off at a verb or a name that is none."""
+    with patch.object(scenes, "waited", functools.partial(checks.waited, seconds=0.2)):
+        return is_same([wanted for *wanted, _ in ROWS_OF_SCENES], [played(steps) for *_, steps in ROWS_OF_SCENES])
+
+
 SCOPES = (ast.FunctionDef, ast.Lambda, ast.ListComp, ast.SetComp, ast.DictComp, ast.GeneratorExp)
 
 
@@ -359,4 +379,4 @@ ROWS = [(it.__doc__, it) for it in (
     tries_edits_in_groups, sees_what_is_not_proved, compares_scripts, runs_what_documents_say,
     finds_what_documents_say, judges_neighbours, calls_all_that_it_has, keeps_for_more_groups, finds_examples,
     refuses_broken_tables, lists_what_is_public, finds_names_defined_twice, fails_each_in_turn,
-    sees_what_is_not_kept)]
+    sees_what_is_not_kept, plays_scenes)]

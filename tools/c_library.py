@@ -10,18 +10,17 @@ also sanitized. Each call is tried on a closed handle and at its limits (c_libra
 (c_library_random.c), and the panel over a bad network and at wrong peers (c_library_panel.c). Each request for memory
 is refused in turn. Header and library name the same functions. What is installed lies below its folder, one for each
 kind of processor, and `make uninstall` leaves nothing. The last line is 'N passed, M failed'."""
+import contextlib
 import filecmp
 import itertools
 import os
 import re
-import select
 import shlex
 import shutil
 import struct
 import subprocess
 import sys
 import tempfile
-import time
 from pathlib import Path
 
 sys.path.insert(0, str(Path(__file__).resolve().parent.parent / "gate"))
@@ -29,10 +28,11 @@ import reference
 import c_rows
 import oca_profile as oca
 from c_rows import LANGUAGES, SANITIZED, STRICT, compiled, ran
-from checks import Checks, bound, free_port, lines_in, next_line, over_the_layer, port_said, waited, write
+from checks import Checks, bound, free_port, lines_in, over_the_layer, port_said, read_until
 from embedded import bound_at, channels
-from keep import DONE, Peer, over_kills
+from keep import Peer, over_kills
 from peers import Lossy
+from scenes import Scene, scenes_of, verbs_of_files, verbs_of_peer, verbs_of_run
 from tables import TOP, data
 
 AMPLIFIER = "1: open 0 dB/10, 2: muted 0 dB/10\n1: open -60 dB/10, 2: muted 0 dB/10\n"
@@ -89,27 +89,16 @@ def said_by(words, **how):
     return run.stdout, run.returncode
 
 
+def started(words):
+    run = ran(*words)
+    return run.stdout, run.stderr.split(" ")[0], run.returncode
+
+
 def device_and_panel(checks, made, device="c11", panel="c11", before=(), seconds=3):
     """The device of the example, and the panel against it."""
     run, port = serving([*before, made / f"device-{device}", 0, seconds])
     checks.same(f"{before}: the panel ({panel})", said_by([*before, made / f"panel-{panel}", port]), (PANEL, 0))
     checks.same(f"{before}: the device ({device})", rest(run), (AMPLIFIER, 0))
-
-
-def against_the_programs(checks, made, folder):
-    """`ocactl` mutes the amplifier, and the panel opens the mute and sets the trim of the bench device."""
-    run, port = serving([made / "device-c11", 0, 6])
-    for handle, (target, level, params) in enumerate(((4097, 4, "02"), (4113, 4, "02"), (4113, 4, "01"), (4114, 5, "0007"), (4098, 5, "fff6")), 1):
-        words = ["send", "--device", f"127.0.0.1:{port}", "--port", free_port(), "--first-handle", handle, "--target", target, "--level", level, "--index", 2, "--count", 1,
-                 "--params", params]
-        checks.same(f"`ocactl` sets {target}", said_by([f"{folder}/ocactl", *words]), ("answer 0 0 -\n", 0))
-    checks.same("the device that `ocactl` set", rest(run)[0],
-                "1: open 0 dB/10, 2: muted 0 dB/10\n1: open 0 dB/10, 2: open 0 dB/10\n1: open 0 dB/10, 2: muted 0 dB/10\n"
-                "1: open 0 dB/10, 2: muted 7 dB/10\n1: open -10 dB/10, 2: muted 7 dB/10\n")
-    run, port = serving([f"{folder}/ocadev", "serve", "--port", 0, "--turns", 100000])
-    for language in LANGUAGES:
-        checks.same(f"the panel ({language}) at `ocadev`", said_by([made / f"panel-{language}", port, 4097, 4100]), (PANEL, 0))
-    run.kill()
 
 
 def panels(checks, made, prefix, folder):
@@ -190,38 +179,6 @@ def large_datagrams(checks, made):
         rest(run)
 
 
-def started(words):
-    run = ran(*words)
-    return run.stdout, run.stderr.split(" ")[0], run.returncode
-
-
-def examples_alone(checks, made):
-    """The device of the example alone: its objects, prints, place, and a taken port; and the panel's words."""
-    run, port = serving([made / "device-c11", 0, 600])
-    asker = Peer(port)
-    channels(checks, asker, (4096, 4112), -600)
-    for ono, level, params, said in ((4113, 4, b"\2", "1: muted 0 dB/10, 2: open 0 dB/10\n"),
-                                     (4114, 5, b"\xff\xfb", "1: muted 0 dB/10, 2: open -5 dB/10\n")):
-        checks.same(f"set {ono}", asker.ask(ono, level, 2, params), (0, b""))
-        checks.same(f"what the device prints while it goes on, {ono}", next_line(run, 30), said)
-    checks.same("where the device listens", bound_at(port), ["127.0.0.1"])
-    for name, words in (("device", [made / "device-c11", port, 1]),
-                        ("mixer", [made / "mixer-plain", made / "kept of none", port, 1])):
-        checks.same(f"the {name} at a port that is taken", started(words), ("", "socket:", 1))
-    for lock, read in ((6, "gain: 0 dB/10\n"), (3, "gain: Locked\n")):
-        checks.same(f"the lock {lock}", asker.ask(4098, 1, lock), (0, b""))
-        checks.same(f"the panel at the lock {lock}", started([made / "panel-c11", port]),
-                    (f"open channel 1: status 0\ngain to -6 dB: status 3\n{read}", "", 0))
-    stop(run)
-    checks.same("the panel without a word", started([made / "panel-c11"]), ("", "", 2))
-    with bound() as silent:
-        said = started([made / "panel-c11", silent.getsockname()[1]])
-        checks.same("the panel where nobody answers", said, ("gain: lost\n", "", 1))
-    run, port = serving([made / "mixer-plain", made / "kept of none", 0, 600])
-    checks.same("where the mixer listens", bound_at(port), ["127.0.0.1"])
-    stop(run)
-
-
 def warnings(checks, made, prefix):
     """The compiler warns where a result is not looked at and where a pointer is null; else of nothing."""
     for language, compiler in LANGUAGES.items():
@@ -246,97 +203,62 @@ def for_every_processor(checks, archive):
     checks.same("instructions", len(used) > 50, True)
 
 
-def a_mixer(checks, made, name, before=()):
-    """What is set at the mixer is there behind a kill; a file that fails stays, a broken one is refused."""
-    kept, new = made / f"kept of {name}", made / f"kept of {name}.new"
-    words = lambda seconds: [*before, made / f"mixer-{name}", kept, 0, seconds]
-    until = lambda test: waited(test, 20, 0.05) is not None
-    run, port = serving(words(600))
-    with Lossy(port) as network:
-        for block in (4096, 4592):
-            checks.same(f"{name}: the panel at the channel {block}", said_by([made / "panel-c11", network.port, block + 1, block + 2]), (PANEL, 0))
-        asker = Peer(network.port, 4194)
-        for ono, level, index, *params in DATA.mixer_set:
-            checks.same(f"{name}: set {ono}", asker.ask(ono, level, index, *map(bytes.fromhex, params)), DONE)
-        lines = [*DATA.mixer_lines, "y" * 63, "y" * 64, "y" * 65, "open 5" + 300 * " ", "gain 7 -31"]
-        write(run, "".join(f"{it}\n" for it in lines), ends=False)
-        checks.same(f"{name}: the front", until(lambda: asker.trim() == -31), True)
-        checks.same(f"{name}: datagrams were lost", network.lost > 0, True)
-    held = lambda: kept.exists() and b"Bass" in kept.read_bytes() and b"DAT" in kept.read_bytes() and struct.pack("<q", -31) in kept.read_bytes()
-    checks.same(f"{name}: what was set is kept", until(held), True)
-    checks.same(f"{name}: its notes", sorted(set(stop(run).splitlines())), ["front: no such line"])
-    run, port = serving(words(12 if before else 6))
-    asker = Peer(port)
-    for ono, level, index, params in DATA.desk:
-        asked = asker.ask(ono, level, index, *([b"\0\1"] if index == 3 else []))
-        checks.same(f"{name}: {ono} {level}.{index} after the restart", asked, (0, bytes.fromhex(params)))
-    stop(run)
-    run, port = serving(words(12 if before else 2))
-    asker = Peer(port, 4194)
-    for value in (1, 2, 3, 4):
-        checks.same(f"{name}: the gain is {value}", asker.trims(value), DONE)
-        time.sleep(0.3)
-    run.communicate()
-    run, port = serving(words(12 if before else 6))
-    checks.same(f"{name}: what was set before its end", Peer(port, 4194).trim(), 4)
-    whole = kept.read_bytes()
-    new.mkdir()
-    write(run, "gain 7 -32\n", ends=False)
-    checks.same(f"{name}: not kept", run.stderr.readline(), f"not kept: {kept}: unlink: Is a directory\n")
-    checks.same(f"{name}: and as it was", kept.read_bytes() == whole, True)
-    new.rmdir()
-    checks.same(f"{name}: kept later", until(lambda: struct.pack("<q", -32) in kept.read_bytes()), True)
-    checks.same(f"{name}: its end", (run.communicate(timeout=120)[1], run.returncode), ("", 0))
-    for what, bad in (("cut", whole[:-1]), ("longer", whole + b"\0"), ("turned", whole[:5000] + bytes([whole[5000] ^ 1]) + whole[5001:]), ("empty", b"")):
-        kept.write_bytes(bad)
-        run = ran(*words(1))
-        checks.same(f"{name}: a file that is {what}", (run.stderr, run.returncode), (f"{kept}: it is not whole, or not of this program\n", 1))
-        checks.same(f"{name}: and it stays", kept.read_bytes() == bad, True)
+class Trial(Scene):
+    """A scene of the rows: a program that is made here, and who speaks to it. A mixer may run within another program."""
+
+    def __init__(self, checks, made, before=(), **names):
+        self.made, self.before, self.run, self.port, self.peer, self.way = made, before, None, 0, None, None
+        self.open = contextlib.ExitStack()
+        silent = self.open.enter_context(bound())
+        super().__init__(checks, {
+            **verbs_of_run(self), **verbs_of_peer(self), **verbs_of_files(lambda name: made / name),
+            "runs": self.runs,
+            "runs over": lambda settings, calls, *words: self.runs(*words, CALLS=calls, **settings),
+            "says": lambda program, *words: said_by([made / program, *words]),
+            "starts": lambda program, *words: started([made / program, *words]),
+            "fails": self.fails,
+            "ocactl sends": lambda words: said_by([f"{names['folder']}/ocactl", "send", *self.to(), *words.split()]),
+            "peer": lambda gain: self.begins_peer(self.port, gain),
+            "peer over losses": self.begins_losses,
+            "has lost": lambda: self.way.lost > 0,
+            "notes": lambda: sorted({*stop(self.run).splitlines()}),
+            "stops": lambda: stop(self.run),
+            "listens at": lambda: bound_at(self.port),
+            "looks at the channels": lambda: channels(checks, self.peer, (4096, 4112), -600),
+            "stored by": lambda name: [f"fsync {made}/{name}.new", f"rename {name}.new {name}", f"fsync {made}"],
+            "one after another": lambda *lists: [*itertools.chain(*lists)],
+            "calls of": lambda name: lines_in(made / name),
+            "turned": lambda whole, at: f"{whole[:2 * at]}{int(whole[2 * at:2 * at + 2], 16) ^ 1:02x}{whole[2 * at + 2:]}",
+            "cut": lambda whole: whole[:-2]},
+            made=made, silent=silent.getsockname()[1], panel=PANEL, python=sys.executable, mute=TOP / "examples/c/mute.py", **names)
+
+    def runs(self, program, *words, **how):
+        self.run, self.port = serving([*self.before, self.made / program, *words], **how)
+        self.names["port"] = self.port
+
+    def fails(self, program, *words):
+        """What a run says of faults, and its status."""
+        run = ran(*self.before, self.made / program, *words)
+        return run.stderr, run.returncode
+
+    def to(self):
+        return "--device", f"127.0.0.1:{self.port}", "--port", str(free_port())
+
+    def begins_peer(self, port, gain):
+        self.peer = Peer(port, gain)
+
+    def begins_losses(self, gain):
+        self.way = self.open.enter_context(Lossy(self.port))
+        self.names["way"] = self.way.port
+        self.begins_peer(self.way.port, gain)
 
 
-# What fails as the mixer keeps its second state, how the mixer calls that, and how many calls it has made of that state.
-FAILS = [({}, "", 0), ({"FULL": 5}, "write: No space left on device\n", 0), ({"FAIL_SYNC": 3}, "fsync: Input/output error\n", 1)]
-
-
-def kept_safely(checks, made):
-    """The file is on the disk before it takes its place, and then its folder. What fails is told, and tried again. Each line of the front is given,
-    and so many calls are awaited."""
-    for at, (fails, says, before) in enumerate(FAILS):
-        kept, calls = made / f"kept safely {at}", made / f"calls {at}"
-        stored = [f"fsync {kept}.new", f"rename {kept.name}.new {kept.name}", f"fsync {made}"]
-        wanted = [*stored, *stored[:before], *stored]
-        run, _ = serving([made / "mixer-plain", kept, 0, 600], CALLS=calls, **fails)
-        for line, count in (("gain 7 -30", len(stored)), ("gain 7 -31", len(wanted))):
-            write(run, f"{line}\n", ends=False)
-            waited(lambda: len(lines_in(calls)) >= count, 20, 0.05)
-        noted = f"not kept: {kept}: {says}" if says else ""
-        checks.same(f"the mixer's file: what is called where {fails} fails", (stop(run), lines_in(calls)), (noted, wanted))
-        checks.same(f"and what is kept then, {fails}", struct.pack("<q", -31) in kept.read_bytes(), True)
-
-
-def answers_wait(checks, made):
-    """A command that can't be stored is answered only once it can be, one that reads at once."""
-    kept = made / "kept with answers that wait"
-    run, port = serving([made / "mixer-plain", kept, 0, 600])
-    asker = Peer(port, 4114, patience=1)
-    checks.same("a command that is stored", asker.ask(4113, 4, 2, b"\2"), DONE)
-    (made / f"{kept.name}.new").mkdir()
-    asker.handle += 1
-    told = [asker.trims_again(-7, copies=1) for _ in range(3)]
-    checks.same("a command that cannot be stored, and copies of it", told, [None] * 3)
-    checks.same("what is kept meanwhile", struct.pack("<q", -7) in kept.read_bytes(), False)
-    own = asker.handle
-    checks.same("a command that reads meanwhile", asker.trim(copies=1), -7)
-    checks.same("a command that is refused meanwhile", asker.trims(101, copies=1), (7, b""))
-    (made / f"{kept.name}.new").rmdir()
-    asker.handle = own
-    checks.same("a copy, once it can be stored", asker.trims_again(-7, copies=1), DONE)
-    checks.same("what the mixer said", stop(run), f"not kept: {kept}: unlink: Is a directory\n")
-    run, port = serving([made / "mixer-plain", kept, 0, 600])
-    checks.same("what was answered, behind a kill", Peer(port, 4114).trim(), -7)
-    second = started([made / "mixer-plain", kept, 0, 1])
-    checks.same("a second mixer with the file", second, ("", f"{kept}:".split(" ")[0], 1))
-    stop(run)
+def plays(checks, kind, made, before=(), **how):
+    """Plays the scenes of this kind of the rows."""
+    for steps, names in scenes_of("c_library", kind):
+        trial = Trial(checks, made, before, **how)
+        with trial.open:
+            trial.play(steps, **names)
 
 
 def killed(checks, made):
@@ -348,46 +270,20 @@ def killed(checks, made):
     over_kills(checks, serve)
 
 
-def from_python(checks, made, prefix):
-    """The program in Python mutes a channel by the shared library, and says that nobody answers."""
-    run, port = serving([made / "device-c11", 0, 4])
-    words = [sys.executable, TOP / "examples/c/mute.py", prefix / "lib/liboca.so", port]
-    checks.same("a channel that is opened", Peer(port).ask(4113, 4, 2, b"\2"), (0, b""))
-    checks.same("a mute that Python sets", [said_by([*words, ono]) for ono in (4113, 9)], [("status 0\n", 0), ("status 5\n", 0)])
-    checks.same("the device that Python muted", rest(run),
-                ("1: muted 0 dB/10, 2: open 0 dB/10\n1: muted 0 dB/10, 2: muted 0 dB/10\n", 0))
-    with bound() as silent:
-        checks.same("Python where nobody answers", said_by([*words[:-1], silent.getsockname()[1]]), ("lost\n", 0))
-
-
-# The mixer with the library's loop: each call of its running device ends the program where nobody has the lock.
-HELD = """#define _POSIX_C_SOURCE 200809L
-#include <oca.h>
-#include <pthread.h>
-#include <stdlib.h>
-static inline void held(pthread_mutex_t *by) {
-    if (pthread_mutex_trylock(by) == 0) abort();
-}
-""" + "".join(f"#define oca_device_{name}(...) (held(&lock), oca_device_{name}(__VA_ARGS__))\n"
-              for name in ("datagram", "packets", "packet", "waits", "stored", "tick", "next_lapse", "set", "objects", "object", "spec", "written")) \
-    + "".join(f'#include "{it}"\n' for it in ("examples/c/mixer.c", "c/serve.c", "c/kept.c"))
-
-
-def mixers(checks, made, prefix):
+def mixers(checks, made, prefix, folder):
     """The mixer as it is, over addresses and undefined behaviour, over threads, and under valgrind; and as C++."""
     compiled(made / "mixer.o", f"-I{prefix}/include", "-c", TOP / "examples/c/mixer.c", language="c++17")
-    (made / "held.c").write_text(HELD)
+    (made / "held.c").write_text(DATA.held)
     mixer, whole = [TOP / "examples/c/mixer.c"], [TOP / "examples/c/mixer.c", *(TOP / f"c/{name}.c" for name in PARTS)]
     for name, more, of in (("plain", [], mixer), ("sanitized", SANITIZED, whole), ("threads", ["-O1", "-g", "-fsanitize=thread"], whole),
                            ("held", [f"-I{TOP}"], [made / "held.c"])):
         compiled(made / f"mixer-{name}", "-Wpedantic", *more, f"-I{prefix}/include", *of, f"{prefix}/lib/liboca.a", "-pthread")
-        a_mixer(checks, made, name)
-    kept_safely(checks, made)
-    answers_wait(checks, made)
+        plays(checks, "mixer", made, name=name, short=2, long=6)
+    plays(checks, "scene", made, folder=folder, library=prefix / "lib/liboca.so")
     killed(checks, made)
     if shutil.which("valgrind"):
         shutil.copy(made / "mixer-plain", made / "mixer-valgrind")
-        a_mixer(checks, made, "valgrind", CAREFUL)
+        plays(checks, "mixer", made, CAREFUL, name="valgrind", short=12, long=12)
 
 
 def refused_memory(checks, made):
@@ -573,15 +469,12 @@ class Board:
     def __init__(self, program):
         words = ["qemu-system-aarch64", "-M", "virt", "-cpu", "cortex-a53", "-nic", "none", "-display", "none", "-monitor", "none", "-serial", "stdio", "-kernel", program]
         self.run = subprocess.Popen([str(it) for it in words], stdin=subprocess.PIPE, stdout=subprocess.PIPE, bufsize=0)
+        self.held = b""
 
     def read(self, size, seconds=60):
         """So many bytes; fewer where they do not come in time."""
-        got, until = b"", time.monotonic() + seconds
-        while len(got) < size and select.select([self.run.stdout], [], [], max(0, until - time.monotonic()))[0]:
-            more = self.run.stdout.read(size - len(got))
-            if not more:
-                break
-            got += more
+        self.held += read_until(self.run.stdout.fileno(), lambda said: len(self.held + said) >= size, seconds)
+        got, self.held = self.held[:size], self.held[size:]
         return got
 
     def say(self, data, ip=0x0a000001, port=65001):
@@ -678,13 +571,13 @@ def main():
         for_every_processor(checks, archive)
         for language in LANGUAGES:
             checks.counted(f"each call ({language})", *said_by([made / f"calls-{language}"]))
-        against_the_programs(checks, made, folder)
         panels(checks, made, prefix, folder)
         for part in (stays_below, prefixes, beside_another_kind):
             part(checks, made, archive)
-        for part in (warnings, by_cmake, each_call, random_calls, mixers, from_python):
+        for part in (warnings, by_cmake, each_call, random_calls):
             part(checks, made, prefix)
-        for part in (arenas, on_arm, large_datagrams, of_a_socket, examples_alone, refused_memory):
+        mixers(checks, made, prefix, folder)
+        for part in (arenas, on_arm, large_datagrams, of_a_socket, refused_memory):
             part(checks, made)
         for device, panel in itertools.product(LANGUAGES, repeat=2):
             device_and_panel(checks, made, device, panel)

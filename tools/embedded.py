@@ -13,12 +13,12 @@ import tempfile
 
 import oca_profile as oca
 import peers
-from checks import Checks, bound, port_said, sockets, write
+from checks import Checks, bound, port_said, sockets
+from scenes import Scene, scenes_of, verbs_of_peer, verbs_of_run
 from tables import table
 
 DATA, OPENED = table("embedded"), "open channel 1: status 0\n"
 MUTES, GAINS = (4097, 5097), (4098, 5098)
-LOCK_TOTAL, LOCK_READONLY = 3, 6
 
 
 class Peer(peers.Peer):
@@ -42,61 +42,32 @@ def shown(levels):
     return f"1: {first} {low} dB/10, 2: {second} {high} dB/10\n"
 
 
-def panel_sets(checks):
-    """The panel opens channel 1 and sets its gain; a lock of another peer refuses what it keeps."""
-    for lock, said, after in ((None, "gain to -6 dB: status 0\ngain: -60 dB/10\n", -60), (LOCK_READONLY, "gain to -6 dB: status 3\ngain: 0 dB/10\n", 0),
-                              (LOCK_TOTAL, "gain to -6 dB: status 3\ngain: status 3\n", None)):
-        run, port, peer = amplified(checks)
-        if lock:
-            checks.same("the lock", peer.ask(GAINS[0], 1, lock)[0], 0)
-        checks.same(f"the panel, lock {lock}", checks.ran("panel", port)[0], OPENED + said)
-        checks.same(f"the amplifier, lock {lock}", run.stdout.readline(), shown((("open", 0), ("muted", 0))))
-        if after == -60:
-            checks.same("the gain is shown", run.stdout.readline(), shown((("open", -60), ("muted", 0))))
-        checks.same(f"what is read, lock {lock}", peer.levels(), shown((("open", after or 0), ("muted", 0))))
+class Stage(Scene):
+    """A scene of the rows: an amplifier, or `ocadev`, the panel at it, and a peer."""
+
+    def __init__(self, checks, silent):
+        self.run, self.port, self.peer = None, 0, None
+        super().__init__(checks, {
+            **verbs_of_run(self), **verbs_of_peer(self),
+            "amplifier": self.begins,
+            "ocadev": self.serves,
+            "asks all": lambda command: self.does["asks"](*command),
+            "levels": lambda: self.peer.levels(),
+            "panel": lambda *words: checks.ran("panel", self.port, *words)[0],
+            "panel at": lambda port, *words: checks.ran("panel", *str(port).split(), *words)[0]}, silent=silent.getsockname()[1])
+
+    def begins(self):
+        self.run, self.port, self.peer = amplified(self.checks)
+
+    def serves(self, *words):
+        self.run, self.port = self.checks.serve(*words)
 
 
-def listing(checks):
-    """The panel lists objects by classes, roles and values; it says what is locked, too long, or not answered."""
-    run, port, peer = amplified(checks)
-    for command, printed in DATA["listed"]:
-        if command:
-            checks.same(f"before a listing, {command}", peer.ask(*command[:3], *map(bytes.fromhex, command[3:]))[0], 0)
-        checks.same(f"a listing behind {command}", checks.ran("panel", port, "objects")[0], printed)
-    for words, printed in DATA["of_ocadev"]:
-        checks.same(f"a listing of ocadev {words}", checks.ran("panel", checks.serve(*words)[1], "objects")[0], printed)
-    with bound() as silent:
-        port = silent.getsockname()[1]
-        checks.same("a listing where nobody answers", checks.ran("panel", port, "objects")[0], "100: lost\n")
-        checks.same("the panel where nobody answers", checks.ran("panel", port)[0], "lost\n")
-    for words in DATA["usage"]:
-        checks.same(f"the words {words}", checks.ran("panel", *words)[0], "usage: panel [PORT [objects]]\n")
-
-
-def knobs(checks):
-    """Each knob is turned, with an input that stays open: what is shown, and what a peer reads."""
-    run, port, peer = amplified(checks)
-    levels = [["muted", 0], ["muted", 0]]
-    checks.same("at first", peer.levels(), shown(levels))
-    for line, channel, place, value in DATA["turned"]:
-        changes = levels[channel][place] != value
-        levels[channel][place] = value
-        write(run, f"{line}\n", ends=False)
-        if changes:
-            checks.same(f"{line}: what is shown", run.stdout.readline(), shown(levels))
-            checks.same(f"{line}: what is read", peer.levels(), shown(levels))
-    for line, note in DATA["unturned"]:
-        write(run, f"{line}\n", ends=False)
-        checks.same(f"{line}: a note", run.stderr.readline(), f"note: {note}\n")
-        checks.same(f"{line}: what is read", peer.levels(), shown(levels))
-    for ono, level, params, channel, place, value in DATA["by_a_peer"]:
-        levels[channel][place] = value
-        checks.same("a peer sets", peer.ask(ono, level, 2, bytes.fromhex(params))[0], 0)
-        checks.same("a peer sets: what is shown", run.stdout.readline(), shown(levels))
-    write(run, "open 2")
-    levels[1][0] = "open"
-    checks.same("a last line without its end", run.stdout.readline(), shown(levels))
-    checks.same("behind the end of the input", peer.levels(), shown(levels))
+def scenes(checks):
+    for steps, names in scenes_of("embedded"):
+        with bound() as silent:
+            Stage(checks, silent).play(steps, **names)
+        checks.end()
 
 
 def channels(checks, peer, blocks, low):
@@ -158,4 +129,4 @@ def ends(checks):
 
 
 if __name__ == "__main__":
-    sys.exit(Checks(sys.argv[1]).tried(panel_sets, listing, knobs, objects, at_this_machine, closed, ends))
+    sys.exit(Checks(sys.argv[1]).tried(scenes, objects, at_this_machine, closed, ends))

@@ -20,8 +20,9 @@ from pathlib import Path
 
 import checks
 import oca_profile as oca
-from checks import at, bound, by_turns, free_port, next_line, read_until
+from checks import at, bound, by_turns, free_port, lines_in, read_until
 from peers import Other, Served, commands_in
+from scenes import Scene, scenes_of, verbs_of_run
 from tables import data, table
 
 DATA = data("hands")
@@ -126,7 +127,9 @@ def asked(device):
 
 
 def address(device):
-    """The address of a device, or of what is at this port of this machine, or this one."""
+    """The address of a device, of a socket, or of what is at this port of this machine; or this one."""
+    if hasattr(device, "getsockname"):
+        return at(device)
     return device if isinstance(device, str) else f"127.0.0.1:{getattr(device, 'port', device)}"
 
 
@@ -193,7 +196,7 @@ def of_rows(checks):
 DEVICES = {
     "the second implementation": lambda: Served(stagebox()), "in itself": InItself, "missing": lambda: Missing(stagebox()),
     "deaf": lambda: Deaf(stagebox(), None), "deaf to sets": lambda: Deaf(stagebox(), SETS), "nameless": lambda: Deaf(stagebox(), [NAME]),
-    "faint": lambda: Faint(stagebox(), None), "old": lambda: OldSession(stagebox(), by_turns()[:1]),
+    "faint": lambda: Faint(stagebox(), None), "late": lambda: Late(stagebox()), "old": lambda: OldSession(stagebox(), by_turns()[:1]),
     "old twice": lambda: OldSession(stagebox(), by_turns()), "nobody": lambda: contextlib.nullcontext(free_port()),
     "another machine": lambda: contextlib.nullcontext("192.0.2.1:65000")}
 
@@ -259,33 +262,6 @@ def sets_at_once(checks):
         checks.same("set --ahead: both before it at once", device.kept, [2])
 
 
-def tells_at_once(checks):
-    """`set --ahead 2`, and `get` and `lock`: a line is printed as soon as its outcome and those before it are known."""
-    with Late(stagebox()) as device:
-        run = checks.start("ocactl", *f"set --ahead 2 --device 127.0.0.1:{device.port} --port {checks.port} 4097 muted 4098 inverted".split())
-        checks.same("set --ahead: the first line while the second command waits", next_line(run, 4), "4097 muted\n")
-        device.goes_on.set()
-        checks.same("set --ahead: the rest", run.stdout.read(), "4098 inverted\n")
-        checks.same("set --ahead: the status", run.wait(10), 0)
-
-
-# What is asked until the first line can't be written.
-UNTIL_WRITTEN = {"tree": [(100, CLASS), (100, ROLE), (100, MEMBERS)], "get 4097 4098": [(4097, CLASS), (4097, (4, 1))],
-                 "set 4097 muted 4098 inverted": [(4097, CLASS), (4098, CLASS), (4097, (4, 2))], "lock 4097 4098": [(4097, (1, 3))],
-                 "unlock 4097 4098": [(4097, (1, 4))]}
-
-
-def stops_unwritten(checks):
-    """Behind a line that can't be written nothing more is asked."""
-    for words, wanted in UNTIL_WRITTEN.items():
-        with open("/dev/full", "w") as full, Served(stagebox()) as device:
-            own = f"--device 127.0.0.1:{device.port} --port {checks.port} --first-handle 1"
-            run = checks.start("ocactl", *words.split(), *own.split(), stdout=full)
-            said = run.communicate(timeout=60)[1]
-        checks.same(f"{words}, which can't be written", (said, run.returncode), ("write failed\n", 1))
-        checks.same(f"{words}, which can't be written: what it asks", [it[:2] for it in asked(device)], wanted)
-
-
 def helps(checks):
     """The help of each command has the name of its own program and command, in its form and in its examples. The exit statuses that the
     help of a command of `ocactl` tells are those with which it ends where the help says so."""
@@ -341,118 +317,69 @@ class Terminal:
         return None
 
 
-def at_a_terminal(checks):
-    """At a terminal typed lines are read, copies sent, and Ctrl-D ends `run` and `lock --hold`."""
-    for script in (False, True):
-        with Missing(stagebox()) as device:
-            words = checks.words(device, "run")
-            run = Terminal("sh", "-c", f"{' '.join(words)}; exit $?") if script else Terminal(*words)
-            for line, answer in ((b"4097 4 1 0 -\n", b"answer 0 1 01"), (b"4098 4 1 0 -\n", b"answer 0 1 01"), (b"4101 5 1 0 -\n", b"answer 0 1 00")):
-                before, run.said = run.said, b""
-                run.write(line)
-                checks.same(f"run at a terminal, {script}: {line}", run.says(answer), True)
-            run.write(b"\x04")
-            checks.same(f"run at a terminal, {script}: its end", run.ends(), 0)
-    with Served(stagebox()) as device:
-        run = Terminal(*checks.words(device, "lock", "--hold", "4097"))
-        checks.same("lock --hold at a terminal", run.says(b"4097 locked"), True)
-        run.write(b"a line that is dropped\n")
-        checks.same("lock --hold at a terminal: it is kept", run.says(b"unlocked", 1), False)
-        run.write(b"\x04")
-        checks.same("lock --hold at a terminal: Ctrl-D", (run.says(b"4097 unlocked"), run.ends()), (True, 0))
-        checks.same("lock --hold at a terminal: no lock", [o.lock for o in device.tree], [None] * len(device.tree))
+class Stage(Scene):
+    """A scene of the rows: a device, and `ocactl` there at a terminal, or with an input that stays open; or two of each."""
+
+    def __init__(self, checks):
+        self.checks, self.device, self.run, self.terminal, self.other = checks, None, None, None, ()
+        self.open = contextlib.ExitStack()
+        self.place = f"{self.open.enter_context(tempfile.TemporaryDirectory())}/said"
+        in_a_file = lambda: "".join(f"{it}\n" for it in lines_in(self.place))
+        super().__init__(checks, {
+            **verbs_of_run(self),
+            "device": self.begins,
+            "device goes on": lambda: self.device.goes_on.set(),
+            "locked": lambda: [it.ono for it in self.device.tree if it.lock],
+            "swap": self.swap,
+            "terminal": lambda *words: self.types_at(*self.words(words)),
+            "shell at a terminal": lambda *words: self.types_at("sh", "-c", f"{' '.join(self.words(words))}; exit $?"),
+            "terminal and a file": lambda *words: self.types_at("sh", "-c", f"{' '.join(self.words(words))} > {self.place} 2>&1; exit $?"),
+            "in the background": lambda given, *words: self.begins_behind(given, "", words),
+            "in the background, its output in a file": lambda given, *words: self.begins_behind(given, self.place, words),
+            "types": lambda text: self.terminal.write(text.encode()),
+            "says": lambda text, seconds=60: self.terminal.says(text.encode(), seconds),
+            "says no more": lambda: setattr(self.terminal, "said", b""),
+            "has said": lambda text: text in in_a_file() or self.terminal.says(text.encode(), 0.1),
+            "in the file": in_a_file,
+            "lines in the file": lambda: in_a_file().count("\n"),
+            "is stopped": lambda: Path(f"/proc/{self.pid()}/stat").read_text().rsplit(")", 1)[1].split()[0] == "T",
+            "kill it": lambda: os.kill(self.pid(), signal.SIGKILL),
+            "goes": lambda: self.terminal.ends(),
+            "run": self.begins_run,
+            "run into a full file": lambda words: self.begins_run(*words.split(), stdout=self.open.enter_context(open("/dev/full", "w"))),
+            "what is asked": lambda: [f"{ono} {level}.{index}" for ono, (level, index), _ in asked(self.device)],
+            "gets": lambda: self.checks.run(self.device, "get", 4097)})
+
+    def begins(self, name):
+        self.device = self.open.enter_context(DEVICES[name]())
+
+    def swap(self):
+        (self.device, self.run), self.other = self.other or (None, None), (self.device, self.run)
+
+    def words(self, words):
+        return self.checks.words(self.device, *map(str, words))
+
+    def types_at(self, *words):
+        self.terminal = Terminal(*words)
+
+    def begins_behind(self, given, place, words):
+        self.types_at(sys.executable, "-c", DATA.in_the_background, given, place, *self.words(words))
+
+    def begins_run(self, command, *words, **how):
+        self.run = self.checks.start("ocactl", command, "--device", address(self.device), "--port", free_port(), *words, **how)
+
+    def pid(self):
+        return int(re.search(rb"(\d+) is there", self.terminal.said)[1])
 
 
-def at_a_terminal_alone(checks):
-    """A terminal is known by the input alone: lines that are typed there are read where the output goes to a file, and Ctrl-D ends the run."""
-    with Served(stagebox()) as device, tempfile.TemporaryDirectory() as place:
-        run = Terminal("sh", "-c", f"{' '.join(checks.words(device, 'run'))} > {place}/said 2>&1; exit $?")
-        for count in (1, 2):
-            run.write(b"4097 4 1 0 -\n")
-            printed = says_in(f"{place}/said", "answer 0 1 01\n" * count)
-            checks.same(f"run at a terminal, its output in a file: answer {count}", printed, "answer 0 1 01\n" * count)
-        run.write(b"\x04")
-        checks.same("run at a terminal, its output in a file: its end", run.ends(), 0)
-
-
-def says_in(path, wanted, seconds=60):
-    has = lambda: Path(path).read_text() if Path(path).exists() else None
-    checks.waited(lambda: has() == wanted, seconds, 0.02)
-    return has()
-
-
-# Runs a command in the background of its terminal, prints its number, waits for it and prints its status. Of the words before the command the first
-# is its input, in place of the terminal, and the second the file of its output: each where there is one.
-IN_THE_BACKGROUND = """import os, subprocess, sys
-given, place, *words = sys.argv[1:]
-run = subprocess.Popen(words, preexec_fn=os.setpgrp, stdin=subprocess.PIPE if given else None,
-                       stdout=open(place, "w") if place else None)
-print(run.pid, "is there", flush=True)
-run.communicate(given.encode() if given else None)
-print("its status is", run.returncode, flush=True)
-"""
-
-
-def in_the_background(checks, device, *words, given="", place=""):
-    return Terminal(sys.executable, "-c", IN_THE_BACKGROUND, given, place, *checks.words(device, *words))
-
-
-def behind_a_terminal(checks):
-    """In the background `lock --hold` reads no terminal, is not stopped, and keeps its lock; other inputs are read."""
-    for name, is_file in (("lock --hold in the background", False), ("lock --hold in the background, its output in a file", True)):
-        with Served(stagebox()) as device, tempfile.TemporaryDirectory() as room:
-            place = f"{room}/said" if is_file else ""
-            run = in_the_background(checks, device, "lock", "--hold", "4097", place=place)
-            checks.same(f"{name}: it is there", run.says(b" is there"), True)
-            checks.same(name, says_in(place, "4097 locked\n") == "4097 locked\n" if is_file else run.says(b"4097 locked"), True)
-            pid = int(re.search(rb"(\d+) is there", run.said)[1])
-            for line in (b"a line of another program\n", b"and one more\n"):
-                run.write(line)
-                checks.same(f"{name}: it goes on", (run.says(b"unlocked", 1), b"its status" in run.said), (False, False))
-                state = Path(f"/proc/{pid}/stat").read_text().rsplit(")", 1)[1].split()[0]  # T if it is stopped
-                checks.same(f"{name}: it is not stopped, but {state}", state in "RS", True)
-            checks.same(f"{name}: its lock", [o.lock is not None for o in device.tree if o.ono == 4097], [True])
-            os.kill(pid, signal.SIGKILL)
-            checks.same(f"{name}: its end", (run.says(b"its status is -9"), run.ends()), (True, 0))
-    name = "run in the background, its input of another program"
-    with Served(stagebox()) as device:
-        run = in_the_background(checks, device, "run", given="4097 4 1 0 -\n")
-        checks.same(name, (run.says(b"answer 0 1 01"), run.says(b"its status is 0")), (True, True))
-        checks.same(f"{name}: its end", run.ends(), 0)
-
-
-def held(checks):
-    """`lock --hold`: the locks stay until the input ends, and are then taken off; 15 seconds behind a kill they lapse."""
-    def start(device, *words):
-        return checks.start("ocactl", "lock", "--hold", "--device", f"127.0.0.1:{device.port}", "--port", free_port(), *words)
-
-    with Served(stagebox()) as first, Served(stagebox()) as second:
-        runs = start(first, 4097, 77, 4098), start(second, 4097)
-        checks.same("lock --hold: the locks", [runs[0].stdout.readline() for _ in range(3)], ["4097 locked\n", "77 BadONo\n", "4098 locked\n"])
-        checks.same("lock --hold: the lock", runs[1].stdout.readline(), "4097 locked\n")
-        runs[0].stdin.write("a line that is dropped\n")
-        runs[0].stdin.flush()
-        begun = time.monotonic()
-        while time.monotonic() - begun < 20:
-            time.sleep(1)
-            for device in (first, second):
-                checks.run(device, "get", 4097)
-        for device in (first, second):
-            checks.prints("lock --hold: another controller after 20 seconds", device, ["get", 4097], "4097 Locked\n", 4)
-        runs[1].kill()
-        runs[0].stdin.close()
-        checks.same("lock --hold: the locks are taken off", (runs[0].stdout.read(), runs[0].stderr.read(), runs[0].wait(30)),
-                    ("4097 unlocked\n4098 unlocked\n", "", 4))
-        checks.same("lock --hold: no lock", [o.lock for o in first.tree], [None] * len(first.tree))
-        checks.prints("lock --hold: killed", second, ["get", 4097], "4097 Locked\n", 4)
-        time.sleep(16)
-        checks.prints("lock --hold: 16 seconds behind the kill", second, ["get", 4097], "4097 muted\n", 0)
-    with Served(stagebox()) as device:
-        run = start(device, 77)
-        checks.same("lock --hold: nothing is locked", (run.wait(30), run.stdout.read()), (4, "77 BadONo\n"))
+def scenes(its):
+    for steps, names in scenes_of("hands"):
+        stage = Stage(its)
+        with stage.open:
+            stage.play(steps, **names)
+        its.end()
 
 
 if __name__ == "__main__":
     sys.exit(Checks(sys.argv[1]).tried(
-        of_rows, told, sets_at_once, tells_at_once, stops_unwritten, helps, at_own_ports,
-        at_a_terminal, at_a_terminal_alone, behind_a_terminal, held, alone=(at_own_ports,)))
+        of_rows, told, sets_at_once, helps, at_own_ports, scenes, alone=(at_own_ports,)))

@@ -25,11 +25,11 @@ from pathlib import Path
 import checks
 import peers
 from checks import Beside, lines_in, port_said, waited
-from oca_profile import text_bytes
+from scenes import Scene, scenes_of, verbs_of_files, verbs_of_peer
 from tables import data, octets
 
-MUTE, TRIM = 4097, 4100
-KILLS, STOPS = 30, 20
+TRIM = 4100
+KILLS = 30
 LISTENING = re.compile(r"listening [\d.]+:(\d+)\n")
 DONE = (0, b"")
 NOT_KEPT, AGAIN = r"note: the state is not kept: [^\n]*\n", "note: the state is kept again: "
@@ -50,9 +50,6 @@ class Peer(peers.Peer):
 
     def trims(self, value, **how):
         return self.ask(self.gain, 5, 2, number(value), **how)
-
-    def trims_again(self, value, **how):
-        return self.again(self.gain, 5, 2, number(value), **how)
 
     def trim(self, **how):
         answer = self.ask(self.gain, 5, 1, **how)
@@ -76,13 +73,11 @@ class Checks(checks.Checks):
         return run, said, Peer(int(listening[1])) if listening else None
 
     @contextlib.contextmanager
-    def served(self, keep, *words, what="", says="", number=signal.SIGKILL, **how):
-        """The peer of such a device, which is killed at the end; where `what` is given it has told just what is of this form."""
-        run, _, peer = self.serve(keep, *words, **how)
+    def served(self, keep):
+        """The peer of such a device, which is killed behind it."""
+        run, _, peer = self.serve(keep)
         yield peer
-        told = stop(run, number)
-        if what:
-            self.expect(f"{what}: what it says", re.fullmatch(says, told), told)
+        stop(run)
 
     def set_once(self, keep):
         with self.served(keep) as peer:
@@ -110,59 +105,6 @@ def stop(run, how=signal.SIGKILL):
     return run.communicate(timeout=30)[1]
 
 
-def answers(peer, commands):
-    return [peer.ask(target, level, index, *map(bytes.fromhex, params)) for target, level, index, *params in commands]
-
-
-def restarts(checks, folder):
-    """What peers set is there after a restart, and nothing is written before they did."""
-    keep, both = f"{folder}/state", f"{folder}/both"
-    with checks.served(keep, what="a device") as peer:
-        peer.ask(MUTE, 4, 1)
-        checks.same("a file before anything was set", os.path.exists(keep), False)
-        checks.same("statuses of what was set", [answer[0] for answer in answers(peer, DATA.sets)], [0] * 9)
-        before = answers(peer, DATA.reads)
-        checks.same("the name that was set", before[5], (0, text_bytes("a\"b,\n")))
-        checks.same("the label that was set", before[6], (0, text_bytes("B\u00fchne \"1\"")))
-    with checks.served(keep, "--verbose") as peer:
-        for at, (was, now) in enumerate(zip(before, answers(peer, DATA.reads))):
-            checks.same(f"what was set, {at}, after a restart", now, was)
-        written = os.stat(keep).st_mtime_ns
-        peer.ask(MUTE, 4, 1)
-        checks.same("a file after a command that only reads", os.stat(keep).st_mtime_ns, written)
-    checks.same("no new file is left", os.path.exists(f"{keep}.new"), False)
-    checks.is_whole("the file: what show --text prints, and an end", keep)
-    # What is kept is kept, and what is told is told, whatever else is asked for.
-    run, _, peer = checks.serve(both, "--verbose", "--stats", "1")
-    checks.same("a command of a run that tells", peer.ask(MUTE, 4, 2, b"\x01"), DONE)
-    time.sleep(3.5)
-    told = stop(run)
-    checks.same("the line of the datagram", re.search(r" served 1 0 0 wrote 4097\n", told) is not None, True)
-    checks.same("the report so far", re.search(r"note: turns \d+ executed 1 .* sessions 1 locks 0\n", told) is not None, True)
-    checks.same("the file of a run that tells", b"object 4097 4096 mute muted" in checks.shown(both) and os.path.exists(both), True)
-    # Another number of strips is left aside where the file is there.
-    with checks.served(keep, "--channels", "2") as peer:
-        checks.same("an object of a strip", peer.ask(4104, 4, 1), (5, b""))
-    # A duplicate from before a restart is executed as new: its window is not kept.
-    with checks.served(keep) as peer:
-        checks.same("a handle of before a restart", peer.ask(MUTE, 4, 2, b"\x01"), DONE)
-        checks.same("what it set", peer.ask(MUTE, 4, 1), (0, b"\x01"))
-
-
-def written_once(checks, folder):
-    """Behind a command that set something the file is written once, and not again in turns in which nothing comes, nor for a copy of the command."""
-    keep = f"{folder}/once"
-    which = lambda: (os.stat(keep).st_ino, os.stat(keep).st_mtime_ns)  # each write makes another file, which takes the place of the one before
-    with checks.served(keep) as peer:
-        checks.same("a command that sets something", peer.trims(5), DONE)
-        checks.same("the file behind its answer", os.path.exists(keep), True)
-        before = which()
-        time.sleep(0.5)
-        checks.same("the file in ten turns in which nothing comes", which(), before)
-        checks.same("a copy of the command", peer.trims_again(5), DONE)
-        checks.same("the file behind a copy of the command", which(), before)
-
-
 def over_kills(checks, serve):
     """Whenever a device is killed, its file is whole and has what was answered, and at most the next command besides."""
     held = asked = answered = refused = 0
@@ -187,58 +129,6 @@ def kills(checks, folder):
     over_kills(checks, lambda: checks.serve(f"{folder}/killed", "--channels", "200"))
 
 
-def stops(checks, folder):
-    """What was answered right before it was told to end is there."""
-    keep, lost = f"{folder}/stopped", []
-    for value in range(1, STOPS + 1):
-        with checks.served(keep, number=signal.SIGTERM) as peer:
-            found = peer.trim()
-            lost += [(value - 1, found)] if found != value - 1 else []
-            answer = peer.trims(value)
-        checks.same("a command before it is told to end", answer, DONE)
-    checks.same(f"what was answered and forgotten in {STOPS} stops", lost, [])
-
-
-def full(checks, folder):
-    """A file that can't be written is told once, and only readings are answered, until it can be."""
-    keep = f"{folder}/full"
-    checks.set_once(keep)
-    old = Path(keep).read_bytes()
-    for what, most in [("no room for it", 0), ("room for a part of it", 300)]:
-        run, _, peer = checks.serve(keep, most=most)
-        for value in (7, 8, 9):
-            checks.same(f"{what}: a command", peer.trims(value, copies=2), None)
-        checks.same(f"{what}: what was set", peer.trim(), 9)
-        checks.same(f"{what}: the file", Path(keep).read_bytes(), old)
-        peer.handle -= 1
-        checks.same(f"{what}: a copy of it", peer.trims_again(9, copies=2), None)
-        resource.prlimit(run.pid, resource.RLIMIT_FSIZE, (resource.RLIM_INFINITY, resource.RLIM_INFINITY))
-        checks.same(f"{what}, and then there is room: a copy of it", peer.trims_again(9), DONE)
-        checks.same(f"{what}, and then there is room: it is kept", checks.kept(keep), 9)
-        told = stop(run)
-        checks.expect(f"{what}: told once, and that there is room", re.fullmatch(NOT_KEPT + re.escape(f"{AGAIN}{keep}\n"), told), told)
-        Path(keep).write_bytes(old)
-    goes_away(checks, folder)
-
-
-def goes_away(checks, folder):
-    """A folder that goes away is told once, and the next command behind its return is kept."""
-    home = f"{folder}/away"
-    keep = f"{home}/state"
-    os.mkdir(home)
-    each_time = NOT_KEPT + re.escape(f"{AGAIN}{keep}\n")
-    with checks.served(keep, what="without a folder, and with it again, twice", says=2 * each_time) as peer:
-        for value in (7, 17):
-            shutil.rmtree(home)
-            for more in (0, 1):
-                checks.same("without a folder: a command", peer.trims(value + more, copies=2), None)
-            checks.same("without a folder: what was set", peer.trim(), value + 1)
-            os.mkdir(home)
-            for more in (2, 3):
-                checks.same("with its folder: a command", peer.trims(value + more), DONE)
-                checks.same(f"with its folder: {value + more} is kept", checks.kept(keep), value + more)
-
-
 def put(path, words):
     """A file with these words takes the place of the one at this path."""
     Path(f"{path}.put").write_text(words)
@@ -249,53 +139,48 @@ def lines_told(keep):
     return lines_in(f"{keep}.told")
 
 
-def are_refused(keep, step, count):
-    return waited(lambda: lines_told(keep).count(f"refused {step}") >= count, 20) is not None
+class Room(Scene):
+    """A scene of the rows in a folder of its own: a run of the device over a file there, and its controller."""
+
+    def __init__(self, checks, folder):
+        at = lambda name: Path(folder, name)
+        super().__init__(checks, {
+            "serve": self.serve,
+            "stop": lambda how=signal.SIGKILL: stop(self.run, how),
+            "tells": self.tells,
+            "serve over the layer": lambda name: self.serve(name, refusing=True),
+            "serve with room": lambda name, most: self.serve(name, most=most),
+            "has room": lambda: resource.prlimit(self.run.pid, resource.RLIMIT_FSIZE, 2 * (resource.RLIM_INFINITY,)),
+            **verbs_of_peer(self), **verbs_of_files(at),
+            "statuses of what is set": lambda: [self.does["asks"](*it) for it in DATA.sets],
+            "sends": lambda value: self.peer.send(TRIM, 5, 2, number(value)),
+            "sends again": lambda handle, value: self.peer.copy(handle, TRIM, 5, 2, number(value)),
+            "answered of": lambda *handles: [it for it in self.peer.answered if it in handles],
+            "refusing": lambda words: put(f"{self.keep}.refusing", words),
+            "refuses no more": lambda: os.remove(f"{self.keep}.refusing"),
+            "has refused": lambda step, count: lines_told(self.keep).count(f"refused {step}") >= count,
+            "kept": lambda: checks.kept(self.keep), "kept one of": lambda *values: checks.kept(self.keep) in values,
+            "shows": lambda text: text.encode() in checks.shown(self.keep),
+            "is whole": lambda what, name: checks.is_whole(what, at(name)),
+            "has": lambda what, name, value: checks.has(what, at(name), value),
+            "refuses": lambda what, name, reason, place, is_over_the_layer=False:
+                refuses(checks, what, at(name), reason, at(place), refusing=is_over_the_layer),
+        }, folder=folder, not_kept=NOT_KEPT, kept_again=f"{AGAIN}{folder}/")
+        self.folder, self.keep, self.run, self.peer = folder, "", None, None
+
+    def serve(self, name, *words, **how):
+        self.keep = f"{self.folder}/{name}"
+        self.run, _, self.peer = self.checks.serve(self.keep, *words, **how)
+
+    def tells(self, form):
+        said = stop(self.run)
+        return re.fullmatch(form, said) is not None or said
 
 
-def of_system(code):
-    return f"{os.strerror(code)} (os error {code})"
-
-
-def refused_steps(checks, folder):
-    """While a step of a store is refused only readings are answered; later all is kept."""
-    for at, (step, name, is_replaced) in enumerate(DATA.steps):
-        code = getattr(errno, name)
-        keep, what = f"{folder}/steps{at}", f"{step} is refused ({os.strerror(code)})"
-        run, _, peer = checks.serve(keep, refusing=True)
-        checks.same(f"before {what}: a command", peer.trims(5), DONE)
-        put(f"{keep}.refusing", f"{step} {code}")
-        peer.socket.settimeout(20)  # no copies of readings, which wait while something is not stored
-        sent = []
-        for value in (7, 8):
-            sent.append(peer.send(TRIM, 5, 2, number(value)))
-            # What leaves behind a store leaves before anything that is heard behind it.
-            checks.same(f"{what}: the step is tried, {value}", are_refused(keep, step, len(sent)), True)
-            checks.same(f"{what}: what is read", peer.ask(TRIM, 5, 1), (0, struct.pack(">hhh", value, -600, 600)))
-        peer.copy(sent[-1], TRIM, 5, 2, number(8))
-        checks.same(f"{what}: the step is tried for a copy", are_refused(keep, step, 3), True)
-        checks.same(f"{what}: another reading", peer.ask(MUTE, 4, 1)[0], 0)
-        checks.same(f"{what}: answers to what was set", [handle for handle in peer.answered if handle in sent], [])
-        checks.same(f"{what}: the file", checks.kept(keep) in ((5, 7, 8) if is_replaced else (5,)), True)
-        os.remove(f"{keep}.refusing")
-        peer.handle = sent[-1]
-        checks.same(f"behind {what}: a copy of a command", peer.trims_again(8), DONE)
-        checks.same(f"behind {what}: it is kept", checks.kept(keep), 8)
-        peer.handle = sent[-1] + 10
-        checks.same(f"behind {what}: a command", peer.trims(9), DONE)
-        reason = "a write failed" if step == "write" else of_system(code)
-        checks.same(f"{what}: told once, and once that it is kept again", stop(run), f"note: the state is not kept: {keep}: {reason}\n{AGAIN}{keep}\n")
-        checks.has(f"behind {what}: after a restart", keep, 9)
-
-
-def short_writes(checks, folder):
-    """Where the system takes a few bytes of each write, the file is whole all the same."""
-    keep = f"{folder}/short"
-    with checks.served(keep, refusing=True, what="where each write is short") as peer:
-        put(f"{keep}.refusing", "short 7")
-        checks.same("where each write is short: a command", peer.trims(5), DONE)
-    checks.is_whole("where each write is short: the file", keep)
-    checks.same("where each write is short: what was set", checks.kept(keep), 5)
+def scenes(checks, folder):
+    for steps, _ in scenes_of("keep"):
+        Room(checks, tempfile.mkdtemp(dir=folder)).play(steps)
+        checks.end()
 
 
 IN_FLIGHT, STORES = 8, 10
@@ -358,87 +243,6 @@ def slow_store(checks, folder):
     checks.has("behind a slow store: after a restart", keep, setter.last % 600)
 
 
-def refused_locks(checks, folder):
-    """Only where the system says that another one has the lock is that told; else its own reason is."""
-    for code in (errno.ENOLCK, errno.EOPNOTSUPP, errno.ENOSYS, errno.EWOULDBLOCK):
-        keep, what = f"{folder}/lock{code}", f"a lock that is refused ({code})"
-        put(f"{keep}.refusing", f"lock {code}")
-        refuses(checks, what, keep, "another device has it" if code == errno.EWOULDBLOCK else of_system(code), f"{keep}.lock", refusing=True)
-        checks.same(f"{what}: files that are made", (os.path.exists(keep), os.path.exists(f"{keep}.new")), (False, False))
-
-
-def attributes(path):
-    found = os.lstat(path)
-    return oct(found.st_mode), found.st_uid, found.st_gid
-
-
-def other_owner():
-    return 65534 if os.geteuid() == 0 else os.geteuid()
-
-
-def linked(checks, folder):
-    """A link put in the file's place is not followed: the file takes its place, with the mode and owner that it had."""
-    keep, target, fresh = f"{folder}/linked", f"{folder}/led", f"{folder}/unlinked"
-    Path(target).write_bytes(b"of another\n")
-    os.chmod(target, 0o666)
-    before = attributes(target)
-    checks.set_once(keep)
-    os.chmod(keep, 0o640)
-    os.chown(keep, other_owner(), -1)
-    mine = attributes(keep)
-    with checks.served(keep, what="a link at FILE, later") as peer:
-        for value, leads_to in ((6, target), (7, f"{folder}/nothing"), (8, folder), (9, None)):
-            os.remove(keep)
-            if leads_to is not None:
-                os.symlink(leads_to, keep)
-            what = f"a link at FILE, later, to {leads_to}" if leads_to else "no file at FILE, later"
-            checks.same(f"{what}: a command", peer.trims(value), DONE)
-            checks.same(f"{what}: mode and owner of the file", attributes(keep), mine)
-            checks.same(f"{what}: what was set", checks.kept(keep), value)
-        checks.same("a link at FILE, later: what it leads to", (Path(target).read_bytes(), attributes(target)), (b"of another\n", before))
-        checks.same("a link at FILE, later: nothing is made behind it", os.path.exists(f"{folder}/nothing"), False)
-        # A mode that the file got meanwhile stays, too; and a link that is there at a start is refused.
-        os.chmod(keep, 0o600)
-        peer.trims(10)
-        os.remove(keep)
-        os.symlink(target, keep)
-        peer.trims(11)
-        checks.same("a mode that was changed, and then a link", attributes(keep), (oct(0o100600), *mine[1:]))
-    # The same where no file was there at the start.
-    with checks.served(fresh) as peer:
-        peer.trims(5)
-        made = attributes(fresh)
-        os.remove(fresh)
-        os.symlink(target, fresh)
-        checks.same("a link at a FILE that was made: a command", peer.trims(6), DONE)
-        checks.same("a link at a FILE that was made: mode and owner", attributes(fresh), made)
-
-
-def mode_and_owner(checks, folder):
-    """The file keeps its mode and its owner."""
-    keep = f"{folder}/mine"
-    with checks.served(keep) as peer:
-        peer.trims(5)
-        os.chown(keep, other_owner(), -1)
-        for mode in (0o600, 0o640, 0o644):
-            os.chmod(keep, mode)
-            before, number = attributes(keep), os.stat(keep).st_ino
-            checks.same(f"a command, mode {mode:o}", peer.trims(mode), DONE)
-            checks.same(f"another file, mode {mode:o}", os.stat(keep).st_ino == number, False)
-            checks.same(f"mode and owner, mode {mode:o}", attributes(keep), before)
-
-
-def left_over(checks, folder):
-    """A new file that was left by a device that was killed, longer than the state, is overwritten, and nothing of it stays."""
-    keep = f"{folder}/left"
-    Path(f"{keep}.new").write_bytes(b"object 4096 100 block lockable \"desk\" on \"\"\n" * 100)
-    with checks.served(keep, what="beside a file that was left") as peer:
-        checks.same("beside a file that was left: a command", peer.trims(5), DONE)
-    checks.same("a new file that was left is gone", os.path.exists(f"{keep}.new"), False)
-    checks.is_whole("a file that was written over one that was left", keep)
-    checks.has("what is read of it", keep, 5)
-
-
 def refuses(checks, what, keep, reason, more=None, **how):
     """It ends before it listens, with a line that names the reason."""
     run, said, peer = checks.serve(keep, **how)
@@ -470,31 +274,6 @@ def broken(checks, folder):
         checks.same(f"cut off at {size}: the file", Path(keep).read_bytes(), state[:size])
     Path(f"{folder}/more").write_bytes(state + b"9000 100 mute muted lockable a\n" + state.splitlines(True)[-1])
     refuses(checks, "another end", f"{folder}/more", UNENDED)
-
-
-def others(checks, folder):
-    """What is no plain file is refused, and stays, at FILE, FILE.new and FILE.lock; and so is a file that another device has."""
-    target = f"{folder}/target"
-    Path(target).write_bytes(b"of another\n")
-    for end in ("", ".new", ".lock"):
-        keep = f"{folder}/other{len(end)}"
-        place = keep + end
-        for what, reason, make, take in (("a folder", "a folder, and no plain file", os.mkdir, os.rmdir), ("a FIFO", "no plain file", os.mkfifo, os.remove),
-                                         ("a link", "a symbolic link, and no plain file", lambda it: os.symlink(target, it), os.remove)):
-            make(place)
-            refuses(checks, f"{what} at FILE{end}", keep, reason, place)
-            if what == "a link":
-                checks.same(f"a link at FILE{end}: it stays", os.readlink(place), target)
-            take(place)
-    # A link that is put there later is not followed: it goes, and what it leads to stays.
-    keep = f"{folder}/later"
-    with checks.served(keep) as peer:
-        os.symlink(target, f"{keep}.new")
-        checks.same("a link at FILE.new, later: a command", peer.trims(5), DONE)
-        checks.same("a link at FILE.new, later: what it leads to", Path(target).read_bytes(), b"of another\n")
-        checks.same("a link at FILE.new, later: the file", os.path.islink(keep), False)
-        refuses(checks, "another device", keep, "another device has it", f"{keep}.lock")
-    checks.has("a device behind one that was killed", keep, 5)
 
 
 def unknown(checks, folder):
@@ -603,8 +382,7 @@ def power_cuts(checks, folder):
 def main():
     with tempfile.TemporaryDirectory() as folder:
         its = Checks(sys.argv[1])
-        for part in (restarts, written_once, kills, stops, full, refused_steps, short_writes, slow_store, refused_locks, mode_and_owner,
-                     linked, left_over, broken, others, power_cuts, unknown):
+        for part in (scenes, kills, slow_store, broken, power_cuts, unknown):
             part(its, folder)
     return its.verdict()
 

@@ -19,11 +19,15 @@ import subprocess
 import sys
 import tempfile
 import time
+from collections import defaultdict
 
 import checks
 import oca_profile as oca
-from checks import Beside, at, bound, ended, free_port, heard, lines_in, next_command, next_line, nulls_of, tries, waited, write
+from checks import (
+    NOTE, Beside, at, bound, by_turns, comes, ended, free_port, heard, lines_in, next_command, next_line, nulls_of, port_said, read_note,
+    tries, write)
 from peers import Flood, Peer
+from scenes import Scene, answer_of, scenes_of, verbs_of_peer, verbs_of_run
 from tables import data
 
 GET, ASKS = (4097, 4, 1), ("--target", 4097, "--level", 4, "--index", 1, "--count", 0)
@@ -31,8 +35,6 @@ WAIT_MS, DATA = 50, data("network")
 # Linux's option by which the system tells when a datagram came
 SO_TIMESTAMPNS = 35
 TRIES = 12
-# so many turns that no run comes to their end by waiting: it is ended by datagrams, each of which is a turn
-TURNS_OF_A_COPY = 4000
 
 
 def get_command(handle):
@@ -122,42 +124,6 @@ def signals(checks):
             checks.same(f"{settings}: `send`", got, ("answer 0 1 01\n", "", 0), is_time=got[0] == "lost\n")
 
 
-def runs_under_signals(checks):
-    """`ocactl run` whose input stays open, while signals come: each line is answered, nothing else is said, and it ends with its input."""
-    run, port = checks.serve()
-    reader, writer = os.pipe()
-    os.write(writer, b"4097 4 1 0 -\n")
-    asks = checks.start("ocactl", "run", "--device", f"127.0.0.1:{port}", "--first-handle", 1, "--port", free_port(), stdin=reader, SIGNALS=1000)
-    os.close(reader)
-    for count in (1, 2, 3):
-        checks.same(f"`run` under signals: answer {count}", next_line(asks), "answer 0 1 01\n")
-        time.sleep(0.2)
-        with contextlib.suppress(BrokenPipeError):
-            os.write(writer, b"4097 4 1 0 -\n" if count < 3 else b"")
-    os.close(writer)
-    checks.same("`run` under signals: its end", ended(asks), ("", "", 0))
-
-
-def refused_sends(checks):
-    """Sends that the system refuses are counted, each, and the command is answered when it comes again; a note says how many and why."""
-    place = tempfile.TemporaryDirectory()
-    for number, count, words in ((errno.ENETUNREACH, 1, ()), (errno.ENOBUFS, 2, ()), (errno.EPERM, 3, ()), (errno.EPERM, 2, ("--verbose",)),
-                                 (errno.EPERM, 2, ("--stats", 86400)), (errno.EPERM, 2, ("--keep", f"{place.name}/state"))):
-        run, port = checks.serve("--turns", TURNS_OF_A_COPY, *words, FAIL_SEND=count, ERRNO=number)
-        checks.same(f"error {number}: the answer to a copy", answered(Peer(port)), response(1))
-        with Flood(port):
-            out, told = run.communicate(timeout=60)
-        counts, lines = counts_in(out), told.splitlines()
-        counted = [counts.get("executed"), counts.get("kept", 0) >= count, counts.get("failed-sends")]
-        checks.same(f"error {number} {words}: executed, kept, failed sends", counted, [1, True, count])
-        notes = [line for line in lines if line.startswith("note: ")]
-        note = f"note: failed sends: {count}, the last: {os.strerror(number)} (os error {number})"
-        checks.same(f"error {number} {words}: a note, and the last line", (notes, lines[-1:]), ([note], [note]))
-        if "--verbose" in words:
-            shown = [line.split(" served ")[1] for line in lines if " served " in line][:count + 1]
-            checks.same("--verbose: each failed send", shown, ["1 0 0 failed-sends 1"] + ["0 1 0 failed-sends 1"] * (count - 1) + ["0 1 0"])
-
-
 # One command of `ocactl send` to a device, without its address.
 SENT = ("--target", 1, "--level", 1, "--index", 1, "--count", 0)
 
@@ -181,25 +147,6 @@ def runs(checks):
             wanted = {name: filled(row[name]) for name in got if name in row}
             checks.same(f"{row}", (status, {name: got[name] for name in wanted}), (row["status"], wanted))
     os.close(unread)
-
-
-def with_a_buffer(checks, granted, *words):
-    with tempfile.TemporaryDirectory() as place:
-        _, said, status = ended(checks.start(*words, GRANTED=granted, ASKED=f"{place}/asked"))
-        return [line.split(":")[1] for line in said.splitlines() if "send buffer" in line], status, lines_in(f"{place}/asked")
-
-
-def send_buffers(checks):
-    """Each program asks once for a send buffer of 4,000,000 bytes; `ocadev serve` notes a grant below 500,000."""
-    for granted, is_said in ((1, True), (499999, True), (500000, False), (8000000, False), (0, False), (-1, False)):
-        got = with_a_buffer(checks, granted, "ocadev", "serve", "--port", 0, "--turns", 1)
-        note = f" the system grants a send buffer of {granted} bytes"
-        wanted = ([note] * is_said, 0, ["4000000"])
-        checks.same(f"{granted} bytes are granted: notes, status, what is asked", got, wanted)
-    with bound() as device:
-        to = ("--device", at(device))
-        got = with_a_buffer(checks, 1, "ocactl", "send", *to, *SENT, "--turns", 0)
-        checks.same("`send`: notes, status, what is asked", got, ([], 3, ["4000000"]))
 
 
 def arrivals(device):
@@ -235,18 +182,6 @@ def is_a_program_there(checks):
     told = f"{took}: in milliseconds, and by waits of 50 ms"
     checks.expect("a host is asked for 200 ms at least", min(took)[0] > 180, told)
     checks.expect("a host is asked for 200 ms at most", took[-1][1] < 6, told, is_time=True)
-
-
-def a_lost_address(checks):
-    """A lost address is noted, and nothing more asked; else the device and its host are."""
-    words = ("--port", free_port(), "--first-handle", 1, "--turns", 2, 4097)
-    alive, is_program_there, wanted = oca.pdu(4, [b"\0\5"]), b"", oca.command(1, 4097, 1, 1)
-    for settings, asks, note in (({"GONE": 1}, set(), "the address 127.0.0.1 is gone"),
-                                 ({}, {alive, is_program_there}, "nothing was heard from {}")):
-        with bound() as silent:
-            got = ended(checks.start("ocactl", "get", "--device", at(silent), *words, **settings))
-            checks.same(f"{settings}: `get`", got, ("4097 no answer\n", f"note: {note.format(at(silent))}\n", 3))
-            checks.same(f"{settings}: what is sent besides the command", {*heard(silent)} - {wanted}, asks)
 
 
 def gets_lines(checks, what, pauses, delay=0):
@@ -343,54 +278,6 @@ def null_at_closed(checks):
                 run.communicate(timeout=60)
 
 
-def locked(checks, what, **settings):
-    """Of a device with such a sleep: the socket of a peer that has locked the mute, and a check of what another peer gets for it."""
-    run, port = checks.serve(**settings)
-    holder, other = Peer(port, 10, 1), Peer(port)
-    holder.ask(4097, 1, 3)
-    checks.same(f"{what}: the lock", holder.response, oca.response(1))
-    return holder.socket, lambda status, behind="": checks.same(f"{what}: what another peer gets{behind}", other.status(*GET), status)
-
-
-def asleep(checks):
-    """A machine's sleep counts: locks lapse in it, and 15 seconds behind its submit no command is sent again."""
-    for seconds, status in ((20, 0), (10, 3), (0, 3)):
-        _, gets = locked(checks, f"a sleep of {seconds} seconds", SLEPT=seconds)
-        gets(status)
-    what = "no clock that counts sleep, and the date is set"
-    holder, gets = locked(checks, what, UNBOOTED=1000)
-    gets(3)
-    beat = oca.pdu(4, [b"\0\1"])
-    holder.send(beat)
-    checks.same(f"{what}: a heartbeat of a second", holder.recv(2000), beat)
-    time.sleep(3.5)
-    gets(0, " behind a silence of three")
-    for seconds, copies in ((16, 1), (5, 20)):
-        with bound() as silent:
-            got = checks.send(at(silent), 1, SLEPT=seconds)
-            checks.same(f"a sleep of {seconds} seconds: `send`", (got[0], got[2]), ("lost\n", 3))
-            checks.same(f"a sleep of {seconds} seconds: how often it was sent", heard(silent), [get_command(1)] * copies)
-
-
-def kept_safely(checks):
-    """A state is on the disk before it takes its place, and then its folder; once for each set."""
-    for is_alone in (False, True):
-        with tempfile.TemporaryDirectory() as room, bound() as peer:
-            place, calls = os.path.realpath(room), f"{room}/calls"
-            state = "state" if is_alone else f"{place}/state"
-            run, port = checks.serve("--keep", state, cwd=place, CALLS=calls)
-            wanted = []
-            for handle, value in ((1, b"\2"), (2, b"\1")):
-                peer.sendto(oca.command(handle, 4097, 4, 2, 1, value), ("127.0.0.1", port))
-                checks.same(f"--keep {state}: the answer to {handle}", peer.recv(2000), oca.response(handle))
-                wanted += [f"fsync {place}/state.new", f"rename {state}.new {state}", f"fsync {place}"]
-                waited(lambda: lines_in(calls) == wanted, 30)
-                checks.same(f"--keep {state}: what is called for {handle}", lines_in(calls), wanted)
-                time.sleep(10 * WAIT_MS / 1000)
-                checks.same(f"--keep {state}: what is called in ten turns behind {handle}", lines_in(calls), wanted)
-            run.kill()
-
-
 def a_failed_receive(checks):
     """Behind a receive that failed the next one comes soon: an answer that is there is taken, and its command not sent again."""
     def copies():
@@ -416,23 +303,154 @@ def reports_behind_a_sleep(checks):
     checks.expect("--stats behind a sleep: three reports take more than a second", took > 1, f"{took:.2f} s")
 
 
-def calls_in_a_row(checks):
-    """Forty commands from one port, each answered as the first."""
-    run, port = checks.serve()
-    own = free_port()
-    for handle in range(1, 41):
-        checks.same(f"call {handle} in a row", checks.send(f"127.0.0.1:{port}", handle, "--port", own), ("answer 0 1 01\n", "", 0))
+def bytes_of(datagram):
+    if isinstance(datagram, str):
+        return bytes.fromhex(datagram)
+    kind, *commands = datagram
+    asked = [(handle, ono, *DATA.methods[name]) for name, handle, ono in commands]
+    return oca.pdu(kind, [oca.Command(*target, bool(params), bytes.fromhex(params)).body() for *target, params in asked])
 
 
-def other_addresses(checks):
-    """A device at another address of the machine answers from there."""
-    run, port = checks.serve("--ip", "127.0.0.2")
-    checks.same("a device at 127.0.0.2", checks.send(f"127.0.0.2:{port}", 1), ("answer 0 1 01\n", "", 0))
-    checks.same("its answer comes from there", answered(Peer(port, ip="127.0.0.2")), response(1))
+class Stage(Scene):
+    """A scene of the rows: a device with two peers, or another program, and a socket that answers nothing."""
+
+    def __init__(self, checks, room, silent, full):
+        self.run, self.port, self.peer, self.other, self.full = None, 0, None, None, full
+        self.silent, self.sender, self.came = silent, None, []
+        self.open = contextlib.ExitStack()
+        self.ends = defaultdict(lambda: self.open.enter_context(bound()))
+        come = lambda: self.came.extend(it.hex() for it in heard(silent)) or self.came
+        super().__init__(checks, {
+            **verbs_of_run(self), **verbs_of_peer(self),
+            "serve": self.serves,
+            "program": self.begins,
+            "program with an input": self.begins_with,
+            "peer": self.begins_peer,
+            "another asks": lambda *asked: answer_of(self.other.ask(*asked)),
+            "sends": lambda digits, times=1: [self.peer.socket.send(bytes.fromhex(digits)) for _ in range(times)],
+            "sends command": lambda *command: self.peer.copy(*command),
+            "others send": lambda count, digits, times=1: self.others_send(count, bytes.fromhex(digits), times),
+            "how many it hears": lambda: len(heard(self.peer.socket)),
+            "counts": self.counts,
+            "is flooded": self.is_flooded,
+            "comes to its end": self.comes_to_its_end,
+            "lines but of a grant": lambda: sum(not line.startswith(NOTE) for line in self.ended[1].splitlines()),
+            "listens": self.listens,
+            "reads the note of a grant": lambda: read_note(self.run),
+            "tells": self.tells,
+            "answers of": self.answers_of,
+            "takes": lambda port: self.open.enter_context(bound(port=port)),
+            "handle of": lambda digits: int(digits[28:36], 16),
+            "is command": lambda digits, command: digits == oca.command(int(digits[28:36], 16), *command).hex(),
+            "is heard from": lambda port: self.sender[1] == port,
+            "is by the clock": lambda handle: (int(time.time() * 100000) - handle) % 2**31 < 60 * 100000,
+            "less": lambda number, other: number - other,
+            "program into a full file": lambda words: self.begins({"stdout": self.full}, words),
+            "last of what it says, and its status": lambda: (ended(self.run)[1].splitlines()[-1:], self.run.returncode),
+            "is over": lambda: self.run.poll(),
+            "terminates": lambda: self.run.terminate(),
+            "counted": lambda *names: [self.ended[0].get(name) for name in names],
+            "has kept": lambda count: self.ended[0]["kept"] >= count,
+            "notes": lambda: [line for line in self.ended[1].splitlines() if line.startswith("note: ")],
+            "last line": lambda: self.ended[1].splitlines()[-1],
+            "first served": lambda count: re.findall(" served (.*)", self.ended[1])[:count],
+            "hears": lambda: self.peer.socket.recv(2000),
+            "how often was heard": lambda digits: come().count(digits),
+            "heard but": lambda digits: sorted({*come()} - {digits}),
+            "next": self.next,
+            "answers": lambda handle, status: self.silent.sendto(oca.response(handle, status), self.sender),
+            "what comes until": lambda digits, count: heard_until(silent, bytes.fromhex(digits), count),
+            "kinds in": lambda came, *but: sorted({*came} - {*but}),
+            "at least": lambda count, came, digits: came.count(digits) >= count,
+            "says of windows": lambda: [it for it in ended(self.run)[1].splitlines()[:1] if "needs a window" in it],
+            "lines of": lambda name: lines_in(f"{room}/{name}"),
+            "notes of a buffer": self.notes_of_a_buffer,
+            "one after another": lambda *lists: [*itertools.chain(*lists)],
+            "ends but what it says": lambda: ended(self.run)[::2]}, room=room, silent=at(silent),
+            free=free_port(), own=by_turns()[0])
+
+    def serves(self, settings, words=""):
+        self.run, self.port = self.checks.serve(*words.split(), **settings)
+        self.names["port"] = self.port
+        self.peer, self.other = Peer(self.port, 10, 1), Peer(self.port)
+
+    def begins(self, settings, words):
+        self.run = self.checks.start(*words.split(), **{"stdin": subprocess.PIPE, **settings})
+
+    def begins_with(self, settings, words, given):
+        """A program that finds this in its input at once, which stays open."""
+        reader, writer = os.pipe()
+        os.write(writer, given.encode())
+        self.begins({"stdin": reader, **settings}, words)
+        os.close(reader)
+        self.run.stdin = open(writer, "w")
+
+    def begins_peer(self, ip):
+        self.peer = Peer(self.port, ip=ip)
+
+    def comes_to_its_end(self):
+        self.ended = self.counts()
+
+    def is_flooded(self):
+        """The run comes to its end by datagrams, each of which is a turn."""
+        with Flood(self.port):
+            self.comes_to_its_end()
+
+    def listens(self):
+        self.port = port_said(self.run)
+        return self.port > 0
+
+    def tells(self, which, datagram):
+        """The line that the device tells of a datagram of this one of its peers, whose address it calls PEER."""
+        end = self.ends[which]
+        end.sendto(bytes_of(datagram), ("127.0.0.1", self.port))
+        return self.run.stderr.readline().replace(at(end), "PEER")
+
+    def answers_of(self, count):
+        """How many of so many commands are answered."""
+        return sum(self.other.ask(*GET) == (0, b"\1") for _ in range(count))
+
+    def others_send(self, count, data, times):
+        """So many other peers send this so often."""
+        for _ in range(count):
+            other = self.open.enter_context(bound())
+            for _ in range(times):
+                other.sendto(data, self.peer.socket.getpeername())
+
+    def counts(self):
+        """What a run counts at its end, what else it tells, and its status."""
+        out, told, status = ended(self.run)
+        return counts_in(out), told, status
+
+    def notes_of_a_buffer(self):
+        _, said, status = ended(self.run)
+        return [line.split(":")[1] for line in said.splitlines() if "send buffer" in line], status
+
+    def next(self, *passed):
+        """The next command that comes to the socket and is none of these."""
+        data, self.sender = next_command(self.silent, [bytes.fromhex(it) for it in passed])
+        return data
+
+
+def heard_until(device, wanted, count):
+    """The datagrams that come until this one has come so often, or for ten seconds none does."""
+    found, datagrams = [], comes(device)
+    while found.count(wanted) < count and (came := next(datagrams, None)):
+        found.append(came[0])
+    return found
+
+
+def scenes(checks, name="network", kind="scene"):
+    for steps, names in scenes_of(name, kind):
+        with tempfile.TemporaryDirectory() as room, bound() as silent, open("/dev/full", "w") as full:
+            stage = Stage(checks, os.path.realpath(room), silent, full)
+            with stage.open:
+                stage.play(steps, **names)
+        checks.end()
 
 
 if __name__ == "__main__":
     sys.exit(Checks(sys.argv[1]).tried(
-        runs, closed_descriptors, null_at_closed, quiet_turns, signals, runs_under_signals, refused_sends, send_buffers,
-        is_a_program_there, a_lost_address, lines_at_once, a_line_behind_a_pause, a_stalled_neighbour, asleep,
-        a_failed_receive, reports_behind_a_sleep, kept_safely, calls_in_a_row, other_addresses, alone=(runs,)))
+        runs, closed_descriptors, null_at_closed, quiet_turns, signals, is_a_program_there,
+        lines_at_once, a_line_behind_a_pause, a_stalled_neighbour, a_failed_receive, reports_behind_a_sleep, scenes,
+        alone=(runs,)))

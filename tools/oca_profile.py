@@ -736,20 +736,15 @@ def digits(field, most, largest, least=None):
 
 
 def peer_of(field):
-    parts = field.split(":")
-    if len(parts) != 2:
-        return None
-    address = parts[0].split(".")
-    values = [digits(a, 3, 255) for a in address] + [digits(parts[1], 5, 65535)]
-    return tuple(values) if len(address) == 4 and None not in values else None
+    address, _, port = field.partition(":")
+    values = [*(digits(it, 3, 255) for it in address.split(".")), digits(port, 5, 65535)]
+    return tuple(values) if len(values) == 5 and None not in values else None
 
 
 def hex_of(field):
     if field == "-":
         return b""
-    if len(field) < 2 or len(field) % 2 or any(ch not in "0123456789abcdefABCDEF" for ch in field):
-        return None
-    return bytes.fromhex(field)
+    return bytes.fromhex(field) if re.fullmatch("([0-9a-fA-F]{2})+", field) else None
 
 
 def hex_text(data):

@@ -21,20 +21,8 @@ SOURCES, TARGET = TOP / "crates/oca_web/page", TOP / "crates/oca_web/src/page.rt
 SCRIPTS = ["words", "link", "orders", "log", "controls", "faders", "strips", "tree", "main"]
 MOST = 45_000
 # The names that are not the page's own: of the language and the browser, of what the program says, and those that are used as texts too.
-KEPT = {*data("page").kept.split()}
-HEAD = '''//! The page: one document with its style and its script, made by `tools/page.py` from the files in `page/`.
-
-/// What the page may do: run its own script, use its own style, and ask the panel that sent it, and nothing else. The
-/// hashes are those of the script and of the style below; `tools/panel.py` compares them.
-pub const POLICY: &str =
-    "default-src 'none'; style-src 'sha256-{style}'; \\
-     script-src 'sha256-{script}'; connect-src 'self'; \\
-     frame-ancestors 'none'; base-uri 'none'; form-action 'none'";
-
-/// The page. It asks for `/tree` and `/values`, and sends orders to `/orders`. What comes from the device goes into it by
-/// `textContent` and by properties alone, never as HTML.
-pub const PAGE: &str = r###"{page}"###;
-'''
+DATA = data("page")
+KEPT = {*DATA.kept.split()}
 TOKEN = re.compile(r"""("(?:[^"\\\n]|\\.)*"|'(?:[^'\\\n]|\\.)*')|((?:(?<=[(=:,!&|?{};>])|(?<=[(=:,!&|?>]\s))/(?![/*=\s])(?:[^/\\\n\[]|\\.|\[(?:[^\]\\\n]|\\.)*\])+/[a-z]*)|([A-Za-z_$][\w$]*)|(\d[\w.]*)|(\s+)|(.)""")
 
 FUNCTION = re.compile(r"^(async )?function (\w+)\((.*?)\) \{\n(.*?)^\}$", re.MULTILINE | re.DOTALL)
@@ -135,7 +123,7 @@ def digest(text):
 
 def made():
     text, css, js = page()
-    return HEAD.replace("{style}", digest(css)).replace("{script}", digest(js)).replace("{page}", text)
+    return DATA.head.replace("{style}", digest(css)).replace("{script}", digest(js)).replace("{page}", text)
 
 
 def main():

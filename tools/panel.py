@@ -7,7 +7,6 @@ Usage: panel.py BIN     BIN is the folder with `ocapanel`, `ocadev` and `ocactl`
 No wait fails but by many times its length. The last line is 'N passed, M failed'."""
 import base64
 import contextlib
-import errno
 import hashlib
 import http.client
 import json
@@ -29,10 +28,11 @@ import oca_profile as oca
 from checks import Ahead, Checks, Serving, at, bound, by_turns, free_port, sockets, tries, waited
 from hands import SETS, Deaf, OldSession, address, stagebox
 from peers import Lossy, Other, Peer, Served, commands_in
+from scenes import Scene, scenes_of
 from tables import TOP, each, octets, table
 
 TREE = (TOP / "examples/stagebox.tree").read_text()
-MUTE, POLARITY, TRIM, SOURCE = 4098, 4099, 4100, 4101
+MUTE, TRIM = 4098, 4100
 JSON, LATE = "application/json", "not sent: too late"
 ITS, OWN_PORT = Checks(), free_port()
 TABLE = table("panel", **dict.fromkeys("host port next token short other".split(), ""))
@@ -239,41 +239,6 @@ def page(panel):
     check(not re.search(elsewhere, text), "nothing from elsewhere, no HTML from texts")
     for name, value in TABLE["protection"].items():
         same(name, fields.get(name), value)
-
-
-def objects(device, panel):
-    """What is shown is what the device says, and orders fare as it answers."""
-    panel.comes(lambda v: v["walked"] and len(panel.shown) >= 42, "the objects are found")
-    by_ono = {o["ono"]: o for o in panel.get("/tree")["objects"]}
-    same("the tree", (by_ono[MUTE]["class"], by_ono[MUTE]["in"], by_ono[4097]["role"]), ("mute", 4097, "channel 1"))
-    same("names of positions", by_ono[SOURCE]["names"], ["Mic", "Line", "Stage left", "Off"])
-    check(panel.wait(lambda _: panel.value(TRIM) == "0") is not None and panel.shown[TRIM]["limits"] == ["-600", "600"], "limits")
-    panel.comes(lambda v: v["objects"] == [], "what did not change since the last look is not sent again")
-    for ono, value in [(MUTE, "unmuted"), (POLARITY, "inverted"), (TRIM, "-60"), (SOURCE, "2"), (4096, "on"), (MUTE, "muted"), (MUTE, "unmuted")]:
-        same(f"{ono} is set to {value}", panel.fare("/set", ono, value), None)
-        same(f"{ono} where its order is told", panel.value(ono), value)
-        panel.comes(lambda _, o=ono, v=value: panel.value(o) == v, f"{ono} shows {value}")
-    said = ocactl(device.port, "get", MUTE, TRIM, SOURCE)
-    same("what the device has", said, f"{MUTE} unmuted\n{TRIM} -60\n{SOURCE} 2 Stage left\n")
-    same("out of range", panel.fare("/set", TRIM, "601"), "ParameterOutOfRange")
-    same("no such value", [panel.order("/set", TRIM, value)[0] for value in ("loud", "99999")], [422, 422])
-    refused = [panel.order("/set", 4097, "on"), panel.order("/set", 9, "on"), panel.order("/lock", 9)]
-    same("no such object", [status for status, _ in refused], [422, 404, 404])
-    check(panel.fare("/lock", MUTE) is None and panel.wait(lambda _: panel.lock(MUTE) == "own") is not None, "its own lock")
-    check("Locked" in ocactl(device.port, "set", MUTE, "muted"), "a different controller is kept out")
-    check(panel.fare("/unlock", MUTE) is None and panel.wait(lambda _: panel.lock(MUTE) == "free") is not None, "unlocked")
-    others(device, panel)
-
-
-def others(device, panel):
-    """What a different controller does is shown."""
-    with locked(device.port, POLARITY):
-        panel.comes(lambda _: panel.lock(POLARITY) == "other", "a lock of a different controller is shown")
-        same("an order under its lock", panel.fare("/set", POLARITY, "non-inverted"), "Locked")
-    panel.comes(lambda _: panel.lock(POLARITY) == "free", "it is free again")
-    for value in ("100", "200", "300"):
-        ocactl(device.port, "set", TRIM, value)
-        panel.comes(lambda _, v=value: panel.value(TRIM) == v, "a change by a different controller is shown")
 
 
 def hostile(panel):
@@ -488,73 +453,6 @@ def lossy():
         same("the last value of each object stands", ocactl(device.port, "get", TRIM, 4105), f"{TRIM} 7\n4105 7\n")
 
 
-def cut_off():
-    """A network that is cut for longer than the link holds, over a device that lives on: the link is lost, and found again over the same session."""
-    with Device() as device, Lossy(device.port, share=0) as relay, Panel(relay.port) as panel:
-        panel.comes(is_walked, "the objects are found")
-        same("and take orders", panel.fare("/set", MUTE, "unmuted"), None)
-        for times in (1, 2):
-            epoch = panel.look()["epoch"]
-            relay.share = 1
-            _, ticket = panel.order("/set", TRIM, str(times))
-            panel.wait(lambda v: ticket in panel.told and v["link"]["lost"] >= times, 60)
-            same("cut off, an order", (panel.told.get(ticket), panel.look()["link"]["lost"] >= times), ("lost", True))
-            relay.share = 0
-            panel.comes(lambda v: v["walked"] and v["epoch"] > epoch and v["link"]["lost_for"] is None, "a device that lived on is found again", 60)
-            fared = panel.fare("/set", TRIM, str(10 * times)), ocactl(device.port, "get", TRIM)
-            same("and takes orders", fared, (None, f"{TRIM} {10 * times}\n"))
-
-
-def notes_of(panel):
-    panel.process.terminate()
-    return panel.process.communicate(timeout=20)[1].splitlines()
-
-
-def gone_and_back():
-    """A device that goes is lost, with its orders; one that comes back is walked anew."""
-    with Device() as first, Panel(first.port, "--verbose") as panel, Panel(first.port) as other:
-        check(panel.wait(is_walked) is not None and other.wait(is_walked) is not None, "found")
-        epoch = panel.look()["epoch"]
-        first.end()
-        is_lost(panel, other)
-        with Device(first.port, None):
-            panel.comes(lambda v: v["walked"] and v["epoch"] > epoch, "a device that came back is walked anew", 30)
-            check({o["role"] for o in panel.get("/tree")["objects"]} >= {"desk"}, "with the objects that it has now")
-            same("and is no longer lost", panel.look()["link"]["lost_for"], None)
-            same("and takes orders", panel.fare("/set", 4097, "muted"), None)
-            other.comes(lambda v: v["walked"] and v["link"]["lost"] >= 1, "the other panel lost it too, and found it again", 30)
-            epoch = panel.look()["epoch"]
-        with Device(first.port):  # at once, with other objects: the link does not notice, but its answers do
-            is_new = lambda v: v["walked"] and v["epoch"] > epoch and 4130 in {o["ono"] for o in panel.get("/tree")["objects"]}
-            panel.comes(is_new, "a device that was away for a moment, and has other objects, is walked anew", 30)
-        same("what is told without --verbose", notes_of(other), [])
-        notes = notes_of(panel)
-        check(all(note.startswith("note: ") for note in notes) and any("lost" in note for note in notes), f"--verbose: {notes}")
-        heard = [re.fullmatch(r"note: the device is heard again; (\d+) sessions were lost so far", note) for note in notes]
-        lost = [int(note[1]) for note in heard if note]
-        check(notes[0] == "note: the device is lost: a command got no answer for 5 s" and lost[:1] > [0] and lost == sorted({*lost}), f"--verbose: {notes}")
-        told = ["heard again" in note for note in notes]
-        check(len(told) > 1 and told == [at % 2 == 1 for at in range(len(told))], f"--verbose: it is lost, then heard again, and so on: {notes}")
-
-
-def is_lost(panel, other):
-    """The device of both panels is gone: it is lost, with an order of each."""
-    other_ticket = other.order("/set", MUTE, "unmuted")[1]
-    status, ticket = panel.order("/set", MUTE, "unmuted")
-    panel.wait(lambda _: ticket in panel.told, 30)
-    same("an order to a device that is gone", (status, panel.told.get(ticket)), (202, "lost"))
-    other.comes(lambda _: other_ticket in other.told, "one of the other panel is told too", 30)
-    values, times = panel.look(), []
-    link = values["link"]
-    check(link["lost_for"] is not None and link["lost"] >= 1 and not values["walked"], f"the device is lost: {link}")
-    panel.comes(lambda v: (v["link"]["lost_for"] or 0) > link["lost_for"], f"it is lost for longer and longer, first {link}")
-
-    is_lost_again = lambda v: times.append(v["link"]["lost_for"] or 0) or v["link"]["lost"] > link["lost"]
-    is_longer = panel.wait(is_lost_again, 60) is not None and times == sorted(times)
-    check(is_longer, f"where it is lost once more, it is lost since it was lost first: {times[-9:]} ms")
-    same("an order of an object that is not found yet", panel.order("/set", MUTE, "unmuted")[0], 404)
-
-
 def many_tree():
     """A list of 4,095 objects, 80 in each block but the last one, and the number of the last."""
     first, last = 4096, 4096 + 4094
@@ -562,20 +460,6 @@ def many_tree():
     lines = [f'{ono} 100 block no-lock "bank {at}"' if ono == its[0] else f"{ono} {its[0]} int16 -600 600 0 lockable gain"
              for at, its in enumerate(blocks) for ono in its]
     return "\n".join(lines) + "\n", last
-
-
-def many():
-    text, last = many_tree()
-    with Device(0, text) as device, Panel(device.port) as panel:
-        panel.comes(is_walked, "4,096 objects are walked", 60)
-        same("objects of 4,096", len(panel.get("/tree")["objects"]), 4096)
-        panel.comes(lambda _: panel.value(last) == "0", "the last object is read", 60)
-        times = []
-        for value in ("5", "6", "7"):
-            ocactl(device.port, "set", last, value)
-            times.append(panel.wait(lambda _, v=value: panel.value(last) == v, 60) or 60)
-        check(max(times) < 60, "a change of the last object is shown")
-        same("an order among 4,096 objects", panel.fare("/set", last, "-5"), None)
 
 
 def used_by(panel, seconds):
@@ -586,13 +470,6 @@ def used_by(panel, seconds):
     begun = ticks()
     time.sleep(seconds)
     return (ticks() - begun) / os.sysconf("SC_CLK_TCK") / seconds
-
-
-def rest():
-    """With no page open, next to no work is done."""
-    with walked() as (_, panel):
-        time.sleep(3.5)
-        check(used_by(panel, 4) < 0.05, "an idle panel uses no processor")
 
 
 def classes():
@@ -650,32 +527,6 @@ def without_a_page():
             time.sleep(2)
             return sum(len(commands_in(data)) for data, _ in list(device.heard))
         check(waited(lambda: commands() == 0, 30) is not None, "commands in the last two seconds without a page")
-
-
-def seldom():
-    """What changes seldom is shown too, there and back: a label, whether an object is enabled, and which positions are."""
-    with walked() as (device, panel):
-        for label, enabled in (("Vox", False), ("", True)):
-            flag = bytes([enabled])
-            answers = [*(Peer(device.port).status(ono, 2, 9, oca.text_bytes(label)) for ono in (MUTE, 4097)),
-                       *(Peer(device.port).status(ono, 2, 2, flag) for ono in (TRIM, 4097)), Peer(device.port).status(SOURCE, 4, 8, b"\0\1", flag)]
-            same("another controller sets labels and flags", answers, 5 * [0])
-            for ono, name, wanted in ((MUTE, "label", label), (4097, "label", label), (TRIM, "enabled", enabled), (4097, "enabled", enabled),
-                                      (SOURCE, "flags", [True, enabled, True, True])):
-                panel.comes(lambda _, o=ono, n=name, w=wanted: panel.shown[o][n] == w, f"the {name} of {ono} is shown as {wanted}", 60)
-
-
-def of_other_classes():
-    """A device that is back at once with the same numbers, one of another class, is walked anew."""
-    other = TREE.replace(f"{MUTE} 4097 mute muted lockable mute", f"{MUTE} 4097 int16 -5 5 0 lockable mute")
-    with walked() as (first, panel):
-        first.end()
-        with Device(first.port, other):
-            def is_new(values):
-                """A walk that is over, or the next one by the time of the second question, which may list less."""
-                listed = panel.get("/tree")["objects"] if values["walked"] else []
-                return {o["ono"]: o["class"] for o in listed}.get(MUTE) == "int16"
-            panel.comes(is_new, "an object of another class under the same number is found", 30)
 
 
 @contextlib.contextmanager
@@ -814,15 +665,6 @@ def right_behind():
     check(told[-3:] == 3 * [True], f"whether a page is told how an order ended behind which it asks: {told}")
 
 
-def failing():
-    """While each receive fails the panel waits as long as ever, and takes next to no processor."""
-    with bound() as silent, Panel(at(silent), FAIL_RECEIVE=10**9, ERRNO=errno.ENETDOWN) as panel:
-        time.sleep(0.5)
-        used = used_by(panel, 2)
-        check(used < 0.4, f"a panel whose receives fail uses {used:.2f} of a processor")
-        same("and answers its pages", panel.look()["link"]["heard"], None)
-
-
 def beside_large():
     """Datagrams that are too large, eight before each answer of the device, hold none of its answers up. It is tried again where the machine was so
     busy that commands were repeated."""
@@ -846,32 +688,9 @@ def unwatched():
     check(is_found, "and the device is found")
 
 
-def troubled():
-    """Why a block's members can't be listed is shown, and of all others that there is no trouble."""
-    tree = oca.bench(1) + [oca.Object(6000 + n, "mute", 4096, "m", state=1) for n in range(100)]
-    with walked(Served(tree)) as (_, panel):
-        told = {ono: o["trouble"] for ono, o in panel.shown.items() if o["trouble"] is not None}
-        same("why a block has no members", (told, len(panel.shown) > 4), ({4096: "BufferOverflow"}, True))
-
-
-def trouble_of(panel, ono, trouble, value=None):
-    is_so = lambda _: ono in panel.shown and panel.shown[ono]["trouble"] == trouble and value in (None, panel.value(ono))
-    panel.comes(is_so, f"the trouble of {ono} is shown as {trouble}, and its value as {value}: {panel.shown.get(ono)}")
-
-
-def ailing():
-    """Why the value of an object can't be read is shown, beside the last one that was, and no longer once it is read again."""
-    with Noting(oca.bench(), fails=True) as device, Panel(device.port) as panel:
-        for value in (None, "0"):
-            device.fails = True
-            trouble_of(panel, TRIM, "DeviceError")
-            same("a value that can't be read any more is the last one", panel.value(TRIM), value)
-            device.fails = False
-            trouble_of(panel, TRIM, None, "0")
-    with Noting(oca.bench(), 4096, (3, 5)) as device, Panel(device.port) as panel:
-        panel.wait(lambda v: v["walked"] and panel.value(TRIM) is not None)
-        for device.fails, trouble in ((True, "DeviceError"), (False, None)):
-            trouble_of(panel, 4096, trouble)
+def bench_of_many():
+    """The bench's objects, of which a block has more members than an answer has room for."""
+    return oca.bench(1) + [oca.Object(6000 + n, "mute", 4096, "m", state=1) for n in range(100)]
 
 
 def commands_at(silent, seconds):
@@ -882,15 +701,6 @@ def commands_at(silent, seconds):
         with contextlib.suppress(TimeoutError):
             found += [one.handle for one, _ in commands_in(silent.recv(2000))]
     return found
-
-
-def asleep():
-    """The sleep of the machine counts: a command that was sent before it is not sent again."""
-    for seconds, again in ((16, False), (10, True)):
-        with bound() as silent, Panel(at(silent), SLEPT=seconds):
-            heard = commands_at(silent, 2)
-        same(f"a sleep of {seconds} seconds: whether the first command is sent again", bool(heard) and heard.count(min(heard)) > 1, again)
-        check(heard, f"a sleep of {seconds} seconds: commands are sent")
 
 
 @contextlib.contextmanager
@@ -1062,14 +872,6 @@ def limits_of_orders():
     return check(False, "orders behind one without an answer are all lost")
 
 
-def spans():
-    """Half of the span is for what the panel asks by itself; of a device that says nothing it asks five things."""
-    for given, most in ((["--span", "2"], 1), (["--span", "4"], 2), (["--span", "8"], 4), ([], 5)):
-        with bound() as silent, Panel(at(silent), *given) as panel:
-            got = len({*commands_at(silent, 2)})
-            same(f"{given}: commands in flight, and how many the page is told of", (got, panel.look()["link"]["in_flight"]), (most, most))
-
-
 def counted():
     """Commands, copies and the last hearing are told as they came; nine first copies are missed."""
     with Noting(oca.bench()) as device:
@@ -1126,90 +928,6 @@ def by_its_names():
                     same(f"{data!r} at {panel.host}", status, row["status"])
 
 
-def runs():
-    """Each start has another run. A page of another run is answered all, its orders are refused, and nothing of them is taken."""
-    with Device() as device:
-        here, numbers = f"127.0.0.1:{device.port}", []
-        for _ in range(2):
-            with Panel(device.port) as panel:
-                panel.comes(is_walked, "the objects are found")
-                tree, values = panel.get("/tree"), panel.look()
-                numbers.append(values["run"])
-                check(tree["run"] == values["run"] and re.fullmatch(r"\d+", values["run"]), f"the run: {tree['run']} {values['run']}")
-                same("the device", (tree["device"], values["device"], values["name"]), (here, here, "root"))
-                same("found", (tree["found"], values["found"], len(tree["objects"])), (42, 42, 42))
-                for run, count in ((values["run"], 0), (str(int(values["run"]) ^ 1), 42), ("", 42), ("x", 42)):
-                    got = len(panel.get(f"/values?since={values['change']}&run={run}")["objects"])
-                    same(f"of how many objects a page of run {run!r} is told", got, count)
-        check(numbers[0] != numbers[1], f"two runs: {numbers}")
-        with Panel(device.port) as panel:
-            panel.comes(is_walked, "the objects are found")
-            own = panel.look()["run"]
-            for run, status in ((numbers[0], 409), ("", 409), (own + "0", 409), (" " + own, 409), (int(own), 400), (None, 400), (own, 202)):
-                got = panel.order("/set", MUTE, "muted", run=run)[0], panel.orders([{"ono": MUTE, "set": "muted"}], run=run)[0]
-                same(f"an order, and many, for run {run!r}", got, (status, status))
-            same("how those fared that were taken", panel.settled([1, 2]), [None, None])
-            same("the next ticket", panel.orders([{"ono": MUTE, "lock": True}])[1], {"tickets": [3]})
-
-
-def many_orders():
-    """Many orders in one body are taken all or none, each with its ticket; locks among them."""
-    with walked() as (device, panel):
-        good = {"ono": MUTE, "set": "muted"}
-        for none in ([], [good] * 65):
-            same(f"{len(none)} orders", panel.orders(none), (400, None))
-        for row in (one for row in TABLE["among_many"] for one in each(row, "order")):
-            same(f"{row['order']} behind {row['before']}", panel.orders([good] * row["before"] + [row["order"], good]), (row["status"], {"at": row["before"]}))
-        for wrong in ({"orders": {}}, {"orders": None}, {"before": "7"}, {"before": -1}):
-            same(f"a body with {wrong}", panel.orders([good], **wrong)[0], 400)
-        same("of those that were refused none was taken", (panel.look()["told"], panel.order("/set", MUTE, "unmuted")), ([], (202, 1)))
-        taken = panel.orders([good, {"ono": TRIM, "set": "-30"}, {"ono": TRIM, "lock": True}])
-        same("three orders", taken, (202, {"tickets": [2, 3, 4]}))
-        same("how they fared", panel.settled([1, 2, 3, 4]), 4 * [None])
-        same("what is shown where they are told", (panel.value(MUTE), panel.value(TRIM), panel.lock(TRIM)), ("muted", "-30", "own"))
-        same("another controller sets the label of the root", Peer(device.port).status(100, 2, 9, oca.text_bytes("Stage A")), 0)
-        panel.comes(lambda v: v["name"] == "Stage A", "the label of the root is the device's name", 60)
-        same("unlocked", panel.fare("/unlock", TRIM), None)
-        batches = [[good | {"set": ("muted", "unmuted")[n % 2]} for n in range(64)]]
-        batches += [[{"ono": TRIM, "set": str(n)} for n in range(size)] for size in (64, 22)]
-        tickets = [ticket for batch in batches for ticket in panel.orders(batch)[1]["tickets"]]
-        same("how 150 orders at once fared", panel.settled(tickets), 150 * [None])
-        values = panel.get("/values?since=0&told=0")
-        order = [t["ticket"] for t in values["told"]]
-        check(order == sorted(order) and len(order) > 150, "what is told stands by tickets")
-        _, body = panel.orders([good, {"ono": TRIM, "set": "5"}], before=values["now"] - 1)
-        same("many with a moment that has passed", (panel.settled(body["tickets"]), panel.value(TRIM)), (2 * [LATE], "21"))
-
-
-def labels():
-    """A label that is ordered is set in the device as it is, of a block too, and is shown once the device says it."""
-    with walked(Served(oca.bench())) as (device, panel):
-        for ono in (4097, MUTE):
-            one = next(t for t in device.tree if t.ono == ono)
-            for text in ('Lead "vocal" <b>\\', 64 * "x", 32 * "ü", "\u202ela\u0301 \U0001f3a4", ""):
-                status, body = panel.orders([{"ono": ono, "label": text}])
-                same(f"the label {text!r} of {ono}", (status, panel.settled(body["tickets"]), one.label), (202, [None], text))
-                panel.comes(lambda _, o=ono, t=text: panel.shown[o]["label"] == t, f"{text!r} is shown: {panel.shown[ono]['label']!r}")
-        same("another controller locks", Peer(device.port).status(MUTE, 1, 3), 0)
-        _, body = panel.orders([{"ono": MUTE, "label": "mine"}])
-        same("a label of what another one locks", (panel.settled(body["tickets"]), panel.lock(MUTE)), (["Locked"], "other"))
-
-
-def lost_stays_told():
-    """That an order was lost is told also behind the walk with which the device returns, and a block whose lock went is free."""
-    with walked() as (device, panel):
-        device.process.send_signal(signal.SIGSTOP)
-        _, ticket = panel.order("/set", MUTE, "muted")
-        same("an order to a device that stands still", panel.settled([ticket]), ["lost"])
-        device.process.send_signal(signal.SIGCONT)
-        panel.wait(lambda v: v["link"]["lost_for"] is None and v["walked"], 30)
-        told = {t["ticket"]: t["trouble"] for t in panel.get("/values?since=0&told=1")["told"]}
-        same("what is told behind the walk", told, {ticket: "lost"})
-        with locked(device.port, 4097):
-            panel.comes(lambda _: panel.lock(4097) == "other", "a block's lock of a different controller is shown", 60)
-        panel.comes(lambda _: panel.lock(4097) == "free", "a block that can be listed again is free", 60)
-
-
 def tokens():
     """Without the token nothing is answered but 401; with it the page, and its cookie opens all else."""
     with tempfile.TemporaryDirectory() as room, Device() as device:
@@ -1234,28 +952,6 @@ def by_token(panel):
         same(f"an order {data!r}", status, row["status"])
 
 
-def only_shown():
-    """A panel that only shows takes no order."""
-    with walked(None, "--read-only") as (_, panel):
-        values = panel.look()
-        same("it says that it only shows", values["read_only"], True)
-        for path in ("/set", "/lock", "/unlock", "/orders", "/nothing"):
-            body = {"ono": MUTE, "value": "muted", "run": values["run"], "orders": [{"ono": MUTE, "set": "muted"}]}
-            status, _, text = panel.exchange(panel.orders_by(path, body))
-            same(path, (status, text), (403, b'{"read_only":true}'))
-        same("what was ordered", (panel.look()["told"], panel.get("/values")["link"]["in_flight"]), ([], 0))
-
-
-def units():
-    with tempfile.TemporaryDirectory() as room, Device() as device:
-        path = Path(room) / "units"
-        path.write_text(TABLE["units"]["text"])
-        wanted = [dict.fromkeys(("class", "ono")) | row for row in TABLE["units"]["found"]]
-        for given, found in ((("--units", path), wanted), ((), [])):
-            with Panel(device.port, *given) as panel:
-                same(f"units {given}", panel.get("/tree")["units"], found)
-
-
 def steady():
     """A connection with a request each half second, for longer than one on which nothing moves is kept (30 seconds): how many are asked and answered;
     and how long one is kept on which nothing moves behind its first request."""
@@ -1275,22 +971,161 @@ def steady():
     return asked, answered, idled
 
 
+def nulls(fields):
+    """Fields of JSON, with no value where a row says `null`."""
+    return {name: None if value == "null" else value for name, value in fields.items()}
+
+
+class Desk(Scene):
+    """A scene of the rows: a device, a panel of it or two, a way between, and other controllers."""
+
+    def __init__(self):
+        self.device = self.way = self.panel = self.other = None
+        self.open, self.lock = contextlib.ExitStack(), contextlib.ExitStack()
+        known = lambda ono, name: self.panel.shown.get(ono, {}).get(name)
+        tree = lambda: {o["ono"]: o for o in self.panel.get("/tree")["objects"]}
+        super().__init__(ITS, {
+            "device": lambda text: self.begins(Device(0, text)),
+            "device again": lambda text=None: self.begins(Device(self.device.port, text)),
+            "second device": lambda how: self.begins(Noting(oca.bench(), **how)),
+            "device ends": lambda: self.device.end(),
+            "device stands still": lambda: self.device.process.send_signal(signal.SIGSTOP),
+            "device goes on": lambda: self.device.process.send_signal(signal.SIGCONT),
+            "does": lambda name, value: setattr(self.device, name, value),
+            "label in the device": lambda ono: next(it.label for it in self.device.tree if it.ono == ono),
+            "way": self.begins_way,
+            "loses": lambda share: setattr(self.way, "share", share),
+            "silent device": lambda: self.begins(bound()),
+            "device with too many members": lambda: self.begins(Served(bench_of_many())),
+            "panel": self.begins_panel,
+            "file of": self.file_of,
+            "panel over": lambda settings: self.begins_panel(**settings),
+            "handles of two seconds": lambda: commands_at(self.device, 2),
+            "how many of": lambda handles: len({*handles}),
+            "is the first again": lambda handles: handles.count(min(handles)) > 1,
+            "uses less than": lambda share, seconds: used_by(self.panel, seconds) < share,
+            "troubles": lambda: [[ono, it["trouble"]] for ono, it in self.panel.shown.items() if it["trouble"] is not None],
+            "swap": self.swap,
+            "another": lambda *asked: Peer(self.device.port).status(*asked[:3], *map(bytes.fromhex, asked[3:])),
+            "ocactl": lambda words: ocactl(self.device.port, *words.split()),
+            "locks": lambda ono: self.lock.enter_context(locked(self.device.port, ono)),
+            "unlocks": self.lock.close,
+            "fares": lambda path, ono, value=None: self.panel.fare(path, ono, value),
+            "fare": lambda *orders: self.panel.settled(self.panel.orders([*orders])[1]["tickets"]),
+            "ordered": lambda ono, value: self.panel.order("/set", ono, value)[1],
+            "status": lambda path, ono, value=None, more={}: self.panel.order(path, ono, value, **nulls(more))[0],
+            "orders": lambda *orders: self.panel.orders([*orders]),
+            "orders behind": lambda count, *orders: self.panel.orders([{"ono": MUTE, "set": "muted"}] * count + [*orders]),
+            "orders but": lambda more: self.panel.orders([{"ono": MUTE, "set": "muted"}], **nulls(more))[0],
+            "posts": self.posts,
+            "fare until": lambda now, *orders: self.panel.settled(self.panel.orders([*orders], before=now - 1)[1]["tickets"]),
+            "how 150 fare": self.fares_at_once,
+            "is told by tickets": self.is_told_by_tickets,
+            "all told": lambda *tickets: self.panel.settled([*tickets]),
+            "told": lambda ticket: self.panel.settled([ticket], 0)[0],
+            "told from the first on": lambda: [[*it.values()] for it in self.panel.get("/values?since=0&told=1")["told"]],
+            "known": known,
+            "shown": lambda ono, name: self.panel.look() and known(ono, name),
+            "look": lambda name: self.panel.look()[name],
+            "look and count": lambda: self.panel.look() and len(self.panel.shown),
+            "earlier run": lambda: self.names.get("run", "none"),
+            "differ": lambda one, other: one != other,
+            "number": int,
+            "of the tree": lambda name: self.panel.get("/tree")[name],
+            "objects since": lambda change, run: len(self.panel.get(f"/values?since={change}&run={run}")["objects"]),
+            "in the tree": lambda ono, name: tree().get(ono, {}).get(name),
+            "how many in the tree": lambda: len(tree()),
+            "link": lambda name: self.panel.look()["link"][name],
+            "lost at least": lambda times: self.panel.look()["link"]["lost"] >= int(times),
+            "lost for more than": lambda ms: (self.panel.look()["link"]["lost_for"] or 0) > ms,
+            "lost for longer until lost again": self.is_lost_for_longer,
+            "found anew": self.is_found_anew,
+            "notes": lambda: notes_of(self.panel),
+            "looks at notes of losses": lambda: looks_at_losses(notes_of(self.panel)),
+        }, tree=TREE, other_tree=TREE.replace(f"{MUTE} 4097 mute muted lockable mute", f"{MUTE} 4097 int16 -5 5 0 lockable mute"),
+            many=many_tree()[0])
+
+    def begins(self, device):
+        self.device = self.open.enter_context(device)
+        self.names["address"] = address(device)
+
+    def begins_way(self):
+        self.way = self.open.enter_context(Lossy(self.device.port, share=0))
+
+    def begins_panel(self, words="", **settings):
+        self.panel = self.open.enter_context(Panel(self.way or self.device, *words.split(), **settings))
+
+    def posts(self, path, body):
+        """The status and the text of what answers a body at a path."""
+        status, _, text = self.panel.exchange(self.panel.orders_by(path, body))
+        return status, json.loads(text)
+
+    def fares_at_once(self):
+        """How 150 orders fare that are sent at once: 64 that mute and unmute, and 86 of the trim, of which the last sets 21."""
+        batches = [[{"ono": MUTE, "set": ("muted", "unmuted")[n % 2]} for n in range(64)]]
+        batches += [[{"ono": TRIM, "set": str(n)} for n in range(size)] for size in (64, 22)]
+        tickets = [ticket for batch in batches for ticket in self.panel.orders(batch)[1]["tickets"]]
+        return sorted({*self.panel.settled(tickets)}, key=str)
+
+    def is_told_by_tickets(self):
+        order = [one["ticket"] for one in self.panel.get("/values?since=0&told=0")["told"]]
+        return order == sorted(order) and len(order) > 150
+
+    def file_of(self, text):
+        file = self.open.enter_context(tempfile.NamedTemporaryFile("w"))
+        file.write(text)
+        file.flush()
+        return file.name
+
+    def swap(self):
+        self.panel, self.other = self.other, self.panel
+
+    def is_lost_for_longer(self):
+        """Whether the device is lost once more, and meanwhile the time since it was lost first grows."""
+        times, before = [], self.panel.look()["link"]["lost"]
+        is_lost_again = lambda v: times.append(v["link"]["lost_for"] or 0) or v["link"]["lost"] > before
+        return self.panel.wait(is_lost_again, 60) is not None and times == sorted(times) or times[-9:]
+
+    def is_found_anew(self, epoch):
+        values = self.panel.look()
+        return values["walked"] and values["epoch"] > epoch and values["link"]["lost_for"] is None
+
+
+def scenes():
+    for steps, names in scenes_of("panel"):
+        desk = Desk()
+        with desk.open, desk.lock:
+            desk.play(steps, **names)
+
+
+def notes_of(panel):
+    panel.process.terminate()
+    return panel.process.communicate(timeout=20)[1].splitlines()
+
+
+def looks_at_losses(notes):
+    """Notes of a panel whose device was lost and heard again, several times."""
+    check(all(note.startswith("note: ") for note in notes) and any("lost" in note for note in notes), f"--verbose: {notes}")
+    heard = [re.fullmatch(r"note: the device is heard again; (\d+) sessions were lost so far", note) for note in notes]
+    lost = [int(note[1]) for note in heard if note]
+    check(notes[0] == "note: the device is lost: a command got no answer for 5 s" and lost[:1] > [0] and lost == sorted({*lost}),
+          f"--verbose: {notes}")
+    told = ["heard again" in note for note in notes]
+    check(len(told) > 1 and told == [at % 2 == 1 for at in range(len(told))],
+          f"--verbose: it is lost, then heard again, and so on: {notes}")
+
+
 def main():
     ITS.folder = os.path.abspath(sys.argv[1])
     beside = ThreadPoolExecutor(1).submit(steady)
-    for part in (words, spans, bound_for, classes, seldom, of_other_classes, listed_twice, visible_first, often, aged,
-                 newer_than_an_answer, beside_an_order, right_behind, late_orders, behind_untaken_answers, over_a_stop, asleep, failing, beside_large,
-                 unwatched, troubled, ailing, counted, without_a_page, at_its_port, at_an_old_port, by_its_names, a_mute, limits_of_orders, runs,
-                 many_orders, labels, lost_stays_told, tokens, only_shown, units):
+    for part in (words, bound_for, classes, listed_twice, visible_first, often, aged, newer_than_an_answer,
+                 beside_an_order, right_behind, late_orders, behind_untaken_answers, over_a_stop,
+                 beside_large, unwatched, counted, without_a_page, at_its_port, at_an_old_port, by_its_names,
+                 a_mute, limits_of_orders, tokens, scenes, lossy):
         part()
-    with Device() as device, Panel(device.port) as panel:
-        page(panel)
-        in_one_piece(panel)
-        objects(device, panel)
-        for part in (hostile, protected, ends, slow, little_by_little, taken_late, crowd, all_known):
+    with walked() as (_, panel):
+        for part in (page, in_one_piece, hostile, protected, ends, slow, little_by_little, taken_late, crowd, all_known):
             part(panel)
-    for part in (lossy, cut_off, gone_and_back, many, rest):
-        part()
     asked, came, idled = beside.result()
     check(asked == came > 1, f"a connection with a request each half second: {came} of {asked} are answered")
     check(30 <= idled < 40, f"a connection on which nothing moves is closed after {idled:.1f} s, not after 30")

@@ -19,12 +19,11 @@ from pathlib import Path
 
 import checks
 import peers
-from checks import Ahead, ended, free_port, waited, write
-from tables import data, octets
+from checks import Ahead, ended, free_port, waited
+from scenes import Scene, scenes_of, verbs_of_run
+from tables import as_it_stands, data
 
 DATA = data("standstill")
-MUTE, MUTED, UNMUTED = 4097, b"\1", b"\2"
-GET_LINE, MUTE_LINE = b"4097 4 1 0 -\n", b"4097 4 2 1 01\n"
 PATIENCE = 60  # seconds that a busy machine may take for what takes none
 
 
@@ -67,62 +66,6 @@ class Relay(peers.Relay):
             self.front.sendto(datagram, *self.ways)
 
 
-class Scene:
-    """A device, a way to it, another controller, and the time of both programs."""
-
-    def __init__(self, checks):
-        self.checks, self.time = checks, Ahead()
-        _, device = checks.serve(**self.time.settings)
-        self.relay, self.peer = Relay(device), peers.Peer(device, 0.3, PATIENCE)
-
-    def control(self, command, *words, stdout=subprocess.PIPE):
-        return self.checks.start("ocactl", command, "--device", f"127.0.0.1:{self.relay.port}", "--port", free_port(), "--first-handle", 1, *words,
-                                 stdout=stdout, stderr=subprocess.DEVNULL, text=False, **self.time.settings)
-
-
-class Checks(checks.Checks):
-    @contextlib.contextmanager
-    def scene(self):
-        scene = Scene(self)
-        with scene.relay:
-            yield scene
-
-    def comes(self, what, holds):
-        self.expect(what, waited(holds, PATIENCE, 0.002) is not None)
-
-    def unmuted(self, what, scene, moment):
-        scene.time.set(moment)
-        self.same(f"{what}: another unmutes", scene.peer.status(MUTE, 4, 2, UNMUTED), 0)
-
-    def stands(self, what, scene, passed=1):
-        self.same(f"{what}: the state", scene.peer.ask(MUTE, 4, 1), (0, UNMUTED))
-        self.same(f"{what}: copies that came to the device", scene.relay.passed, passed)
-
-
-def stopped(checks):
-    """Copies come at seconds 0 (no answer), 95 (lost) and 190 (forgotten); another unmutes at 60."""
-    for name, words, given, told in DATA.stopped:
-        with checks.scene() as scene:
-            relay, run = scene.relay, scene.control(name, *words.split())
-            write(run, octets(given))
-            checks.comes(f"{name}: the first copy", lambda: relay.passed == 1)
-            run.send_signal(signal.SIGSTOP)
-            checks.unmuted(name, scene, 60)
-            before = relay.copies
-            for moment in (95, 190):
-                scene.time.set(moment)
-                relay.loses_copies = moment < 190
-                run.send_signal(signal.SIGCONT)
-                waited(lambda: relay.copies > before or run.poll() is not None)
-                before = relay.copies
-                run.send_signal(signal.SIGSTOP)
-            relay.loses_answers = False
-            run.send_signal(signal.SIGCONT)
-            out, _, status = ended(run, PATIENCE)
-            checks.same(f"{name}: what it printed, and its status", (out, status), (octets(told), 3))
-            checks.stands(name, scene)
-
-
 class Reader:
     """Who reads what a program prints, and lets it wait: at first and behind each look the pipe is full."""
 
@@ -159,85 +102,48 @@ class Reader:
         return self.text.replace(b"\0", b"")
 
 
-def read_rarely(checks):
-    """Lines whose outcomes are read once in 95 seconds: a command that is executed at second 0, its answer lost, is in flight meanwhile."""
-    with checks.scene() as scene:
-        relay, reader = scene.relay, Reader()
-        run = scene.control("run", "--ahead", "4", stdout=reader.into)
-        write(run, GET_LINE * 2 + MUTE_LINE + GET_LINE * 5)
-        checks.comes("a slow reader: the first copy", lambda: relay.passed == 1 and reader.is_blocked(run))
-        checks.unmuted("a slow reader", scene, 60)
-        scene.time.set(95)
-        relay.is_cut, before = True, relay.commands
-        reader.look()
-        waited(lambda: relay.commands > before or run.poll() is not None, 2)
-        reader.fill()
-        waited(lambda: reader.is_blocked(run) or run.poll() is not None, 2)
-        scene.time.set(190)
-        relay.is_cut = relay.loses_copies = relay.loses_answers = False
-        lines = reader.rest().split(b"\n")
-        checks.same("a slow reader: its status", run.wait(timeout=PATIENCE), 3)
-        checks.same("a slow reader: the outcome of the command, and of those that were read and waited", lines[2:3] + lines[4:],
-                    [b"lost"] * 5 + [b""])
-        checks.stands("a slow reader", scene)
+class Stage(Scene):
+    """A scene of the rows: a device, a way to it, `ocactl` by that way, another controller, and the time of both
+    programs; and who reads what `ocactl` prints, if that waits."""
 
+    def __init__(self, checks):
+        self.time, self.run, self.reader = Ahead(), None, None
+        _, device = checks.serve(**self.time.settings)
+        self.relay, self.peer = Relay(device), peers.Peer(device, 0.3, PATIENCE)
+        is_over = lambda: self.run.poll() is not None
+        super().__init__(checks, {
+            **verbs_of_run(self),
+            "control": self.control,
+            "control read late": self.read_late,
+            "time": self.time.set,
+            "stops": lambda: self.run.send_signal(signal.SIGSTOP),
+            "goes on": lambda: self.run.send_signal(signal.SIGCONT),
+            "another sets": lambda state: self.peer.status(4097, 4, 2, bytes.fromhex(state)),
+            "the state": lambda: self.peer.ask(4097, 4, 1)[1],
+            "way": lambda name: getattr(self.relay, name),
+            "way has": lambda name, value: setattr(self.relay, name, value),
+            "is sent": lambda handle: handle in self.relay.handles,
+            "how many are sent": lambda: len(self.relay.handles),
+            "has kept": lambda: len(self.relay.kept) > 0,
+            "of these": lambda lines, *places: [lines[it] for it in places],
+            "number of": len,
+            "awaits more": lambda name, count: waited(lambda: getattr(self.relay, name) > count or is_over(), 2),
+            "awaits a full pipe": lambda: waited(lambda: self.reader.is_blocked(self.run) or is_over(), 2),
+            "waits": lambda: self.reader.is_blocked(self.run),
+            "looks": lambda: self.reader.look(),
+            "fills": lambda: self.reader.fill(),
+            "lines that are read": lambda: told_in(self.reader),
+            "rest": lambda: self.reader.rest().decode().split("\n"),
+            "status": lambda: self.run.wait(timeout=PATIENCE),
+        })
 
-def waits_behind(checks):
-    """A line that waited 20 seconds for a reader is not sent, nor those read with it."""
-    with checks.scene() as scene:
-        relay, reader = scene.relay, Reader()
-        relay.loses_answers = False
-        run = scene.control("run", stdout=reader.into)
-        write(run, GET_LINE + MUTE_LINE * 3, ends=False)
-        checks.comes("a line that waits: it waits", lambda: relay.answers == 1 and reader.is_blocked(run))
-        checks.unmuted("a line that waits", scene, 20)
-        reader.look()
-        checks.comes("a line that waits: all are told", lambda: told_in(reader) == 4)
-        checks.stands("a line that waits", scene, 0)
-        # what is read now is sent
-        write(run, MUTE_LINE)
-        lines = reader.rest().split(b"\n")
-        checks.same("a line that waits: what it printed, and its status", (lines, run.wait(timeout=PATIENCE)),
-                    ([b"answer 0 1 01", *[b"lost"] * 3, b"answer 0 0 -", b""], 3))
-        checks.same("a line that waits: the state at last", scene.peer.ask(MUTE, 4, 1), (0, MUTED))
+    def control(self, command, words=(), stdout=subprocess.PIPE):
+        to = ("--device", f"127.0.0.1:{self.relay.port}", "--port", free_port(), "--first-handle", 1)
+        self.run = self.checks.start("ocactl", command, *to, *words, stdout=stdout, stderr=subprocess.DEVNULL, **self.time.settings)
 
-
-LEFT = b"4098 not sent\n4101 not sent\n"
-
-
-def stopped_between(checks):
-    """Stopped for 20 seconds in the first of three commands: the rest is left out. Again if late."""
-    for name, words, answered in DATA.several:
-        for _ in range(20):
-            with checks.scene() as scene:
-                relay, run = scene.relay, scene.control(name, *words.split())
-                checks.comes(f"{name} of three: the first copy", lambda: relay.passed == 1 and relay.kept)
-                run.send_signal(signal.SIGSTOP)
-                scene.time.set(20)
-                relay.give()
-                relay.loses_answers = relay.loses_copies = False
-                run.send_signal(signal.SIGCONT)
-                out = run.communicate(timeout=PATIENCE)[0]
-                passed, status = len(relay.handles), run.returncode
-            is_late = out.startswith(b"4097 lost\n")
-            checks.same(f"{name} of three: what it printed, its status, and how many were sent", (out, status, passed),
-                        ((b"4097 lost" if is_late else octets(answered)) + b"\n" + LEFT, 3, 1))
-            if not is_late:
-                break
-
-
-def read_between(checks):
-    """Three objects. The line of the first is read after 20 seconds: the others are left out."""
-    for name, words, answered in DATA.several:
-        with checks.scene() as scene:
-            relay, reader = scene.relay, Reader()
-            relay.loses_answers = relay.loses_copies = False
-            run = scene.control(name, *words.split(), stdout=reader.into)
-            checks.comes(f"{name}, read late: it waits", lambda: len(relay.handles) == 1 and reader.is_blocked(run))
-            scene.time.set(20)
-            lines = reader.rest()
-            checks.same(f"{name}, read late: what it printed, its status, and how many were sent",
-                        (lines, run.wait(timeout=PATIENCE), len(relay.handles)), (octets(answered) + b"\n" + LEFT, 3, 1))
+    def read_late(self, *command):
+        self.reader = Reader()
+        self.control(*command, stdout=self.reader.into)
 
 
 def told_in(reader):
@@ -246,26 +152,33 @@ def told_in(reader):
     return reader.text.count(b"\n")
 
 
-def in_time(checks):
-    """Lines that come minutes after one another are sent, and so are those that were read with others which were answered late."""
-    with checks.scene() as scene:
-        relay = scene.relay
-        relay.loses_answers = relay.loses_copies = False
-        run = scene.control("run")
-        for moment in (0, 100, 300):
-            scene.time.set(moment)
-            write(run, MUTE_LINE, ends=False)
-            checks.same(f"a line in second {moment}", run.stdout.readline(), b"answer 0 0 -\n")
-        relay.last = 3
-        write(run, MUTE_LINE * 4, ends=False)
-        for handle in range(4, 8):
-            checks.comes(f"line {handle} of 7: it is sent", lambda: handle in relay.handles)
-            scene.time.set(300 + 7 * (handle - 3))
-            relay.last = handle
-            checks.same(f"line {handle} of 7, which is answered late", run.stdout.readline(), b"answer 0 0 -\n")
-        write(run, b"")
-        checks.same("lines in time: the end", (run.communicate(timeout=PATIENCE)[0], run.returncode), (b"", 0))
+def scenes(checks):
+    for steps, names in scenes_of("standstill"):
+        stage = Stage(checks)
+        with stage.relay:
+            stage.play(steps, **names)
+        checks.end()
+
+
+def stopped_between(checks):
+    """Stopped for 20 seconds in the first of three commands: the rest is left out. Again if late."""
+    for name, words, printed in DATA.several:
+        for _ in range(20):
+            stage = Stage(checks)
+            with stage.relay:
+                stage.control(name, words.split())
+                stage.play(as_it_stands("standstill")["first_of_three"], name=name)
+                stage.relay.give()
+                stage.relay.loses_answers = stage.relay.loses_copies = False
+                stage.run.send_signal(signal.SIGCONT)
+                out, _, status = ended(stage.run)
+                passed = len(stage.relay.handles)
+            is_late = out.startswith("4097 lost\n")
+            checks.same(f"{name} of three: what it printed, its status, and how many were sent", (out, status, passed),
+                        (f"{'4097 lost' if is_late else printed}\n4098 not sent\n4101 not sent\n", 3, 1))
+            if not is_late:
+                break
 
 
 if __name__ == "__main__":
-    sys.exit(Checks(sys.argv[1]).tried(stopped, stopped_between, read_between, read_rarely, waits_behind, in_time))
+    sys.exit(checks.Checks(sys.argv[1]).tried(scenes, stopped_between))

@@ -25,9 +25,14 @@ def whole(value, names):
     return value
 
 
+def as_it_stands(name):
+    """The file of this name: rows by their kind."""
+    return tomllib.loads((ROWS / f"{name}.toml").read_text())
+
+
 def table(name, **names):
-    """The file of this name: rows by their kind, and the table `text`."""
-    read = tomllib.loads((ROWS / f"{name}.toml").read_text())
+    """The same but for scenes, with all texts in it written out, also by the table `text`."""
+    read = {kind: rows for kind, rows in as_it_stands(name).items() if kind != "scene"}
     return whole(read, read.get("text", {}) | names)
 
 
@@ -39,7 +44,7 @@ def frozen(value):
 
 def data(name):
     """The tables of the file of this name, as they stand there, each an attribute: lists are tuples."""
-    return SimpleNamespace(**frozen(tomllib.loads((ROWS / f"{name}.toml").read_text())))
+    return SimpleNamespace(**frozen(as_it_stands(name)))
 
 
 def each(row, *keys):

@@ -6,10 +6,8 @@ Usage: words.py BIN     BIN is the folder with `ocadev` and `ocactl`
 
 This script is the device that hears `ocactl`, and the controller that speaks to `ocadev serve`. The last line is 'N
 passed, M failed'."""
-import contextlib
 import random
 import re
-import select
 import socket
 import subprocess
 import sys
@@ -19,13 +17,12 @@ from pathlib import Path
 
 import oca_profile as oca
 from checks import (
-    NOTE, Checks, are_few, at, bound, by_turns, comes, ended, free_port, heard, next_command, next_line, read_note, read_until, write)
+    NOTE, Checks, are_few, at, bound, ended, free_port, next_command, next_line, write)
 from manual import commands_in_help, help_of, options_in_help
-from tables import TOP, data, table
+from network import scenes
+from tables import TOP, data
 
-TURNS = 80
-ALIVE = oca.pdu(4, [b"\0\5"])  # a keep-alive of five seconds
-DATA, SERVED = data("words"), table("words")["served"]
+DATA = data("words")
 
 
 def controls(checks, device, command, *words, given=None, first=1):
@@ -39,63 +36,12 @@ def answers(device, handle, status=0, passed=()):
     return data
 
 
-def heard_until(device, holds):
-    """The datagrams that come until this holds of them, or for ten seconds none does."""
-    found, datagrams = [], comes(device)
-    while not holds(found) and (came := next(datagrams, None)):
-        found.append(came[0])
-    return found
-
-
-def drives_while_it_waits(checks):
-    """`run --ahead` with an open input: commands are under way together, sent again and answered."""
-    wanted = [oca.command(handle, 1, 2, 3) for handle in (1, 2, 3)]
-    for behind, rest in (("", ""), ("# done\n", ""), ("\n", ""), ("\n# a comment without an end", "\n"), ("1 2 3 0", " -\n")):
-        name = f"run --ahead, {behind!r} behind a command"
-        with bound() as device:
-            run = controls(checks, device, "run", "--ahead", 16)
-            for piece in ("1 2", " 3 0 -", "\n"):
-                write(run, piece, ends=False)
-                time.sleep(0.02)
-            data, sender = device.recvfrom(2000)
-            checks.same(f"{name}: one of a line that came in pieces", data, wanted[0])
-            write(run, f"1 2 3 0 -\n{behind}", ends=False)
-            came = heard_until(device, lambda found: found.count(wanted[1]) == 3)
-            checks.same(f"{name}: it is sent again, and the one before it", (set(came), came.count(wanted[0]) >= 2), (set(wanted[:2]), True))
-            for handle in (1, 2):
-                device.sendto(oca.response(handle, handle), sender)
-            said = read_until(run.stdout.fileno(), lambda said: said.count(b"\n") > 1)
-            checks.same(f"{name}: its answer is printed", said, b"answer 1 0 -\nanswer 2 0 -\n")
-            came = heard_until(device, lambda found: found.count(ALIVE) == 2)
-            checks.same(f"{name}: keep-alives while nothing is under way", (set(came) <= {ALIVE, *wanted[:2]}, came.count(ALIVE)), (True, 2))
-            write(run, rest or "1 2 3 0 -\n")
-            if rest != "\n":
-                answers(device, 3, passed=wanted[:2])
-            checks.same(f"{name}: what comes then", ended(run), ("" if rest == "\n" else "answer 0 0 -\n", "", 0))
+def while_it_waits(checks):
+    scenes(checks, "words")
 
 
 def at_own_ports(checks):
-    """`run` and `lock` take 65001 or 65002 by turns and ask first; `run` takes another port where that one is in use."""
-    own = by_turns()[0]
-    line = ["run"], "1 2 3 0 -\n", (1, 2, 3), "answer 0 0 -\n"
-    for taken, words, given, command, printed in ((False, *line), (True, *line), (False, ["lock", 4097], "", (4097, 1, 3), "4097 locked\n")):
-        with bound() as device, bound(port=own) if taken else contextlib.nullcontext():
-            run = checks.start("ocactl", words[0], "--device", at(device), *words[1:], given=given)
-            data, first = b"", 0
-            if not taken:
-                data, sender = next_command(device)
-                first = int.from_bytes(data[14:18], "big")
-                checks.same(f"{words[0]}: what is asked first", data, oca.command(first, 100, 1, 1))
-                device.sendto(oca.response(first), sender)
-            data, sender = next_command(device, [data])
-            handle = int.from_bytes(data[14:18], "big")
-            checks.same(f"{words[0]}: its bytes", data, oca.command(handle, *command))
-            checks.same(f"{words[0]}: its own port", sender[1] == own, not taken)
-            checks.same(f"{words[0]}: a handle by the clock", (int(time.time() * 100000) - handle) % 2**31 < 60 * 100000, True)
-            if not taken:
-                checks.same(f"{words[0]}: the handle behind the first", handle, first + 1)
-            device.sendto(oca.response(handle), sender)
-            checks.same(f"{words[0]}: what it prints", ended(run), (printed, "", 0))
+    scenes(checks, "words", "at_own_ports")
 
 
 def faults(checks):
@@ -162,9 +108,9 @@ def versions(checks):
             checks.same(f"{program} {word}", checks.ran(program, word), (f"{program} {number}\nchecked with {toolchain}\n", "", 0))
 
 
-def serves(checks):
-    """`serve`: where it listens, its window and its counts."""
-    run = checks.start("ocadev", "serve", "--port", 0, "--turns", TURNS, "--ip", "127.0.0.2", "--window", 2)
+def notes_a_grant(checks):
+    """`serve`: where it listens, and how many bytes the system grants for what it sends, where these are few."""
+    run = checks.start("ocadev", "serve", "--port", 0, "--turns", 1, "--ip", "127.0.0.2")
     said = re.fullmatch(r"listening 127\.0\.0\.2:(\d+)\n", run.stderr.readline())
     checks.same("serve: where it listens", said is not None, True)
     note = run.stderr.readline() if are_few() else ""
@@ -173,41 +119,6 @@ def serves(checks):
         granted = asks.getsockopt(socket.SOL_SOCKET, socket.SO_SNDBUF)
     few = (note[:len(NOTE)], f" {granted} bytes" in note or note)
     checks.same("serve: how many bytes the system grants", few, (NOTE, True) if are_few() else ("", ""))
-    device = ("127.0.0.2", int(said[1]))
-    first, *others, stranger = [bound() for _ in range(17)]
-    get = lambda handle, level=4: oca.command(handle, 4097, level, 1)
-    # 8 are executed; 2 are duplicates within the window of 2, 3 are old, 4 ask something else under the handle 8
-    datagrams = [get(h) for h in range(1, 9)] + [get(7), get(8)] + [get(h) for h in (6, 1, 0)] + [get(8, 1)] * 4
-    for data in datagrams + [b"\0"] * 5 + [b"\0" * 1473] * 7:
-        first.sendto(data, device)
-    for peer in others:
-        peer.sendto(oca.response(1), device)
-    for _ in range(6):
-        stranger.sendto(get(1), device)
-    out, told, status = ended(run)
-    checks.same("serve: what else it tells without --verbose", told, "")
-    counts = dict(re.findall(r"([a-z-]+) (\d+)", out))
-    quiet = int(counts.pop("quiet", -1))
-    checks.same("serve: its counts", counts, {
-        "turns": str(TURNS), "executed": "8", "kept": "2", "old": "3", "reused": "4", "malformed": "5", "no-room": "6", "oversize": "7",
-        "failed-receives": "0", "failed-sends": "0"})
-    checks.same("serve: its quiet turns", quiet, TURNS - len(datagrams) - 5 - 7 - len(others) - 6)
-    checks.same("serve: its status", status, 0)
-    checks.same("serve: its answers", len(heard(first)), 10)
-
-
-# What is told of a span of 17.
-WIDE = "note: --span 17: the device needs a window of 33 commands or more; its default of 32 is enough for a span of 16"
-
-
-def spans_of_hands(checks):
-    """Each command for hands says which window the device needs, where the span is above 16, and only there; what it then asks is not answered."""
-    for command in ("tree", "get", "set", "lock", "unlock"):
-        for span in (16, 17):
-            with bound() as device:
-                said = ended(controls(checks, device, command, "--span", span, "--turns", 0, *DATA.behind.get(command, [])))[1].splitlines()
-                notes = [line for line in said if "needs a window" in line]
-                checks.same(f"{command} --span {span}", (notes, said[:len(notes)]), ([WIDE], [WIDE]) if span > 16 else ([], []))
 
 
 def typed(checks):
@@ -224,72 +135,6 @@ def typed(checks):
                 checks.same(f"run {more}, typed: its answer", line, f"answer {handle} 0 -\n")
             checks.same(f"run {more}, typed: the fastest answer, {1000 * min(took):.0f} ms", min(took) < 0.2, True)
             checks.same(f"run {more}, typed: its end", ended(run), ("", "", 0))
-
-
-def unwritten(checks):
-    """What can't be written is a fault, of each command, and of help."""
-    with open("/dev/full", "w") as full, bound() as device:
-        for words, given in DATA.unwritten:
-            run = checks.start(*words.replace("DEVICE", at(device)).split(), given=given, stdout=full)
-            if "DEVICE" in words:
-                answers(device, 1)
-            _, said, status = ended(run)
-            checks.same(f"{words}, which can't be written", (said.splitlines()[-1:], status), (["write failed"], 1))
-
-
-def bytes_of(datagram):
-    if isinstance(datagram, str):
-        return bytes.fromhex(datagram)
-    kind, *commands = datagram
-    asked = [(handle, ono, *DATA.methods[name]) for name, handle, ono in commands]
-    return oca.pdu(kind, [oca.Command(*target, bool(params), bytes.fromhex(params)).body() for *target, params in asked])
-
-
-def tells_of(checks, run, port, rows, first, second, name="serve --verbose"):
-    """What a device tells of each of these datagrams of two peers."""
-    for what, peer, datagram, said in rows:
-        end = {"first": first, "second": second}[peer]
-        end.sendto(bytes_of(datagram), ("127.0.0.1", port))
-        checks.same(f"{name}: {what}", run.stderr.readline(), said.replace("PEER", at(end)) + "\n")
-
-
-EVERY_ADDRESS = ("note: 0.0.0.0 is every address of this machine: a reply may leave from a different address than the one that the "
-                 "controller sent to, and the controller then drops it\n")
-
-
-def serves_until_stopped(checks):
-    """`serve` without `--turns`, of one peer and two channel strips: what it tells of each datagram, and that a signal ends it without a report."""
-    run = checks.start("ocadev", "serve", "--port", 0, "--ip", "0.0.0.0", "--peers", 1, "--channels", 2, "--verbose")
-    said = re.fullmatch(r"listening 0\.0\.0\.0:(\d+)\n", run.stderr.readline())
-    checks.same("serve at 0.0.0.0: where it listens", said is not None, True)
-    checks.same("serve at 0.0.0.0: a note", run.stderr.readline(), EVERY_ADDRESS)
-    checks.same("serve: a note where little is granted", read_note(run), True)
-    with bound() as first, bound() as second:
-        tells_of(checks, run, int(said[1]), SERVED["strips"], first, second)
-        run.terminate()
-        checks.same("serve: stopped by a signal", ended(run), ("", "", -15))
-        tells_of(checks, *checks.serve("--window", 1, "--verbose"), SERVED["window_of_1"], first, second)
-    run, port = checks.serve()
-    with bound() as peer:
-        for handle in range(1, 3001):
-            peer.sendto(oca.command(handle, 4097, 4, 1), ("127.0.0.1", port))
-            checks.failed += not select.select([peer], [], [], 5)[0] or len(peer.recv(2000)) != 21
-    checks.same("serve: it goes on after 3,000 turns", run.poll(), None)
-    run.terminate()
-    checks.same("serve: stopped by a signal", ended(run), ("", "", -15))
-    for turns in (0, 3):
-        out, fault, _ = checks.ran("ocadev", "serve", "--port", 0, "--turns", turns, "--verbose")
-        told = [line for line in fault.splitlines() if not line.startswith(NOTE)]
-        checks.same(f"serve --verbose --turns {turns}", (out.split()[:2], out.split()[16:18], len(told)), (["turns", str(turns)], ["quiet", str(turns)], 1))
-
-
-def tells_locks(checks, *keep):
-    """`serve --verbose`, with and without `--keep`: locks, unlocks and refusals of executed commands, and a lapse."""
-    name, served = " ".join(["serve", *keep[:1], "--verbose"]), checks.serve(*keep, "--verbose")
-    with bound() as first, bound() as second:
-        tells_of(checks, *served, SERVED["locks"], first, second, name)
-        time.sleep(3.5)
-        tells_of(checks, *served, SERVED["locks_that_lapsed"], first, second, name)
 
 
 def tells_stats(checks, *keep):
@@ -331,9 +176,8 @@ def tells_stats(checks, *keep):
 def tells(checks):
     """A device whose state is not kept, and one whose state is kept in a file, tell the same."""
     with tempfile.TemporaryDirectory() as folder:
-        for part in (tells_locks, tells_stats):
-            for keep in ((), ("--keep", f"{folder}/{part.__name__}")):
-                part(checks, *keep)
+        for keep in ((), ("--keep", f"{folder}/state")):
+            tells_stats(checks, *keep)
 
 
 def listed_line(r, onos):
@@ -392,5 +236,5 @@ def trees(checks):
 
 if __name__ == "__main__":
     sys.exit(Checks(sys.argv[1]).tried(
-        drives_while_it_waits, typed, spans_of_hands, at_own_ports, faults, bad_values, missing_options, versions, unwritten,
-        serves, serves_until_stopped, tells, trees, alone=(at_own_ports, unwritten)))
+        while_it_waits, typed, at_own_ports, faults, bad_values, missing_options, versions,
+        notes_a_grant, tells, trees, alone=(at_own_ports,)))

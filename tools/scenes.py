@@ -1,0 +1,139 @@
+"""Scenes: steps in order that rows of data list. Other tools use it; it has no `main`.
+
+A tool gives the verbs. A step is a list:
+
+    [VERB, ..]                            what is done, with what is given to it
+    [WHAT, VERB, .., WANTED]              a check of this name: what the verb gives is what is wanted
+    ["comes", WHAT, VERB, .., WANTED]     the same, once it is so
+    ["keep", NAME, VERB, ..]              what the verb gives is known by this name from here on
+    ["for", [NAME, ..], [[..], ..], [STEP, ..]]     the steps for each of these values, which are known by these names
+
+`{NAME}` alone is what is known by this name, and in a longer text it stands for that; `{N*TEXT}` is a text so many
+times. Bytes that a verb gives are written in hexadecimal digits, and `nothing` where it gives nothing."""
+import os
+import re
+import shutil
+import struct
+import time
+
+from checks import ended, waited, write
+from tables import NAME, as_it_stands, octets, whole
+
+
+def told(value):
+    """What a verb gives, as a row writes it."""
+    if isinstance(value, (list, tuple)):
+        return [*map(told, value)]
+    if isinstance(value, dict):
+        return {name: told(it) for name, it in value.items()}
+    return value.hex() if isinstance(value, bytes) else "nothing" if value is None else value
+
+
+def scenes_of(name, kind="scene"):
+    """The scenes of this file of rows: the steps of each and the names that it begins with, for each row of its `of`."""
+    for row in as_it_stands(name)[kind]:
+        for names in row.get("of", [{}]):
+            yield row["steps"], names
+
+
+def verbs_of_run(scene):
+    """What a scene does with its run of a program."""
+    return {
+        "gives": lambda text: write(scene.run, text, ends=False),
+        "gives last": lambda text: write(scene.run, text),
+        "line": lambda: scene.run.stdout.readline(),
+        "note": lambda: scene.run.stderr.readline(),
+        "ends": lambda: ended(scene.run),
+        "kill": lambda: scene.run.kill()}
+
+
+def answer_of(said):
+    """The status and the parameters that a controller got, or nothing."""
+    return "nothing" if said is None else f"{said[0]} {said[1].hex()}".strip()
+
+
+def verbs_of_peer(scene):
+    """What a scene does with its controller."""
+    return {
+        "trims": lambda value: answer_of(scene.peer.trims(value)),
+        "trims twice": lambda value: answer_of(scene.peer.trims(value, copies=2)),
+        "trims again": lambda value, copies=0: answer_of(scene.peer.again(scene.peer.gain, 5, 2, struct.pack(">h", value), copies=copies)),
+        "trim": lambda: scene.peer.trim(),
+        "asks": lambda *asked: answer_of(scene.peer.ask(*asked[:3], *(bytes.fromhex(it) for it in asked[3:] if it))),
+        "handle": lambda handle: setattr(scene.peer, "handle", handle),
+        "patience": lambda seconds: scene.peer.socket.settimeout(seconds)}
+
+
+def verbs_of_files(at):
+    """What a scene does with its files; `at` says where they are."""
+    return {
+        "is there": lambda name: at(name).exists(),
+        "is a link": lambda name: at(name).is_symlink(),
+        "where it leads": lambda name: os.readlink(at(name)),
+        "attributes": lambda name: attributes(at(name)),
+        "file": lambda name: (at(name).stat().st_ino, at(name).stat().st_mtime_ns),
+        "number of": lambda name: at(name).stat().st_ino,
+        "has number": lambda name, number: at(name).stat().st_ino == number,
+        "bytes of": lambda name: at(name).read_bytes(),
+        "text of": lambda name: at(name).read_text(),
+        "holds": lambda name, *parts: at(name).exists() and all(octets(it) in at(name).read_bytes() for it in parts),
+        "put": lambda name, digits: at(name).write_bytes(bytes.fromhex(digits)),
+        "put text": lambda name, text: at(name).write_text(text),
+        "make folder": lambda name: at(name).mkdir(),
+        "make FIFO": lambda name: os.mkfifo(at(name)),
+        "link": lambda name, to: at(name).symlink_to(to),
+        "remove": lambda name: at(name).unlink(),
+        "remove folder": lambda name: shutil.rmtree(at(name)),
+        "mode": lambda name, mode: at(name).chmod(int(mode, 8)),
+        "give to another": lambda name: os.chown(at(name), other_owner(), -1)}
+
+
+def attributes(path):
+    found = os.lstat(path)
+    return oct(found.st_mode), found.st_uid, found.st_gid
+
+
+def other_owner():
+    return 65534 if os.geteuid() == 0 else os.geteuid()
+
+
+class Scene:
+    def __init__(self, checks, does, **names):
+        self.checks, self.names = checks, names
+        self.does = {"sleep": time.sleep, "finds": lambda form, text: re.search(form, text) is not None} | does
+
+    def filled(self, value):
+        if isinstance(value, list):
+            return [*map(self.filled, value)]
+        if isinstance(value, dict):
+            return {name: self.filled(it) for name, it in value.items()}
+        if not isinstance(value, str):
+            return value
+        alone = NAME.fullmatch(value)
+        return self.names[alone[1]] if alone else whole(value, {name: str(it) for name, it in self.names.items()})
+
+    def gives(self, verb, *given):
+        return told(self.does[verb](*given))
+
+    def play(self, steps, **names):
+        self.names |= self.filled(names)
+        for step in steps:
+            self.take(*step)
+
+    def take(self, verb, *given):
+        verb = self.filled(verb)
+        if verb == "for":
+            for values in self.filled(given[1]):
+                self.play(given[2], **dict(zip(given[0], values)))
+            return
+        given = self.filled([*given])
+        if verb == "keep":
+            self.names[given[0]] = self.gives(*given[1:])
+        elif verb in self.does:
+            self.gives(verb, *given)
+        else:
+            what, *call, wanted = given if verb == "comes" else (verb, *given)
+            found = [self.gives(*call)]
+            if verb == "comes":
+                waited(lambda: found[-1] == wanted or found.append(self.gives(*call)))
+            self.checks.same(what, found[-1], wanted)
