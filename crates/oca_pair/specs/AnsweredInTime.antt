@@ -1,6 +1,7 @@
 -- THE LAW OF ANSWERS IN TIME (profile), over every schedule: where a link and the network are in time, each command in
--- flight is answered when a copy of it finds room, whatever the device forgot meanwhile. Of the commands that earlier links
--- of the peer left behind, only those take room in the window whose link left off at most 100,000 ms before the submit.
+-- flight is answered when a copy of it finds room, whatever the device forgot meanwhile. Of the commands that earlier
+-- links of the peer left behind, only those take room in the window whose link left off at most 100,000 ms before the
+-- submit.
 use Rattle.std.specs.Prelude.{◌≡◌, ℕ, ◌+◌, ◌*◌, ◌<◌, ◌≤◌, nat_le, true, ◌&&◌, if◌then◌else◌}
 use Rattle.std.specs.Prelude.{false, is_none, List, [], ◌∷◌, ◌++◌, length, Some}
 use Rattle.std.specs.List.{slice_get, AllByRecursion}
@@ -24,13 +25,13 @@ use Rattle.oca_pair.specs.InTime.{longest_delay, AreInTime}
 
 -- ---- what may still come of what earlier links left behind
 
--- when a link left off that was renewed, by the common clock: when its own clock was read last; `before` are the renewals
--- before this one
+-- when a link left off that was renewed, by the common clock: when its own clock was read last; `before` are the
+-- renewals before this one
 abbrev pub left_off : Setup → Peer → Renewal → List Renewal → ℕ
 left_off s p x before = zero_after before p (s.zero p) + x.till
 
--- THE COMMANDS THAT MAY STILL COME from this moment of the common clock on: those that the earlier links of this peer left
--- behind which left off at most 100,000 ms before it
+-- THE COMMANDS THAT MAY STILL COME from this moment of the common clock on: those that the earlier links of this peer
+-- left behind which left off at most 100,000 ms before it
 abbrev pub left_since : Setup → ℕ → Peer → List Renewal → List ℕ
 left_since s t p [] = []
 left_since s t p (x ∷ before) =
@@ -38,8 +39,8 @@ left_since s t p (x ∷ before) =
     then x.left ++ left_since s t p before
     else left_since s t p before
 
--- THE SPAN OF THE LINK FITS THE WINDOW from this moment on: as `SpanFits`, but that of what earlier links left behind only
--- that counts which may still come.
+-- THE SPAN OF THE LINK FITS THE WINDOW from this moment on: as `SpanFits`, but that of what earlier links left behind
+-- only that counts which may still come.
 pub record SpanFitsSince (w : DeviceSizes) (s : Setup) (t : ℕ) (l : PeerLink) (n : Network) : Type 0 where
   pub some : 0 < l.link.span
   pub wide : 2 * l.link.span + length (left_since s t l.peer n.renewed) ≤ w.window + 1
@@ -49,8 +50,8 @@ abbrev pub FewerMayStillCome : Type 0
 FewerMayStillCome =
     (s : Setup) (t : ℕ) (p : Peer) (n : Network) → length (left_since s t p n.renewed) ≤ left_behind p n
 
--- A renewal is noted: from when on the new link's clock counts; that nothing comes of the old link any more when it left off
--- more than 100,000 ms before; and that a link whose commands all have answers leaves none behind.
+-- A renewal is noted: from when on the new link's clock counts; that nothing comes of the old link any more when it
+-- left off more than 100,000 ms before; and that a link whose commands all have answers leaves none behind.
 abbrev pub EveryRenewalIsNoted : Type 0
 EveryRenewalIsNoted =
     (s : Setup) (n : Network) (i first span now origin t : ℕ) (l : PeerLink) →
@@ -106,8 +107,9 @@ EveryRoundTripInTimeBringsTheAnswer =
 abbrev pub ComesWithRoom : Peer → Network → ℕ → ℕ → Type 0
 ComesWithRoom p n k now = FindsRoom p now n
 
--- Over every schedule, for all sizes, of each link that is in time: so it is of each command that the link submitted in a
--- step, where its span fits the window from then on, and from this step on it is asked every so many ms, and is not renewed.
+-- Over every schedule, for all sizes, of each link that is in time: so it is of each command that the link submitted in
+-- a step, where its span fits the window from then on, and from this step on it is asked every so many ms, and is not
+-- renewed.
 abbrev pub EveryCommandInTimeGetsThrough : Type 0
 EveryCommandInTimeGetsThrough =
     (w : DeviceSizes) (s : Setup) (tree : List Object) (starts : List Start) (before later : List Step) (i : ℕ)

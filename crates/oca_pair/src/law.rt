@@ -182,32 +182,34 @@ pub fn law_once_in_time()
     law_written_is_read_back();
 }
 
-/// Laws: over every schedule, a command in flight is answered if the link and the network are in time, whatever the device
-/// forgot meanwhile. A *schedule* is a list of steps of one device and some links with different addresses and ports
-/// ([`Step`](crate::Step)). [`law_once_in_time`] explains *in time*. It is a premise of all laws below except `fewer` and
-/// `noted`, and must hold of the earlier links at the same address and port too. The function does nothing at run time.
+/// Laws: over every schedule, a command in flight is answered if the link and the network are in time, whatever the
+/// device forgot meanwhile. A *schedule* is a list of steps of one device and some links with different addresses and
+/// ports ([`Step`](crate::Step)). [`law_once_in_time`] explains *in time*. It is a premise of all laws below except
+/// `fewer` and `noted`, and must hold of the earlier links at the same address and port too. The function does nothing
+/// at run time.
 ///
 /// Another premise is that the link's *span fits the window* from the submit of the command on: the span `s`
-/// ([`Span`](oca_types::Span)) is at least 1, and the reply window has `w` commands ([`Window`](oca_types::Window)), with
-/// `2 * s + k <= w + 1`. Here `k` is 0 if the link was never *renewed* (a new link takes its place). Otherwise `k` is how
-/// many commands the earlier links of the peer left unanswered, but without those of a link that left off more than
-/// 100,000 ms before the submit. A link *leaves off* when its clock was read last by a call that keeps the moment. A
-/// refused submit keeps no moment, and a keep-alive beside the link is no call of it.
+/// ([`Span`](oca_types::Span)) is at least 1, and the reply window has `w` commands ([`Window`](oca_types::Window)),
+/// with `2 * s + k <= w + 1`. Here `k` is 0 if the link was never *renewed* (a new link takes its place). Otherwise `k`
+/// is how many commands the earlier links of the peer left unanswered, but without those of a link that left off more
+/// than 100,000 ms before the submit. A link *leaves off* when its clock was read last by a call that keeps the moment.
+/// A refused submit keeps no moment, and a keep-alive beside the link is no call of it.
 ///
 /// The conclusions:
 /// - Answered: if a datagram with a command in flight is delivered and finds room ([`law_never_old`] explains these
 ///   words), the device answers it: it executes the command now, or finds the command's reply in the reply window.
-/// - Round trip: if the datagram with this answer is delivered to the link, the link then has the command's answer, or the
-///   answer was taken earlier, as in [`law_round_trip`]. The link is not renewed in between.
-/// - Getting through: if the link is not renewed from the submit on, and is asked at least every `ms` milliseconds, then it
-///   has or gave the answer, or is lost, or the command waits and was sent in time, as in [`law_getting_through`]. While the
-///   command waits, one transmission that arrives and finds room, and the one response that comes back, are enough.
+/// - Round trip: if the datagram with this answer is delivered to the link, the link then has the command's answer, or
+///   the answer was taken earlier, as in [`law_round_trip`]. The link is not renewed in between.
+/// - Getting through: if the link is not renewed from the submit on, and is asked at least every `ms` milliseconds,
+///   then it has or gave the answer, or is lost, or the command waits and was sent in time, as in
+///   [`law_getting_through`]. While the command waits, one transmission that arrives and finds room, and the one
+///   response that comes back, are enough.
 /// - Fewer: `k` is at most that of [`law_never_old`].
-/// - Noted: a renewal adds nothing to `k` if the old link left off more than 100,000 ms before the submit, or if all its
-///   commands had answers. So `k` is 0 if all earlier links left off so long before.
+/// - Noted: a renewal adds nothing to `k` if the old link left off more than 100,000 ms before the submit, or if all
+///   its commands had answers. So `k` is 0 if all earlier links left off so long before.
 ///
-/// [`law_never_old`], [`law_round_trip`] and [`law_getting_through`] ask that the peer kept its session. Here it does not
-/// matter how long the peer was silent before.
+/// [`law_never_old`], [`law_round_trip`] and [`law_getting_through`] ask that the peer kept its session. Here it does
+/// not matter how long the peer was silent before.
 pub fn law_answered_in_time()
     ensures answered { EveryUntakenCommandInTimeIsAnswered }
     ensures round_trip { EveryRoundTripInTimeBringsTheAnswer }

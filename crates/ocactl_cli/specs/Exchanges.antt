@@ -1,6 +1,6 @@
 -- The outcomes of commands that are sent over a network, one or those of lines (*profile*).
 use Rattle.std.specs.Prelude.{IfSome, MatchOption, Option, ◌≡◌, ◌⊎◌, ℕ, ℤ, ◌+◌, ◌-◌, ◌<◌, ◌≤◌, ◌==◌, Bool, ◌||◌, ◌&&◌, not, min}
-use Rattle.std.specs.Prelude.{true, false, Some, None, if◌then◌else◌, List, [], ◌∷◌, ◌++◌, length, codes, Result, Ok}
+use Rattle.std.specs.Prelude.{true, false, Some, None, List, [], ◌∷◌, ◌++◌, length, codes, Result, Ok}
 use Rattle.std.specs.Prelude.{Err}
 use Rattle.oca_types.specs.declared.words.Handle.{Handle}
 use Rattle.oca_types.specs.Peers.{RequestFields}

@@ -1,6 +1,6 @@
 pub mod Requests
-pub mod Exchanges
 pub mod Objects
+pub mod Exchanges
 pub mod Reasons
 pub mod Beside
 pub mod PrivateExchanges
@@ -13,3 +13,4 @@ pub mod Sockets
 pub mod Runs
 pub mod CommandLine
 pub mod Matching
+pub mod PrivateSockets

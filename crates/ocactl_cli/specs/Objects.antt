@@ -544,8 +544,8 @@ KeepsHeld [] before old new ended had has was is = (ended ≡ Ok before) × (new
 KeepsHeld (target ∷ held) before old new ended had has was is =
     KeepsLocks (target ∷ held) before old new ended had has was is
 
--- ALL OBJECTS WERE LOCKED, and those that are locked kept so until the input ended, and unlocked then, until a write
--- failed.
+-- ALL OBJECTS WERE LOCKED, and those that are locked kept so until the input ended, and unlocked then; or a write failed
+-- while they were unlocked.
 pub record HoldsAll (targets : List ℕ) (old new : PanelState) (ended : Result ℕ RunFault) (had has : Input)
     (was is : Output) : Type 0 where
   pub before : ℕ

@@ -2,6 +2,7 @@
 ghost use Rattle.std.specs.Prelude.{◌≡◌, ◌<◌, IfErr, IfOk};
 ghost use Rattle.oca_net.specs.Sockets.{IsBoundFrom, new_socket};
 ghost use Rattle.oca_panel.specs.declared.answering.Probed.TheVariants.{NotAnswering};
+ghost use Rattle.ocactl_cli.specs.PrivateSockets.{IsLinkedIfBound, IsMarked, IsSameButNoted};
 ghost use Rattle.ocactl_cli.specs.Sockets.{IsBoundByChoice, IsLinkedBehind, IsLinkedBy, IsLinkedFurther, IsLinkedOver};
 ghost use Rattle.ocactl_cli.specs.Sockets.{IsReached, IsSocketFor, IsUnreached, asks_first};
 
@@ -50,8 +51,8 @@ pub fn reached<'a, N: Net + Clock, F: Sink>(
     ensures fault { IfErr result (λ failure. IsUnreached failure.fault) }
 {
     let own = OwnPort::now(system);
-    let (end, is_own) = bound(alloc, system, reach, own, own_alone)?;
-    Ok(linked(alloc, system, reach, own, is_own, end, faults))
+    let bound = bound(alloc, system, reach, own, own_alone);
+    linked_over(alloc, system, reach, own, bound, faults)
 }
 
 /// A socket at the port that the words give, else at the program's own or another one; and whether none was given and
@@ -67,13 +68,29 @@ fn bound<'a, N: Net + Clock>(
     ensures new { IfOk result (λ r. r.0 ≡ new_socket r.0.local) }
     ensures fault { IfErr result (λ failure. IsUnreached failure.fault) }
 {
-    if let Some(port) = reach.port {
-        let end = bind_at(alloc, system, reach, port)?;
-        return Ok((end, false));
+    match reach.port {
+        Some(port) => marked(bind_at(alloc, system, reach, port), None),
+        None => marked(
+            by_choice(alloc, system, reach, own, own_alone),
+            Some(own.port),
+        ),
     }
-    let end = by_choice(alloc, system, reach, own, own_alone)?;
-    let is_own = end.local().port == own.port;
-    Ok((end, is_own))
+}
+
+/// The socket and whether it is at this port, where there is one; or the fault of binding it.
+fn marked<'a, N: Net + Clock>(
+    bound: Result<UdpEnd<'a, N>, Failure>,
+    own: Option<u16>,
+) -> Result<(UdpEnd<'a, N>, bool), Failure>
+    ensures { IsMarked own bound.entry result }
+{
+    match bound {
+        Ok(end) => {
+            let is_own = own == Some(end.local().port);
+            Ok((end, is_own))
+        }
+        Err(failure) => Err(failure),
+    }
 }
 
 /// A socket at the program's own port. Where that is in use, at one of the system's choice, unless no other may be
@@ -111,6 +128,25 @@ fn at_own_alone<'a, N: Net + Clock>(
 {
     match bind_at(alloc, system, reach, own.other) {
         Ok(_) => bind_at(alloc, system, reach, own.port),
+        Err(failure) => Err(failure),
+    }
+}
+
+/// A link over a socket, where one was bound; else the fault of binding it.
+fn linked_over<'a, N: Net + Clock, F: Sink>(
+    alloc: Global,
+    system: &'a N,
+    reach: Reach,
+    own: OwnPort,
+    bound: Result<(UdpEnd<'a, N>, bool), Failure>,
+    faults: &mut Printer<F>,
+) -> Result<(LinkStart, DeviceEnd<'a, N>), Failure>
+    requires below { own.first_handle.0 < 2147483648 }
+    requires new { IfOk bound (λ b. b.0 ≡ new_socket b.0.local) }
+    ensures { IsLinkedIfBound reach own bound.entry result }
+{
+    match bound {
+        Ok((end, is_own)) => Ok(linked(alloc, system, reach, own, is_own, end, faults)),
         Err(failure) => Err(failure),
     }
 }
@@ -215,7 +251,19 @@ fn bind_at<'a, N: Net + Clock>(
     ensures new { IfOk result (λ end. end ≡ new_socket end.local) }
     ensures fault { IfErr result (λ failure. IsUnreached failure.fault) }
 {
-    match bind_towards(alloc, system, reach.ip, reach.device, port) {
+    let bound = bind_towards(alloc, system, reach.ip, reach.device, port);
+    named(alloc, bound, port)
+}
+
+/// The socket; or the fault of binding it, with the port in its note.
+fn named<'a, N: Net + Clock>(
+    alloc: Global,
+    bound: Result<UdpEnd<'a, N>, Failure>,
+    port: u16,
+) -> Result<UdpEnd<'a, N>, Failure>
+    ensures { IsSameButNoted bound.entry result }
+{
+    match bound {
         Ok(end) => Ok(end),
         Err(failure) => Err(naming(alloc, failure, port)),
     }
