@@ -1,7 +1,7 @@
 -- Readings by class: a value, with the limits of a position and of a number (AES70-2, AES70-3).
-use Rattle.std.specs.Prelude.{◌≡◌, ℕ, ◌<◌, ◌^◌, List, ◌++◌, Option, Some, None, FitsSigned}
+use Rattle.std.specs.Prelude.{◌≡◌, ℕ, ◌<◌, ◌^◌, List, [], ◌++◌, Option, Some, None, FitsSigned, ℤ}
 use Rattle.std.specs.Option.{option_map, option_and_then}
-use Rattle.std.specs.Int.{w8, w16, w32, w64, byte_len}
+use Rattle.std.specs.Int.{Width, w8, w16, w32, w64, byte_len}
 use Rattle.oca_types.specs.declared.class.Class.{Class}
 use Rattle.oca_types.specs.declared.class.Class.TheVariants as class
 use Rattle.oca_types.specs.Numbers.{unsigned_encoding, signed_encoding, bool_encoding}
@@ -13,7 +13,20 @@ use Rattle.oca_model.specs.declared.reading.Reading.TheVariants.{Int64, Uint8, U
 use Rattle.oca_model.specs.declared.value.Value.{Value}
 use Rattle.oca_model.specs.declared.value.Value.TheVariants as value
 use Rattle.oca_model.specs.Parameters.{whole, pair_at}
-use Rattle.oca_model.specs.Values.{class_of_value, mute_number, polarity_number, mute_of, polarity_of}
+use Rattle.oca_model.specs.Values.{by_type, integer_type, class_of_value, mute_number, polarity_number, mute_of, polarity_of}
+
+-- what is said of the numbers of an integer actuator's reading, and of any other reading
+abbrev pub by_range : {Y : Type 0} → (Width → (ℤ → Value) → (Ranged ℤ → Reading) → Ranged ℤ → Y)
+    → (Width → (ℕ → Value) → (Ranged ℕ → Reading) → Ranged ℕ → Y) → Y → Reading → Y
+by_range signed unsigned other (Int8 r) = signed w8 value.Int8 Int8 r
+by_range signed unsigned other (Int16 r) = signed w16 value.Int16 Int16 r
+by_range signed unsigned other (Int32 r) = signed w32 value.Int32 Int32 r
+by_range signed unsigned other (Int64 r) = signed w64 value.Int64 Int64 r
+by_range signed unsigned other (Uint8 r) = unsigned w8 value.Uint8 Uint8 r
+by_range signed unsigned other (Uint16 r) = unsigned w16 value.Uint16 Uint16 r
+by_range signed unsigned other (Uint32 r) = unsigned w32 value.Uint32 Uint32 r
+by_range signed unsigned other (Uint64 r) = unsigned w64 value.Uint64 Uint64 r
+by_range signed unsigned other _ = other
 
 -- the value that was read, without its limits
 abbrev pub value_without_limits : Reading → Value
@@ -40,14 +53,8 @@ reading_encoding (Mute state) = unsigned_encoding w8 (mute_number state)
 reading_encoding (Polarity state) = unsigned_encoding w8 (polarity_number state)
 reading_encoding (Switch r) = ranged_encoding (unsigned_encoding w16) r
 reading_encoding (Boolean truth) = bool_encoding truth
-reading_encoding (Int8 r) = ranged_encoding (signed_encoding w8) r
-reading_encoding (Int16 r) = ranged_encoding (signed_encoding w16) r
-reading_encoding (Int32 r) = ranged_encoding (signed_encoding w32) r
-reading_encoding (Int64 r) = ranged_encoding (signed_encoding w64) r
-reading_encoding (Uint8 r) = ranged_encoding (unsigned_encoding w8) r
-reading_encoding (Uint16 r) = ranged_encoding (unsigned_encoding w16) r
-reading_encoding (Uint32 r) = ranged_encoding (unsigned_encoding w32) r
-reading_encoding (Uint64 r) = ranged_encoding (unsigned_encoding w64) r
+reading_encoding reading =
+    by_range (λ w _ _ r. ranged_encoding (signed_encoding w) r) (λ w _ _ r. ranged_encoding (unsigned_encoding w) r) [] reading
 
 -- how many parameters it is (ParamCount)
 abbrev pub reading_count : Reading → ℕ
@@ -67,19 +74,13 @@ ranged_in number bytes =
 
 -- WHAT AN ANSWER GIVES of an object of the class, where its parameters are such an answer; a block gives nothing.
 unfoldable pub reading_in : Class → List ℕ → Option Reading
-reading_in class.Block bytes = None
 reading_in class.Mute bytes = option_map Mute (option_and_then mute_of (whole (unsigned_at w8 bytes)))
 reading_in class.Polarity bytes = option_map Polarity (option_and_then polarity_of (whole (unsigned_at w8 bytes)))
 reading_in class.Switch bytes = option_map Switch (ranged_in (unsigned_at w16) bytes)
 reading_in class.Boolean bytes = option_map Boolean (whole (bool_at bytes))
-reading_in class.Int8 bytes = option_map Int8 (ranged_in (signed_at w8) bytes)
-reading_in class.Int16 bytes = option_map Int16 (ranged_in (signed_at w16) bytes)
-reading_in class.Int32 bytes = option_map Int32 (ranged_in (signed_at w32) bytes)
-reading_in class.Int64 bytes = option_map Int64 (ranged_in (signed_at w64) bytes)
-reading_in class.Uint8 bytes = option_map Uint8 (ranged_in (unsigned_at w8) bytes)
-reading_in class.Uint16 bytes = option_map Uint16 (ranged_in (unsigned_at w16) bytes)
-reading_in class.Uint32 bytes = option_map Uint32 (ranged_in (unsigned_at w32) bytes)
-reading_in class.Uint64 bytes = option_map Uint64 (ranged_in (unsigned_at w64) bytes)
+reading_in of bytes =
+    by_type (λ w _ reading. option_map reading (ranged_in (signed_at w) bytes))
+    (λ w _ reading. option_map reading (ranged_in (unsigned_at w) bytes)) None (integer_type of)
 
 -- the value that an answer gives, without its limits
 abbrev pub value_read : Class → List ℕ → Option Value

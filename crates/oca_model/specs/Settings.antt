@@ -1,6 +1,7 @@
 -- Setting a reading to a value of its class: its limits stay (AES70-2, AES70-3).
-use Rattle.std.specs.Prelude.{nat_le, int_le, ◌&&◌, not, Bool, true, false, if◌then◌else◌, Option, Some, None}
+use Rattle.std.specs.Prelude.{nat_le, int_le, ◌&&◌, not, Bool, true, false, if◌then◌else◌, ◌==◌, Option, Some, None}
 use Rattle.std.specs.Prelude.{Result, Ok, Err}
+use Rattle.std.specs.Int.{Width, byte_len}
 use Rattle.oca_types.specs.declared.class.Class.{Class}
 use Rattle.oca_model.specs.declared.reading.Ranged.{Ranged}
 use Rattle.oca_model.specs.declared.reading.Reading.{Reading}
@@ -9,8 +10,8 @@ use Rattle.oca_model.specs.declared.setting.SettingFault.{SettingFault}
 use Rattle.oca_model.specs.declared.setting.SettingFault.TheVariants.{OtherClass, OutOfRange}
 use Rattle.oca_model.specs.declared.value.Value.{Value}
 use Rattle.oca_model.specs.declared.value.Value.TheVariants as set
-use Rattle.oca_model.specs.Readings.{value_without_limits}
-use Rattle.oca_model.specs.Values.{class_of_value}
+use Rattle.oca_model.specs.Readings.{by_range, value_without_limits}
+use Rattle.oca_model.specs.Values.{by_number, class_of_value}
 
 -- the class of the objects that read so
 abbrev pub class_of_reading : Reading → Class
@@ -23,19 +24,16 @@ lies le r = le r.least r.setting && le r.setting r.greatest
 -- whether the setting lies within the reading's own limits, where it has some
 unfoldable pub is_within : Reading → Bool
 is_within (readings.Switch r) = lies nat_le r
-is_within (readings.Int8 r) = lies int_le r
-is_within (readings.Int16 r) = lies int_le r
-is_within (readings.Int32 r) = lies int_le r
-is_within (readings.Int64 r) = lies int_le r
-is_within (readings.Uint8 r) = lies nat_le r
-is_within (readings.Uint16 r) = lies nat_le r
-is_within (readings.Uint32 r) = lies nat_le r
-is_within (readings.Uint64 r) = lies nat_le r
-is_within _ = true
+is_within reading = by_range (λ _ _ _ r. lies int_le r) (λ _ _ _ r. lies nat_le r) true reading
 
 -- the same limits with another setting
 abbrev pub set_in_limits : {X : Type 0} → Ranged X → X → Ranged X
 set_in_limits r setting = record r { setting = setting }
+
+-- the reading of a type with another number, where this is one of the same width
+abbrev pub with_setting : {X : Type 0} → Width → (Ranged X → Reading) → Ranged X → Width → X → Option Reading
+with_setting w reading r width setting =
+    if byte_len width == byte_len w then Some (reading (set_in_limits r setting)) else None
 
 -- THE READING WITH ANOTHER VALUE of its class, and the limits that it had; a value of another class gives none.
 unfoldable pub with_value : Reading → Value → Option Reading
@@ -43,15 +41,9 @@ with_value (readings.Mute _) (set.Mute state) = Some (readings.Mute state)
 with_value (readings.Polarity _) (set.Polarity state) = Some (readings.Polarity state)
 with_value (readings.Switch r) (set.Switch position) = Some (readings.Switch (set_in_limits r position))
 with_value (readings.Boolean _) (set.Boolean truth) = Some (readings.Boolean truth)
-with_value (readings.Int8 r) (set.Int8 setting) = Some (readings.Int8 (set_in_limits r setting))
-with_value (readings.Int16 r) (set.Int16 setting) = Some (readings.Int16 (set_in_limits r setting))
-with_value (readings.Int32 r) (set.Int32 setting) = Some (readings.Int32 (set_in_limits r setting))
-with_value (readings.Int64 r) (set.Int64 setting) = Some (readings.Int64 (set_in_limits r setting))
-with_value (readings.Uint8 r) (set.Uint8 setting) = Some (readings.Uint8 (set_in_limits r setting))
-with_value (readings.Uint16 r) (set.Uint16 setting) = Some (readings.Uint16 (set_in_limits r setting))
-with_value (readings.Uint32 r) (set.Uint32 setting) = Some (readings.Uint32 (set_in_limits r setting))
-with_value (readings.Uint64 r) (set.Uint64 setting) = Some (readings.Uint64 (set_in_limits r setting))
-with_value _ _ = None
+with_value old value = by_range
+    (λ w _ reading r. by_number (λ width setting. with_setting w reading r width setting) (λ _ _. None) None value)
+    (λ w _ reading r. by_number (λ _ _. None) (λ width setting. with_setting w reading r width setting) None value) None old
 
 -- what was made of a reading, or the reading as it was
 abbrev pub made_or : Reading → Option Reading → Reading

@@ -4,7 +4,7 @@ use Rattle.std.specs.Prelude.{◌≡◌, ℕ, ℤ, pos, Option, Some, None}
 use Rattle.oca_types.specs.declared.class.Class.{Class}
 use Rattle.oca_model.specs.declared.value.Value.{Value}
 use Rattle.oca_model.specs.declared.value.Value.TheVariants as values
-use Rattle.oca_model.specs.Values.{class_of_value, mute_number, polarity_number, IsOfItsType}
+use Rattle.oca_model.specs.Values.{by_number, class_of_value, mute_number, polarity_number, IsOfItsType}
 
 -- the number of the state, of a mute and of a polarity
 abbrev pub state_in : Value → Option ℕ
@@ -14,15 +14,7 @@ state_in _ = None
 
 -- the setting, of an integer actuator
 abbrev pub integer_in : Value → Option ℤ
-integer_in (values.Int8 setting) = Some setting
-integer_in (values.Int16 setting) = Some setting
-integer_in (values.Int32 setting) = Some setting
-integer_in (values.Int64 setting) = Some setting
-integer_in (values.Uint8 setting) = Some (pos setting)
-integer_in (values.Uint16 setting) = Some (pos setting)
-integer_in (values.Uint32 setting) = Some (pos setting)
-integer_in (values.Uint64 setting) = Some (pos setting)
-integer_in _ = None
+integer_in value = by_number (λ w z. Some z) (λ w n. Some (pos n)) None value
 
 -- The value of the class has this number; or no value of the class has it.
 abbrev pub IsValueWith : {X : Type 0} → (Value → Option X) → Class → X → Option Value → Type 0

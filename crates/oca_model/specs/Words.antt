@@ -1,8 +1,8 @@
 -- The words for values (profile).
-use Rattle.std.specs.Prelude.{◌≡◌, ◌≢◌, ◌⊎◌, ℕ, ◌<◌, ◌^◌, true, false, List, Option, Some, None, codes, ℤ, pos}
+use Rattle.std.specs.Prelude.{◌≡◌, ◌≢◌, ◌⊎◌, ℕ, ◌<◌, ◌^◌, true, false, List, [], Option, Some, None, codes, ℤ, pos}
 use Rattle.std.specs.Prelude.{FitsSigned, decimal, MatchOption}
 use Rattle.std.specs.Fmt.{signed_decimal}
-use Rattle.std.specs.Int.{Width, w8, w16, w32, w64}
+use Rattle.std.specs.Int.{Width, w16, byte_len}
 use Rattle.std.specs.Option.{SomeIff}
 use Rattle.std.specs.Str.Parse.{IsNumeral, digits_value, signed_digits_value, without_leading_plus}
 use Rattle.std.specs.Str.Parse.{without_leading_sign}
@@ -11,8 +11,8 @@ use Rattle.oca_types.specs.declared.class.Class.TheVariants as class
 use Rattle.oca_model.specs.declared.value.MuteState.TheVariants.{Muted, Unmuted}
 use Rattle.oca_model.specs.declared.value.PolarityState.TheVariants.{NonInverted, Inverted}
 use Rattle.oca_model.specs.declared.value.Value.{Value}
-use Rattle.oca_model.specs.declared.value.Value.TheVariants.{Mute, Polarity, Switch, Boolean, Int8, Int16, Int32, Int64}
-use Rattle.oca_model.specs.declared.value.Value.TheVariants.{Uint8, Uint16, Uint32, Uint64}
+use Rattle.oca_model.specs.declared.value.Value.TheVariants.{Mute, Polarity, Switch, Boolean}
+use Rattle.oca_model.specs.Values.{IntegerType, Signed, Unsigned, by_number, integer_type}
 
 -- the word for a value: that of its state, or its number in decimal digits
 unfoldable pub word_of : Value → List ℕ
@@ -23,25 +23,34 @@ word_of (Polarity Inverted) = codes "inverted"
 word_of (Switch position) = decimal position
 word_of (Boolean true) = codes "on"
 word_of (Boolean false) = codes "off"
-word_of (Int8 setting) = signed_decimal setting
-word_of (Int16 setting) = signed_decimal setting
-word_of (Int32 setting) = signed_decimal setting
-word_of (Int64 setting) = signed_decimal setting
-word_of (Uint8 setting) = decimal setting
-word_of (Uint16 setting) = decimal setting
-word_of (Uint32 setting) = decimal setting
-word_of (Uint64 setting) = decimal setting
+word_of value = by_number (λ _ z. signed_decimal z) (λ _ n. decimal n) [] value
+
+-- the word for a class
+abbrev pub class_word : Class → List ℕ
+class_word class.Block = codes "block"
+class_word class.Mute = codes "mute"
+class_word class.Polarity = codes "polarity"
+class_word class.Switch = codes "switch"
+class_word class.Boolean = codes "boolean"
+class_word class.Int8 = codes "int8"
+class_word class.Int16 = codes "int16"
+class_word class.Int32 = codes "int32"
+class_word class.Int64 = codes "int64"
+class_word class.Uint8 = codes "uint8"
+class_word class.Uint16 = codes "uint16"
+class_word class.Uint32 = codes "uint32"
+class_word class.Uint64 = codes "uint64"
 
 -- The word is that of one of the two values, which is the one that is found; any other word finds nothing.
 abbrev pub IsOneOf : Value → Value → List ℕ → Option Value → Type 0
 IsOneOf a b word None = (word ≢ word_of a) × (word ≢ word_of b)
 IsOneOf a b word (Some v) = ((v ≡ a) × (word ≡ word_of a)) ⊎ ((v ≡ b) × (word ≡ word_of b))
 
--- The word is a number of so many bits in decimal digits, with or without a plus; any other word finds nothing.
-abbrev pub IsUnsigned : ℕ → (ℕ → Value) → List ℕ → Option Value → Type 0
-IsUnsigned bits value word found =
+-- The word is a number of this width in decimal digits, with or without a plus; any other word finds nothing.
+abbrev pub IsUnsigned : Width → (ℕ → Value) → List ℕ → Option Value → Type 0
+IsUnsigned w value word found =
     let digits = without_leading_plus word in
-    SomeIff found (IsNumeral 10 digits × (digits_value 10 digits < 2 ^ bits)) (value (digits_value 10 digits))
+    SomeIff found (IsNumeral 10 digits × (digits_value 10 digits < 256 ^ byte_len w)) (value (digits_value 10 digits))
 
 -- The word is a signed number of this width, with or without a sign.
 abbrev pub IsSigned : Width → (ℤ → Value) → List ℕ → Option Value → Type 0
@@ -49,18 +58,16 @@ IsSigned w value word found =
     SomeIff found (IsNumeral 10 (without_leading_sign word)
     × FitsSigned w (signed_digits_value 10 word)) (value (signed_digits_value 10 word))
 
+-- The word is a number of an integer type; one of no such type finds nothing.
+abbrev pub IsNumberRead : Option IntegerType → List ℕ → Option Value → Type 0
+IsNumberRead None word found = found ≡ None
+IsNumberRead (Some (Signed w value reading)) word found = IsSigned w value word found
+IsNumberRead (Some (Unsigned w value reading)) word found = IsUnsigned w value word found
+
 -- What is found is the value of an object of the class that the word names, or nothing where it names none.
 unfoldable pub IsRead : Class → List ℕ → Option Value → Type 0
-IsRead class.Block word found = found ≡ None
 IsRead class.Mute word found = IsOneOf (Mute Muted) (Mute Unmuted) word found
 IsRead class.Polarity word found = IsOneOf (Polarity NonInverted) (Polarity Inverted) word found
 IsRead class.Boolean word found = IsOneOf (Boolean true) (Boolean false) word found
-IsRead class.Switch word found = IsUnsigned 16 Switch word found
-IsRead class.Int8 word found = IsSigned w8 Int8 word found
-IsRead class.Int16 word found = IsSigned w16 Int16 word found
-IsRead class.Int32 word found = IsSigned w32 Int32 word found
-IsRead class.Int64 word found = IsSigned w64 Int64 word found
-IsRead class.Uint8 word found = IsUnsigned 8 Uint8 word found
-IsRead class.Uint16 word found = IsUnsigned 16 Uint16 word found
-IsRead class.Uint32 word found = IsUnsigned 32 Uint32 word found
-IsRead class.Uint64 word found = IsUnsigned 64 Uint64 word found
+IsRead class.Switch word found = IsUnsigned w16 Switch word found
+IsRead of word found = IsNumberRead (integer_type of) word found

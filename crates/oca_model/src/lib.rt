@@ -40,4 +40,4 @@ pub use setting::SettingFault;
 pub use status::status_name;
 pub use value::{MuteState, PolarityState, Value, ValueFault};
 pub use value_request::{ValueRequest, get_request, set_request};
-pub use words::{value_from_word, word_of};
+pub use words::{class_word, value_from_word, word_of};

@@ -12,6 +12,8 @@ use oca_types::{Class, Field, Params, PutFault};
 
 /// Calls the macro `$each` with the name and the type of each class of integers. `Class`, `Value` and `Reading` have
 /// variants of these names. A new class of integers is added here.
+#[doc(hidden)]
+#[macro_export]
 macro_rules! with_integers {
     ($each:ident) => {
         $each!(Int8 i8, Int16 i16, Int32 i32, Int64 i64, Uint8 u8, Uint16 u16, Uint32 u32, Uint64 u64)

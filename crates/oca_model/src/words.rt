@@ -1,7 +1,7 @@
 //! The words for values: `muted` and `unmuted`, `non-inverted` and `inverted`, `on` and `off`, and integers.
 ghost use Rattle.std.specs.Prelude.{◌≡◌, ◌≤◌, length};
 ghost use Rattle.std.specs.Fmt.{signed_decimal};
-ghost use Rattle.oca_model.specs.Words.{word_of, IsRead};
+ghost use Rattle.oca_model.specs.Words.{class_word, word_of, IsRead};
 
 use crate::value::{MuteState, PolarityState, Value, with_integers};
 use itoa::Buffer;
@@ -84,4 +84,26 @@ pub fn value_from_word(class: Class, word: &str) -> Option<Value>
         };
     }
     with_integers!(value)
+}
+
+/// Returns the word for a class (*profile*), from 4 to 8 bytes: `block`, `mute`, `polarity`, `switch`, `boolean`,
+/// `int8`, `int16`, `int32`, `int64`, `uint8`, `uint16`, `uint32` or `uint64`. The call refuses nothing and takes no memory.
+pub fn class_word(class: Class) -> &'static str
+    ensures { result.now ≡ class_word class }
+{
+    match class {
+        Class::Block => "block",
+        Class::Mute => "mute",
+        Class::Polarity => "polarity",
+        Class::Switch => "switch",
+        Class::Boolean => "boolean",
+        Class::Int8 => "int8",
+        Class::Int16 => "int16",
+        Class::Int32 => "int32",
+        Class::Int64 => "int64",
+        Class::Uint8 => "uint8",
+        Class::Uint16 => "uint16",
+        Class::Uint32 => "uint32",
+        Class::Uint64 => "uint64",
+    }
 }
