@@ -1,8 +1,9 @@
 -- Setting a reading to a value of its class: its limits stay (AES70-2, AES70-3).
-use Rattle.std.specs.Prelude.{nat_le, int_le, ◌&&◌, not, Bool, true, false, if◌then◌else◌, ◌==◌, Option, Some, None}
+use Rattle.std.specs.Prelude.{nat_le, int_le, ◌&&◌, not, Bool, true, false, if◌then◌else◌, Option, Some, None}
 use Rattle.std.specs.Prelude.{Result, Ok, Err}
-use Rattle.std.specs.Int.{Width, byte_len}
+use Rattle.std.specs.Str.{bytes_eq}
 use Rattle.oca_types.specs.declared.class.Class.{Class}
+use Rattle.oca_types.specs.Classes.{class_fields_of}
 use Rattle.oca_model.specs.declared.reading.Ranged.{Ranged}
 use Rattle.oca_model.specs.declared.reading.Reading.{Reading}
 use Rattle.oca_model.specs.declared.reading.Reading.TheVariants as readings
@@ -11,7 +12,7 @@ use Rattle.oca_model.specs.declared.setting.SettingFault.TheVariants.{OtherClass
 use Rattle.oca_model.specs.declared.value.Value.{Value}
 use Rattle.oca_model.specs.declared.value.Value.TheVariants as set
 use Rattle.oca_model.specs.Readings.{by_range, value_without_limits}
-use Rattle.oca_model.specs.Values.{by_number, class_of_value}
+use Rattle.oca_model.specs.Values.{class_of_value, signed_number, unsigned_number}
 
 -- the class of the objects that read so
 abbrev pub class_of_reading : Reading → Class
@@ -30,10 +31,9 @@ is_within reading = by_range (λ _ _ _ r. lies int_le r) (λ _ _ _ r. lies nat_l
 abbrev pub set_in_limits : {X : Type 0} → Ranged X → X → Ranged X
 set_in_limits r setting = record r { setting = setting }
 
--- the reading of a type with another number, where this is one of the same width
-abbrev pub with_setting : {X : Type 0} → Width → (Ranged X → Reading) → Ranged X → Width → X → Option Reading
-with_setting w reading r width setting =
-    if byte_len width == byte_len w then Some (reading (set_in_limits r setting)) else None
+-- whether two classes are the same: their identifiers are (AES70-2)
+abbrev pub is_same_class : Class → Class → Bool
+is_same_class a b = bytes_eq (class_fields_of a) (class_fields_of b)
 
 -- THE READING WITH ANOTHER VALUE of its class, and the limits that it had; a value of another class gives none.
 unfoldable pub with_value : Reading → Value → Option Reading
@@ -41,9 +41,11 @@ with_value (readings.Mute _) (set.Mute state) = Some (readings.Mute state)
 with_value (readings.Polarity _) (set.Polarity state) = Some (readings.Polarity state)
 with_value (readings.Switch r) (set.Switch position) = Some (readings.Switch (set_in_limits r position))
 with_value (readings.Boolean _) (set.Boolean truth) = Some (readings.Boolean truth)
-with_value old value = by_range
-    (λ w _ reading r. by_number (λ width setting. with_setting w reading r width setting) (λ _ _. None) None value)
-    (λ w _ reading r. by_number (λ _ _. None) (λ width setting. with_setting w reading r width setting) None value) None old
+with_value old value =
+    if is_same_class (class_of_reading old) (class_of_value value)
+    then by_range (λ _ _ reading r. Some (reading (set_in_limits r (signed_number value))))
+    (λ _ _ reading r. Some (reading (set_in_limits r (unsigned_number value)))) None old
+    else None
 
 -- what was made of a reading, or the reading as it was
 abbrev pub made_or : Reading → Option Reading → Reading

@@ -39,8 +39,8 @@ left_since s t p (x ∷ before) =
     then x.left ++ left_since s t p before
     else left_since s t p before
 
--- THE SPAN OF THE LINK FITS THE WINDOW from this moment on: as `SpanFits`, but that of what earlier links left behind
--- only that counts which may still come.
+-- THE SPAN OF THE LINK FITS THE WINDOW from this moment on: as `SpanFits`, but of the commands that earlier links left
+-- behind only those count that may still come.
 pub record SpanFitsSince (w : DeviceSizes) (s : Setup) (t : ℕ) (l : PeerLink) (n : Network) : Type 0 where
   pub some : 0 < l.link.span
   pub wide : 2 * l.link.span + length (left_since s t l.peer n.renewed) ≤ w.window + 1
