@@ -1,7 +1,6 @@
 -- How an object is set is read back from its line.
 use Rattle.std.proofs.Common.{◌≡◌, ℕ, ◌<◌, true, false, List, [], ◌∷◌, ◌++◌, length, map, Some, None, Ok, refl, arith, append_assoc}
-use Rattle.std.specs.Prelude.{decimal, ℤ, pos, negsuc, ◌≤ℤ◌, ◌^◌, FitsSigned, Result, nat_lt}
-use Rattle.std.specs.Int.{w8, w16, w32, w64, byte_len}
+use Rattle.std.specs.Prelude.{decimal, ℤ, ◌≤ℤ◌, Result, nat_lt}
 use Rattle.std.specs.Fmt.{signed_decimal}
 use Rattle.std.specs.List.{list_any, All}
 use Rattle.std.proofs.lemmas.Int.{ints}
@@ -10,15 +9,14 @@ use Rattle.std.proofs.lemmas.Fmt.{length-decimal-le}
 use Rattle.std.proofs.lemmas.List.Elements.{All-head, All-tail}
 use Rattle.oca_model.specs.declared.value.MuteState.TheVariants.{Muted, Unmuted}
 use Rattle.oca_model.specs.declared.value.PolarityState.TheVariants.{NonInverted, Inverted}
-use Rattle.oca_model.specs.declared.reading.Ranged.{Ranged}
 use Rattle.oca_model.specs.declared.reading.Reading.{Reading}
 use Rattle.oca_model.specs.declared.reading.Reading.TheVariants as readings
-use Rattle.oca_model.specs.Readings.{All3, IsReading}
+use Rattle.oca_model.specs.Readings.{IsReading}
 use Rattle.oca_model.specs.Settings.{class_of_reading}
 use Rattle.oca_tree.specs.declared.object.Value.{Value}
 use Rattle.oca_tree.specs.declared.object.Value.TheVariants as values
 use Rattle.oca_tree.specs.declared.object.Switch.{Switch}
-use Rattle.oca_tree.specs.declared.tree.Setting.TheVariants.{Position}
+use Rattle.oca_tree.specs.declared.tree.Setting.TheVariants.{Position, Number}
 use Rattle.oca_tree.specs.Objects.{class_of}
 use Rattle.oca_tree.specs.Readers.{reading_setting, value_setting}
 use Rattle.oca_tree.specs.Copies.{names_in, flags_in}
@@ -27,7 +25,7 @@ use Rattle.oca_tree.specs.Building.{switch, is_long}
 use Rattle.oca_tree.specs.Starts.{with_flags}
 use Rattle.oca_script.specs.declared.object_fault.ObjectFault.{ObjectFault}
 use Rattle.oca_script.specs.declared.object_fault.ObjectFault.TheVariants as fault
-use Rattle.oca_textree.specs.Lines.{field_at, then_by, some_or_fault, class_of_word, limits_of, by_word, one_of, value_at, has_control}
+use Rattle.oca_textree.specs.Lines.{Limited, Valued, field_at, then_by, some_or_fault, class_of_word, limits_of, by_word, one_of, value_at, has_control}
 use Rattle.oca_textree.specs.Stored.{Flagged, flagged_at, switch_at}
 use Rattle.oca_textree.specs.Written.{class_before, set_fields, value_fields, range_fields, switch_fields, names_field, flag_digit, IsShortText}
 use Rattle.oca_textree.specs.PrivateWritten.{IsInteger, IsWritten}
@@ -39,22 +37,22 @@ use Rattle.oca_textree.proofs.TextsBack.{flags-back, word-flags, names-back, nam
 
 -- an integer of a type lies between its first and its last
 pub record Lies (low high : ℤ) (z : ℤ) : Type 0 where
-  pub integer : IsInteger z
   pub above : low ≤ℤ z
   pub below : z ≤ℤ high
 
-limits-back : (low high least greatest setting : ℤ) (rest : List ℕ) → Lies low high least → Lies low high greatest → Lies low high setting
+limits-back : (low high least greatest setting : ℤ) (rest : List ℕ) → IsWritten (Some (Number setting least greatest))
+    → Lies low high least → Lies low high greatest → Lies low high setting
     → limits_of low high (Some (range_fields least greatest setting ++ 32 ∷ rest)) ≡ Ok (record { least = least; greatest = greatest; setting = setting; rest = Some rest })
 unfolding limits_of
-limits-back low high least greatest setting rest a b c =
+limits-back low high least greatest setting rest w a b c =
     let regroup : range_fields least greatest setting ++ 32 ∷ rest
     ≡ signed_decimal least ++ 32 ∷ (signed_decimal greatest ++ 32 ∷ (signed_decimal setting ++ 32 ∷ rest)) = regrouped (signed_decimal least) (signed_decimal greatest) (signed_decimal setting) in
-    let f1 = field-word (signed_decimal least) (signed_decimal greatest ++ 32 ∷ (signed_decimal setting ++ 32 ∷ rest)) (word-signed least a.integer) in
-    let f2 = field-word (signed_decimal greatest) (signed_decimal setting ++ 32 ∷ rest) (word-signed greatest b.integer) in
-    let f3 = field-word (signed_decimal setting) rest (word-signed setting c.integer) in
-    let i1 = integer-back low high least a.integer a.above a.below in
-    let i2 = integer-back low high greatest b.integer b.above b.below in
-    let i3 = integer-back low high setting c.integer c.above c.below in
+    let f1 = field-word (signed_decimal least) (signed_decimal greatest ++ 32 ∷ (signed_decimal setting ++ 32 ∷ rest)) (word-signed least w.1) in
+    let f2 = field-word (signed_decimal greatest) (signed_decimal setting ++ 32 ∷ rest) (word-signed greatest w.2) in
+    let f3 = field-word (signed_decimal setting) rest (word-signed setting w.0) in
+    let i1 = integer-back low high least w.1 a.above a.below in
+    let i2 = integer-back low high greatest w.2 b.above b.below in
+    let i3 = integer-back low high setting w.0 c.above c.below in
     rw (regroup, f1, i1, f2, i2, f3, i3) refl
   where
     regrouped : (x y z : List ℕ) → (((x ++ 32 ∷ []) ++ (y ++ 32 ∷ [])) ++ z) ++ 32 ∷ rest ≡ x ++ 32 ∷ (y ++ 32 ∷ (z ++ 32 ∷ rest))
@@ -73,50 +71,30 @@ reading_of v rest = record { valued = record { bad_name = false; value = plain_v
 unfoldable pub read_value : List ℕ → Result Flagged ObjectFault
 read_value text = then_by (field_at (Some text)) (λ c. then_by (some_or_fault fault.Class (class_of_word c.0)) (λ k. flagged_at k c.1))
 
--- the integers of a type lie between its first and its last
-all-back : {X : Type 0} (number : X → ℤ) (Fits : X → Type 0) (low high : ℤ) → ((x : X) → Fits x → Lies low high (number x)) → (r : Ranged X) (rest : List ℕ) → All3 Fits r
-    → limits_of low high (Some (range_fields (number r.least) (number r.greatest) (number r.setting) ++ 32 ∷ rest))
-    ≡ Ok (record { least = number r.least; greatest = number r.greatest; setting = number r.setting; rest = Some rest })
-all-back number Fits low high lies r rest h =
-    limits-back low high (number r.least) (number r.greatest) (number r.setting) rest (lies r.least h.least) (lies r.greatest h.greatest) (lies r.setting h.setting)
+-- the same, of which a value is made, and of that what is read
+number-back : (low high least greatest setting : ℤ) (rest : List ℕ) (value : Limited → Result Valued ObjectFault) (reading : Valued → Result Flagged ObjectFault)
+    → IsWritten (Some (Number setting least greatest)) → Lies low high least → Lies low high greatest → Lies low high setting
+    → then_by (then_by (limits_of low high (Some (range_fields least greatest setting ++ 32 ∷ rest))) value) reading
+    ≡ then_by (value (record { least = least; greatest = greatest; setting = setting; rest = Some rest })) reading
+number-back low high least greatest setting rest value reading w a b c = rw (limits-back low high least greatest setting rest w a b c) refl
 
 abbrev Back : Reading → List ℕ → Type 0
 Back r rest = read_value ((class_before (class_of_reading r) ++ set_fields (class_of_reading r) (reading_setting r) [] None) ++ 32 ∷ rest)
     ≡ Ok (record { valued = record { bad_name = false; value = values.Reads r; rest = Some rest }; flags = None })
 
-reading-back : (r : Reading) (rest : List ℕ) → IsReading r → is_position_reading r ≡ false → Back r rest
+reading-back : (r : Reading) (rest : List ℕ) → IsReading r → is_position_reading r ≡ false → IsWritten (reading_setting r) → Back r rest
 unfolding read_value field_at class_of_word flagged_at value_at class_before set_fields reading_setting by_word one_of
-reading-back (readings.Mute Muted) rest h o = refl
-reading-back (readings.Mute Unmuted) rest h o = refl
-reading-back (readings.Polarity NonInverted) rest h o = refl
-reading-back (readings.Polarity Inverted) rest h o = refl
-reading-back (readings.Boolean true) rest h o = refl
-reading-back (readings.Boolean false) rest h o = refl
-reading-back (readings.Switch r) rest h o = cc
-reading-back (readings.Int8 r) rest h o =
-    let e = all-back (λ z. z) (FitsSigned w8) (negsuc 127) (pos 127) (λ z f. record { integer = record { above = omega (arith, ints, f); below = omega (arith, ints, f) }; above = omega (arith, ints, f); below = omega (arith, ints, f) }) r rest h in
-    rw e refl
-reading-back (readings.Int16 r) rest h o =
-    let e = all-back (λ z. z) (FitsSigned w16) (negsuc 32767) (pos 32767) (λ z f. record { integer = record { above = omega (arith, ints, f); below = omega (arith, ints, f) }; above = omega (arith, ints, f); below = omega (arith, ints, f) }) r rest h in
-    rw e refl
-reading-back (readings.Int32 r) rest h o =
-    let e = all-back (λ z. z) (FitsSigned w32) (negsuc 2147483647) (pos 2147483647) (λ z f. record { integer = record { above = omega (arith, ints, f); below = omega (arith, ints, f) }; above = omega (arith, ints, f); below = omega (arith, ints, f) }) r rest h in
-    rw e refl
-reading-back (readings.Int64 r) rest h o =
-    let e = all-back (λ z. z) (FitsSigned w64) (negsuc 9223372036854775807) (pos 9223372036854775807) (λ z f. record { integer = record { above = omega (arith, ints, f); below = omega (arith, ints, f) }; above = omega (arith, ints, f); below = omega (arith, ints, f) }) r rest h in
-    rw e refl
-reading-back (readings.Uint8 r) rest h o =
-    let e = all-back pos (λ n. n < 256 ^ byte_len w8) (pos 0) (pos 255) (λ n f. record { integer = record { above = omega (arith, ints, f); below = omega (arith, ints, f) }; above = omega (arith, ints, f); below = omega (arith, ints, f) }) r rest h in
-    rw e refl
-reading-back (readings.Uint16 r) rest h o =
-    let e = all-back pos (λ n. n < 256 ^ byte_len w16) (pos 0) (pos 65535) (λ n f. record { integer = record { above = omega (arith, ints, f); below = omega (arith, ints, f) }; above = omega (arith, ints, f); below = omega (arith, ints, f) }) r rest h in
-    rw e refl
-reading-back (readings.Uint32 r) rest h o =
-    let e = all-back pos (λ n. n < 256 ^ byte_len w32) (pos 0) (pos 4294967295) (λ n f. record { integer = record { above = omega (arith, ints, f); below = omega (arith, ints, f) }; above = omega (arith, ints, f); below = omega (arith, ints, f) }) r rest h in
-    rw e refl
-reading-back (readings.Uint64 r) rest h o =
-    let e = all-back pos (λ n. n < 256 ^ byte_len w64) (pos 0) (pos 18446744073709551615) (λ n f. record { integer = record { above = omega (arith, ints, f); below = omega (arith, ints, f) }; above = omega (arith, ints, f); below = omega (arith, ints, f) }) r rest h in
-    rw e refl
+reading-back (readings.Mute Muted) rest h o w = refl
+reading-back (readings.Mute Unmuted) rest h o w = refl
+reading-back (readings.Polarity NonInverted) rest h o w = refl
+reading-back (readings.Polarity Inverted) rest h o w = refl
+reading-back (readings.Boolean true) rest h o w = refl
+reading-back (readings.Boolean false) rest h o w = refl
+reading-back (readings.Switch r) rest h o w = cc
+reading-back _ rest h o w =
+    number-back _ _ _ _ _ rest _ _ w (record { above = omega (arith, ints, h.least); below = omega (arith, ints, h.least) })
+    (record { above = omega (arith, ints, h.greatest); below = omega (arith, ints, h.greatest) })
+    (record { above = omega (arith, ints, h.setting); below = omega (arith, ints, h.setting) })
 
 -- ---- a switch
 
@@ -157,7 +135,7 @@ fields_of v = value_fields (class_of v) (value_setting v) (names_in v) (flags_in
 pub value-back : (v : Value) (rest : List ℕ) → IsSoundValue v → All IsShortText (names_in v) → read_value (fields_of v ++ 32 ∷ rest) ≡ Ok (reading_of v rest)
 unfolding read_value reading_of plain_value field_at class_of_word flagged_at value_at class_before set_fields class_of value_setting names_in flags_in IsSoundValue by_word one_of
 value-back values.Block rest h names = refl
-value-back (values.Reads r) rest h names = reading-back r rest h.typed h.other
+value-back (values.Reads r) rest h names = reading-back r rest h.typed h.other (written-reading r h.typed)
 value-back (values.Switch s) rest h names =
     let e = switch-back s rest h names in
     let short = no-long s.names.items names in

@@ -1,7 +1,8 @@
 -- What a line of a text lists: an object, or a fault (*profile*).
-use Rattle.std.specs.Prelude.{ℕ, ◌+◌, ◌-◌, ◌^◌, ◌==◌, ◌&&◌, ◌||◌, not, nat_lt, nat_le, Bool, true, false, if◌then◌else◌}
+use Rattle.std.specs.Prelude.{ℕ, ◌+◌, ◌-◌, ◌*◌, ◌^◌, ◌==◌, ◌&&◌, ◌||◌, not, nat_lt, nat_le, Bool, true, false}
 use Rattle.std.specs.Prelude.{List, [], ◌∷◌, ◌++◌, length, codes, Option, Some, None, is_some, Result, Ok, Err, ℤ, pos}
-use Rattle.std.specs.Prelude.{negsuc, neg_ℤ, nat_abs, int_le}
+use Rattle.std.specs.Prelude.{if◌then◌else◌, negsuc, neg_ℤ, nat_abs, int_le, find}
+use Rattle.std.specs.Int.{byte_len}
 use Rattle.std.specs.Option.{option_map}
 use Rattle.std.specs.List.{list_any}
 use Rattle.std.specs.Str.{bytes_eq, is_utf8}
@@ -12,6 +13,9 @@ use Rattle.oca_script.specs.Fields.{split_at, split_on, number_of}
 use Rattle.oca_model.specs.declared.reading.Ranged.{Ranged}
 use Rattle.oca_model.specs.declared.reading.Reading.{Reading}
 use Rattle.oca_model.specs.declared.reading.Reading.TheVariants as readings
+use Rattle.oca_model.specs.Members.{classes}
+use Rattle.oca_model.specs.Values.{by_type, integer_type}
+use Rattle.oca_model.specs.Words.{class_word}
 use Rattle.oca_model.specs.declared.value.MuteState.TheVariants.{Muted, Unmuted}
 use Rattle.oca_model.specs.declared.value.PolarityState.TheVariants.{NonInverted, Inverted}
 use Rattle.oca_tree.specs.declared.object.Object.{Object}
@@ -69,24 +73,9 @@ field_at (Some (b ∷ bs)) = if b == 34 then quoted (split_at 34 bs) else Ok (pl
 abbrev pub ono_of : List ℕ → Option ℕ
 ono_of text = number_of 10 4294967295 text
 
-abbrev pub class_named : List (List ℕ × Class) → List ℕ → Option Class
-class_named [] word = None
-class_named (row ∷ rows) word = if bytes_eq word row.0 then Some row.1 else class_named rows word
-
--- the word of each class
-abbrev pub class_words : List (List ℕ × Class)
-class_words =
-    (codes "block", class.Block) ∷ (codes "mute", class.Mute) ∷ (codes "polarity", class.Polarity)
-    ∷ (codes "switch", class.Switch)
-    ∷ (codes "boolean", class.Boolean) ∷ (codes "int8", class.Int8) ∷ (codes "int16", class.Int16)
-    ∷ (codes "int32", class.Int32)
-    ∷ (codes "int64", class.Int64) ∷ (codes "uint8", class.Uint8) ∷ (codes "uint16", class.Uint16)
-    ∷ (codes "uint32", class.Uint32)
-    ∷ (codes "uint64", class.Uint64) ∷ []
-
 -- a class by its word
 unfoldable pub class_of_word : List ℕ → Option Class
-class_of_word word = class_named class_words word
+class_of_word word = find (λ k. bytes_eq word (class_word k)) classes
 
 -- one of two words
 unfoldable pub one_of : {A : Type 0} → List ℕ → A → List ℕ → A → List ℕ → Option A
@@ -177,9 +166,9 @@ by_positions rest =
     then_by (positions_of rest)
     (λ p. Ok (record { bad_name = list_any is_long p.1; value = switch p.1 p.0; rest = p.2 }))
 
--- (negsuc n is -(n + 1))
+-- What an object of the class is set to: an integer is one of its type, from the first to the last (negsuc n is
+-- -(n + 1)); a block has no value.
 unfoldable pub value_at : Class → Option (List ℕ) → Result Valued ObjectFault
-value_at class.Block rest = Ok (valued value.Block rest)
 value_at class.Mute rest = by_word
     (one_of (codes "muted") (value.Reads (readings.Mute Muted)) (codes "unmuted") (value.Reads (readings.Mute Unmuted))) rest
 value_at class.Polarity rest =
@@ -188,14 +177,11 @@ value_at class.Polarity rest =
 value_at class.Boolean rest = by_word
     (one_of (codes "on") (value.Reads (readings.Boolean true)) (codes "off") (value.Reads (readings.Boolean false))) rest
 value_at class.Switch rest = by_positions rest
-value_at class.Int8 rest = by_limits readings.Int8 (λ z. z) (negsuc 127) (pos (2 ^ 7 - 1)) rest
-value_at class.Int16 rest = by_limits readings.Int16 (λ z. z) (negsuc 32767) (pos (2 ^ 15 - 1)) rest
-value_at class.Int32 rest = by_limits readings.Int32 (λ z. z) (negsuc 2147483647) (pos (2 ^ 31 - 1)) rest
-value_at class.Int64 rest = by_limits readings.Int64 (λ z. z) (negsuc 9223372036854775807) (pos (2 ^ 63 - 1)) rest
-value_at class.Uint8 rest = by_limits readings.Uint8 nat_abs (pos 0) (pos (2 ^ 8 - 1)) rest
-value_at class.Uint16 rest = by_limits readings.Uint16 nat_abs (pos 0) (pos (2 ^ 16 - 1)) rest
-value_at class.Uint32 rest = by_limits readings.Uint32 nat_abs (pos 0) (pos (2 ^ 32 - 1)) rest
-value_at class.Uint64 rest = by_limits readings.Uint64 nat_abs (pos 0) (pos (2 ^ 64 - 1)) rest
+value_at k rest =
+    by_type (λ w _ reading.
+    by_limits reading (λ z. z) (negsuc (2 ^ (8 * byte_len w - 1) - 1)) (pos (2 ^ (8 * byte_len w - 1) - 1)) rest)
+    (λ w _ reading. by_limits reading nat_abs (pos 0) (pos (256 ^ byte_len w - 1)) rest)
+    (Ok (valued value.Block rest)) (integer_type k)
 
 -- ---- the object
 

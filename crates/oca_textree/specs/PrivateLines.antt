@@ -1,5 +1,5 @@
 -- What the program's own values of a line's parts say.
-use Rattle.std.specs.Prelude.{◌≡◌, ◌⊎◌, ℕ, List, map, drop, Bool, Option, Some, None, Result, Ok, Err, ℤ, ◌≤ℤ◌}
+use Rattle.std.specs.Prelude.{◌≡◌, ◌⊎◌, ℕ, List, map, Bool, Option, Some, None, Result, Ok, Err, ℤ, ◌≤ℤ◌}
 use Rattle.std.specs.Option.{option_copied}
 use denote.Ref.{Bor}
 use Rattle.oca_tree.specs.declared.object.Object.{Object}
@@ -12,20 +12,11 @@ use Rattle.oca_textree.specs.declared.fault.TreeFault.TheVariants.{Line}
 use Rattle.oca_textree.specs.declared.value.Limits.{Limits}
 use Rattle.oca_types.specs.declared.class.Class.{Class}
 use Rattle.oca_script.specs.declared.object_fault.ObjectFault.TheVariants as fault
-use Rattle.oca_textree.specs.Lines.{Taken, Limited, Valued, then_by, some_or_fault, field_at, integer_of, ono_of}
-use Rattle.oca_textree.specs.Lines.{class_named, class_words, class_of_word}
+use Rattle.oca_textree.specs.Lines.{Taken, Limited, Valued, then_by, some_or_fault, field_at, integer_of, ono_of, class_of_word}
 
 abbrev pub field_view : Result (Bor (List ℕ) × Option (Bor (List ℕ))) ObjectFault → Result Taken ObjectFault
 field_view (Ok p) = Ok (p.0.now, option_copied p.1)
 field_view (Err f) = Err f
-
--- the class of an integer by its word: the first five words are those of other classes
-unfoldable pub integer_class_of : List ℕ → Option Class
-integer_class_of word = class_named (drop 5 class_words) word
-
--- that of an integer without a sign
-unfoldable pub unsigned_class_of : List ℕ → Option Class
-unsigned_class_of word = class_named (drop 9 class_words) word
 
 -- the next field as the number of an object, and what is left
 unfoldable pub ono_at : Option (List ℕ) → Result (ℕ × Option (List ℕ)) ObjectFault

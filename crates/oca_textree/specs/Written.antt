@@ -6,6 +6,7 @@ use Rattle.std.specs.List.{flat_map, list_any, All}
 use Rattle.hex.specs.Hex.{IsBytes}
 use Rattle.oca_types.specs.declared.class.Class.{Class}
 use Rattle.oca_types.specs.declared.class.Class.TheVariants as class
+use Rattle.oca_model.specs.Words.{class_word}
 use Rattle.oca_script.specs.Escapes.{has_hidden}
 use Rattle.oca_script.specs.Fields.{hex_text}
 use Rattle.oca_tree.specs.declared.object.Object.{Object}
@@ -95,21 +96,14 @@ abbrev pub flags_field : Option (List Bool) → List ℕ
 flags_field None = []
 flags_field (Some flags) = map flag_digit flags
 
+-- a space where something stands behind the word of a class: not behind that of a block
+abbrev pub space_behind : Class → List ℕ
+space_behind class.Block = []
+space_behind _ = 32 ∷ []
+
 -- the word of a class, and a space where something stands behind it
 unfoldable pub class_before : Class → List ℕ
-class_before class.Block = codes "block"
-class_before class.Mute = codes "mute "
-class_before class.Polarity = codes "polarity "
-class_before class.Switch = codes "switch "
-class_before class.Boolean = codes "boolean "
-class_before class.Int8 = codes "int8 "
-class_before class.Int16 = codes "int16 "
-class_before class.Int32 = codes "int32 "
-class_before class.Int64 = codes "int64 "
-class_before class.Uint8 = codes "uint8 "
-class_before class.Uint16 = codes "uint16 "
-class_before class.Uint32 = codes "uint32 "
-class_before class.Uint64 = codes "uint64 "
+class_before k = class_word k ++ space_behind k
 
 -- a switch: a digit a position, the names, and the current position
 abbrev pub switch_fields : Option Setting → List (List ℕ) → Option (List Bool) → List ℕ

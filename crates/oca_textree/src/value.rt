@@ -13,6 +13,7 @@ ghost use Rattle.oca_textree.specs.PrivateLines.{IsLimit, limits_view, IsWithin,
 
 use super::field::{field, text_of};
 use arrayvec::ArrayVec;
+use oca_model::with_integers;
 use oca_script::ObjectFault;
 use oca_script::field::{number, split_at_byte};
 use oca_tree::{Kind, MuteState, PolarityState};
@@ -243,19 +244,6 @@ fn boolean_at(rest: Option<&[u8]>) -> Read<'_>
     Ok((Kind::Boolean(state), rest))
 }
 
-/// An integer of this kind and type, with its limits, each from the one to the other.
-macro_rules! integer_at {
-    ($rest:expr, $kind:ident, $type:ty, $low:expr, $high:expr) => {{
-        let read = read_limits($rest, $low, $high)?;
-        let kind = Kind::$kind {
-            setting: read.setting as $type,
-            least: read.least as $type,
-            greatest: read.greatest as $type,
-        };
-        Ok((kind, read.rest))
-    }};
-}
-
 /// Reads the value of an object of this class from the next fields of a line; returns the value and the rest of the
 /// line (*profile*). `rest` is `None` if no field is left. A mute, a polarity or a Boolean has one word. An integer has
 /// three fields: the least, the greatest and the setting. The call does not check that the setting is between the
@@ -270,18 +258,24 @@ pub fn kind_at(class: Class, rest: Option<&[u8]>) -> Read<'_>
     requires { class ≡ Class.Switch → ⊥ }
     ensures { kind_view result ≡ value_at class (option_copied rest.entry) }
 {
-    match class {
-        Class::Block | Class::Switch => Ok((Kind::Block, rest)),
-        Class::Mute => mute_at(rest),
-        Class::Polarity => polarity_at(rest),
-        Class::Boolean => boolean_at(rest),
-        Class::Int8 => integer_at!(rest, Int8, i8, -128, 127),
-        Class::Int16 => integer_at!(rest, Int16, i16, -32768, 32767),
-        Class::Int32 => integer_at!(rest, Int32, i32, -2147483648, 2147483647),
-        Class::Int64 => integer_at!(rest, Int64, i64, -9223372036854775808, 9223372036854775807),
-        Class::Uint8 => integer_at!(rest, Uint8, u8, 0, 255),
-        Class::Uint16 => integer_at!(rest, Uint16, u16, 0, 65_535),
-        Class::Uint32 => integer_at!(rest, Uint32, u32, 0, 4_294_967_295),
-        Class::Uint64 => integer_at!(rest, Uint64, u64, 0, 18_446_744_073_709_551_615),
+    macro_rules! kind {
+        ($($integer:ident $type:ty),*) => {
+            match class {
+                Class::Block | Class::Switch => Ok((Kind::Block, rest)),
+                Class::Mute => mute_at(rest),
+                Class::Polarity => polarity_at(rest),
+                Class::Boolean => boolean_at(rest),
+                $(Class::$integer => {
+                    let read = read_limits(rest, <$type>::MIN as i128, <$type>::MAX as i128)?;
+                    let kind = Kind::$integer {
+                        setting: read.setting as $type,
+                        least: read.least as $type,
+                        greatest: read.greatest as $type,
+                    };
+                    Ok((kind, read.rest))
+                })*
+            }
+        };
     }
+    with_integers!(kind)
 }

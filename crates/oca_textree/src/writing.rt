@@ -15,7 +15,7 @@ ghost use Rattle.oca_textree.specs.Written.{end_fields, text_of};
 ghost use Rattle.oca_textree.specs.PrivateWritten.{IsInteger, IsWritten, few_flags, Fits, stored_flags, end_text};
 ghost use Rattle.oca_textree.specs.PrivateWritten.{root_text, object_text, tree_line_text};
 
-use super::class_word::class_word;
+use super::class_word::{space_behind, word};
 use oca_script::escape::has_hidden;
 use oca_script::{Printer, Sink, WriteFailed};
 use oca_tree::{ObjectInfo, Setting, Start, Tree};
@@ -428,6 +428,7 @@ fn put_place<W: Sink>(ono: u32, container: u32, printer: &mut Printer<W>)
 }
 
 /// Holds an object's class and how it is set.
+#[tactic(auto, unfolding(crate::specs::Written::class_before))]
 fn put_value<W: Sink>(
     class: Class,
     setting: Option<Setting>,
@@ -444,7 +445,8 @@ fn put_value<W: Sink>(
         (printer.old.held ++ value_fields class setting names.now (option_copied flags.entry)) printer.old.failed }
     ensures len { length printer.new.held ≤ length printer.old.held + 2400 }
 {
-    printer.put(class_word(class));
+    printer.put(word(class));
+    printer.put(space_behind(class));
     put_setting(class, setting, names, flags, printer);
 }
 

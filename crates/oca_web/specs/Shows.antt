@@ -2,12 +2,12 @@
 use Rattle.std.specs.Prelude.{ℕ, ◌-◌, ◌==◌, ◌||◌, Bool, true, false, if◌then◌else◌, List, codes, Option, Some, None, Result, Ok, Err, is_some}
 use Rattle.std.specs.Option.{option_map}
 use Rattle.oca_types.specs.declared.class.Class.{Class}
-use Rattle.oca_types.specs.declared.class.Class.TheVariants as class
 use Rattle.oca_types.specs.declared.status.Status.TheVariants as status
 use Rattle.oca_types.specs.Status.{status_number}
 use Rattle.oca_model.specs.declared.reading.Reading.{Reading}
 use Rattle.oca_model.specs.declared.value.Value.{Value}
 use Rattle.oca_model.specs.Settings.{reading_set_to}
+use Rattle.oca_model.specs.Words.{class_word}
 use Rattle.oca_panel.specs.declared.trouble.Trouble.{Trouble}
 use Rattle.oca_panel.specs.declared.trouble.Trouble.TheVariants as trouble
 use Rattle.oca_web.specs.declared.object.Lock.{Lock}
@@ -77,16 +77,4 @@ tells_of_another_device _ = false
 -- THE WORD FOR A CLASS, as pages are told it; one that is not of this profile is unknown.
 abbrev pub name_of_class : Option Class → List ℕ
 name_of_class None = codes "unknown"
-name_of_class (Some class.Block) = codes "block"
-name_of_class (Some class.Mute) = codes "mute"
-name_of_class (Some class.Polarity) = codes "polarity"
-name_of_class (Some class.Switch) = codes "switch"
-name_of_class (Some class.Boolean) = codes "boolean"
-name_of_class (Some class.Int8) = codes "int8"
-name_of_class (Some class.Int16) = codes "int16"
-name_of_class (Some class.Int32) = codes "int32"
-name_of_class (Some class.Int64) = codes "int64"
-name_of_class (Some class.Uint8) = codes "uint8"
-name_of_class (Some class.Uint16) = codes "uint16"
-name_of_class (Some class.Uint32) = codes "uint32"
-name_of_class (Some class.Uint64) = codes "uint64"
+name_of_class (Some c) = class_word c

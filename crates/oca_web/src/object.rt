@@ -4,7 +4,7 @@ ghost use Rattle.oca_model.specs.Settings.{reading_set_to};
 ghost use Rattle.oca_web.specs.Objects.{object_found, unread};
 ghost use Rattle.oca_web.specs.Shows.{name_of_class};
 
-use oca_model::{Flags, Names, Reading, Value, word_of};
+use oca_model::{Flags, Names, Reading, Value, class_word, with_integers, word_of};
 use oca_panel::Trouble;
 use oca_types::{Class, Ono, Text};
 
@@ -90,21 +90,19 @@ fn same_reading(a: Option<Reading>, b: Option<Reading>) -> bool
 fn is_reading(a: Reading, b: Reading) -> bool
     ensures { IsTrue result → a ≡ b }
 {
-    match (a, b) {
-        (Reading::Mute(state), Reading::Mute(other)) => state == other,
-        (Reading::Polarity(state), Reading::Polarity(other)) => state == other,
-        (Reading::Switch(ranged), Reading::Switch(other)) => ranged == other,
-        (Reading::Boolean(truth), Reading::Boolean(other)) => truth == other,
-        (Reading::Int8(ranged), Reading::Int8(other)) => ranged == other,
-        (Reading::Int16(ranged), Reading::Int16(other)) => ranged == other,
-        (Reading::Int32(ranged), Reading::Int32(other)) => ranged == other,
-        (Reading::Int64(ranged), Reading::Int64(other)) => ranged == other,
-        (Reading::Uint8(ranged), Reading::Uint8(other)) => ranged == other,
-        (Reading::Uint16(ranged), Reading::Uint16(other)) => ranged == other,
-        (Reading::Uint32(ranged), Reading::Uint32(other)) => ranged == other,
-        (Reading::Uint64(ranged), Reading::Uint64(other)) => ranged == other,
-        _ => false,
+    macro_rules! same {
+        ($($integer:ident $type:ty),*) => {
+            match (a, b) {
+                (Reading::Mute(state), Reading::Mute(other)) => state == other,
+                (Reading::Polarity(state), Reading::Polarity(other)) => state == other,
+                (Reading::Switch(ranged), Reading::Switch(other)) => ranged == other,
+                (Reading::Boolean(truth), Reading::Boolean(other)) => truth == other,
+                $((Reading::$integer(ranged), Reading::$integer(other)) => ranged == other,)*
+                _ => false,
+            }
+        };
     }
+    with_integers!(same)
 }
 
 /// Whether two troubles are the same, or neither is there.
@@ -191,18 +189,16 @@ impl Object {
 /// Returns the least and the greatest value of a reading (AES70-2). The result is `None` for a mute, a polarity and a
 /// Boolean, which have no limits. The call takes no memory.
 pub fn limits_of(reading: Reading) -> Option<(Value, Value)> {
-    match reading {
-        Reading::Mute(_) | Reading::Polarity(_) | Reading::Boolean(_) => None,
-        Reading::Switch(r) => Some((Value::Switch(r.least), Value::Switch(r.greatest))),
-        Reading::Int8(r) => Some((Value::Int8(r.least), Value::Int8(r.greatest))),
-        Reading::Int16(r) => Some((Value::Int16(r.least), Value::Int16(r.greatest))),
-        Reading::Int32(r) => Some((Value::Int32(r.least), Value::Int32(r.greatest))),
-        Reading::Int64(r) => Some((Value::Int64(r.least), Value::Int64(r.greatest))),
-        Reading::Uint8(r) => Some((Value::Uint8(r.least), Value::Uint8(r.greatest))),
-        Reading::Uint16(r) => Some((Value::Uint16(r.least), Value::Uint16(r.greatest))),
-        Reading::Uint32(r) => Some((Value::Uint32(r.least), Value::Uint32(r.greatest))),
-        Reading::Uint64(r) => Some((Value::Uint64(r.least), Value::Uint64(r.greatest))),
+    macro_rules! limits {
+        ($($integer:ident $type:ty),*) => {
+            match reading {
+                Reading::Mute(_) | Reading::Polarity(_) | Reading::Boolean(_) => None,
+                Reading::Switch(r) => Some((Value::Switch(r.least), Value::Switch(r.greatest))),
+                $(Reading::$integer(r) => Some((Value::$integer(r.least), Value::$integer(r.greatest))),)*
+            }
+        };
     }
+    with_integers!(limits)
 }
 
 /// Returns the reading of an object after it was set to this value: the value, with the same limits (AES70-2). The
@@ -223,48 +219,27 @@ pub fn word_in(reading: Reading) -> Text {
     word_of(reading.value())
 }
 
-/// Returns the name of a class in the answers to the page (*profile*): `block`, `mute`, `polarity`, `switch`,
-/// `boolean`, `int8`, `int16`, `int32`, `int64`, `uint8`, `uint16`, `uint32` or `uint64`. The result is `unknown` for
-/// `None`, a class that this profile does not have. The call refuses nothing.
+/// Returns the name of a class in the answers to the page (*profile*): the class's word, such as `block` or `int16`
+/// ([`class_word`]). The result is `unknown` for `None`, a class that this profile does not have. The call refuses
+/// nothing.
 pub fn class_name(class: Option<Class>) -> &'static str
     ensures { result.now ≡ name_of_class class }
 {
     match class {
         None => "unknown",
-        Some(Class::Block) => "block",
-        Some(Class::Mute) => "mute",
-        Some(Class::Polarity) => "polarity",
-        Some(Class::Switch) => "switch",
-        Some(Class::Boolean) => "boolean",
-        Some(Class::Int8) => "int8",
-        Some(Class::Int16) => "int16",
-        Some(Class::Int32) => "int32",
-        Some(Class::Int64) => "int64",
-        Some(Class::Uint8) => "uint8",
-        Some(Class::Uint16) => "uint16",
-        Some(Class::Uint32) => "uint32",
-        Some(Class::Uint64) => "uint64",
+        Some(class) => class_word(class),
     }
 }
 
-/// Returns whether a text is the name of a class of this profile in the answers to the page (*profile*). The names are
-/// `block`, `mute`, `polarity`, `switch`, `boolean`, `int8`, `int16`, `int32`, `int64`, `uint8`, `uint16`, `uint32` and
-/// `uint64`. The result is `false` for any other text, also for `unknown`.
+/// Returns whether a text is the name of a class of this profile in the answers to the page (*profile*): the word of a
+/// class ([`class_word`]). The result is `false` for any other text, also for `unknown`.
 pub fn is_class_name(name: &str) -> bool {
-    matches!(
-        name,
-        "block"
-            | "mute"
-            | "polarity"
-            | "switch"
-            | "boolean"
-            | "int8"
-            | "int16"
-            | "int32"
-            | "int64"
-            | "uint8"
-            | "uint16"
-            | "uint32"
-            | "uint64"
-    )
+    macro_rules! is_word {
+        ($($integer:ident $type:ty),*) => {
+            [Class::Block, Class::Mute, Class::Polarity, Class::Switch, Class::Boolean, $(Class::$integer),*]
+                .iter()
+                .any(|class| class_word(*class) == name)
+        };
+    }
+    with_integers!(is_word)
 }
