@@ -2,10 +2,11 @@
 use Rattle.std.proofs.Common.{◌≡◌, ℕ, ◌<◌, ◌≤◌, ◌^◌, Bool, true, false, List, [], length, refl, sym, ap, ◌∙◌, subst, arith, ℤ, to_z, inl, inr}
 use Rattle.std.specs.Prelude.{Option, Some, None, IfSome, ◌==◌, if◌then◌else◌, pos, negsuc, ◌≤ℤ◌, FitsSigned}
 use Rattle.std.proofs.lemmas.Int.{ints}
-use Rattle.std.specs.Int.{w8, w16, w32, w64, byte_len, cast_unsigned, from_bool}
+use Rattle.std.specs.Int.{w64, byte_len, cast_unsigned, from_bool}
 use Rattle.std.specs.Option.{option_and_then, option_map}
+use Rattle.std.proofs.lemmas.Bool.{eqb-true}
 use Rattle.std.proofs.lemmas.Int.{to_z-of_z, to_z_pos}
-use Rattle.std.proofs.Math.Facts.{sfits_widen, to_z_inj, Fits-of_lt}
+use Rattle.std.proofs.Math.Facts.{to_z_inj, Fits-of_lt}
 use Rattle.oca_types.specs.declared.class.Class.{Class}
 use Rattle.oca_types.specs.declared.class.Class.TheVariants as class
 use Rattle.oca_model.specs.declared.value.Value.{Value}
@@ -14,7 +15,7 @@ use Rattle.oca_model.specs.declared.reading.Ranged.{Ranged}
 use Rattle.oca_model.specs.declared.reading.Reading.{Reading}
 use Rattle.oca_model.specs.declared.reading.Reading.TheVariants as readings
 use Rattle.oca_model.specs.Settings.{class_of_reading}
-use Rattle.oca_model.specs.Values.{class_of_value, mute_number, polarity_number}
+use Rattle.oca_model.specs.Values.{IntegerType, Signed, Unsigned, IsOfItsType, by_type, class_of_value, integer_type, mute_number, polarity_number}
 use Rattle.oca_model.specs.declared.value.MuteState.{MuteState}
 use Rattle.oca_model.specs.declared.value.MuteState.TheVariants.{Muted, Unmuted}
 use Rattle.oca_model.specs.declared.value.PolarityState.{PolarityState}
@@ -30,44 +31,61 @@ use Rattle.oca_tree.specs.declared.tree.Setting.TheVariants as settings
 use Rattle.oca_tree.specs.Building.{value_of}
 use Rattle.oca_tree.specs.Copies.{DescriptionMakesAgain, Stored, stored_of, flags_in, names_in, names_of_ono, names_of_one}
 use Rattle.oca_tree.specs.Objects.{class_of}
-use Rattle.oca_tree.specs.Readers.{reading_setting, value_setting}
+use Rattle.oca_tree.specs.Readers.{number_setting, reading_setting, value_setting}
 use Rattle.oca_tree.specs.Starts.{flags_of}
 use Rattle.oca_tree.specs.Trees.{IsSoundValue, is_position_reading}
 use Rattle.oca_calls.specs.declared.value_words.ReadingWords.{ReadingWords}
+use Rattle.oca_calls.specs.declared.value_words.ValueWords.{ValueWords}
 use Rattle.oca_calls.specs.Calls.{IsSwitch, name_bytes}
-use Rattle.oca_calls.specs.CSpecs.{AreSettingWords, GivesKind, HasBits, IsKindOf, IsNumberWords, WrittenMakesAgain, flags_for, is_yes, position_flags, ranged, reading_of_values, texts_of}
-use Rattle.oca_calls.specs.CValues.{AreWordsOf, words_of}
+use Rattle.oca_calls.specs.CSpecs.{AreSettingWords, GivesKind, HasBits, IsKindOf, IsNumberWords, WrittenMakesAgain, flags_for, integer_reading, is_yes, of_class, position_flags, ranged, reading_of_values, signed_number, texts_of, unsigned_number}
+use Rattle.oca_calls.specs.CValues.{AreWordsOf, bits_of_value}
 use Rattle.oca_calls.specs.Outputs.{class_number}
+use Rattle.oca_calls.proofs.Integers.{Narrow, signed_narrow, unsigned_narrow}
 
 -- ---- classes
 
-abbrev class_at_number : ℕ → Option Class
-class_at_number n =
-    if n == 1 then Some class.Block
-    else (if n == 2 then Some class.Mute
-    else (if n == 3 then Some class.Polarity
-    else (if n == 4 then Some class.Switch
-    else (if n == 5 then Some class.Boolean
-    else (if n == 6 then Some class.Int8
-    else (if n == 7 then Some class.Int16
-    else (if n == 8 then Some class.Int32
-    else (if n == 9 then Some class.Int64
-    else (if n == 10 then Some class.Uint8
-    else (if n == 11 then Some class.Uint16
-    else (if n == 12 then Some class.Uint32
-    else (if n == 13 then Some class.Uint64
-    else None))))))))))))
-
-number_back : (c : Class) → class_at_number (class_number c) ≡ Some c
-number_back class.Block = refl
-number_back _ = refl
-
 same_class : (a b : Class) → class_number a ≡ class_number b → a ≡ b
-same_class a b e = let f : Some a ≡ Some b = sym (number_back a) ∙ ap class_at_number e ∙ number_back b in cc
+same_class class.Block class.Block e = refl
+same_class _ class.Block e = cc
+same_class _ _ e = cc
 
-words_class : (v : Value) → (words_of v).class_number ≡ class_number (class_of_value v)
-words_class (values.Mute s) = refl
-words_class _ = refl
+-- ---- the integer types
+
+-- a value of an integer type, and its bits
+abbrev IsInteger : Option IntegerType → Value → Type 0
+IsInteger None v = Unit {0}
+IsInteger (Some (Signed w _ _)) v = FitsSigned w (signed_number v) × (bits_of_value v ≡ cast_unsigned w64 (signed_number v)) × Narrow w
+IsInteger (Some (Unsigned w _ _)) v = (unsigned_number v < 256 ^ byte_len w) × (bits_of_value v ≡ unsigned_number v) × Narrow w
+
+integer : (v : Value) → IsOfItsType v → IsInteger (integer_type (class_of_value v)) v
+integer (values.Mute s) fits = tt
+integer (values.Polarity s) fits = tt
+integer (values.Switch n) fits = tt
+integer (values.Boolean t) fits = tt
+integer _ fits = (fits, refl, tt)
+
+-- a reading of an integer type, and how an object that reads so is set
+abbrev IsIntegers : Option IntegerType → Reading → Type 0
+IsIntegers None o = Unit {0}
+IsIntegers (Some (Signed w _ reading)) o = (r : Ranged ℤ) × (o ≡ reading r) × All3 (FitsSigned w) r × (reading_setting o ≡ Some (number_setting (λ z. z) r))
+IsIntegers (Some (Unsigned w _ reading)) o = (r : Ranged ℕ) × (o ≡ reading r) × All3 (λ n. n < 256 ^ byte_len w) r × (reading_setting o ≡ Some (number_setting pos r))
+
+integers : (o : Reading) → IsReading o → IsIntegers (integer_type (class_of_reading o)) o
+unfolding reading_setting
+integers (readings.Mute s) typed = tt
+integers (readings.Polarity s) typed = tt
+integers (readings.Switch r) typed = tt
+integers (readings.Boolean t) typed = tt
+integers _ typed = (_, refl, typed, refl)
+
+-- the limit of a class, where there is one
+limit : (c : Class) (l : Option Value) (x : ValueWords) → AreWordsOf x l → IfSome (of_class c l) (λ u. IsInteger (integer_type c) u × (x.bits ≡ bits_of_value u))
+limit c None x lw = tt
+limit c (Some u) x lw = by (class_number (class_of_value u) == class_number c) refl
+  where
+    by : (b : Bool) → (class_number (class_of_value u) == class_number c) ≡ b → IfSome (if b then Some u else None) (λ y. IsInteger (integer_type c) y × (x.bits ≡ bits_of_value y))
+    by true e = (subst (λ (d : Class). IsInteger (integer_type d) u) (same_class (class_of_value u) c (eqb-true _ _ e)) (integer u lw.0), lw.1.1)
+    by false e = tt
 
 -- ---- what the words say of how an object is set
 
@@ -141,12 +159,38 @@ module _ {X : Type 0} (number : X → ℤ) (Typed : X → Type 0) (bits : X → 
 signed_alike : (Typed : ℤ → Type 0) → ((z : ℤ) → Typed z → FitsSigned w64 z) → (x y : ℤ) (b : ℕ) → Typed x → Typed y → b ≡ cast_unsigned w64 x → HasBits y b → x ≡ y
 signed_alike Typed wide x y b fx fy e h = signed_same y x b (wide y fy) (wide x fx) h e
 
-unsigned_alike : (most : ℕ) → most ≤ 2 ^ 64 → (x y b : ℕ) → x < most → y < most → b ≡ x → HasBits (pos y) b → x ≡ y
-unsigned_alike most few x y b fx fy e h =
-    let q : pos x ≡ pos y = unsigned_same (pos y) x b (not_below y) (omega (arith, fx, few)) h e in cc
+unsigned_alike : (Typed : ℕ → Type 0) → ((n : ℕ) → Typed n → n < 2 ^ 64) → (x y b : ℕ) → Typed x → Typed y → b ≡ x → HasBits (pos y) b → x ≡ y
+unsigned_alike Typed wide x y b fx fy e h =
+    let q : pos x ≡ pos y = unsigned_same (pos y) x b (not_below y) (wide x fx) h e in cc
 
 bits_of : (w v : ReadingWords) → w ≡ v → w.value.bits ≡ v.value.bits
 bits_of w v e = ap (λ (x : ReadingWords). x.value.bits) e
+
+-- of integers, by their type
+by_their_type : (t : Option IntegerType) (v l g : Value) (o r : Reading) (c p : ℕ) (w : ReadingWords) → IsIntegers t o → AreSettingWords c p (reading_setting o) w
+    → IsInteger t v × (w.value.bits ≡ bits_of_value v) → IsInteger t l × (w.least.bits ≡ bits_of_value l) → IsInteger t g × (w.greatest.bits ≡ bits_of_value g)
+    → Some r ≡ by_type (λ _ _ reading. Some (reading (ranged (signed_number v) (signed_number l) (signed_number g)))) (λ _ _ reading. Some (reading (ranged (unsigned_number v) (unsigned_number l) (unsigned_number g)))) None t
+    → r ≡ o
+by_their_type None v l g o r c p w oo is vv ll gg e = cc
+by_their_type (Some (Signed wide of reading)) v l g o r c p w (x, same, typed, set) is vv ll gg e =
+    number_read (λ z. z) (FitsSigned wide) (cast_unsigned w64) reading (signed_alike _ (λ z f. signed_narrow wide z vv.0.2 f)) (signed_number v) (signed_number l) (signed_number g) x r c w
+    (vv.0.0, vv.1 ∙ vv.0.1) (ll.0.0, ll.1 ∙ ll.0.1) (gg.0.0, gg.1 ∙ gg.0.1) typed (subst (λ (y : Option Setting). AreSettingWords c p y w) set is) e ∙ sym same
+by_their_type (Some (Unsigned wide of reading)) v l g o r c p w (x, same, typed, set) is vv ll gg e =
+    number_read pos (λ n. n < 256 ^ byte_len wide) (λ n. n) reading (unsigned_alike _ (λ n f. unsigned_narrow wide n vv.0.2 f)) (unsigned_number v) (unsigned_number l) (unsigned_number g) x r c w
+    (vv.0.0, vv.1 ∙ vv.0.1) (ll.0.0, ll.1 ∙ ll.0.1) (gg.0.0, gg.1 ∙ gg.0.1) typed (subst (λ (y : Option Setting). AreSettingWords c p y w) set is) e ∙ sym same
+
+module _ (v : Value) (o r : Reading) (c p : ℕ) (w : ReadingWords) where
+  with_limits : (l g : Option Value) → IsIntegers (integer_type (class_of_value v)) o → AreSettingWords c p (reading_setting o) w
+      → IsInteger (integer_type (class_of_value v)) v × (w.value.bits ≡ bits_of_value v) → IfSome l (λ u. IsInteger (integer_type (class_of_value v)) u × (w.least.bits ≡ bits_of_value u))
+      → IfSome g (λ u. IsInteger (integer_type (class_of_value v)) u × (w.greatest.bits ≡ bits_of_value u)) → Some r ≡ integer_reading v l g → r ≡ o
+  with_limits (Some l) (Some g) oo is vv ll gg e = by_their_type (integer_type (class_of_value v)) v l g o r c p w oo is vv ll gg e
+  with_limits _ _ oo is vv ll gg e = cc
+
+  integers_read : (l g : Option Value) → class_of_reading o ≡ class_of_value v → IsReading o → AreSettingWords c p (reading_setting o) w → AreWordsOf w.value (Some v)
+      → AreWordsOf w.least l → AreWordsOf w.greatest g → Some r ≡ integer_reading v (of_class (class_of_value v) l) (of_class (class_of_value v) g) → r ≡ o
+  integers_read l g k typed is vw lw gw e =
+      with_limits (of_class (class_of_value v) l) (of_class (class_of_value v) g) (subst (λ (d : Class). IsIntegers (integer_type d) o) k (integers o typed)) is
+      (integer v vw.0, vw.1.1) (limit _ l w.least lw) (limit _ g w.greatest gw) e
 
 -- the reading of the words is the one of which they are written
 read_same : (v : Value) (o : Reading) (l g : Option Value) (r : Reading) (c p : ℕ) (w : ReadingWords) → class_of_reading o ≡ class_of_value v → IsReading o → is_position_reading o ≡ false
@@ -154,28 +198,16 @@ read_same : (v : Value) (o : Reading) (l g : Option Value) (r : Reading) (c p : 
 unfolding reading_setting
 read_same (values.Mute s) (readings.Mute t) l g r c p w k typed own is vw lw gw e =
     let q : r ≡ readings.Mute s = cc in q ∙ ap readings.Mute (same_mute s t (sym vw.1.1 ∙ bits_of _ _ is))
+read_same (values.Mute s) _ l g r c p w k typed own is vw lw gw e = let no : ⊥ = cc in absurd no
 read_same (values.Polarity s) (readings.Polarity t) l g r c p w k typed own is vw lw gw e =
     let q : r ≡ readings.Polarity s = cc in q ∙ ap readings.Polarity (same_polarity s t (sym vw.1.1 ∙ bits_of _ _ is))
+read_same (values.Polarity s) _ l g r c p w k typed own is vw lw gw e = let no : ⊥ = cc in absurd no
 read_same (values.Boolean s) (readings.Boolean t) l g r c p w k typed own is vw lw gw e =
     let q : r ≡ readings.Boolean s = cc in q ∙ ap readings.Boolean (same_truth s t (sym vw.1.1 ∙ bits_of _ _ is))
-read_same (values.Int8 n) (readings.Int8 o) (Some (values.Int8 l)) (Some (values.Int8 g)) r c p w k typed own is vw lw gw e =
-    number_read (λ z. z) (FitsSigned w8) (cast_unsigned w64) readings.Int8 (signed_alike _ (λ z f. sfits_widen tt f)) n l g o r c w (vw.0, vw.1.1) (lw.0, lw.1.1) (gw.0, gw.1.1) typed is e
-read_same (values.Int16 n) (readings.Int16 o) (Some (values.Int16 l)) (Some (values.Int16 g)) r c p w k typed own is vw lw gw e =
-    number_read (λ z. z) (FitsSigned w16) (cast_unsigned w64) readings.Int16 (signed_alike _ (λ z f. sfits_widen tt f)) n l g o r c w (vw.0, vw.1.1) (lw.0, lw.1.1) (gw.0, gw.1.1) typed is e
-read_same (values.Int32 n) (readings.Int32 o) (Some (values.Int32 l)) (Some (values.Int32 g)) r c p w k typed own is vw lw gw e =
-    number_read (λ z. z) (FitsSigned w32) (cast_unsigned w64) readings.Int32 (signed_alike _ (λ z f. sfits_widen tt f)) n l g o r c w (vw.0, vw.1.1) (lw.0, lw.1.1) (gw.0, gw.1.1) typed is e
-read_same (values.Int64 n) (readings.Int64 o) (Some (values.Int64 l)) (Some (values.Int64 g)) r c p w k typed own is vw lw gw e =
-    number_read (λ z. z) (FitsSigned w64) (cast_unsigned w64) readings.Int64 (signed_alike _ (λ z f. sfits_widen tt f)) n l g o r c w (vw.0, vw.1.1) (lw.0, lw.1.1) (gw.0, gw.1.1) typed is e
-read_same (values.Uint8 n) (readings.Uint8 o) (Some (values.Uint8 l)) (Some (values.Uint8 g)) r c p w k typed own is vw lw gw e =
-    number_read pos (λ n. n < 256 ^ byte_len w8) (λ n. n) readings.Uint8 (unsigned_alike _ (omega arith)) n l g o r c w (vw.0, vw.1.1) (lw.0, lw.1.1) (gw.0, gw.1.1) typed is e
-read_same (values.Uint16 n) (readings.Uint16 o) (Some (values.Uint16 l)) (Some (values.Uint16 g)) r c p w k typed own is vw lw gw e =
-    number_read pos (λ n. n < 256 ^ byte_len w16) (λ n. n) readings.Uint16 (unsigned_alike _ (omega arith)) n l g o r c w (vw.0, vw.1.1) (lw.0, lw.1.1) (gw.0, gw.1.1) typed is e
-read_same (values.Uint32 n) (readings.Uint32 o) (Some (values.Uint32 l)) (Some (values.Uint32 g)) r c p w k typed own is vw lw gw e =
-    number_read pos (λ n. n < 256 ^ byte_len w32) (λ n. n) readings.Uint32 (unsigned_alike _ (omega arith)) n l g o r c w (vw.0, vw.1.1) (lw.0, lw.1.1) (gw.0, gw.1.1) typed is e
-read_same (values.Uint64 n) (readings.Uint64 o) (Some (values.Uint64 l)) (Some (values.Uint64 g)) r c p w k typed own is vw lw gw e =
-    number_read pos (λ n. n < 256 ^ byte_len w64) (λ n. n) readings.Uint64 (unsigned_alike _ (omega arith)) n l g o r c w (vw.0, vw.1.1) (lw.0, lw.1.1) (gw.0, gw.1.1) typed is e
+read_same (values.Boolean s) _ l g r c p w k typed own is vw lw gw e = let no : ⊥ = cc in absurd no
 read_same (values.Switch n) (readings.Switch o) l g r c p w k typed own is vw lw gw e = absurd (true_false own)
-read_same _ _ l g r c p w k typed own is vw lw gw e = let no : ⊥ = cc in absurd no
+read_same (values.Switch n) _ l g r c p w k typed own is vw lw gw e = let no : ⊥ = cc in absurd no
+read_same v o l g r c p w k typed own is vw lw gw e = integers_read v o r c p w l g k typed is vw lw gw e
 
 -- ---- the value that is made again
 
@@ -199,10 +231,8 @@ block_is (held.Reads (readings.Mute s)) e = cc
 block_is _ e = cc
 
 kind_reads : (kind : Kind) (texts : List (List ℕ)) (r : Reading) → is_position_reading r ≡ false → IsKindOf kind r texts → value_of kind ≡ held.Reads r
-unfolding value_of
-kind_reads kind texts (readings.Switch r) own k = cc
-kind_reads kind texts (readings.Mute s) own k = ap value_of k
-kind_reads kind texts _ own k = ap value_of k
+kind_reads kind texts (readings.Switch r) own k = absurd (true_false own)
+kind_reads kind texts _ own k = k
 
 switch_is : (kind : Kind) (texts : List (List ℕ)) (n : ℕ) → IsSwitch kind texts n
     → (class_of (value_of kind) ≡ class.Switch) × (value_setting (value_of kind) ≡ Some (settings.Position n)) × (names_in (value_of kind) ≡ texts)
@@ -237,7 +267,7 @@ module _ (h : Held) (p : ℕ) (w : ReadingWords) (texts : List (List ℕ)) (kind
   kind_again (inl (one, k)) = equal_same (value_of kind) h (ap value_of k ∙ block_is h (class_is class.Block one))
   kind_again (inr (not_one, r, (None, vw, l, lw, g, gw, e), k)) = cc
   kind_again (inr (not_one, r, (Some v, vw, l, lw, g, gw, e), k)) =
-      same_of kind texts v h l g r p w (class_is (class_of_value v) (vw.1.0 ∙ words_class v)) sound is named vw lw gw e k
+      same_of kind texts v h l g r p w (class_is (class_of_value v) vw.1.0) sound is named vw lw gw e k
 
 -- ---- what was stored
 
