@@ -1,12 +1,11 @@
 -- An addition of what was written of an object makes it again.
-use Rattle.std.proofs.Common.{◌≡◌, ℕ, ◌<◌, ◌≤◌, ◌^◌, Bool, true, false, List, [], length, refl, sym, ap, ◌∙◌, subst, arith, ℤ, to_z, inl, inr}
+use Rattle.std.proofs.Common.{◌≡◌, ℕ, ◌<◌, ◌≤◌, ◌^◌, Bool, true, false, List, length, refl, sym, ap, ◌∙◌, subst, arith, ℤ, to_z, inl, inr}
 use Rattle.std.specs.Prelude.{Option, Some, None, IfSome, ◌==◌, if◌then◌else◌, pos, negsuc, ◌≤ℤ◌, FitsSigned}
 use Rattle.std.proofs.lemmas.Int.{ints}
 use Rattle.std.specs.Int.{w64, byte_len, cast_unsigned, from_bool}
 use Rattle.std.specs.Option.{option_and_then, option_map}
 use Rattle.std.proofs.lemmas.Bool.{eqb-true}
 use Rattle.std.proofs.lemmas.Int.{to_z-of_z, to_z_pos}
-use Rattle.std.proofs.Math.Facts.{to_z_inj, Fits-of_lt}
 use Rattle.oca_types.specs.declared.class.Class.{Class}
 use Rattle.oca_types.specs.declared.class.Class.TheVariants as class
 use Rattle.oca_model.specs.declared.value.Value.{Value}
@@ -15,7 +14,7 @@ use Rattle.oca_model.specs.declared.reading.Ranged.{Ranged}
 use Rattle.oca_model.specs.declared.reading.Reading.{Reading}
 use Rattle.oca_model.specs.declared.reading.Reading.TheVariants as readings
 use Rattle.oca_model.specs.Settings.{class_of_reading}
-use Rattle.oca_model.specs.Values.{IntegerType, Signed, Unsigned, IsOfItsType, by_type, class_of_value, integer_type, mute_number, polarity_number}
+use Rattle.oca_model.specs.Values.{IntegerType, Signed, Unsigned, class_of_value, integer_type, mute_number, polarity_number}
 use Rattle.oca_model.specs.declared.value.MuteState.{MuteState}
 use Rattle.oca_model.specs.declared.value.MuteState.TheVariants.{Muted, Unmuted}
 use Rattle.oca_model.specs.declared.value.PolarityState.{PolarityState}
@@ -40,7 +39,7 @@ use Rattle.oca_calls.specs.Calls.{IsSwitch, name_bytes}
 use Rattle.oca_calls.specs.CSpecs.{AreSettingWords, GivesKind, HasBits, IsKindOf, IsNumberWords, WrittenMakesAgain, flags_for, integer_reading, is_yes, of_class, position_flags, ranged, reading_of_values, signed_number, texts_of, unsigned_number}
 use Rattle.oca_calls.specs.CValues.{AreWordsOf, bits_of_value}
 use Rattle.oca_calls.specs.Outputs.{class_number}
-use Rattle.oca_calls.proofs.Integers.{Narrow, signed_narrow, unsigned_narrow}
+use Rattle.oca_calls.proofs.Integers.{IsInteger, integer, signed_narrow}
 
 -- ---- classes
 
@@ -50,19 +49,6 @@ same_class _ class.Block e = cc
 same_class _ _ e = cc
 
 -- ---- the integer types
-
--- a value of an integer type, and its bits
-abbrev IsInteger : Option IntegerType → Value → Type 0
-IsInteger None v = Unit {0}
-IsInteger (Some (Signed w _ _)) v = FitsSigned w (signed_number v) × (bits_of_value v ≡ cast_unsigned w64 (signed_number v)) × Narrow w
-IsInteger (Some (Unsigned w _ _)) v = (unsigned_number v < 256 ^ byte_len w) × (bits_of_value v ≡ unsigned_number v) × Narrow w
-
-integer : (v : Value) → IsOfItsType v → IsInteger (integer_type (class_of_value v)) v
-integer (values.Mute s) fits = tt
-integer (values.Polarity s) fits = tt
-integer (values.Switch n) fits = tt
-integer (values.Boolean t) fits = tt
-integer _ fits = (fits, refl, tt)
 
 -- a reading of an integer type, and how an object that reads so is set
 abbrev IsIntegers : Option IntegerType → Reading → Type 0
@@ -77,15 +63,6 @@ integers (readings.Polarity s) typed = tt
 integers (readings.Switch r) typed = tt
 integers (readings.Boolean t) typed = tt
 integers _ typed = (_, refl, typed, refl)
-
--- the limit of a class, where there is one
-limit : (c : Class) (l : Option Value) (x : ValueWords) → AreWordsOf x l → IfSome (of_class c l) (λ u. IsInteger (integer_type c) u × (x.bits ≡ bits_of_value u))
-limit c None x lw = tt
-limit c (Some u) x lw = by (class_number (class_of_value u) == class_number c) refl
-  where
-    by : (b : Bool) → (class_number (class_of_value u) == class_number c) ≡ b → IfSome (if b then Some u else None) (λ y. IsInteger (integer_type c) y × (x.bits ≡ bits_of_value y))
-    by true e = (subst (λ (d : Class). IsInteger (integer_type d) u) (same_class (class_of_value u) c (eqb-true _ _ e)) (integer u lw.0), lw.1.1)
-    by false e = tt
 
 -- ---- what the words say of how an object is set
 
@@ -119,28 +96,15 @@ same_polarity _ _ e = cc
 
 -- ---- numbers by their bits
 
-not_below : (n : ℕ) → pos 0 ≤ℤ pos n
-not_below n = omega (arith, ints)
-
 signed_same : (z n : ℤ) (b : ℕ) → FitsSigned w64 z → FitsSigned w64 n → HasBits z b → b ≡ cast_unsigned w64 n → n ≡ z
 signed_same z n b fz fn (inl (f, e)) g = sym (to_z-of_z w64 n fn) ∙ ap (to_z w64) (sym g ∙ e) ∙ to_z-of_z w64 z fz
 signed_same z n b fz fn (inr e) g =
     let small : b < 2 ^ 63 = grind arith in
     sym (to_z-of_z w64 n fn) ∙ ap (to_z w64) (sym g) ∙ to_z_pos w64 b small ∙ sym e
 
-wider64 : (m : ℕ) → m < 2 ^ 63 → m < 2 ^ 64
-wider64 m small = omega (arith, small)
-
-of_pos : (m b : ℕ) → m < 2 ^ 63 → b < 2 ^ 64 → to_z w64 b ≡ pos m → b ≡ m
-of_pos m b small fits e = to_z_inj {w = w64} (Fits-of_lt fits) (Fits-of_lt (wider64 m small)) (e ∙ sym (to_z_pos w64 m small))
-
-unsigned_same : (z : ℤ) (n b : ℕ) → pos 0 ≤ℤ z → n < 2 ^ 64 → HasBits z b → b ≡ n → pos n ≡ z
-unsigned_same z n b low fits (inr e) g = ap pos (sym g) ∙ sym e
-unsigned_same (pos m) n b low fits (inl (f, e)) g =
-    let small : m < 2 ^ 63 = grind arith in
-    let back : to_z w64 b ≡ pos m = ap (to_z w64) e ∙ to_z-of_z w64 (pos m) f in
-    ap pos (sym g ∙ of_pos m b small (rw g fits) back)
-unsigned_same (negsuc m) n b low fits (inl (f, e)) g = absurd (grind arith)
+unsigned_same : (m n b : ℕ) → HasBits (pos m) b → b ≡ n → n ≡ m
+unsigned_same m n b (inl (f, e)) g = sym g ∙ e
+unsigned_same m n b (inr e) g = cc
 
 -- ---- readings
 
@@ -156,41 +120,31 @@ module _ {X : Type 0} (number : X → ℤ) (Typed : X → Type 0) (bits : X → 
       ∙ ap (λ x. to (ranged o.setting x g)) (same l o.least w.least.bits lw.0 typed.least lw.1 is.1.bits)
       ∙ ap (λ x. to (ranged o.setting o.least x)) (same g o.greatest w.greatest.bits gw.0 typed.greatest gw.1 is.2.bits)
 
-signed_alike : (Typed : ℤ → Type 0) → ((z : ℤ) → Typed z → FitsSigned w64 z) → (x y : ℤ) (b : ℕ) → Typed x → Typed y → b ≡ cast_unsigned w64 x → HasBits y b → x ≡ y
-signed_alike Typed wide x y b fx fy e h = signed_same y x b (wide y fy) (wide x fx) h e
-
-unsigned_alike : (Typed : ℕ → Type 0) → ((n : ℕ) → Typed n → n < 2 ^ 64) → (x y b : ℕ) → Typed x → Typed y → b ≡ x → HasBits (pos y) b → x ≡ y
-unsigned_alike Typed wide x y b fx fy e h =
-    let q : pos x ≡ pos y = unsigned_same (pos y) x b (not_below y) (wide x fx) h e in cc
-
 bits_of : (w v : ReadingWords) → w ≡ v → w.value.bits ≡ v.value.bits
 bits_of w v e = ap (λ (x : ReadingWords). x.value.bits) e
 
+-- the words of a limit hold a value of the type
+abbrev IsWithin : Option IntegerType → Option Value → ℕ → Type 0
+IsWithin t l bits = IfSome l (λ u. IsInteger t u × (bits ≡ bits_of_value u))
+
+limit : (c : Class) (l : Option Value) (x : ValueWords) → AreWordsOf x l → IsWithin (integer_type c) (of_class c l) x.bits
+limit c None x lw = tt
+limit c (Some u) x lw = by (class_number (class_of_value u) == class_number c) refl
+  where
+    by : (b : Bool) → (class_number (class_of_value u) == class_number c) ≡ b → IsWithin (integer_type c) (if b then Some u else None) x.bits
+    by true e = (subst (λ (d : Class). IsInteger (integer_type d) u) (same_class (class_of_value u) c (eqb-true _ _ e)) (integer u lw.0), lw.1.1)
+    by false e = tt
+
 -- of integers, by their type
-by_their_type : (t : Option IntegerType) (v l g : Value) (o r : Reading) (c p : ℕ) (w : ReadingWords) → IsIntegers t o → AreSettingWords c p (reading_setting o) w
-    → IsInteger t v × (w.value.bits ≡ bits_of_value v) → IsInteger t l × (w.least.bits ≡ bits_of_value l) → IsInteger t g × (w.greatest.bits ≡ bits_of_value g)
-    → Some r ≡ by_type (λ _ _ reading. Some (reading (ranged (signed_number v) (signed_number l) (signed_number g)))) (λ _ _ reading. Some (reading (ranged (unsigned_number v) (unsigned_number l) (unsigned_number g)))) None t
-    → r ≡ o
-by_their_type None v l g o r c p w oo is vv ll gg e = cc
-by_their_type (Some (Signed wide of reading)) v l g o r c p w (x, same, typed, set) is vv ll gg e =
-    number_read (λ z. z) (FitsSigned wide) (cast_unsigned w64) reading (signed_alike _ (λ z f. signed_narrow wide z vv.0.2 f)) (signed_number v) (signed_number l) (signed_number g) x r c w
-    (vv.0.0, vv.1 ∙ vv.0.1) (ll.0.0, ll.1 ∙ ll.0.1) (gg.0.0, gg.1 ∙ gg.0.1) typed (subst (λ (y : Option Setting). AreSettingWords c p y w) set is) e ∙ sym same
-by_their_type (Some (Unsigned wide of reading)) v l g o r c p w (x, same, typed, set) is vv ll gg e =
-    number_read pos (λ n. n < 256 ^ byte_len wide) (λ n. n) reading (unsigned_alike _ (λ n f. unsigned_narrow wide n vv.0.2 f)) (unsigned_number v) (unsigned_number l) (unsigned_number g) x r c w
-    (vv.0.0, vv.1 ∙ vv.0.1) (ll.0.0, ll.1 ∙ ll.0.1) (gg.0.0, gg.1 ∙ gg.0.1) typed (subst (λ (y : Option Setting). AreSettingWords c p y w) set is) e ∙ sym same
-
-module _ (v : Value) (o r : Reading) (c p : ℕ) (w : ReadingWords) where
-  with_limits : (l g : Option Value) → IsIntegers (integer_type (class_of_value v)) o → AreSettingWords c p (reading_setting o) w
-      → IsInteger (integer_type (class_of_value v)) v × (w.value.bits ≡ bits_of_value v) → IfSome l (λ u. IsInteger (integer_type (class_of_value v)) u × (w.least.bits ≡ bits_of_value u))
-      → IfSome g (λ u. IsInteger (integer_type (class_of_value v)) u × (w.greatest.bits ≡ bits_of_value u)) → Some r ≡ integer_reading v l g → r ≡ o
-  with_limits (Some l) (Some g) oo is vv ll gg e = by_their_type (integer_type (class_of_value v)) v l g o r c p w oo is vv ll gg e
-  with_limits _ _ oo is vv ll gg e = cc
-
-  integers_read : (l g : Option Value) → class_of_reading o ≡ class_of_value v → IsReading o → AreSettingWords c p (reading_setting o) w → AreWordsOf w.value (Some v)
-      → AreWordsOf w.least l → AreWordsOf w.greatest g → Some r ≡ integer_reading v (of_class (class_of_value v) l) (of_class (class_of_value v) g) → r ≡ o
-  integers_read l g k typed is vw lw gw e =
-      with_limits (of_class (class_of_value v) l) (of_class (class_of_value v) g) (subst (λ (d : Class). IsIntegers (integer_type d) o) k (integers o typed)) is
-      (integer v vw.0, vw.1.1) (limit _ l w.least lw) (limit _ g w.greatest gw) e
+by_type : (t : Option IntegerType) (v : Value) (l g : Option Value) (o r : Reading) (c p : ℕ) (w : ReadingWords) → IsIntegers t o → AreSettingWords c p (reading_setting o) w → IsInteger t v × (w.value.bits ≡ bits_of_value v)
+    → IsWithin t l w.least.bits → IsWithin t g w.greatest.bits → Some r ≡ integer_reading t v l g → r ≡ o
+by_type (Some (Signed wide of reading)) v (Some l) (Some g) o r c p w (x, same, typed, set) is vv ll gg e =
+    number_read (λ z. z) (FitsSigned wide) (cast_unsigned w64) reading (λ a b bits f f' q h. signed_same b a bits (signed_narrow wide b vv.0.1 f') (signed_narrow wide a vv.0.1 f) h q)
+    (signed_number v) (signed_number l) (signed_number g) x r c w (vv.0.2, vv.1 ∙ vv.0.3) (ll.0.2, ll.1 ∙ ll.0.3) (gg.0.2, gg.1 ∙ gg.0.3) typed (subst (λ (y : Option Setting). AreSettingWords c p y w) set is) e ∙ sym same
+by_type (Some (Unsigned wide of reading)) v (Some l) (Some g) o r c p w (x, same, typed, set) is vv ll gg e =
+    number_read pos (λ n. n < 256 ^ byte_len wide) (λ n. n) reading (λ a b bits f f' q h. unsigned_same b a bits h q)
+    (unsigned_number v) (unsigned_number l) (unsigned_number g) x r c w (vv.0.2, vv.1 ∙ vv.0.3) (ll.0.2, ll.1 ∙ ll.0.3) (gg.0.2, gg.1 ∙ gg.0.3) typed (subst (λ (y : Option Setting). AreSettingWords c p y w) set is) e ∙ sym same
+by_type _ v _ _ o r c p w oo is vv ll gg e = cc
 
 -- the reading of the words is the one of which they are written
 read_same : (v : Value) (o : Reading) (l g : Option Value) (r : Reading) (c p : ℕ) (w : ReadingWords) → class_of_reading o ≡ class_of_value v → IsReading o → is_position_reading o ≡ false
@@ -207,7 +161,9 @@ read_same (values.Boolean s) (readings.Boolean t) l g r c p w k typed own is vw 
 read_same (values.Boolean s) _ l g r c p w k typed own is vw lw gw e = let no : ⊥ = cc in absurd no
 read_same (values.Switch n) (readings.Switch o) l g r c p w k typed own is vw lw gw e = absurd (true_false own)
 read_same (values.Switch n) _ l g r c p w k typed own is vw lw gw e = let no : ⊥ = cc in absurd no
-read_same v o l g r c p w k typed own is vw lw gw e = integers_read v o r c p w l g k typed is vw lw gw e
+read_same v o l g r c p w k typed own is vw lw gw e =
+    let of = class_of_value v in
+    by_type (integer_type of) v (of_class of l) (of_class of g) o r c p w (subst (λ (d : Class). IsIntegers (integer_type d) o) k (integers o typed)) is (integer v vw.0, vw.1.1) (limit of l w.least lw) (limit of g w.greatest gw) e
 
 -- ---- the value that is made again
 

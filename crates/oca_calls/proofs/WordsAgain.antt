@@ -1,8 +1,8 @@
 -- The word for a value names that value again.
-use Rattle.std.proofs.Common.{rules, arith, ◌≡◌, ℕ, ◌<◌, ◌≤◌, ◌^◌, ◌*◌, true, false, List, ◌∷◌, Option, Some, None, refl, ap, subst, ◌∙◌, inl, inr}
-use Rattle.std.specs.Prelude.{◌⊎◌, ℤ, pos, negsuc, suc, neg_ℤ, FitsSigned, decimal, codes, Result, Ok, Err}
+use Rattle.std.proofs.Common.{arith, ◌≡◌, ℕ, ◌<◌, ◌^◌, ◌*◌, true, false, List, ◌∷◌, Option, Some, None, refl, ap, subst, ◌∙◌, inl, inr}
+use Rattle.std.specs.Prelude.{ℤ, pos, negsuc, suc, neg_ℤ, FitsSigned, decimal, Result, Ok, Err}
 use Rattle.std.specs.Fmt.{signed_decimal}
-use Rattle.std.specs.Int.{Width, w8, w16, w32, w64, byte_len}
+use Rattle.std.specs.Int.{Width, w8, w16, w64, byte_len}
 use Rattle.std.specs.Option.{SomeIff}
 use Rattle.std.specs.Str.Parse.{IsNumeral, ParsesSigned, digits_value, without_leading_plus}
 use Rattle.std.proofs.lemmas.Fmt.{parse-decimal, decimal_is_IsNumeral, parse-signed_decimal}
@@ -16,7 +16,7 @@ use Rattle.oca_model.specs.Values.{IntegerType, Signed, Unsigned, class_of_value
 use Rattle.oca_model.specs.Words.{IsNumberRead, IsRead, IsOneOf, IsSigned, IsUnsigned, word_of}
 use Rattle.oca_calls.specs.CSpecs.{signed_number, unsigned_number}
 use Rattle.oca_calls.specs.CWords.{WordsAreReadBack}
-use Rattle.oca_calls.proofs.Integers.{Narrow, signed_narrow, unsigned_narrow, power}
+use Rattle.oca_calls.proofs.Integers.{IsInteger, integer, signed_narrow, unsigned_narrow}
 
 refused : {X E : Type 0} (e : E) (x : X) → Err e ≡ Ok x → ⊥
 refused e x q = cc
@@ -24,18 +24,14 @@ refused e x q = cc
 both_ok : {X E : Type 0} (x y : X) → (p q : Result X E) → p ≡ Ok x → q ≡ Ok y → p ≡ q → x ≡ y
 both_ok x y p q is js e = cc
 
-abbrev Below : ℕ → (ℕ → Value) → List ℕ → Option Value → Type 0
-Below most value word found =
-    let digits = without_leading_plus word in
-    SomeIff found (IsNumeral 10 digits × (digits_value 10 digits < most)) (value (digits_value 10 digits))
-
-below : (bits n : ℕ) (f : ℕ → Value) (found : Option Value) → n < 2 ^ bits → n < 2 ^ 64 → Below (2 ^ bits) f (decimal n) found → found ≡ Some (f n)
+below : (bits n : ℕ) (f : ℕ → Value) (found : Option Value) → n < 2 ^ bits → n < 2 ^ 64
+    → SomeIff found (IsNumeral 10 (without_leading_plus (decimal n)) × (digits_value 10 (without_leading_plus (decimal n)) < 2 ^ bits)) (f (digits_value 10 (without_leading_plus (decimal n)))) → found ≡ Some (f n)
 below bits n f None small few h = absurd (refused _ _ (parse-decimal {E = Unit {0}} bits n (decimal n) (Err tt) small few refl h))
 below bits n f (Some y) small few h = ap Some (h.1 ∙ ap f (both_ok _ _ _ _ refl refl (parse-decimal {E = Unit {0}} bits n (decimal n) (Ok _) small few refl (h.0, refl))))
 
 unsigned : (w : Width) (n : ℕ) (f : ℕ → Value) (found : Option Value) → n < 256 ^ byte_len w → n < 2 ^ 64 → IsUnsigned w f (decimal n) found → found ≡ Some (f n)
-unsigned w n f found small few h =
-    below (8 * byte_len w) n f found (subst (λ (m : ℕ). n < m) (power w) small) few (subst (λ (m : ℕ). Below m f (decimal n) found) (power w) h)
+unsigned w8 n f found small few h = below 8 n f found small few h
+unsigned w n f found small few h = below (8 * byte_len w) n f found small few h
 
 -- the digits of a number have room in 64 bits
 abbrev Small : ℤ → Type 0
@@ -68,19 +64,10 @@ second a b None other h = absurd (h.1 refl)
 second a b (Some v) other (inl h) = absurd (other h.1)
 second a b (Some v) other (inr h) = ap Some h.0
 
--- a value of an integer type, and its word
-abbrev IsWorded : Option IntegerType → Value → Type 0
-IsWorded None v = ⊥
-IsWorded (Some (Signed w value _)) v =
-    (value (signed_number v) ≡ v) × (word_of v ≡ signed_decimal (signed_number v)) × FitsSigned w (signed_number v) × Narrow w
-IsWorded (Some (Unsigned w value _)) v =
-    (value (unsigned_number v) ≡ v) × (word_of v ≡ decimal (unsigned_number v)) × (unsigned_number v < 256 ^ byte_len w) × Narrow w
-
-number : (t : Option IntegerType) (v : Value) (found : Option Value) → IsWorded t v → IsNumberRead t (word_of v) found → found ≡ Some v
-number None v found none h = absurd none
-number (Some (Signed w value r)) v found (is, word, fits, narrow) h =
+number : (t : IntegerType) (v : Value) (found : Option Value) → integer_type (class_of_value v) ≡ Some t → IsInteger (Some t) v → IsNumberRead (Some t) (word_of v) found → found ≡ Some v
+number (Signed w value r) v found of (is, narrow, fits, bits, word) h =
     signed w (signed_number v) value found fits (small (signed_number v) (signed_narrow w (signed_number v) narrow fits)) (subst (λ (x : List ℕ). IsSigned w value x found) word h) ∙ ap Some is
-number (Some (Unsigned w value r)) v found (is, word, fits, narrow) h =
+number (Unsigned w value r) v found of (is, narrow, fits, bits, word) h =
     unsigned w (unsigned_number v) value found fits (unsigned_narrow w (unsigned_number v) narrow fits) (subst (λ (x : List ℕ). IsUnsigned w value x found) word h) ∙ ap Some is
 
 pub read_back : WordsAreReadBack
@@ -92,4 +79,4 @@ read_back (Polarity Inverted) found fits h = second (Polarity NonInverted) (Pola
 read_back (Switch n) found fits h = unsigned w16 n Switch found fits (omega (arith, fits)) h
 read_back (Boolean true) found fits h = first (Boolean true) (Boolean false) found (λ q. cc) h
 read_back (Boolean false) found fits h = second (Boolean true) (Boolean false) found (λ q. cc) h
-read_back v found fits h = number (integer_type (class_of_value v)) v found (refl, refl, fits, tt) h
+read_back v found fits h = number _ v found refl (integer v fits) h

@@ -25,7 +25,7 @@ use Rattle.oca_model.specs.declared.value.Value.TheVariants as values
 use Rattle.oca_model.specs.declared.reading.Ranged.{Ranged}
 use Rattle.oca_model.specs.declared.reading.Reading.{Reading}
 use Rattle.oca_model.specs.declared.reading.Reading.TheVariants as readings
-use Rattle.oca_model.specs.Values.{by_number, by_type, class_of_value, integer_type}
+use Rattle.oca_model.specs.Values.{IntegerType, Signed, Unsigned, by_number, class_of_value, integer_type}
 use Rattle.oca_calls.specs.declared.answer.Answer.{Answer}
 use Rattle.oca_calls.specs.declared.answer.Answer.TheVariants as answers
 use Rattle.oca_calls.specs.declared.device.DeviceBehind.{DeviceBehind}
@@ -74,13 +74,13 @@ abbrev pub of_class : Class → Option Value → Option Value
 of_class class None = None
 of_class class (Some value) = if class_number (class_of_value value) == class_number class then Some value else None
 
--- the reading of an integer with its limits, where there are both
-abbrev pub integer_reading : Value → Option Value → Option Value → Option Reading
-integer_reading v (Some l) (Some g) = by_type
-    (λ _ _ reading. Some (reading (ranged (signed_number v) (signed_number l) (signed_number g))))
-    (λ _ _ reading. Some (reading (ranged (unsigned_number v) (unsigned_number l) (unsigned_number g))))
-    None (integer_type (class_of_value v))
-integer_reading _ _ _ = None
+-- the reading of an integer of a type with its limits, where there are both
+abbrev pub integer_reading : Option IntegerType → Value → Option Value → Option Value → Option Reading
+integer_reading (Some (Signed _ _ reading)) v (Some l) (Some g) =
+    Some (reading (ranged (signed_number v) (signed_number l) (signed_number g)))
+integer_reading (Some (Unsigned _ _ reading)) v (Some l) (Some g) =
+    Some (reading (ranged (unsigned_number v) (unsigned_number l) (unsigned_number g)))
+integer_reading _ _ _ _ = None
 
 -- the reading that three values make: the limits of an integer are of its class; those of others are not looked at
 abbrev pub reading_of_values : Option Value → Option Value → Option Value → Option Reading
@@ -89,7 +89,8 @@ reading_of_values (Some (values.Mute state)) l g = Some (readings.Mute state)
 reading_of_values (Some (values.Polarity state)) l g = Some (readings.Polarity state)
 reading_of_values (Some (values.Switch n)) l g = Some (readings.Switch (ranged n n n))
 reading_of_values (Some (values.Boolean truth)) l g = Some (readings.Boolean truth)
-reading_of_values (Some v) l g = integer_reading v (of_class (class_of_value v) l) (of_class (class_of_value v) g)
+reading_of_values (Some v) l g =
+    let class = class_of_value v in integer_reading (integer_type class) v (of_class class l) (of_class class g)
 
 -- THE READING whose words these are, or none.
 abbrev pub AreReadingOf : ReadingWords → Option Reading → Type 0
