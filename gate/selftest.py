@@ -330,7 +330,7 @@ def judged_copies(crate, of, told):
 
 def copies_laws(folder):
     """Edits of definitions are tried in copies of their laws in one check, beside a copy that must be proved. A law is
-    alone if the prover makes something of a source that reads such a definition."""
+    alone if the prover makes something of a source that reads such a definition, but for a plain type."""
     edits_of = {name: f"of: law::law_of_a\nfile: specs/Words.antt\nold: word = 1\nnew: word = {name}\n" for name in "23"}
     laid(folder, {**DATA.of_law, **{f"{name}.edit": text for name, text in edits_of.items()}})
     crate = SimpleNamespace(folder=str(folder), name="a")
@@ -346,8 +346,10 @@ def copies_laws(folder):
     found += [paths == {f"law{it}::law_of_a" for it in ("_edited_1", "_edited_2", "_as_0_stands")}]
     found += [{path: text for path, text in texts.items() if "_edited_2" in path} == DATA.of_law_edited]
     found += [texts["specs/Lib.antt"].startswith(DATA.of_law_listed), "mod law_edited_1;" in texts["src/lib.rt"]]
-    laid(folder, {"src/m.rt": "ghost use Rattle.a.specs.Words.{word};\npub struct T {\n}\n"})
-    return all(found) and len(edits.grouped(of, crate, True)) == 2
+    for text, groups in DATA.types_of_law:
+        laid(folder, {"src/m.rt": text})
+        found.append(len(edits.grouped(of, crate, True)) == groups)
+    return all(found)
 
 
 def empties_functions(folder):

@@ -370,16 +370,21 @@ def between(crate, module, name, edited):
 
 
 def depends(crate, path, reads):
-    """Whether what the prover makes under this path is of a source that reads these definitions: but for an enum, of
-    which it makes the cases alone, unless it has a model."""
+    """Whether what the prover makes under this path is of a source that reads these definitions: but for a plain type."""
     parts = re.sub(r"^(specs\.declared|specs|proofs)\.", "", path).split(".")
     for file, text in sources_of(crate).items():
         module = module_of(file)
         is_its = module and parts[:len(module)] == module
-        enums = [it for it in parts if re.search(rf"(?m)^(pub )?enum {it}\b", text) and f"Model for {it}" not in text]
-        if is_its and reads.search(text) and not enums:
+        if is_its and reads.search(text) and not any(is_plain_type(text, it) for it in parts):
             return True
     return False
+
+
+def is_plain_type(text, name):
+    """Whether a source declares this enum or struct, and the prover makes of it its cases or its fields alone: it has no
+    model and no ghost field."""
+    declared = re.search(rf"(?m)^(?:pub(?:\([a-z: ]+\))? )?(?:enum|struct) {name}\b(?:[^{{]*?;$|(?s:.*?)^}}$)", text)
+    return bool(declared) and "ghost" not in declared[0] and not re.search(rf"\bModel for {name}\b", text)
 
 
 def proofs_of(crate, function):

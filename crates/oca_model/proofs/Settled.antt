@@ -25,11 +25,31 @@ makes (readings.Mute a) (set.Mute x) e = record { new = readings.Mute x; made = 
 makes (readings.Polarity a) (set.Polarity x) e = record { new = readings.Polarity x; made = refl; value = refl }
 makes (readings.Switch r) (set.Switch x) e = record { new = readings.Switch (set_in_limits r x); made = refl; value = refl }
 makes (readings.Boolean a) (set.Boolean x) e = record { new = readings.Boolean x; made = refl; value = refl }
+makes (readings.Int8 r) (set.Int8 x) e = record { new = readings.Int8 (set_in_limits r x); made = refl; value = refl }
+makes (readings.Int16 r) (set.Int16 x) e = record { new = readings.Int16 (set_in_limits r x); made = refl; value = refl }
+makes (readings.Int32 r) (set.Int32 x) e = record { new = readings.Int32 (set_in_limits r x); made = refl; value = refl }
+makes (readings.Int64 r) (set.Int64 x) e = record { new = readings.Int64 (set_in_limits r x); made = refl; value = refl }
+makes (readings.Uint8 r) (set.Uint8 x) e = record { new = readings.Uint8 (set_in_limits r x); made = refl; value = refl }
+makes (readings.Uint16 r) (set.Uint16 x) e = record { new = readings.Uint16 (set_in_limits r x); made = refl; value = refl }
+makes (readings.Uint32 r) (set.Uint32 x) e = record { new = readings.Uint32 (set_in_limits r x); made = refl; value = refl }
+makes (readings.Uint64 r) (set.Uint64 x) e = record { new = readings.Uint64 (set_in_limits r x); made = refl; value = refl }
 makes _ _ e = let no : ⊥ = cc in absurd no
 
 -- it is of the class that it was of
 pub same_class : (r : Reading) (v : Value) → class_of_reading (reading_set_to r v) ≡ class_of_reading r
 unfolding with_value
+same_class (readings.Mute a) (set.Mute x) = refl
+same_class (readings.Polarity a) (set.Polarity x) = refl
+same_class (readings.Switch r) (set.Switch x) = refl
+same_class (readings.Boolean a) (set.Boolean x) = refl
+same_class (readings.Int8 r) (set.Int8 x) = refl
+same_class (readings.Int16 r) (set.Int16 x) = refl
+same_class (readings.Int32 r) (set.Int32 x) = refl
+same_class (readings.Int64 r) (set.Int64 x) = refl
+same_class (readings.Uint8 r) (set.Uint8 x) = refl
+same_class (readings.Uint16 r) (set.Uint16 x) = refl
+same_class (readings.Uint32 r) (set.Uint32 x) = refl
+same_class (readings.Uint64 r) (set.Uint64 x) = refl
 same_class _ _ = refl
 
 unless_not : (b : Bool) → not b ≡ false → b ≡ true

@@ -1,10 +1,9 @@
 -- Classes as they are listed, and members of blocks (AES70-2).
-use Rattle.std.specs.Prelude.{◌≡◌, ℕ, ◌<◌, ◌^◌, List, [], ◌∷◌, ◌++◌, Option, Some, None, find, map}
+use Rattle.std.specs.Prelude.{◌≡◌, ℕ, ◌<◌, ◌^◌, List, [], ◌++◌, Option, Some, None, find, map}
 use Rattle.std.specs.Str.{bytes_eq}
 use Rattle.std.specs.Option.{option_map, option_and_then}
 use Rattle.std.specs.Int.{w16, w32}
 use Rattle.oca_types.specs.declared.class.Class.{Class}
-use Rattle.oca_types.specs.declared.class.Class.TheVariants as class
 use Rattle.oca_types.specs.Classes.{class_fields_of, class_identification_encoding}
 use Rattle.oca_types.specs.Numbers.{unsigned_encoding}
 use Rattle.oca_types.specs.Reading.{unsigned_at}
@@ -12,13 +11,7 @@ use Rattle.oca_model.specs.declared.member.Descendant.{Descendant}
 use Rattle.oca_model.specs.declared.member.Member.{Member}
 use Rattle.oca_model.specs.Lists.{list_of_most}
 use Rattle.oca_model.specs.Parameters.{whole, pair_at}
-
--- the classes of this profile
-abbrev pub classes : List Class
-classes =
-    class.Block ∷ class.Mute ∷ class.Polarity ∷ class.Switch ∷ class.Boolean ∷ class.Int8 ∷ class.Int16 ∷ class.Int32
-    ∷ class.Int64
-    ∷ class.Uint8 ∷ class.Uint16 ∷ class.Uint32 ∷ class.Uint64 ∷ []
+use Rattle.oca_model.specs.Values.{classes}
 
 -- the class whose identifier has these fields
 unfoldable pub class_with : List ℕ → Option Class

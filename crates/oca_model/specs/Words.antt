@@ -1,6 +1,6 @@
 -- The words for values (profile).
-use Rattle.std.specs.Prelude.{◌≡◌, ◌≢◌, ◌⊎◌, ℕ, ◌<◌, ◌^◌, true, false, List, [], Option, Some, None, codes, ℤ, pos}
-use Rattle.std.specs.Prelude.{FitsSigned, decimal, MatchOption}
+use Rattle.std.specs.Prelude.{◌≡◌, ◌≢◌, ◌⊎◌, ℕ, ◌<◌, ◌^◌, true, false, List, [], Option, Some, None, codes, ℤ}
+use Rattle.std.specs.Prelude.{FitsSigned, decimal}
 use Rattle.std.specs.Fmt.{signed_decimal}
 use Rattle.std.specs.Int.{Width, w16, byte_len}
 use Rattle.std.specs.Option.{SomeIff}

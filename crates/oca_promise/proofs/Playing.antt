@@ -19,7 +19,7 @@ use Rattle.oca_pair.proofs.Lists.{same_self, IsIn, in_more, in_last, each_at}
 use Rattle.oca_pair.proofs.RoundTrip.{AreToDevice, to_device_step}
 use Rattle.oca_device.specs.Events.{Datagram}
 use Rattle.oca_panel.specs.Panels.{PanelState}
-use Rattle.oca_promise.specs.Renewals.{EveryRenewalIsAStep, EveryCallBesideIsAStep}
+use Rattle.oca_promise.specs.Renewals.{EveryRenewalIsAStep, EveryKeepAliveIsAStep, EveryCallBesideIsAStep}
 use Rattle.oca_promise.specs.Doings.{Doing, Submits, Sends, Hears, Takes, done, all_done, IsStepFor, GoesOnWith, Plays}
 
 -- the link of this number is the peer's, and in this state
@@ -71,20 +71,22 @@ renewals_are_steps first span old new renewed n i p origin next is above e =
     renew_there i p old.link first span renewed.now origin n (ap (is_no_lower first) is ∙ no_lower next first above) e
     ∙ ap (λ (s : PanelState). let y : PeerLink = record { peer = p; link = s.link } in Some y) (sym renewed.panel)
 
--- and so it is where a keep-alive is sent beside its link
-pub calls_beside_are_steps : EveryCallBesideIsAStep
-calls_beside_are_steps heard old new calls n i now p e =
-    let x : PeerLink = record { peer = p; link = old.link } in
-    let link_is : old.link ≡ new.link = sym (ap (λ (s : PanelState). s.link) calls.same) in
+-- a keep-alive for the device of a link is sent beside it
+pub keep_alives_are_steps : EveryKeepAliveIsAStep
+keep_alives_are_steps before between l n i now p keeps e =
     record {
       bytes = due_bytes GivesKeepAlive;
-      taken = calls.keeps.0;
-      given = calls.keeps.1;
+      taken = keeps.0;
+      given = keeps.1;
       sent = ap (λ (o : Option PeerLink). (after_beside o n).to_device) e;
       leaves = λ s. ap (λ (o : Option PeerLink). leaving_beside s n now o) e;
-      link = ap (λ (o : Option PeerLink). slice_get (after_beside o n).links i) e ∙ e
-          ∙ ap (λ (l : LinkState). let y : PeerLink = record { peer = p; link = l } in Some y) link_is;
+      link = ap (λ (o : Option PeerLink). slice_get (after_beside o n).links i) e ∙ e;
     }
+
+-- and so it is where a panel does
+pub calls_beside_are_steps : EveryCallBesideIsAStep
+calls_beside_are_steps heard old new calls n i now p e =
+    (keep_alives_are_steps old.end_state calls.between old.link n i now p calls.keeps e, ap (λ (s : PanelState). s.link) calls.same)
 
 heard_there : (from p : Peer) (bytes : List ℕ) (now : ℕ) (l : LinkState) → hears_datagram from (record { peer = p; bytes = bytes }) now (record { peer = p; link = l }) ≡ record { peer = p; link = received from (content_read bytes) now l }
 heard_there from p bytes now l = by_test (same_peer p p) (same_self p)

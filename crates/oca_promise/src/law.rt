@@ -4,7 +4,8 @@ ghost use Rattle.oca_promise.specs.Calls.{EveryAnsweredCallKeeps, EveryCallIsInT
 ghost use Rattle.oca_promise.specs.Promises.{EverySetKeeps, EveryRefusedSetKeeps, EveryReadingKeeps, EveryGetKeeps};
 ghost use Rattle.oca_promise.specs.Promises.{EveryLockKeeps, EveryUnlockKeeps, EveryClassKeeps, EveryRoleKeeps};
 ghost use Rattle.oca_promise.specs.Promises.{EveryLabelKeeps, EveryMembersKeep, EveryDescriptionKeeps};
-ghost use Rattle.oca_promise.specs.Renewals.{EveryCallBesideIsAStep, EveryRenewalIsAStep};
+ghost use Rattle.oca_promise.specs.Renewals.{EveryCallBesideIsAStep, EveryKeepAliveIsAStep};
+ghost use Rattle.oca_promise.specs.Renewals.{EveryRenewalIsAStep};
 ghost use Rattle.oca_promise.specs.Flights.{EveryAnsweredFlightKeeps, EveryFlightIsInTime};
 ghost use Rattle.oca_promise.specs.Flights.{EverySetInFlightKeeps, EveryReadingInFlightKeeps, EveryAnswerInFlightKeeps};
 
@@ -39,6 +40,8 @@ use oca_pdu::law_reading;
 ///   no lower than the handle that the next command of the old link would get.
 /// - Beside: [`call`](oca_panel::Panel::call) to the link's device sends what a step of the network sends beside the link,
 ///   and the panel's link is the link of the same network after that step. So all this holds of its later calls too.
+/// - Keep-alive: [`keep_alive`](oca_panel::keep_alive) to a link's device sends what that step of the network sends, and the
+///   link is the same afterwards. So does each keep-alive of [`probe`](oca_panel::probe).
 ///
 /// If the end does not record what it delivers, all this holds of some deliveries and an answer that fit the call.
 pub fn law_of_calls()
@@ -58,6 +61,7 @@ pub fn law_of_calls()
     ensures describes { EveryDescriptionKeeps }
     ensures renewal { EveryRenewalIsAStep }
     ensures beside { EveryCallBesideIsAStep }
+    ensures keep_alive { EveryKeepAliveIsAStep }
 {
     law_of_what_is_said();
     law_reading();

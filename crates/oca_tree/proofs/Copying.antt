@@ -9,6 +9,7 @@ use Rattle.oca_model.specs.declared.value.PolarityState.TheVariants.{NonInverted
 use Rattle.oca_model.specs.declared.reading.Ranged.{Ranged}
 use Rattle.oca_model.specs.declared.reading.Reading.{Reading}
 use Rattle.oca_model.specs.declared.reading.Reading.TheVariants as readings
+use Rattle.oca_model.specs.Values.{by_type, integer_type}
 use Rattle.oca_tree.specs.declared.builder.Kind.{Kind}
 use Rattle.oca_tree.specs.declared.builder.Kind.TheVariants as kinds
 use Rattle.oca_tree.specs.declared.object.Object.{Object}
@@ -49,19 +50,12 @@ again_switch (Some (set.Position position)) names flags = values.Switch (record 
 again_switch _ names flags = values.Block
 
 abbrev again : Class → Option Setting → List (List ℕ) → Option (List Bool) → Value
-again class.Block s names flags = values.Block
 again class.Mute s names flags = again_mute s
 again class.Polarity s names flags = again_polarity s
 again class.Switch s names flags = again_switch s names flags
 again class.Boolean s names flags = again_boolean s
-again class.Int8 s names flags = whole readings.Int8 (λ z. z) s
-again class.Int16 s names flags = whole readings.Int16 (λ z. z) s
-again class.Int32 s names flags = whole readings.Int32 (λ z. z) s
-again class.Int64 s names flags = whole readings.Int64 (λ z. z) s
-again class.Uint8 s names flags = whole readings.Uint8 nat_abs s
-again class.Uint16 s names flags = whole readings.Uint16 nat_abs s
-again class.Uint32 s names flags = whole readings.Uint32 nat_abs s
-again class.Uint64 s names flags = whole readings.Uint64 nat_abs s
+again of s names flags =
+    by_type (λ _ _ reading. whole reading (λ z. z) s) (λ _ _ reading. whole reading nat_abs s) values.Block (integer_type of)
 
 -- it holds no reading of a position, which has no setting
 abbrev has_own : Value → Bool

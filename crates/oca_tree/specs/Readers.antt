@@ -14,6 +14,7 @@ use Rattle.oca_tree.specs.Objects.{class_of, object_of}
 use Rattle.oca_model.specs.declared.reading.Ranged.{Ranged}
 use Rattle.oca_model.specs.declared.reading.Reading.{Reading}
 use Rattle.oca_model.specs.declared.reading.Reading.TheVariants as readings
+use Rattle.oca_model.specs.Readings.{by_range}
 use Rattle.oca_model.specs.Values.{mute_number, polarity_number}
 
 abbrev pub info_of : Object → ObjectInfo
@@ -52,14 +53,8 @@ reading_setting (readings.Mute state) = Some (State (mute_number state))
 reading_setting (readings.Polarity state) = Some (State (polarity_number state))
 reading_setting (readings.Switch _) = None
 reading_setting (readings.Boolean truth) = Some (Truth truth)
-reading_setting (readings.Int8 r) = Some (number_setting (λ z. z) r)
-reading_setting (readings.Int16 r) = Some (number_setting (λ z. z) r)
-reading_setting (readings.Int32 r) = Some (number_setting (λ z. z) r)
-reading_setting (readings.Int64 r) = Some (number_setting (λ z. z) r)
-reading_setting (readings.Uint8 r) = Some (number_setting pos r)
-reading_setting (readings.Uint16 r) = Some (number_setting pos r)
-reading_setting (readings.Uint32 r) = Some (number_setting pos r)
-reading_setting (readings.Uint64 r) = Some (number_setting pos r)
+reading_setting reading = by_range (λ _ _ _ r. Some (number_setting (λ z. z) r))
+    (λ _ _ _ r. Some (number_setting pos r)) None reading
 
 unfoldable pub value_setting : Value → Option Setting
 value_setting values.Block = None

@@ -22,7 +22,7 @@ use crate::room::Room;
 use crate::start::{Start, StartFault, restore};
 use crate::tree::Tree;
 use arrayvec::ArrayVec;
-use oca_model::{MuteState, PolarityState, Ranged, Reading};
+use oca_model::{MuteState, PolarityState, Ranged, Reading, with_integers};
 use oca_types::{Ono, Text};
 use std::alloc::Global;
 use std::error::Error;
@@ -278,15 +278,6 @@ fn ranged<N: Copy>(setting: N, least: N, greatest: N) -> Ranged<N>
     }
 }
 
-/// Calls the macro `$each` with the names of the integers: `Kind` and `Reading` have variants of these names.
-macro_rules! with_integers {
-    ($each:ident) => {
-        $each!(Int8, Int16, Int32, Int64, Uint8, Uint16, Uint32, Uint64)
-    };
-}
-
-pub(crate) use with_integers;
-
 /// What an object of a kind reads as that is no block and no switch.
 #[tactic(auto, unfolding(crate::specs::Building::value_of))]
 fn reading_of(kind: &Kind<'_>) -> Reading
@@ -294,7 +285,7 @@ fn reading_of(kind: &Kind<'_>) -> Reading
     ensures { HoldsReading kind.now result }
 {
     macro_rules! reading {
-        ($($integer:ident),*) => {
+        ($($integer:ident $type:ty),*) => {
             match kind {
                 Kind::Mute(state) => Reading::Mute(*state),
                 Kind::Polarity(state) => Reading::Polarity(*state),

@@ -2,10 +2,9 @@
 ghost use Rattle.std.specs.Prelude.{◌≡◌, IsTrue};
 ghost use Rattle.oca_tree.specs.Copies.{unlocked, all_unlocked};
 
-use crate::builder::with_integers;
 use crate::object::{Object, Switch, Value};
 use arrayvec::ArrayVec;
-use oca_model::Reading;
+use oca_model::{Reading, with_integers};
 use oca_types::Text;
 
 /// Whether two texts are the same.
@@ -93,7 +92,7 @@ fn same_reading(a: Reading, b: Reading) -> bool
     ensures { IsTrue result → a ≡ b }
 {
     macro_rules! same {
-        ($($integer:ident),*) => {
+        ($($integer:ident $type:ty),*) => {
             match (a, b) {
                 (Reading::Mute(state), Reading::Mute(other)) => state == other,
                 (Reading::Polarity(state), Reading::Polarity(other)) => state == other,

@@ -17,7 +17,6 @@ ghost use Rattle.oca_tree.specs.Readers.{reading_setting, value_setting, setting
 ghost use Rattle.oca_tree.specs.declared.tree.Setting.TheVariants.{Number};
 ghost use Rattle.oca_tree.specs.Copies.{stored_in, stored_at, names_of_ono, lockable_at, all_unlocked};
 
-use crate::builder::with_integers;
 use crate::description::{class_in, failing_in, lockable_in, position_names_in, start_in};
 use crate::execute::carry_out;
 use crate::front::{FrontFault, set_enabled, set_failing, set_label, unlock};
@@ -28,7 +27,7 @@ use crate::objects::Objects;
 use crate::same::same_objects;
 use crate::setting::{SetFault, set};
 use crate::start::Start;
-use oca_model::{Reading, Value};
+use oca_model::{Reading, Value, with_integers};
 use oca_types::{Class, Command, Ono, Params, Peer, Status, Text};
 use std::fmt;
 use std::marker::Model;
@@ -429,7 +428,7 @@ fn reading_setting(reading: Reading) -> Option<Setting>
     ensures { result ≡ reading_setting reading }
 {
     macro_rules! setting {
-        ($($integer:ident),*) => {
+        ($($integer:ident $type:ty),*) => {
             match reading {
                 Reading::Mute(state) => Some(Setting::State(state as u8)),
                 Reading::Polarity(state) => Some(Setting::State(state as u8)),

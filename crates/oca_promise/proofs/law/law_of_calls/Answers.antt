@@ -1,6 +1,6 @@
 use Rattle.oca_promise.proofs.Doing.{every_call_does}
 use Rattle.oca_promise.proofs.Keeping.{calls_keep}
-use Rattle.oca_promise.proofs.Playing.{renewals_are_steps, calls_beside_are_steps}
+use Rattle.oca_promise.proofs.Playing.{renewals_are_steps, keep_alives_are_steps, calls_beside_are_steps}
 use Rattle.oca_promise.proofs.Promises.{sets_keep, refused_sets_keep, readings_keep, gets_keep, locks_keep, unlocks_keep, classes_keep, roles_keep, labels_keep, members_keep, descriptions_keep}
 use Rattle.oca_promise.proofs.law.law_of_calls.Goals as goal
 
@@ -25,4 +25,5 @@ returns c =
       describes = descriptions_keep said.between said.ok said.met law;
       renewal = renewals_are_steps;
       beside = calls_beside_are_steps;
+      keep_alive = keep_alives_are_steps;
     }
