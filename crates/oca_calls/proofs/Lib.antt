@@ -1,5 +1,6 @@
 pub mod Behind
 mod DeviceAsBox
+mod Integers
 mod LinkAsBox
 pub mod SpecsAgain
 pub mod Waits

@@ -1,11 +1,10 @@
 -- An addition of what was written of an object makes it again.
-use Rattle.std.proofs.Common.{◌≡◌, ℕ, ◌<◌, ◌≤◌, ◌^◌, Bool, true, false, List, [], length, refl, sym, ap, ◌∙◌, subst, arith, ℤ, to_z, inl, inr}
-use Rattle.std.specs.Prelude.{Option, Some, None, IfSome, ◌==◌, if◌then◌else◌, pos, negsuc, ◌≤ℤ◌, FitsSigned}
-use Rattle.std.proofs.lemmas.Int.{ints}
-use Rattle.std.specs.Int.{w8, w16, w32, w64, byte_len, cast_unsigned, from_bool}
+use Rattle.std.proofs.Common.{◌≡◌, ℕ, ◌<◌, ◌^◌, Bool, true, false, List, length, refl, sym, ap, ◌∙◌, subst, arith, ℤ, to_z, inl, inr}
+use Rattle.std.specs.Prelude.{Option, Some, None, IfSome, ◌==◌, if◌then◌else◌, pos, FitsSigned}
+use Rattle.std.specs.Int.{w64, byte_len, cast_unsigned, from_bool}
 use Rattle.std.specs.Option.{option_and_then, option_map}
+use Rattle.std.proofs.lemmas.Bool.{eqb-true}
 use Rattle.std.proofs.lemmas.Int.{to_z-of_z, to_z_pos}
-use Rattle.std.proofs.Math.Facts.{sfits_widen, to_z_inj, Fits-of_lt}
 use Rattle.oca_types.specs.declared.class.Class.{Class}
 use Rattle.oca_types.specs.declared.class.Class.TheVariants as class
 use Rattle.oca_model.specs.declared.value.Value.{Value}
@@ -14,7 +13,7 @@ use Rattle.oca_model.specs.declared.reading.Ranged.{Ranged}
 use Rattle.oca_model.specs.declared.reading.Reading.{Reading}
 use Rattle.oca_model.specs.declared.reading.Reading.TheVariants as readings
 use Rattle.oca_model.specs.Settings.{class_of_reading}
-use Rattle.oca_model.specs.Values.{class_of_value, mute_number, polarity_number}
+use Rattle.oca_model.specs.Values.{IntegerType, Signed, Unsigned, class_of_value, integer_type, mute_number, polarity_number}
 use Rattle.oca_model.specs.declared.value.MuteState.{MuteState}
 use Rattle.oca_model.specs.declared.value.MuteState.TheVariants.{Muted, Unmuted}
 use Rattle.oca_model.specs.declared.value.PolarityState.{PolarityState}
@@ -30,44 +29,39 @@ use Rattle.oca_tree.specs.declared.tree.Setting.TheVariants as settings
 use Rattle.oca_tree.specs.Building.{value_of}
 use Rattle.oca_tree.specs.Copies.{DescriptionMakesAgain, Stored, stored_of, flags_in, names_in, names_of_ono, names_of_one}
 use Rattle.oca_tree.specs.Objects.{class_of}
-use Rattle.oca_tree.specs.Readers.{reading_setting, value_setting}
+use Rattle.oca_tree.specs.Readers.{number_setting, reading_setting, value_setting}
 use Rattle.oca_tree.specs.Starts.{flags_of}
 use Rattle.oca_tree.specs.Trees.{IsSoundValue, is_position_reading}
 use Rattle.oca_calls.specs.declared.value_words.ReadingWords.{ReadingWords}
+use Rattle.oca_calls.specs.declared.value_words.ValueWords.{ValueWords}
 use Rattle.oca_calls.specs.Calls.{IsSwitch, name_bytes}
-use Rattle.oca_calls.specs.CSpecs.{AreSettingWords, GivesKind, HasBits, IsKindOf, IsNumberWords, WrittenMakesAgain, flags_for, is_yes, position_flags, ranged, reading_of_values, texts_of}
-use Rattle.oca_calls.specs.CValues.{AreWordsOf, words_of}
+use Rattle.oca_calls.specs.CSpecs.{AreSettingWords, GivesKind, HasBits, IsKindOf, IsNumberWords, WrittenMakesAgain, flags_for, integer_reading, is_yes, of_class, position_flags, ranged, reading_of_values, signed_number, texts_of, unsigned_number}
+use Rattle.oca_calls.specs.CValues.{AreWordsOf, bits_of_value}
 use Rattle.oca_calls.specs.Outputs.{class_number}
+use Rattle.oca_calls.proofs.Integers.{IsInteger, integer, signed_narrow}
 
 -- ---- classes
 
-abbrev class_at_number : ℕ → Option Class
-class_at_number n =
-    if n == 1 then Some class.Block
-    else (if n == 2 then Some class.Mute
-    else (if n == 3 then Some class.Polarity
-    else (if n == 4 then Some class.Switch
-    else (if n == 5 then Some class.Boolean
-    else (if n == 6 then Some class.Int8
-    else (if n == 7 then Some class.Int16
-    else (if n == 8 then Some class.Int32
-    else (if n == 9 then Some class.Int64
-    else (if n == 10 then Some class.Uint8
-    else (if n == 11 then Some class.Uint16
-    else (if n == 12 then Some class.Uint32
-    else (if n == 13 then Some class.Uint64
-    else None))))))))))))
-
-number_back : (c : Class) → class_at_number (class_number c) ≡ Some c
-number_back class.Block = refl
-number_back _ = refl
-
 same_class : (a b : Class) → class_number a ≡ class_number b → a ≡ b
-same_class a b e = let f : Some a ≡ Some b = sym (number_back a) ∙ ap class_at_number e ∙ number_back b in cc
+same_class class.Block class.Block e = refl
+same_class _ class.Block e = cc
+same_class _ _ e = cc
 
-words_class : (v : Value) → (words_of v).class_number ≡ class_number (class_of_value v)
-words_class (values.Mute s) = refl
-words_class _ = refl
+-- ---- the integer types
+
+-- a reading of an integer type, and how an object that reads so is set
+abbrev IsIntegers : Option IntegerType → Reading → Type 0
+IsIntegers None o = Unit {0}
+IsIntegers (Some (Signed w _ reading)) o = (r : Ranged ℤ) × (o ≡ reading r) × All3 (FitsSigned w) r × (reading_setting o ≡ Some (number_setting (λ z. z) r))
+IsIntegers (Some (Unsigned w _ reading)) o = (r : Ranged ℕ) × (o ≡ reading r) × All3 (λ n. n < 256 ^ byte_len w) r × (reading_setting o ≡ Some (number_setting pos r))
+
+integers : (o : Reading) → IsReading o → IsIntegers (integer_type (class_of_reading o)) o
+unfolding reading_setting
+integers (readings.Mute s) typed = tt
+integers (readings.Polarity s) typed = tt
+integers (readings.Switch r) typed = tt
+integers (readings.Boolean t) typed = tt
+integers _ typed = (_, refl, typed, refl)
 
 -- ---- what the words say of how an object is set
 
@@ -101,28 +95,15 @@ same_polarity _ _ e = cc
 
 -- ---- numbers by their bits
 
-not_below : (n : ℕ) → pos 0 ≤ℤ pos n
-not_below n = omega (arith, ints)
-
 signed_same : (z n : ℤ) (b : ℕ) → FitsSigned w64 z → FitsSigned w64 n → HasBits z b → b ≡ cast_unsigned w64 n → n ≡ z
 signed_same z n b fz fn (inl (f, e)) g = sym (to_z-of_z w64 n fn) ∙ ap (to_z w64) (sym g ∙ e) ∙ to_z-of_z w64 z fz
 signed_same z n b fz fn (inr e) g =
     let small : b < 2 ^ 63 = grind arith in
     sym (to_z-of_z w64 n fn) ∙ ap (to_z w64) (sym g) ∙ to_z_pos w64 b small ∙ sym e
 
-wider64 : (m : ℕ) → m < 2 ^ 63 → m < 2 ^ 64
-wider64 m small = omega (arith, small)
-
-of_pos : (m b : ℕ) → m < 2 ^ 63 → b < 2 ^ 64 → to_z w64 b ≡ pos m → b ≡ m
-of_pos m b small fits e = to_z_inj {w = w64} (Fits-of_lt fits) (Fits-of_lt (wider64 m small)) (e ∙ sym (to_z_pos w64 m small))
-
-unsigned_same : (z : ℤ) (n b : ℕ) → pos 0 ≤ℤ z → n < 2 ^ 64 → HasBits z b → b ≡ n → pos n ≡ z
-unsigned_same z n b low fits (inr e) g = ap pos (sym g) ∙ sym e
-unsigned_same (pos m) n b low fits (inl (f, e)) g =
-    let small : m < 2 ^ 63 = grind arith in
-    let back : to_z w64 b ≡ pos m = ap (to_z w64) e ∙ to_z-of_z w64 (pos m) f in
-    ap pos (sym g ∙ of_pos m b small (rw g fits) back)
-unsigned_same (negsuc m) n b low fits (inl (f, e)) g = absurd (grind arith)
+unsigned_same : (m n b : ℕ) → HasBits (pos m) b → b ≡ n → n ≡ m
+unsigned_same m n b (inl (f, e)) g = sym g ∙ e
+unsigned_same m n b (inr e) g = cc
 
 -- ---- readings
 
@@ -138,15 +119,31 @@ module _ {X : Type 0} (number : X → ℤ) (Typed : X → Type 0) (bits : X → 
       ∙ ap (λ x. to (ranged o.setting x g)) (same l o.least w.least.bits lw.0 typed.least lw.1 is.1.bits)
       ∙ ap (λ x. to (ranged o.setting o.least x)) (same g o.greatest w.greatest.bits gw.0 typed.greatest gw.1 is.2.bits)
 
-signed_alike : (Typed : ℤ → Type 0) → ((z : ℤ) → Typed z → FitsSigned w64 z) → (x y : ℤ) (b : ℕ) → Typed x → Typed y → b ≡ cast_unsigned w64 x → HasBits y b → x ≡ y
-signed_alike Typed wide x y b fx fy e h = signed_same y x b (wide y fy) (wide x fx) h e
-
-unsigned_alike : (most : ℕ) → most ≤ 2 ^ 64 → (x y b : ℕ) → x < most → y < most → b ≡ x → HasBits (pos y) b → x ≡ y
-unsigned_alike most few x y b fx fy e h =
-    let q : pos x ≡ pos y = unsigned_same (pos y) x b (not_below y) (omega (arith, fx, few)) h e in cc
-
 bits_of : (w v : ReadingWords) → w ≡ v → w.value.bits ≡ v.value.bits
 bits_of w v e = ap (λ (x : ReadingWords). x.value.bits) e
+
+-- the words of a limit hold a value of the type
+abbrev IsWithin : Option IntegerType → Option Value → ℕ → Type 0
+IsWithin t l bits = IfSome l (λ u. IsInteger t u × (bits ≡ bits_of_value u))
+
+limit : (c : Class) (l : Option Value) (x : ValueWords) → AreWordsOf x l → IsWithin (integer_type c) (of_class c l) x.bits
+limit c None x lw = tt
+limit c (Some u) x lw = by (class_number (class_of_value u) == class_number c) refl
+  where
+    by : (b : Bool) → (class_number (class_of_value u) == class_number c) ≡ b → IsWithin (integer_type c) (if b then Some u else None) x.bits
+    by true e = (subst (λ (d : Class). IsInteger (integer_type d) u) (same_class (class_of_value u) c (eqb-true _ _ e)) (integer u lw.0), lw.1.1)
+    by false e = tt
+
+-- of integers, by their type
+by_type : (t : Option IntegerType) (v : Value) (l g : Option Value) (o r : Reading) (c p : ℕ) (w : ReadingWords) → IsIntegers t o → AreSettingWords c p (reading_setting o) w → IsInteger t v × (w.value.bits ≡ bits_of_value v)
+    → IsWithin t l w.least.bits → IsWithin t g w.greatest.bits → Some r ≡ integer_reading t v l g → r ≡ o
+by_type (Some (Signed wide of reading)) v (Some l) (Some g) o r c p w (x, same, typed, set) is vv ll gg e =
+    number_read (λ z. z) (FitsSigned wide) (cast_unsigned w64) reading (λ a b bits f f' q h. signed_same b a bits (signed_narrow wide b vv.0.1 f') (signed_narrow wide a vv.0.1 f) h q)
+    (signed_number v) (signed_number l) (signed_number g) x r c w (vv.0.2, vv.1 ∙ vv.0.3) (ll.0.2, ll.1 ∙ ll.0.3) (gg.0.2, gg.1 ∙ gg.0.3) typed (subst (λ (y : Option Setting). AreSettingWords c p y w) set is) e ∙ sym same
+by_type (Some (Unsigned wide of reading)) v (Some l) (Some g) o r c p w (x, same, typed, set) is vv ll gg e =
+    number_read pos (λ n. n < 256 ^ byte_len wide) (λ n. n) reading (λ a b bits f f' q h. unsigned_same b a bits h q)
+    (unsigned_number v) (unsigned_number l) (unsigned_number g) x r c w (vv.0.2, vv.1 ∙ vv.0.3) (ll.0.2, ll.1 ∙ ll.0.3) (gg.0.2, gg.1 ∙ gg.0.3) typed (subst (λ (y : Option Setting). AreSettingWords c p y w) set is) e ∙ sym same
+by_type _ v _ _ o r c p w oo is vv ll gg e = cc
 
 -- the reading of the words is the one of which they are written
 read_same : (v : Value) (o : Reading) (l g : Option Value) (r : Reading) (c p : ℕ) (w : ReadingWords) → class_of_reading o ≡ class_of_value v → IsReading o → is_position_reading o ≡ false
@@ -154,28 +151,18 @@ read_same : (v : Value) (o : Reading) (l g : Option Value) (r : Reading) (c p : 
 unfolding reading_setting
 read_same (values.Mute s) (readings.Mute t) l g r c p w k typed own is vw lw gw e =
     let q : r ≡ readings.Mute s = cc in q ∙ ap readings.Mute (same_mute s t (sym vw.1.1 ∙ bits_of _ _ is))
+read_same (values.Mute s) _ l g r c p w k typed own is vw lw gw e = let no : ⊥ = cc in absurd no
 read_same (values.Polarity s) (readings.Polarity t) l g r c p w k typed own is vw lw gw e =
     let q : r ≡ readings.Polarity s = cc in q ∙ ap readings.Polarity (same_polarity s t (sym vw.1.1 ∙ bits_of _ _ is))
+read_same (values.Polarity s) _ l g r c p w k typed own is vw lw gw e = let no : ⊥ = cc in absurd no
 read_same (values.Boolean s) (readings.Boolean t) l g r c p w k typed own is vw lw gw e =
     let q : r ≡ readings.Boolean s = cc in q ∙ ap readings.Boolean (same_truth s t (sym vw.1.1 ∙ bits_of _ _ is))
-read_same (values.Int8 n) (readings.Int8 o) (Some (values.Int8 l)) (Some (values.Int8 g)) r c p w k typed own is vw lw gw e =
-    number_read (λ z. z) (FitsSigned w8) (cast_unsigned w64) readings.Int8 (signed_alike _ (λ z f. sfits_widen tt f)) n l g o r c w (vw.0, vw.1.1) (lw.0, lw.1.1) (gw.0, gw.1.1) typed is e
-read_same (values.Int16 n) (readings.Int16 o) (Some (values.Int16 l)) (Some (values.Int16 g)) r c p w k typed own is vw lw gw e =
-    number_read (λ z. z) (FitsSigned w16) (cast_unsigned w64) readings.Int16 (signed_alike _ (λ z f. sfits_widen tt f)) n l g o r c w (vw.0, vw.1.1) (lw.0, lw.1.1) (gw.0, gw.1.1) typed is e
-read_same (values.Int32 n) (readings.Int32 o) (Some (values.Int32 l)) (Some (values.Int32 g)) r c p w k typed own is vw lw gw e =
-    number_read (λ z. z) (FitsSigned w32) (cast_unsigned w64) readings.Int32 (signed_alike _ (λ z f. sfits_widen tt f)) n l g o r c w (vw.0, vw.1.1) (lw.0, lw.1.1) (gw.0, gw.1.1) typed is e
-read_same (values.Int64 n) (readings.Int64 o) (Some (values.Int64 l)) (Some (values.Int64 g)) r c p w k typed own is vw lw gw e =
-    number_read (λ z. z) (FitsSigned w64) (cast_unsigned w64) readings.Int64 (signed_alike _ (λ z f. sfits_widen tt f)) n l g o r c w (vw.0, vw.1.1) (lw.0, lw.1.1) (gw.0, gw.1.1) typed is e
-read_same (values.Uint8 n) (readings.Uint8 o) (Some (values.Uint8 l)) (Some (values.Uint8 g)) r c p w k typed own is vw lw gw e =
-    number_read pos (λ n. n < 256 ^ byte_len w8) (λ n. n) readings.Uint8 (unsigned_alike _ (omega arith)) n l g o r c w (vw.0, vw.1.1) (lw.0, lw.1.1) (gw.0, gw.1.1) typed is e
-read_same (values.Uint16 n) (readings.Uint16 o) (Some (values.Uint16 l)) (Some (values.Uint16 g)) r c p w k typed own is vw lw gw e =
-    number_read pos (λ n. n < 256 ^ byte_len w16) (λ n. n) readings.Uint16 (unsigned_alike _ (omega arith)) n l g o r c w (vw.0, vw.1.1) (lw.0, lw.1.1) (gw.0, gw.1.1) typed is e
-read_same (values.Uint32 n) (readings.Uint32 o) (Some (values.Uint32 l)) (Some (values.Uint32 g)) r c p w k typed own is vw lw gw e =
-    number_read pos (λ n. n < 256 ^ byte_len w32) (λ n. n) readings.Uint32 (unsigned_alike _ (omega arith)) n l g o r c w (vw.0, vw.1.1) (lw.0, lw.1.1) (gw.0, gw.1.1) typed is e
-read_same (values.Uint64 n) (readings.Uint64 o) (Some (values.Uint64 l)) (Some (values.Uint64 g)) r c p w k typed own is vw lw gw e =
-    number_read pos (λ n. n < 256 ^ byte_len w64) (λ n. n) readings.Uint64 (unsigned_alike _ (omega arith)) n l g o r c w (vw.0, vw.1.1) (lw.0, lw.1.1) (gw.0, gw.1.1) typed is e
+read_same (values.Boolean s) _ l g r c p w k typed own is vw lw gw e = let no : ⊥ = cc in absurd no
 read_same (values.Switch n) (readings.Switch o) l g r c p w k typed own is vw lw gw e = absurd (true_false own)
-read_same _ _ l g r c p w k typed own is vw lw gw e = let no : ⊥ = cc in absurd no
+read_same (values.Switch n) _ l g r c p w k typed own is vw lw gw e = let no : ⊥ = cc in absurd no
+read_same v o l g r c p w k typed own is vw lw gw e =
+    let of = class_of_value v in
+    by_type (integer_type of) v (of_class of l) (of_class of g) o r c p w (subst (λ (d : Class). IsIntegers (integer_type d) o) k (integers o typed)) is (integer v vw.0, vw.1.1) (limit of l w.least lw) (limit of g w.greatest gw) e
 
 -- ---- the value that is made again
 
@@ -199,10 +186,8 @@ block_is (held.Reads (readings.Mute s)) e = cc
 block_is _ e = cc
 
 kind_reads : (kind : Kind) (texts : List (List ℕ)) (r : Reading) → is_position_reading r ≡ false → IsKindOf kind r texts → value_of kind ≡ held.Reads r
-unfolding value_of
-kind_reads kind texts (readings.Switch r) own k = cc
-kind_reads kind texts (readings.Mute s) own k = ap value_of k
-kind_reads kind texts _ own k = ap value_of k
+kind_reads kind texts (readings.Switch r) own k = absurd (true_false own)
+kind_reads kind texts _ own k = k
 
 switch_is : (kind : Kind) (texts : List (List ℕ)) (n : ℕ) → IsSwitch kind texts n
     → (class_of (value_of kind) ≡ class.Switch) × (value_setting (value_of kind) ≡ Some (settings.Position n)) × (names_in (value_of kind) ≡ texts)
@@ -237,7 +222,7 @@ module _ (h : Held) (p : ℕ) (w : ReadingWords) (texts : List (List ℕ)) (kind
   kind_again (inl (one, k)) = equal_same (value_of kind) h (ap value_of k ∙ block_is h (class_is class.Block one))
   kind_again (inr (not_one, r, (None, vw, l, lw, g, gw, e), k)) = cc
   kind_again (inr (not_one, r, (Some v, vw, l, lw, g, gw, e), k)) =
-      same_of kind texts v h l g r p w (class_is (class_of_value v) (vw.1.0 ∙ words_class v)) sound is named vw lw gw e k
+      same_of kind texts v h l g r p w (class_is (class_of_value v) vw.1.0) sound is named vw lw gw e k
 
 -- ---- what was stored
 

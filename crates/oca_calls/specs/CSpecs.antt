@@ -1,9 +1,11 @@
 -- What an object is to be, and what it is, as C has it: one struct.
-use Rattle.std.specs.Prelude.{◌≡◌, ◌⊎◌, ℕ, ◌-◌, ◌==◌, ◌<◌, ◌≤◌, not, ℤ, pos, Bool, List, [], ◌∷◌, map, take, length, Option}
+use Rattle.std.specs.Prelude.{◌≡◌, ◌⊎◌, ℕ, ◌-◌, ◌==◌, ◌<◌, ◌≤◌, not, ℤ, pos, Bool, if◌then◌else◌, List, [], ◌∷◌, map, take, length, Option}
 use Rattle.std.specs.Prelude.{Some, None, IfSome, IsSome, Result, Ok, Err, FitsSigned}
 use Rattle.std.specs.Int.{w64, FitsUnsigned, cast_unsigned, from_bool}
 use Rattle.std.specs.List.{AllByRecursion}
+use Rattle.oca_types.specs.declared.class.Class.{Class}
 use Rattle.oca_tree.specs.declared.object.Object.{Object}
+use Rattle.oca_tree.specs.declared.object.Value.TheVariants as held
 use Rattle.oca_tree.specs.declared.builder.Kind.{Kind}
 use Rattle.oca_tree.specs.declared.builder.Kind.TheVariants as kinds
 use Rattle.oca_tree.specs.declared.builder.Spec.{Spec}
@@ -13,7 +15,7 @@ use Rattle.oca_tree.specs.declared.tree.ObjectInfo.{ObjectInfo}
 use Rattle.oca_tree.specs.declared.tree.Setting.{Setting}
 use Rattle.oca_tree.specs.declared.tree.Setting.TheVariants as settings
 use Rattle.oca_tree.specs.Objects.{Store, object_of}
-use Rattle.oca_tree.specs.Building.{object_of_spec}
+use Rattle.oca_tree.specs.Building.{object_of_spec, value_of}
 use Rattle.oca_tree.specs.Trees.{IsSoundValue}
 use Rattle.oca_tree.specs.Starts.{AddsWith, BeginsWith, flags_of, restored}
 use Rattle.oca_tree.specs.Copies.{Stored, stored_at, names_of_ono, lockable_at, unlocked}
@@ -23,6 +25,7 @@ use Rattle.oca_model.specs.declared.value.Value.TheVariants as values
 use Rattle.oca_model.specs.declared.reading.Ranged.{Ranged}
 use Rattle.oca_model.specs.declared.reading.Reading.{Reading}
 use Rattle.oca_model.specs.declared.reading.Reading.TheVariants as readings
+use Rattle.oca_model.specs.Values.{IntegerType, Signed, Unsigned, by_number, class_of_value, integer_type}
 use Rattle.oca_calls.specs.declared.answer.Answer.{Answer}
 use Rattle.oca_calls.specs.declared.answer.Answer.TheVariants as answers
 use Rattle.oca_calls.specs.declared.device.DeviceBehind.{DeviceBehind}
@@ -59,6 +62,26 @@ position_flags w = map is_yes (take w.positions w.enableds)
 abbrev pub ranged : {X : Type 0} → X → X → X → Ranged X
 ranged setting least greatest = record { setting = setting; least = least; greatest = greatest }
 
+-- the number of an integer, of a signed and of an unsigned type
+abbrev pub signed_number : Value → ℤ
+signed_number value = by_number (λ _ z. z) (λ _ _. pos 0) (pos 0) value
+
+abbrev pub unsigned_number : Value → ℕ
+unsigned_number value = by_number (λ _ _. 0) (λ _ n. n) 0 value
+
+-- the value, where there is one of the class
+abbrev pub of_class : Class → Option Value → Option Value
+of_class class None = None
+of_class class (Some value) = if class_number (class_of_value value) == class_number class then Some value else None
+
+-- the reading of an integer of a type with its limits, where there are both
+abbrev pub integer_reading : Option IntegerType → Value → Option Value → Option Value → Option Reading
+integer_reading (Some (Signed _ _ reading)) v (Some l) (Some g) =
+    Some (reading (ranged (signed_number v) (signed_number l) (signed_number g)))
+integer_reading (Some (Unsigned _ _ reading)) v (Some l) (Some g) =
+    Some (reading (ranged (unsigned_number v) (unsigned_number l) (unsigned_number g)))
+integer_reading _ _ _ _ = None
+
 -- the reading that three values make: the limits of an integer are of its class; those of others are not looked at
 abbrev pub reading_of_values : Option Value → Option Value → Option Value → Option Reading
 reading_of_values None l g = None
@@ -66,23 +89,8 @@ reading_of_values (Some (values.Mute state)) l g = Some (readings.Mute state)
 reading_of_values (Some (values.Polarity state)) l g = Some (readings.Polarity state)
 reading_of_values (Some (values.Switch n)) l g = Some (readings.Switch (ranged n n n))
 reading_of_values (Some (values.Boolean truth)) l g = Some (readings.Boolean truth)
-reading_of_values (Some (values.Int8 n)) (Some (values.Int8 l)) (Some (values.Int8 g)) =
-    Some (readings.Int8 (ranged n l g))
-reading_of_values (Some (values.Int16 n)) (Some (values.Int16 l)) (Some (values.Int16 g)) =
-    Some (readings.Int16 (ranged n l g))
-reading_of_values (Some (values.Int32 n)) (Some (values.Int32 l)) (Some (values.Int32 g)) =
-    Some (readings.Int32 (ranged n l g))
-reading_of_values (Some (values.Int64 n)) (Some (values.Int64 l)) (Some (values.Int64 g)) =
-    Some (readings.Int64 (ranged n l g))
-reading_of_values (Some (values.Uint8 n)) (Some (values.Uint8 l)) (Some (values.Uint8 g)) =
-    Some (readings.Uint8 (ranged n l g))
-reading_of_values (Some (values.Uint16 n)) (Some (values.Uint16 l)) (Some (values.Uint16 g)) =
-    Some (readings.Uint16 (ranged n l g))
-reading_of_values (Some (values.Uint32 n)) (Some (values.Uint32 l)) (Some (values.Uint32 g)) =
-    Some (readings.Uint32 (ranged n l g))
-reading_of_values (Some (values.Uint64 n)) (Some (values.Uint64 l)) (Some (values.Uint64 g)) =
-    Some (readings.Uint64 (ranged n l g))
-reading_of_values _ _ _ = None
+reading_of_values (Some v) l g =
+    let class = class_of_value v in integer_reading (integer_type class) v (of_class class l) (of_class class g)
 
 -- THE READING whose words these are, or none.
 abbrev pub AreReadingOf : ReadingWords → Option Reading → Type 0
@@ -92,18 +100,8 @@ AreReadingOf w reading =
 
 -- the kind of object that is read so, a switch with these names; a position's own limits are those of the names
 abbrev pub IsKindOf : Kind → Reading → List (List ℕ) → Type 0
-IsKindOf kind (readings.Mute state) texts = kind ≡ kinds.Mute state
-IsKindOf kind (readings.Polarity state) texts = kind ≡ kinds.Polarity state
 IsKindOf kind (readings.Switch r) texts = IsSwitch kind texts r.setting
-IsKindOf kind (readings.Boolean truth) texts = kind ≡ kinds.Boolean truth
-IsKindOf kind (readings.Int8 r) texts = kind ≡ kinds.Int8 r.setting r.least r.greatest
-IsKindOf kind (readings.Int16 r) texts = kind ≡ kinds.Int16 r.setting r.least r.greatest
-IsKindOf kind (readings.Int32 r) texts = kind ≡ kinds.Int32 r.setting r.least r.greatest
-IsKindOf kind (readings.Int64 r) texts = kind ≡ kinds.Int64 r.setting r.least r.greatest
-IsKindOf kind (readings.Uint8 r) texts = kind ≡ kinds.Uint8 r.setting r.least r.greatest
-IsKindOf kind (readings.Uint16 r) texts = kind ≡ kinds.Uint16 r.setting r.least r.greatest
-IsKindOf kind (readings.Uint32 r) texts = kind ≡ kinds.Uint32 r.setting r.least r.greatest
-IsKindOf kind (readings.Uint64 r) texts = kind ≡ kinds.Uint64 r.setting r.least r.greatest
+IsKindOf kind reading texts = value_of kind ≡ held.Reads reading
 
 -- THE KIND that the words of a reading and the texts of positions give: a block by its class alone; or none.
 abbrev pub GivesKind : ReadingWords → List (List ℕ) → Option Kind → Type 0

@@ -1,16 +1,17 @@
 -- Values, readings and requests, as C has them.
-use Rattle.std.specs.Prelude.{◌≡◌, ℕ, ℤ, List, [], Option, Some, None}
+use Rattle.std.specs.Prelude.{◌≡◌, ℕ, List, [], Option, Some, None}
 use Rattle.std.specs.Int.{w64, cast_unsigned, from_bool}
 use Rattle.oca_types.specs.declared.class.Class.{Class}
 use Rattle.oca_types.specs.declared.class.Method.{Method}
 use Rattle.oca_model.specs.declared.value.Value.{Value}
 use Rattle.oca_model.specs.declared.value.Value.TheVariants as values
+use Rattle.oca_model.specs.declared.reading.Ranged.{Ranged}
 use Rattle.oca_model.specs.declared.reading.Reading.{Reading}
 use Rattle.oca_model.specs.declared.reading.Reading.TheVariants as readings
 use Rattle.oca_model.specs.declared.value_request.ValueRequest.{ValueRequest}
-use Rattle.oca_model.specs.Values.{IsOfItsType, class_of_value, mute_number, polarity_number, get_method, set_method}
-use Rattle.oca_model.specs.Values.{value_encoding}
-use Rattle.oca_model.specs.Readings.{reading_in}
+use Rattle.oca_model.specs.Values.{IsOfItsType, by_number, class_of_value, mute_number, polarity_number, get_method}
+use Rattle.oca_model.specs.Values.{set_method, value_encoding}
+use Rattle.oca_model.specs.Readings.{by_range, reading_in, value_without_limits}
 use Rattle.oca_model.specs.ValueRequests.{CallsMethod}
 use Rattle.oca_calls.specs.declared.value_words.ValueWords.{ValueWords}
 use Rattle.oca_calls.specs.declared.value_words.ReadingWords.{ReadingWords}
@@ -20,28 +21,17 @@ use Rattle.oca_calls.specs.Outputs.{WritesToBuffer, class_number}
 
 -- ---- the words of a value
 
--- of an unsigned number, itself
-abbrev pub unsigned_words : ℕ → ℕ → ValueWords
-unsigned_words class number = record { class_number = class; zero = 0; bits = number }
+-- the number in 64 bits: of a state, a position, a truth or a setting, where a signed one is in two's complement
+abbrev pub bits_of_value : Value → ℕ
+bits_of_value (values.Mute state) = mute_number state
+bits_of_value (values.Polarity state) = polarity_number state
+bits_of_value (values.Switch position) = position
+bits_of_value (values.Boolean truth) = from_bool truth
+bits_of_value value = by_number (λ _ z. cast_unsigned w64 z) (λ _ n. n) 0 value
 
--- of a signed one, two's complement in 64 bits
-abbrev pub signed_words : ℕ → ℤ → ValueWords
-signed_words class setting = record { class_number = class; zero = 0; bits = cast_unsigned w64 setting }
-
--- THE WORDS OF A VALUE: the number of its class, and that of its state, position, truth or setting.
+-- THE WORDS OF A VALUE: the number of its class, and its own number.
 abbrev pub words_of : Value → ValueWords
-words_of (values.Mute state) = unsigned_words 2 (mute_number state)
-words_of (values.Polarity state) = unsigned_words 3 (polarity_number state)
-words_of (values.Switch position) = unsigned_words 4 position
-words_of (values.Boolean truth) = unsigned_words 5 (from_bool truth)
-words_of (values.Int8 setting) = signed_words 6 setting
-words_of (values.Int16 setting) = signed_words 7 setting
-words_of (values.Int32 setting) = signed_words 8 setting
-words_of (values.Int64 setting) = signed_words 9 setting
-words_of (values.Uint8 setting) = unsigned_words 10 setting
-words_of (values.Uint16 setting) = unsigned_words 11 setting
-words_of (values.Uint32 setting) = unsigned_words 12 setting
-words_of (values.Uint64 setting) = unsigned_words 13 setting
+words_of value = record { class_number = class_number (class_of_value value); zero = 0; bits = bits_of_value value }
 
 -- These are the words of the value; what stands between its class and its number is not looked at.
 abbrev pub IsWords : Value → ValueWords → Type 0
@@ -57,20 +47,16 @@ AreWordsOf words None = (value : Value) → IsOfItsType value → IsWords value 
 abbrev pub three : Value → Value → Value → ReadingWords
 three value least greatest = record { value = words_of value; least = words_of least; greatest = words_of greatest }
 
+-- a setting, its least and its greatest
+abbrev pub ranged_words : {X : Type 0} → (X → Value) → Ranged X → ReadingWords
+ranged_words value r = three (value r.setting) (value r.least) (value r.greatest)
+
 -- THE WORDS OF A READING: the value, and the least and the greatest where its class has limits, else the value again.
 abbrev pub reading_words : Reading → ReadingWords
-reading_words (readings.Mute state) = three (values.Mute state) (values.Mute state) (values.Mute state)
-reading_words (readings.Polarity state) = three (values.Polarity state) (values.Polarity state) (values.Polarity state)
-reading_words (readings.Switch r) = three (values.Switch r.setting) (values.Switch r.least) (values.Switch r.greatest)
-reading_words (readings.Boolean truth) = three (values.Boolean truth) (values.Boolean truth) (values.Boolean truth)
-reading_words (readings.Int8 r) = three (values.Int8 r.setting) (values.Int8 r.least) (values.Int8 r.greatest)
-reading_words (readings.Int16 r) = three (values.Int16 r.setting) (values.Int16 r.least) (values.Int16 r.greatest)
-reading_words (readings.Int32 r) = three (values.Int32 r.setting) (values.Int32 r.least) (values.Int32 r.greatest)
-reading_words (readings.Int64 r) = three (values.Int64 r.setting) (values.Int64 r.least) (values.Int64 r.greatest)
-reading_words (readings.Uint8 r) = three (values.Uint8 r.setting) (values.Uint8 r.least) (values.Uint8 r.greatest)
-reading_words (readings.Uint16 r) = three (values.Uint16 r.setting) (values.Uint16 r.least) (values.Uint16 r.greatest)
-reading_words (readings.Uint32 r) = three (values.Uint32 r.setting) (values.Uint32 r.least) (values.Uint32 r.greatest)
-reading_words (readings.Uint64 r) = three (values.Uint64 r.setting) (values.Uint64 r.least) (values.Uint64 r.greatest)
+reading_words (readings.Switch r) = ranged_words values.Switch r
+reading_words reading =
+    let value = value_without_limits reading in
+    by_range (λ _ of _ r. ranged_words of r) (λ _ of _ r. ranged_words of r) (three value value value) reading
 
 -- ---- what the calls write of values
 

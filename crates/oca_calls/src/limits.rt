@@ -3,7 +3,7 @@ ghost use Rattle.std.specs.Prelude.{◌≡◌};
 ghost use Rattle.oca_calls.specs.CSpecs.{AreReadingOf, ranged, reading_of_values};
 
 use crate::value_words::ReadingWords;
-use oca_model::{Ranged, Reading, Value};
+use oca_model::{Ranged, Reading, Value, with_integers};
 
 /// A setting within its limits.
 fn ranged<N: Copy>(setting: N, least: N, greatest: N) -> Ranged<N>
@@ -14,18 +14,6 @@ fn ranged<N: Copy>(setting: N, least: N, greatest: N) -> Ranged<N>
         least,
         greatest,
     }
-}
-
-/// The reading of an integer of this class, where both limits are of the class.
-macro_rules! within {
-    ($class:ident, $setting:expr, $low:expr, $high:expr) => {
-        match ($low, $high) {
-            (Some(Value::$class(low)), Some(Value::$class(high))) => {
-                Some(Reading::$class(ranged($setting, low, high)))
-            }
-            _ => None,
-        }
-    };
 }
 
 /// Returns the reading that the words of a struct for C hold. `None` if the words of the value hold no value
@@ -50,18 +38,21 @@ fn reading_of_values(
 ) -> Option<Reading>
     ensures { result ≡ reading_of_values value low high }
 {
-    match value? {
-        Value::Mute(state) => Some(Reading::Mute(state)),
-        Value::Polarity(state) => Some(Reading::Polarity(state)),
-        Value::Switch(n) => Some(Reading::Switch(ranged(n, n, n))),
-        Value::Boolean(truth) => Some(Reading::Boolean(truth)),
-        Value::Int8(n) => within!(Int8, n, low, high),
-        Value::Int16(n) => within!(Int16, n, low, high),
-        Value::Int32(n) => within!(Int32, n, low, high),
-        Value::Int64(n) => within!(Int64, n, low, high),
-        Value::Uint8(n) => within!(Uint8, n, low, high),
-        Value::Uint16(n) => within!(Uint16, n, low, high),
-        Value::Uint32(n) => within!(Uint32, n, low, high),
-        Value::Uint64(n) => within!(Uint64, n, low, high),
+    macro_rules! reading {
+        ($($integer:ident $type:ty),*) => {
+            match value? {
+                Value::Mute(state) => Some(Reading::Mute(state)),
+                Value::Polarity(state) => Some(Reading::Polarity(state)),
+                Value::Switch(n) => Some(Reading::Switch(ranged(n, n, n))),
+                Value::Boolean(truth) => Some(Reading::Boolean(truth)),
+                $(Value::$integer(setting) => match (low, high) {
+                    (Some(Value::$integer(low)), Some(Value::$integer(high))) => {
+                        Some(Reading::$integer(ranged(setting, low, high)))
+                    }
+                    _ => None,
+                })*
+            }
+        };
     }
+    with_integers!(reading)
 }

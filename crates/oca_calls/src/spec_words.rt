@@ -8,7 +8,7 @@ use crate::name::{MOST_POSITIONS, Name};
 use crate::value_words::ReadingWords;
 use crate::words::put_words;
 use arrayvec::ArrayVec;
-use oca_model::Reading;
+use oca_model::{Reading, with_integers};
 use oca_tree::Kind;
 
 /// The size of [`SpecWords`] in bytes: 1,248.
@@ -72,38 +72,30 @@ pub fn bytes_of(flags: &[bool]) -> [u8; MOST_POSITIONS]
     place
 }
 
-/// The kind of an integer that is read so.
-macro_rules! integer {
-    ($class:ident, $ranged:expr) => {
-        Kind::$class {
-            setting: $ranged.setting,
-            least: $ranged.least,
-            greatest: $ranged.greatest,
-        }
-    };
-}
-
 /// The kind of object that is read so, a switch with these names.
+#[tactic(auto, unfolding(oca_tree::specs::Building::value_of))]
 fn kind_with<'a>(reading: Reading, names: &'a [&'a str]) -> Kind<'a>
     ensures { IsKindOf result reading (map (λ name. name.now) names.now) }
 {
-    match reading {
-        Reading::Mute(state) => Kind::Mute(state),
-        Reading::Polarity(state) => Kind::Polarity(state),
-        Reading::Switch(r) => Kind::Switch {
-            names,
-            position: r.setting,
-        },
-        Reading::Boolean(truth) => Kind::Boolean(truth),
-        Reading::Int8(r) => integer!(Int8, r),
-        Reading::Int16(r) => integer!(Int16, r),
-        Reading::Int32(r) => integer!(Int32, r),
-        Reading::Int64(r) => integer!(Int64, r),
-        Reading::Uint8(r) => integer!(Uint8, r),
-        Reading::Uint16(r) => integer!(Uint16, r),
-        Reading::Uint32(r) => integer!(Uint32, r),
-        Reading::Uint64(r) => integer!(Uint64, r),
+    macro_rules! kind {
+        ($($integer:ident $type:ty),*) => {
+            match reading {
+                Reading::Mute(state) => Kind::Mute(state),
+                Reading::Polarity(state) => Kind::Polarity(state),
+                Reading::Switch(r) => Kind::Switch {
+                    names,
+                    position: r.setting,
+                },
+                Reading::Boolean(truth) => Kind::Boolean(truth),
+                $(Reading::$integer(r) => Kind::$integer {
+                    setting: r.setting,
+                    least: r.least,
+                    greatest: r.greatest,
+                },)*
+            }
+        };
     }
+    with_integers!(kind)
 }
 
 /// Returns the kind of object that `words` hold: its class, its value and its limits. `names` are the names of a

@@ -1,9 +1,10 @@
 //! A value in words of fixed size, as C has it.
-ghost use Rattle.std.specs.Prelude.{◌≡◌};
+ghost use Rattle.std.specs.Prelude.{◌≡◌, ◌≤ℤ◌, ◌<ℤ◌, ◌^◌, if◌then◌else◌, neg_ℤ, pos};
+ghost use Rattle.std.specs.Int.{w64, cast_signed, cast_unsigned};
 ghost use Rattle.oca_calls.specs.CValues.{AreWordsOf, HasClass, HasRequestWords};
 
-use crate::words::put_front;
-use oca_model::{MuteState, PolarityState, Reading, Value, ValueRequest};
+use crate::words::{class_number, put_front};
+use oca_model::{MuteState, PolarityState, Reading, Value, ValueRequest, with_integers};
 use oca_types::Class;
 
 /// A value for C (`struct oca_value`): the number of its class, 2 for a mute to 13 for a Uint64, and its number in 64
@@ -27,25 +28,27 @@ pub struct ReadingWords {
     pub greatest: ValueWords,
 }
 
-/// A signed setting.
-fn signed(class_number: u32, setting: i64) -> ValueWords
-    ensures { result ≡ Rattle.oca_calls.specs.CValues.signed_words class_number setting }
+/// The number that these bits are, with a sign or without.
+fn number_of(bits: u64, is_signed: bool) -> i128
+    ensures { result ≡ (if is_signed then cast_signed w64 bits else pos bits) }
 {
-    ValueWords {
-        class_number,
-        zero: 0,
-        bits: setting.cast_unsigned(),
+    if is_signed {
+        i128::from(bits.cast_signed())
+    } else {
+        i128::from(bits)
     }
 }
 
-/// An unsigned number.
-fn unsigned(class_number: u32, number: u64) -> ValueWords
-    ensures { result ≡ Rattle.oca_calls.specs.CValues.unsigned_words class_number number }
+/// A number in 64 bits, one below 0 in two's complement.
+fn bits_of(number: i128) -> u64
+    requires low { neg_ℤ (pos (2 ^ 63)) ≤ℤ number }
+    requires high { number <ℤ pos (2 ^ 64) }
+    ensures { result ≡ cast_unsigned w64 number }
 {
-    ValueWords {
-        class_number,
-        zero: 0,
-        bits: number,
+    if number < 0 {
+        (number as i64).cast_unsigned()
+    } else {
+        number as u64
     }
 }
 
@@ -54,19 +57,21 @@ impl ValueWords {
     pub fn of(value: Value) -> ValueWords
         ensures { result ≡ Rattle.oca_calls.specs.CValues.words_of value }
     {
-        match value {
-            Value::Mute(state) => unsigned(2, state as u64),
-            Value::Polarity(state) => unsigned(3, state as u64),
-            Value::Switch(position) => unsigned(4, u64::from(position)),
-            Value::Boolean(truth) => unsigned(5, u64::from(truth)),
-            Value::Int8(setting) => signed(6, i64::from(setting)),
-            Value::Int16(setting) => signed(7, i64::from(setting)),
-            Value::Int32(setting) => signed(8, i64::from(setting)),
-            Value::Int64(setting) => signed(9, setting),
-            Value::Uint8(setting) => unsigned(10, u64::from(setting)),
-            Value::Uint16(setting) => unsigned(11, u64::from(setting)),
-            Value::Uint32(setting) => unsigned(12, u64::from(setting)),
-            Value::Uint64(setting) => unsigned(13, setting),
+        macro_rules! bits {
+            ($($integer:ident $type:ty),*) => {
+                match value {
+                    Value::Mute(state) => state as u64,
+                    Value::Polarity(state) => state as u64,
+                    Value::Switch(position) => u64::from(position),
+                    Value::Boolean(truth) => u64::from(truth),
+                    $(Value::$integer(setting) => bits_of(i128::from(setting)),)*
+                }
+            };
+        }
+        ValueWords {
+            class_number: class_number(value.class()),
+            zero: 0,
+            bits: with_integers!(bits),
         }
     }
 
@@ -76,34 +81,34 @@ impl ValueWords {
     pub fn value(self) -> Option<Value>
         ensures { AreWordsOf self result }
     {
-        let number = self.bits.cast_signed();
-        match self.class_number {
-            2 => match self.bits {
-                1 => Some(Value::Mute(MuteState::Muted)),
-                2 => Some(Value::Mute(MuteState::Unmuted)),
-                _ => None,
-            },
-            3 => match self.bits {
-                1 => Some(Value::Polarity(PolarityState::NonInverted)),
-                2 => Some(Value::Polarity(PolarityState::Inverted)),
-                _ => None,
-            },
-            4 => u16::try_from(self.bits).ok().map(Value::Switch),
-            5 => match self.bits {
-                0 => Some(Value::Boolean(false)),
-                1 => Some(Value::Boolean(true)),
-                _ => None,
-            },
-            6 => i8::try_from(number).ok().map(Value::Int8),
-            7 => i16::try_from(number).ok().map(Value::Int16),
-            8 => i32::try_from(number).ok().map(Value::Int32),
-            9 => Some(Value::Int64(number)),
-            10 => u8::try_from(self.bits).ok().map(Value::Uint8),
-            11 => u16::try_from(self.bits).ok().map(Value::Uint16),
-            12 => u32::try_from(self.bits).ok().map(Value::Uint32),
-            13 => Some(Value::Uint64(self.bits)),
-            _ => None,
+        macro_rules! value {
+            ($($integer:ident $type:ty),*) => {
+                match class_with(self.class_number)? {
+                    Class::Block => None,
+                    Class::Mute => match self.bits {
+                        1 => Some(Value::Mute(MuteState::Muted)),
+                        2 => Some(Value::Mute(MuteState::Unmuted)),
+                        _ => None,
+                    },
+                    Class::Polarity => match self.bits {
+                        1 => Some(Value::Polarity(PolarityState::NonInverted)),
+                        2 => Some(Value::Polarity(PolarityState::Inverted)),
+                        _ => None,
+                    },
+                    Class::Switch => u16::try_from(self.bits).ok().map(Value::Switch),
+                    Class::Boolean => match self.bits {
+                        0 => Some(Value::Boolean(false)),
+                        1 => Some(Value::Boolean(true)),
+                        _ => None,
+                    },
+                    $(Class::$integer => {
+                        let number = number_of(self.bits, <$type>::MIN != 0);
+                        <$type>::try_from(number).ok().map(Value::$integer)
+                    })*
+                }
+            };
         }
+        with_integers!(value)
     }
 }
 
@@ -125,20 +130,16 @@ impl ReadingWords {
         ensures { result ≡ Rattle.oca_calls.specs.CValues.reading_words reading }
     {
         let value = reading.value();
-        match reading {
-            Reading::Mute(_) | Reading::Polarity(_) | Reading::Boolean(_) => {
-                within(value, value, value)
-            }
-            Reading::Switch(r) => within(value, Value::Switch(r.least), Value::Switch(r.greatest)),
-            Reading::Int8(r) => within(value, Value::Int8(r.least), Value::Int8(r.greatest)),
-            Reading::Int16(r) => within(value, Value::Int16(r.least), Value::Int16(r.greatest)),
-            Reading::Int32(r) => within(value, Value::Int32(r.least), Value::Int32(r.greatest)),
-            Reading::Int64(r) => within(value, Value::Int64(r.least), Value::Int64(r.greatest)),
-            Reading::Uint8(r) => within(value, Value::Uint8(r.least), Value::Uint8(r.greatest)),
-            Reading::Uint16(r) => within(value, Value::Uint16(r.least), Value::Uint16(r.greatest)),
-            Reading::Uint32(r) => within(value, Value::Uint32(r.least), Value::Uint32(r.greatest)),
-            Reading::Uint64(r) => within(value, Value::Uint64(r.least), Value::Uint64(r.greatest)),
+        macro_rules! words {
+            ($($integer:ident $type:ty),*) => {
+                match reading {
+                    Reading::Switch(r) => within(value, Value::Switch(r.least), Value::Switch(r.greatest)),
+                    $(Reading::$integer(r) => within(value, Value::$integer(r.least), Value::$integer(r.greatest)),)*
+                    _ => within(value, value, value),
+                }
+            };
         }
+        with_integers!(words)
     }
 }
 
@@ -177,20 +178,18 @@ impl RequestWords {
 pub fn class_with(number: u32) -> Option<Class>
     ensures { HasClass number result }
 {
-    Some(match number {
-        1 => Class::Block,
-        2 => Class::Mute,
-        3 => Class::Polarity,
-        4 => Class::Switch,
-        5 => Class::Boolean,
-        6 => Class::Int8,
-        7 => Class::Int16,
-        8 => Class::Int32,
-        9 => Class::Int64,
-        10 => Class::Uint8,
-        11 => Class::Uint16,
-        12 => Class::Uint32,
-        13 => Class::Uint64,
-        _ => return None,
-    })
+    macro_rules! class {
+        ($($integer:ident $type:ty),*) => {
+            match number {
+                1 => Some(Class::Block),
+                2 => Some(Class::Mute),
+                3 => Some(Class::Polarity),
+                4 => Some(Class::Switch),
+                5 => Some(Class::Boolean),
+                $(_ if number == class_number(Class::$integer) => Some(Class::$integer),)*
+                _ => None,
+            }
+        };
+    }
+    with_integers!(class)
 }
