@@ -6,9 +6,8 @@ use Rattle.std.specs.Int.{Width, w64, w128, byte_len, cast_unsigned}
 use Rattle.std.proofs.Math.Facts.{sfits_widen}
 use Rattle.oca_model.specs.declared.value.Value.{Value}
 use Rattle.oca_model.specs.declared.value.Value.TheVariants as values
-use Rattle.oca_model.specs.Values.{IntegerType, Signed, Unsigned, IsOfItsType, class_of_value, integer_type}
+use Rattle.oca_model.specs.Values.{IntegerType, Signed, Unsigned, IsOfItsType, class_of_value, integer_type, signed_number, unsigned_number}
 use Rattle.oca_model.specs.Words.{word_of}
-use Rattle.oca_calls.specs.CSpecs.{signed_number, unsigned_number}
 use Rattle.oca_calls.specs.CValues.{bits_of_value}
 
 -- a width of at most 64 bits

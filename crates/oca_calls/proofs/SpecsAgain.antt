@@ -13,7 +13,7 @@ use Rattle.oca_model.specs.declared.reading.Ranged.{Ranged}
 use Rattle.oca_model.specs.declared.reading.Reading.{Reading}
 use Rattle.oca_model.specs.declared.reading.Reading.TheVariants as readings
 use Rattle.oca_model.specs.Settings.{class_of_reading}
-use Rattle.oca_model.specs.Values.{IntegerType, Signed, Unsigned, class_of_value, integer_type, mute_number, polarity_number}
+use Rattle.oca_model.specs.Values.{IntegerType, Signed, Unsigned, class_of_value, integer_type, mute_number, polarity_number, signed_number, unsigned_number}
 use Rattle.oca_model.specs.declared.value.MuteState.{MuteState}
 use Rattle.oca_model.specs.declared.value.MuteState.TheVariants.{Muted, Unmuted}
 use Rattle.oca_model.specs.declared.value.PolarityState.{PolarityState}
@@ -35,7 +35,7 @@ use Rattle.oca_tree.specs.Trees.{IsSoundValue, is_position_reading}
 use Rattle.oca_calls.specs.declared.value_words.ReadingWords.{ReadingWords}
 use Rattle.oca_calls.specs.declared.value_words.ValueWords.{ValueWords}
 use Rattle.oca_calls.specs.Calls.{IsSwitch, name_bytes}
-use Rattle.oca_calls.specs.CSpecs.{AreSettingWords, GivesKind, HasBits, IsKindOf, IsNumberWords, WrittenMakesAgain, flags_for, integer_reading, is_yes, of_class, position_flags, ranged, reading_of_values, signed_number, texts_of, unsigned_number}
+use Rattle.oca_calls.specs.CSpecs.{AreSettingWords, GivesKind, HasBits, IsKindOf, IsNumberWords, WrittenMakesAgain, flags_for, integer_reading, is_yes, of_class, position_flags, ranged, reading_of_values, texts_of}
 use Rattle.oca_calls.specs.CValues.{AreWordsOf, bits_of_value}
 use Rattle.oca_calls.specs.Outputs.{class_number}
 use Rattle.oca_calls.proofs.Integers.{IsInteger, integer, signed_narrow}

@@ -12,9 +12,8 @@ use Rattle.oca_model.specs.declared.value.MuteState.TheVariants.{Muted, Unmuted}
 use Rattle.oca_model.specs.declared.value.PolarityState.TheVariants.{NonInverted, Inverted}
 use Rattle.oca_model.specs.declared.value.Value.{Value}
 use Rattle.oca_model.specs.declared.value.Value.TheVariants.{Mute, Polarity, Switch, Boolean}
-use Rattle.oca_model.specs.Values.{IntegerType, Signed, Unsigned, class_of_value, integer_type}
+use Rattle.oca_model.specs.Values.{IntegerType, Signed, Unsigned, class_of_value, integer_type, signed_number, unsigned_number}
 use Rattle.oca_model.specs.Words.{IsNumberRead, IsRead, IsOneOf, IsSigned, IsUnsigned, word_of}
-use Rattle.oca_calls.specs.CSpecs.{signed_number, unsigned_number}
 use Rattle.oca_calls.specs.CWords.{WordsAreReadBack}
 use Rattle.oca_calls.proofs.Integers.{IsInteger, integer, signed_narrow, unsigned_narrow}
 

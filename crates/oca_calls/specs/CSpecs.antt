@@ -1,5 +1,6 @@
 -- What an object is to be, and what it is, as C has it: one struct.
-use Rattle.std.specs.Prelude.{◌≡◌, ◌⊎◌, ℕ, ◌-◌, ◌==◌, ◌<◌, ◌≤◌, not, ℤ, pos, Bool, if◌then◌else◌, List, [], ◌∷◌, map, take, length, Option}
+use Rattle.std.specs.Prelude.{◌≡◌, ◌⊎◌, ℕ, ◌-◌, ◌==◌, ◌<◌, ◌≤◌, not, ℤ, pos, Bool, if◌then◌else◌, List, [], ◌∷◌, map, take}
+use Rattle.std.specs.Prelude.{length, Option}
 use Rattle.std.specs.Prelude.{Some, None, IfSome, IsSome, Result, Ok, Err, FitsSigned}
 use Rattle.std.specs.Int.{w64, FitsUnsigned, cast_unsigned, from_bool}
 use Rattle.std.specs.List.{AllByRecursion}
@@ -25,7 +26,8 @@ use Rattle.oca_model.specs.declared.value.Value.TheVariants as values
 use Rattle.oca_model.specs.declared.reading.Ranged.{Ranged}
 use Rattle.oca_model.specs.declared.reading.Reading.{Reading}
 use Rattle.oca_model.specs.declared.reading.Reading.TheVariants as readings
-use Rattle.oca_model.specs.Values.{IntegerType, Signed, Unsigned, by_number, class_of_value, integer_type}
+use Rattle.oca_model.specs.Values.{IntegerType, Signed, Unsigned, class_of_value, integer_type, signed_number}
+use Rattle.oca_model.specs.Values.{unsigned_number}
 use Rattle.oca_calls.specs.declared.answer.Answer.{Answer}
 use Rattle.oca_calls.specs.declared.answer.Answer.TheVariants as answers
 use Rattle.oca_calls.specs.declared.device.DeviceBehind.{DeviceBehind}
@@ -61,13 +63,6 @@ position_flags w = map is_yes (take w.positions w.enableds)
 -- a setting within its limits
 abbrev pub ranged : {X : Type 0} → X → X → X → Ranged X
 ranged setting least greatest = record { setting = setting; least = least; greatest = greatest }
-
--- the number of an integer, of a signed and of an unsigned type
-abbrev pub signed_number : Value → ℤ
-signed_number value = by_number (λ _ z. z) (λ _ _. pos 0) (pos 0) value
-
-abbrev pub unsigned_number : Value → ℕ
-unsigned_number value = by_number (λ _ _. 0) (λ _ n. n) 0 value
 
 -- the value, where there is one of the class
 abbrev pub of_class : Class → Option Value → Option Value

@@ -13,7 +13,7 @@ use Rattle.oca_script.specs.Fields.{split_at, split_on, number_of}
 use Rattle.oca_model.specs.declared.reading.Ranged.{Ranged}
 use Rattle.oca_model.specs.declared.reading.Reading.{Reading}
 use Rattle.oca_model.specs.declared.reading.Reading.TheVariants as readings
-use Rattle.oca_model.specs.Members.{classes}
+use Rattle.oca_model.specs.Values.{classes}
 use Rattle.oca_model.specs.Values.{by_type, integer_type}
 use Rattle.oca_model.specs.Words.{class_word}
 use Rattle.oca_model.specs.declared.value.MuteState.TheVariants.{Muted, Unmuted}

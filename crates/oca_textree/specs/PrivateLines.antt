@@ -12,7 +12,8 @@ use Rattle.oca_textree.specs.declared.fault.TreeFault.TheVariants.{Line}
 use Rattle.oca_textree.specs.declared.value.Limits.{Limits}
 use Rattle.oca_types.specs.declared.class.Class.{Class}
 use Rattle.oca_script.specs.declared.object_fault.ObjectFault.TheVariants as fault
-use Rattle.oca_textree.specs.Lines.{Taken, Limited, Valued, then_by, some_or_fault, field_at, integer_of, ono_of, class_of_word}
+use Rattle.oca_textree.specs.Lines.{Taken, Limited, Valued, then_by, some_or_fault, field_at, integer_of, ono_of}
+use Rattle.oca_textree.specs.Lines.{class_of_word}
 
 abbrev pub field_view : Result (Bor (List ℕ) × Option (Bor (List ℕ))) ObjectFault → Result Taken ObjectFault
 field_view (Ok p) = Ok (p.0.now, option_copied p.1)
