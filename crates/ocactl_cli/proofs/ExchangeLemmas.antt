@@ -94,7 +94,6 @@ submits request returned h queue more old new ahead refused socket is_open at_ha
       in_time = in_time;
       in_flight = ap (map (λ (c : ℕ × Unit {0}). c.0)) behind ∙ map-append (λ (c : ℕ × Unit {0}). c.0) queue ((h.0, tt) ∷ []);
       same = ap (λ (x : Bool). record (session_of new more ahead refused socket true (Some now)) { unanswered = refused || x }) b.unanswered;
-      opens = refl;
     })
 
 -- what is refused changes nothing

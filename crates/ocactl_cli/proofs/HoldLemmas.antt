@@ -1,5 +1,5 @@
 -- Locks that are kept.
-use Rattle.std.proofs.Common.{◌≡◌, ◌⊎◌, Bool, true, inl, inr, drop, Result, Ok, Err, ℕ, ◌+◌, ◌<◌, ◌≤◌, List, [], ◌∷◌, ◌++◌, length, take, get_or, refl, sym, ap, ◌∙◌, subst, false, arith}
+use Rattle.std.proofs.Common.{◌≡◌, ◌⊎◌, Bool, true, inl, inr, Result, Ok, Err, ℕ, ◌+◌, ◌<◌, ◌≤◌, List, [], ◌∷◌, ◌++◌, length, take, get_or, sym, ap, ◌∙◌, subst, false}
 use Rattle.std.specs.Prelude.{map, IfErr, IfOk, OnOk, ◌==◌}
 use Rattle.std.proofs.lemmas.List.{flat_map_more, take_all}
 use Rattle.oca_types.specs.declared.words.Ono.{Ono}

@@ -25,7 +25,7 @@ use Rattle.ocactl_cli.specs.declared.objects.Search.{Search}
 use Rattle.ocactl_cli.specs.declared.setting.Assignment.{Assignment}
 use Rattle.ocactl_cli.specs.declared.object_line.ObjectLine.{ObjectLine}
 use Rattle.ocactl_cli.specs.declared.object_line.ObjectLine.TheVariants as shown
-use Rattle.ocactl_cli.specs.Objects.{LocksInTime, OneLocked, FindsValue, FindsAll, NoneSought, OneFound, OneMissed, OnlyFinds, GivesUp, SetCommand, BeginsSet, IsAwaited, NoneBegun, OneBegun, OneEnded, Reports, ReportsAll, SetsObjects, OneAsked, NoneAsked, AsksAll, AsksPart, AsksUntil, IsUnwritten, WritesLine, assignment_in, reported_by, reported_line, reported_status, max_severity, is_refused, last_refused, line_of_object, object_status}
+use Rattle.ocactl_cli.specs.Objects.{LocksInTime, OneLocked, FindsValue, FindsAll, NoneSought, OneFound, OneMissed, OnlyFinds, GivesUp, SetCommand, BeginsSet, IsAwaited, NoneBegun, OneBegun, OneEnded, Reports, ReportsAll, SetsObjects, OneAsked, NoneAsked, AsksAll, AsksPart, AsksUntil, IsUnwritten, WritesLine, reported_by, reported_line, reported_status, max_severity, is_refused, last_refused, line_of_object, object_status}
 use Rattle.ocactl_cli.specs.PrivateObjects.{LocksOneBehind, ono_number, pair_of, assignment_of, set_command, set_in_flight, is_none, AddsFound, AllAwaited, EndsRefused, FindsAllTo, FindsOneTo, MakesPlace, SetsEachTo, SetsOn, SetsOnlyIf, SoFar, ReportsNext, ReportsText, ReportsOne, WaitsForFirst, WaitsOn}
 use Rattle.ocactl_cli.proofs.TurnLemmas.{in-turn}
 

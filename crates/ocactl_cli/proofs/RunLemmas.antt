@@ -1,6 +1,6 @@
 -- How a run ends, by what its last call gave.
-use Rattle.std.proofs.Common.{◌≡◌, ◌∙◌, inl, ℕ, false, List, Result, Ok, Err, refl, sym, ap, subst}
-use Rattle.std.specs.Prelude.{ℤ, Option, IfOk, IfErr, if◌then◌else◌}
+use Rattle.std.proofs.Common.{◌≡◌, inl, ℕ, List, Result, Ok, Err, refl, sym, ap, subst}
+use Rattle.std.specs.Prelude.{IfOk, IfErr, if◌then◌else◌}
 use Rattle.clap.specs.declared.parser.matches.ArgMatches.{ArgMatches}
 use Rattle.oca_types.specs.Peers.{RequestFields}
 use Rattle.oca_types.specs.Sizes.{span_size}
@@ -25,10 +25,9 @@ use Rattle.ocactl_cli.proofs.BesideLemmas.{not_asked}
 use Rattle.oca_panel.specs.Panels.{PanelState}
 use Rattle.ocactl_cli.specs.Objects.{GivesUp, IsDone}
 use Rattle.ocactl_cli.specs.Asked.{OptionsAsk}
-use Rattle.ocactl_cli.specs.Runs.{DoesByOptions, DoesRequest, DoesTask, DoesThenNotes, ReplaysScript, RunsFrom, SendsOne, ended_by_send, new_panel, new_session, time_of_turns}
-use Rattle.ocactl_cli.specs.Sockets.{link_begun, link_for}
+use Rattle.ocactl_cli.specs.Runs.{DoesByOptions, DoesRequest, DoesTask, DoesThenNotes, ReplaysScript, RunsFrom, SendsOne, ended_by_send}
+use Rattle.ocactl_cli.specs.Sockets.{link_for}
 use Rattle.ocactl_cli.specs.Words.{sending_fields}
-use Rattle.ocactl_cli.specs.declared.reaching.LinkStart.{LinkStart}
 use Rattle.ocactl_cli.specs.declared.tasks.Task.{Task}
 use Rattle.ocactl_cli.specs.declared.words.Asked.{Asked}
 use Rattle.ocactl_cli.specs.declared.words.Linking.{Linking}

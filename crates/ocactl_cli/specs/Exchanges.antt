@@ -103,7 +103,12 @@ pub record AwaitsFirst (old new : SessionState) (outcome : Outcome) : Type 0 whe
       ⊎ Waits handle 0 old.link outcome new.link old.end_state new.end_state
   pub asks : ReceivesInAWait old.end_state.receives new.end_state.receives
   pub unanswered : new.unanswered ≡ (old.unanswered || outcome_status outcome == 3)
-  pub same : new ≡ record new { ahead = old.ahead; socket = old.socket; is_open = old.is_open; at_hand = old.at_hand }
+  pub same : new ≡ record old {
+    link = new.link;
+    end_state = new.end_state;
+    in_flight = new.in_flight;
+    unanswered = new.unanswered;
+  }
 
 -- Commands in flight were waited for, one after another, while more than `left` were; how each came out is printed.
 pub data Awaits (left : ℕ) : (old new : SessionState) (text : List ℕ) → Type 0 where
@@ -161,8 +166,13 @@ pub record SubmitsCommand (request : RequestFields) (handle : Handle) (old new :
   pub present : IsPresent now old.end_state
   pub in_time : now ≤ since old.at_hand now + longest_life
   pub in_flight : new.in_flight ≡ old.in_flight ++ handle.0 ∷ []
-  pub same : new ≡ record new { ahead = old.ahead; unanswered = old.unanswered; socket = old.socket }
-  pub opens : new ≡ record new { is_open = true; at_hand = Some now }
+  pub same : new ≡ record old {
+    link = new.link;
+    end_state = new.end_state;
+    in_flight = new.in_flight;
+    is_open = true;
+    at_hand = Some now;
+  }
 
 -- The line was at hand for longer than that: its command counts as one of a link that is lost.
 pub record ComesLate (fault : ControlFault) (s : SessionState) : Type 0 where

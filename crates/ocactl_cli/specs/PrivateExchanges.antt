@@ -1,5 +1,5 @@
 -- For private contracts: what is printed while commands are waited for, and what a line asks for as the program has it.
-use Rattle.std.specs.Prelude.{◌≡◌, ℕ, List, Option, Some, None, Result, Ok, Err}
+use Rattle.std.specs.Prelude.{◌≡◌, ◌<◌, ◌≤◌, ℕ, List, [], length, Option, Some, None, Result, Ok, Err, OnOk}
 use Rattle.oca_types.specs.declared.words.Handle.{Handle}
 use Rattle.oca_types.specs.Peers.{RequestFields, request_of}
 use Rattle.oca_script.specs.declared.fault.LineFault.{LineFault}
@@ -23,6 +23,13 @@ pub record AndPrints (Does : List ℕ → Type 0) (written result : Result Unit 
   pub text : List ℕ
   pub does : Does text
   pub prints : PrintsUnlessFailed written result was is text
+
+-- Where more were in flight than may be, what was printed is flushed, unless a write failed; else the output is as it
+-- was.
+pub record FlushesWhereAwaited (left : ℕ) (old : SessionState) (result : Result Unit WriteFailed) (was is : Output)
+    : Type 0 where
+  pub awaited : left < length old.in_flight → OnOk result (is.held ≡ [])
+  pub none : length old.in_flight ≤ left → is ≡ was
 
 -- how the first command in flight came out, where that is known without a turn
 abbrev pub TakesFirst : Option Outcome → SessionState → SessionState → Type 0

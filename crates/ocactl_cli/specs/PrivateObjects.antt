@@ -20,9 +20,9 @@ use Rattle.ocactl_cli.specs.declared.objects.Search.{Search}
 use Rattle.ocactl_cli.specs.declared.setting.Assignment.{Assignment}
 use Rattle.ocactl_cli.specs.declared.object_line.ObjectLine.{ObjectLine}
 use Rattle.ocactl_cli.specs.declared.object_line.ObjectLine.TheVariants as shown
-use Rattle.ocactl_cli.specs.Objects.{AsksAll, FindsAll, FindsValue, Locks, LocksBehind, ReportsAll, SetCommand, SetsEach}
-use Rattle.ocactl_cli.specs.Objects.{SetsUpTo, WritesLine, done_line, held_if, held_of, last_refused, line_of_object, max_severity}
-use Rattle.ocactl_cli.specs.Objects.{object_status, reported_line, reported_status}
+use Rattle.ocactl_cli.specs.Objects.{AsksAll, FindsAll, FindsValue, Locks, LocksBehind, ReportsAll, SetCommand}
+use Rattle.ocactl_cli.specs.Objects.{SetsEach, SetsUpTo, WritesLine, done_line, held_if, held_of, last_refused}
+use Rattle.ocactl_cli.specs.Objects.{line_of_object, max_severity, object_status, reported_line, reported_status}
 
 abbrev pub pair_of : Pair → ℕ × List ℕ
 pair_of p = (p.ono.0, p.word)

@@ -118,7 +118,8 @@ pub record RunsFrom (device : Peer) (session : SessionState) (behind : EndState)
   pub ends : ended ≡ ended_by_lines after.unanswered sent
   pub beside : AsksIfThere device after.end_state behind
 
--- over a new link to a device that is reached as the words say, up to as many at once as were given
+-- Over a new link to a device that is reached as the words say, up to as many at once as were given. No contract says
+-- that the descriptor which is awaited beside input is that of the link's end.
 pub record RunsLines (reach : Reach) (ahead : ℕ) (ended : Result ℕ RunFault) (had has : Input)
     (was is : Output) : Type 0 where
   pub start : LinkStart

@@ -8,7 +8,7 @@ ghost use Rattle.oca_types.specs.Peers.{request_of};
 ghost use Rattle.ocactl_cli.specs.Requests.{LineAsked, asked_line, is_wait as wait_line};
 ghost use Rattle.ocactl_cli.specs.Exchanges.{AwaitsLine, AwaitsUntil, FirstIsOpen, Idles, NoneInFlight, DoesLine};
 ghost use Rattle.ocactl_cli.specs.Exchanges.{SendsLines, is_write_failure, outcome_line};
-ghost use Rattle.ocactl_cli.specs.PrivateExchanges.{AndPrints, PrintsUnlessFailed, SendsOrRefuses};
+ghost use Rattle.ocactl_cli.specs.PrivateExchanges.{AndPrints, FlushesWhereAwaited, PrintsUnlessFailed, SendsOrRefuses};
 ghost use Rattle.ocactl_cli.specs.PrivateExchanges.{line_in, line_asked};
 
 use super::exchange::print_outcome;
@@ -151,14 +151,15 @@ fn send<E: End, W: Sink>(
 }
 
 /// Waits for commands in flight, in the order of their lines, until at most so many are. The outcome of each is printed
-/// and flushed, unless a write has failed.
+/// and flushed, unless a write has failed. Where no more are in flight, the printer is left as it is.
 fn await_until<E: End, W: Sink>(
     session: &mut Session<E>,
     left: usize,
     written: Result<(), WriteFailed>,
     printer: &mut Printer<W>,
 ) -> Result<(), WriteFailed>
-    ensures { AndPrints (AwaitsUntil left session.old session.new) written result printer.old printer.new }
+    ensures awaits { AndPrints (AwaitsUntil left session.old session.new) written result printer.old printer.new }
+    ensures flushes { FlushesWhereAwaited left session.old result printer.old printer.new }
 {
     let mut so_far = written;
     while session.in_flight() > left {

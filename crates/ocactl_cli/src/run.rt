@@ -1,5 +1,5 @@
 //! A run of the program.
-ghost use Rattle.std.specs.Prelude.{◌≡◌, ℤ, IfErr, IfOk, Some, false, if◌then◌else◌, map};
+ghost use Rattle.std.specs.Prelude.{◌≡◌, IfErr, IfOk, false, if◌then◌else◌, map};
 ghost use Rattle.ocactl_cli.specs.Beside.{AsksIfThere};
 ghost use Rattle.oca_net.specs.EndStates.{EndState};
 ghost use Rattle.oca_types.specs.Sizes.{span_size};
@@ -37,7 +37,7 @@ use ocactl_replay::replay::replay;
 use std::alloc::Global;
 use std::convert::AsStr;
 use std::net::Net;
-use std::os::fd::AsRawFd;
+use std::os::fd::{AsRawFd, RawFd};
 use std::rt::Clock;
 
 /// Runs the program `ocactl` on the words of its command line, its name first, and returns its exit status. It is 0 if
@@ -235,15 +235,18 @@ fn ran<N: Net + Clock, R: Source, W: Sink, F: Sink>(
 {
     note_span(alloc, reach.span, faults);
     match reached(alloc, system, reach, false, faults) {
-        Ok((start, end)) => ran_from(
-            alloc, system, reach, start, end, ahead, reader, printer, faults,
-        ),
+        Ok((start, end)) => {
+            let socket = Some(end.end().as_raw_fd());
+            ran_from(
+                alloc, system, reach, start, end, socket, ahead, reader, printer, faults,
+            )
+        }
         Err(failure) => Err(failure),
     }
 }
 
-/// The same over a new link that begins so. The session lies in this function alone, and goes on as a reference: it is
-/// some 94 kB.
+/// The same over a new link that begins so; this descriptor is awaited beside input, where there is one. The session
+/// lies in this function alone, and goes on as a reference: it is some 94 kB.
 #[inline(never)]
 fn ran_from<N: Net + Clock, R: Source, W: Sink, F: Sink>(
     alloc: Global,
@@ -251,17 +254,17 @@ fn ran_from<N: Net + Clock, R: Source, W: Sink, F: Sink>(
     reach: Reach,
     start: LinkStart,
     end: Watched<UdpEnd<'_, N>>,
+    socket: Option<RawFd>,
     ahead: Span,
     reader: &mut R,
     printer: &mut Printer<W>,
     faults: &mut Printer<F>,
 ) -> Result<u8, Failure>
-    ensures { (socket : ℤ) × (behind : EndState) × RunsFrom reach.device
-        (new_session (link_begun reach start) end.entry.end_state (span_size ahead) (Some socket)) behind
+    ensures { (behind : EndState) × RunsFrom reach.device
+        (new_session (link_begun reach start) end.entry.end_state (span_size ahead) socket) behind
         (fault_in result) (input (R.remaining reader.old) (R.failed reader.old))
         (input (R.remaining reader.new) (R.failed reader.new)) printer.old printer.new }
 {
-    let socket = Some(end.end().as_raw_fd());
     let link = reach.link(start.first.0, start.now);
     let mut session = Session::new(link, end, ahead, socket);
     ran_over(alloc, system, &mut session, reach, reader, printer, faults)

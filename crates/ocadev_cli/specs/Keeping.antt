@@ -1,8 +1,18 @@
--- With which objects a device starts whose state is kept (*profile*).
-use Rattle.std.specs.Prelude.{ℕ, Bool, if◌then◌else◌, List, Option, Some, None}
+-- Which file a state may be kept in, and with which objects a device starts whose state is kept (*profile*).
+use Rattle.std.specs.Prelude.{◌≡◌, ℕ, Bool, if◌then◌else◌, List, Option, Some, None, Result, Ok, Err}
+use Rattle.std.specs.Fs.{IsFile, file_type}
+use Rattle.std.specs.IoError.{error_kind}
+use Rattle.std.specs.declared.fs.attrs.Metadata.{Metadata}
+use Rattle.std.specs.declared.io.Error.{Error}
+use Rattle.std.specs.declared.io.ErrorKind.TheVariants.{NotFound}
 use Rattle.oca_net.specs.declared.end.Heard.{Heard}
 use Rattle.oca_net.specs.declared.end.Heard.TheVariants as heard
 use Rattle.ocadev_cli.specs.Words.{ObjectSource, Listed}
+
+-- WHAT STANDS AT A PATH IS A PLAIN FILE, or nothing stands there, by what the system says of it.
+abbrev pub IsPlainOrMissing : Result Metadata Error → Type 0
+IsPlainOrMissing (Ok found) = IsFile (file_type found)
+IsPlainOrMissing (Err reason) = error_kind reason ≡ NotFound
 
 -- THE OBJECTS AT THE START: those of the file in which the state is kept, where it is there; else those asked for.
 abbrev pub starting_objects : Option (List ℕ) → Bool → ObjectSource → ObjectSource

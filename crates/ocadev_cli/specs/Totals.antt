@@ -1,5 +1,5 @@
--- What is printed of a report, whatever its numbers are (*profile*).
-use Rattle.std.specs.Prelude.{◌≡◌, Bool, true, false, [], ℕ, ◌-◌, ◌*◌, ◌^◌, Option, None, Some}
+-- What is printed of a report, whatever its numbers are, and what is to be printed meanwhile (*profile*).
+use Rattle.std.specs.Prelude.{◌≡◌, Bool, true, false, [], ℕ, ◌-◌, ◌*◌, ◌^◌, ◌==◌, ◌||◌, not, Option, None, Some}
 use Rattle.oca_net.specs.EndStates.{EndState}
 use Rattle.oca_device.specs.declared.report.Report.{Report}
 use Rattle.oca_device.specs.Devices.{DeviceState}
@@ -7,6 +7,7 @@ use Rattle.oca_device.specs.Replies.{ServesEnd}
 use Rattle.oca_device.specs.Reports.{capped}
 use Rattle.oca_device.specs.Following.{ElectronicsState}
 use Rattle.oca_device.specs.Keeping.{ServesKeeping, StoreState}
+use Rattle.ocadev_cli.specs.declared.serving.Tracing.{Tracing}
 
 -- A device served an end, and what is printed is the report of that, as far as 64 bits go.
 pub record ServesOn (old new : DeviceState) (before after : EndState) (printed : Report) : Type 0 where
@@ -44,3 +45,12 @@ stats_interval (Some seconds) = seconds * 1000
 abbrev pub first_stats : Option ℕ → ℕ
 first_stats None = 2 ^ 64 - 1
 first_stats (Some seconds) = seconds * 1000
+
+-- what is to be printed, by whether a line of each datagram is asked for, and each so many seconds the report so far
+abbrev pub tracing_by : Bool → Option ℕ → Tracing
+tracing_by verbose stats =
+    record { verbose = verbose; every = stats_interval stats; next = first_stats stats }
+
+-- whether it is anything
+abbrev pub prints_any : Tracing → Bool
+prints_any tracing = tracing.verbose || not (tracing.every == 0)

@@ -1,12 +1,13 @@
--- The line that is printed of a datagram (*profile*).
-use Rattle.std.specs.Prelude.{◌≡◌, ℕ, ◌==◌, if◌then◌else◌, List, [], ◌∷◌, ◌++◌, codes, decimal, Result}
-use Rattle.std.specs.Prelude.{Ok, Err}
+-- What is printed of the turns of a device: a line of each datagram, and the report so far (*profile*).
+use Rattle.std.specs.Prelude.{◌≡◌, ℕ, ◌+◌, ◌==◌, min, nat_le, Bool, true, false, if◌then◌else◌, List, [], ◌∷◌, ◌++◌}
+use Rattle.std.specs.Prelude.{length, codes, decimal, Option, None, Some, Result, Ok, Err}
 use Rattle.std.specs.List.{flat_map}
 use Rattle.oca_types.specs.declared.words.Ono.{Ono}
 use Rattle.oca_types.specs.declared.words.Peer.{Peer}
 use Rattle.oca_types.specs.Addresses.{peer_text}
 use Rattle.oca_net.specs.declared.end.Heard.{Heard}
 use Rattle.oca_net.specs.declared.end.Heard.TheVariants as heard
+use Rattle.oca_net.specs.Ends.{last_u64}
 use Rattle.oca_pdu.specs.Faults.{fault_number}
 use Rattle.oca_pdu.specs.Messages.{Msg}
 use Rattle.oca_pdu.specs.Reading.{read_datagram}
@@ -16,8 +17,12 @@ use Rattle.oca_script.specs.Ends.{Output}
 use Rattle.oca_script.specs.Printing.{WritesOut}
 use Rattle.oca_device.specs.declared.report.Report.{Report}
 use Rattle.oca_device.specs.declared.effect.Effect.{Effect}
+use Rattle.oca_device.specs.Devices.{DeviceState}
+use Rattle.oca_device.specs.Written.{numbers_of}
+use Rattle.oca_tree.specs.Locks.{lock_count}
 use Rattle.ocadev_cli.specs.Effects.{effects_text}
-use Rattle.ocadev_cli.specs.Printing.{pairs_text, some_text}
+use Rattle.ocadev_cli.specs.Printing.{pairs_text, some_text, stats_text}
+use Rattle.ocadev_cli.specs.declared.serving.Tracing.{Tracing}
 
 -- where a device listens
 abbrev pub listening_text : Peer → List ℕ
@@ -61,3 +66,41 @@ PrintsTurn (heard.Datagram from now) turn bytes effects written result was is =
     WritesOut result was is (datagram_line from turn bytes effects written)
 PrintsTurn (heard.Oversize now) turn bytes effects written result was is = WritesOut result was is (codes "oversize\n")
 PrintsTurn other turn bytes effects written result was is = is ≡ was
+
+-- ---- behind a turn
+
+-- it was printed where that is asked for, and a failed write of it changes nothing else; where not, nothing was printed
+abbrev pub PrintsWhere : Bool → (Result Unit WriteFailed → Output → Output → Type 0) → Output → Output → Type 0
+PrintsWhere true Prints was is = (result : Result Unit WriteFailed) × Prints result was is
+PrintsWhere false Prints was is = is ≡ was
+
+-- the line of what was heard, by what the device did with it
+abbrev pub PrintsHeard : Heard → Report → List ℕ → DeviceState → Result Unit WriteFailed → Output → Output → Type 0
+PrintsHeard heard turn bytes device result was is =
+    (written : List Ono) × (numbers_of written ≡ device.written)
+    × PrintsTurn heard turn bytes device.effects written result was is
+
+-- the report so far, with the sessions and the locks of the device
+abbrev pub PrintsProgress : Report → DeviceState → Result Unit WriteFailed → Output → Output → Type 0
+PrintsProgress so_far device result was is =
+    WritesOut result was is (stats_text so_far (length device.sessions.sessions) (lock_count device.tree))
+
+-- it is time for it at a moment, where there is one, from the next one on
+abbrev pub is_time : (next : ℕ) → (now : Option ℕ) → Bool
+is_time next None = false
+is_time next (Some now) = nat_le next now
+
+-- when the next one is, behind a turn: where it was time for one, so long after that
+abbrev pub next_report : Tracing → Option ℕ → ℕ
+next_report tracing None = tracing.next
+next_report tracing (Some now) =
+    if nat_le tracing.next now then min (now + tracing.every) last_u64 else tracing.next
+
+-- BEHIND A TURN the line of what was heard was printed, where a line of each datagram is asked for, and then the report
+-- so far, where it was time for it.
+pub record PrintsBehind (old new : Tracing) (heard : Heard) (bytes : List ℕ) (turn so_far : Report) (now : Option ℕ)
+    (device : DeviceState) (was is : Output) : Type 0 where
+  pub between : Output
+  pub line : PrintsWhere old.verbose (PrintsHeard heard turn bytes device) was between
+  pub progress : PrintsWhere (is_time old.next now) (PrintsProgress so_far device) between is
+  pub next : new ≡ record old { next = next_report old now }

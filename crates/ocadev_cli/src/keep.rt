@@ -1,11 +1,13 @@
 //! The state of a device, kept in a file: it is read when the device starts, and written before what wrote something is
 //! answered. Reply windows and sessions are not kept.
-ghost use Rattle.std.specs.Prelude.{◌≡◌, ◌++◌, false, IfErr, IfOk, IfSome, IsTrue, Some as some, codes, is_some, string_bytes};
+ghost use Rattle.std.specs.Prelude.{◌≡◌, ◌↔◌, ◌++◌, false, IfErr, IfOk, IfSome, IsNone, IsOk, IsTrue, Some as some};
+ghost use Rattle.std.specs.Prelude.{codes, is_some, string_bytes};
+ghost use Rattle.std.specs.Fs.{IsFile, file_type};
 ghost use Rattle.std.specs.Option.{option_copied};
 ghost use Rattle.oca_program.specs.declared.fault.RunFault.TheVariants.{NoMemory as no_memory, Read as read_failed};
 ghost use Rattle.ocadev_cli.specs.Words.{object_source};
 ghost use Rattle.oca_program.specs.Faults.{fault_in};
-ghost use Rattle.ocadev_cli.specs.Keeping.{moment_heard, starting_objects};
+ghost use Rattle.ocadev_cli.specs.Keeping.{IsPlainOrMissing, moment_heard, starting_objects};
 ghost use Rattle.ocadev_cli.specs.Makings.{MakesObjects};
 
 use super::disk::{Attributes, Disk, end_line, plain_attributes, write_over};
@@ -175,7 +177,15 @@ fn claim<F: Files<File = File>>(alloc: Global, files: &F, path: &str) -> Result<
 fn check_plain<F: Files>(alloc: Global, files: &F, path: &str) -> Result<(), Failure>
     ensures { IfErr result (λ failure. failure.fault ≡ read_failed) }
 {
-    match fs::symlink_metadata(files, path) {
+    plain_or_missing(alloc, path, fs::symlink_metadata(files, path))
+}
+
+/// Refuses what is there and is no plain file, by what the system says of it.
+fn plain_or_missing(alloc: Global, path: &str, found: io::Result<Metadata>) -> Result<(), Failure>
+    ensures plain { IsOk result ↔ IsPlainOrMissing found }
+    ensures fault { IfErr result (λ failure. failure.fault ≡ read_failed) }
+{
+    match found {
         Ok(found) => match why_not_plain(&found) {
             Some(why) => Err(refused(alloc, path, why)),
             None => Ok(()),
@@ -186,7 +196,9 @@ fn check_plain<F: Files>(alloc: Global, files: &F, path: &str) -> Result<(), Fai
 }
 
 /// What stands there in place of a plain file.
-fn why_not_plain(found: &Metadata) -> Option<&'static str> {
+fn why_not_plain(found: &Metadata) -> Option<&'static str>
+    ensures { IsNone result ↔ IsFile (file_type found.now) }
+{
     if found.is_file() {
         None
     } else if found.is_dir() {
@@ -205,12 +217,29 @@ fn locked<F: Files<File = File>>(alloc: Global, files: &F, path: &str) -> Result
     let mut how = OpenOptions::new();
     how.write(true).create(true);
     match how.open(files, path) {
-        Ok(file) => match file.try_lock() {
-            Ok(()) => Ok(file),
-            Err(TryLockError::WouldBlock) => Err(refused(alloc, path, "another device has it")),
-            Err(TryLockError::Error(reason)) => Err(refused(alloc, path, reason)),
-        },
+        Ok(file) => {
+            let tried = file.try_lock();
+            held(alloc, path, file, tried)
+        }
         Err(reason) => Err(refused(alloc, path, reason)),
+    }
+}
+
+/// The file, where its lock was had.
+fn held(
+    alloc: Global,
+    path: &str,
+    file: File,
+    tried: Result<(), TryLockError>,
+) -> Result<File, Failure>
+    ensures held { IsOk result ↔ IsOk tried }
+    ensures same { IfOk result (λ f. f ≡ file) }
+    ensures fault { IfErr result (λ failure. failure.fault ≡ read_failed) }
+{
+    match tried {
+        Ok(()) => Ok(file),
+        Err(TryLockError::WouldBlock) => Err(refused(alloc, path, "another device has it")),
+        Err(TryLockError::Error(reason)) => Err(refused(alloc, path, reason)),
     }
 }
 

@@ -1,12 +1,14 @@
 //! Serving an end until it is stopped, turn by turn with a line for each datagram, and with the state kept in a store.
-ghost use Rattle.std.specs.Prelude.{◌≡◌, ◌≤◌, ◌<◌, ◌==◌, ◌||◌, length, not, IsTrue};
+ghost use Rattle.std.specs.Prelude.{◌≡◌, ◌≤◌, ◌<◌, length, IsTrue};
 ghost use Rattle.oca_script.specs.Printing.{WritesOut};
 ghost use Rattle.oca_tree.specs.Locks.{lock_count};
 ghost use Rattle.ocadev_cli.specs.Printing.{stats_text};
 ghost use Rattle.oca_net.specs.Ends.{last_u64};
 ghost use Rattle.oca_device.specs.Reports.{added, capped, no_turns};
 ghost use Rattle.ocadev_cli.specs.Runs.{turns_until};
-ghost use Rattle.ocadev_cli.specs.Totals.{StoresOn, ServesOn, stats_interval, first_stats};
+ghost use Rattle.ocadev_cli.specs.Totals.{StoresOn, ServesOn, prints_any, tracing_by};
+ghost use Rattle.ocadev_cli.specs.Traces.{PrintsBehind, PrintsHeard, PrintsProgress, PrintsWhere, is_time};
+ghost use Rattle.ocadev_cli.specs.Traces.{next_report};
 
 use super::report::print_stats;
 use super::trace::{Watched, print_heard};
@@ -119,9 +121,7 @@ impl Tracing {
     /// What to print while an end is served: a line for each datagram if `verbose`, and the report so far every `stats`
     /// seconds (`None`: never).
     pub fn new(verbose: bool, stats: Option<u32>) -> Tracing
-        ensures verbose { result.verbose ≡ verbose }
-        ensures every { result.every ≡ stats_interval stats }
-        ensures next { result.next ≡ first_stats stats }
+        ensures { result ≡ tracing_by verbose stats }
     {
         match stats {
             Some(seconds) => {
@@ -142,12 +142,13 @@ impl Tracing {
 
     /// Whether anything is printed: a line for each datagram, or the report so far.
     pub fn prints(&self) -> bool
-        ensures { result ≡ (self.now.verbose || not (self.now.every == 0)) }
+        ensures { result ≡ prints_any self.now }
     {
         self.verbose || self.every != 0
     }
 
-    /// Prints behind a turn the line of what was heard, and the report so far if it is time for it at the moment `now`.
+    /// Prints behind a turn the line of what was heard, if a line is printed for each datagram. Then prints the report
+    /// so far (`so_far`), if it is time for it at the moment `now`. A failed write is ignored.
     pub fn print_turn<F: Sink>(
         &mut self,
         heard: Heard,
@@ -157,7 +158,26 @@ impl Tracing {
         now: Option<u64>,
         device: &Device,
         faults: &mut Printer<F>,
-    ) {
+    )
+        ensures { PrintsBehind self.old self.new heard bytes.now turn.now so_far.now now device.now faults.old
+            faults.new }
+    {
+        self.print_line(heard, bytes, turn, device, faults);
+        self.print_progress(so_far, now, device, faults);
+        self.step(now);
+    }
+
+    /// Prints the line of what was heard, where a line of each datagram is printed.
+    fn print_line<F: Sink>(
+        &self,
+        heard: Heard,
+        bytes: &[u8],
+        turn: &Report,
+        device: &Device,
+        faults: &mut Printer<F>,
+    )
+        ensures { PrintsWhere self.now.verbose (PrintsHeard heard turn.now bytes.now device.now) faults.old faults.new }
+    {
         if self.verbose {
             let _ = print_heard(
                 heard,
@@ -168,11 +188,41 @@ impl Tracing {
                 faults,
             );
         }
+    }
+
+    /// Prints the report so far, if it is time for it at the moment `now`.
+    fn print_progress<F: Sink>(
+        &self,
+        so_far: &Report,
+        now: Option<u64>,
+        device: &Device,
+        faults: &mut Printer<F>,
+    )
+        ensures { PrintsWhere (is_time self.now.next now) (PrintsProgress so_far.now device.now) faults.old faults.new }
+    {
+        if self.is_time(now) {
+            let _ = print_progress_report(so_far, device, faults);
+        }
+    }
+
+    /// Whether it is time for the report so far.
+    fn is_time(&self, now: Option<u64>) -> bool
+        ensures { result ≡ is_time self.now.next now }
+    {
+        match now {
+            Some(now) => self.next <= now,
+            None => false,
+        }
+    }
+
+    /// Notes when the report so far is printed next, behind a turn at this moment.
+    fn step(&mut self, now: Option<u64>)
+        ensures { self.new ≡ record self.old { next = next_report self.old now } }
+    {
         if let Some(now) = now
             && self.next <= now
         {
             self.next = now.saturating_add(self.every);
-            let _ = print_progress_report(so_far, device, faults);
         }
     }
 }

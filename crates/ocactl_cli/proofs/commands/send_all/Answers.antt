@@ -22,7 +22,7 @@ returns-in-Ok g c = record {
   known = c.serve_lines-ended.ensures.known;
   reads = c.serve_lines-ended.ensures.reads;
   finishes = finishes _ _ _ _ _ _ (sym c.if-is_unwritten.ensures)
-      (concludes _ _ _ _ _ c.flush_unless_failed.result _ _ _ c.await_until-written.ensures c.flush_unless_failed.ensures.goes_on c.flush_unless_failed.ensures.empty
+      (concludes _ _ _ _ _ c.flush_unless_failed.result _ _ _ c.await_until-written.ensures.awaits c.flush_unless_failed.ensures.goes_on c.flush_unless_failed.ensures.empty
       (sym (ap (λ (z : Result Unit WriteFailed). ended_by z c.serve_lines-ended.result) c.in-Ok.is)));
 }
 
@@ -34,6 +34,6 @@ returns-in-Err g c = record {
   known = c.serve_lines-ended.ensures.known;
   reads = c.serve_lines-ended.ensures.reads;
   finishes = finishes _ _ _ _ _ _ (sym c.if-is_unwritten.ensures)
-      (concludes _ _ _ _ _ c.flush_unless_failed.result _ _ _ c.await_until-written.ensures c.flush_unless_failed.ensures.goes_on c.flush_unless_failed.ensures.empty
+      (concludes _ _ _ _ _ c.flush_unless_failed.result _ _ _ c.await_until-written.ensures.awaits c.flush_unless_failed.ensures.goes_on c.flush_unless_failed.ensures.empty
       (sym (ap (λ (z : Result Unit WriteFailed). ended_by z c.serve_lines-ended.result) c.in-Err.is)));
 }

@@ -7,10 +7,10 @@ pub returns-in-Send : goal.returns-in-Send
 returns-in-Send g c =
     does-line _ _ _ _ _ _ _ c.take_up.ensures
     (as-line _ _ _ _ _ _ _ (ap line_in c.in-Send.is)
-    (serves-command _ c.left-left.result _ _ _ _ _ _ _ _ c.left-left.ensures.value c.await_until-written.ensures c.send.ensures))
+    (serves-command _ c.left-left.result _ _ _ _ _ _ _ _ c.left-left.ensures.value c.await_until-written.ensures.awaits c.send.ensures))
 
 pub returns-in-Wait : goal.returns-in-Wait
-returns-in-Wait g c = does-line _ _ _ _ _ _ _ c.take_up.ensures (as-line _ _ _ _ _ _ _ (ap line_in c.in-Wait.is) c.await_until.ensures)
+returns-in-Wait g c = does-line _ _ _ _ _ _ _ c.take_up.ensures (as-line _ _ _ _ _ _ _ (ap line_in c.in-Wait.is) c.await_until.ensures.awaits)
 
 pub send-requires : goal.send-requires
-send-requires g c = let few = c.await_until-written.ensures.does.1 in omega (arith, few, c.left-left.ensures.most)
+send-requires g c = let few = c.await_until-written.ensures.awaits.does.1 in omega (arith, few, c.left-left.ensures.most)
