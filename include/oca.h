@@ -42,7 +42,7 @@ extern "C" {
 /* Returns the version of the library that is linked, to be compared with OCA_VERSION, the version of this header:
  * 65,536 for each major version, 256 for each minor version, 1 for each patch. A library of the same major version and
  * at least this minor version keeps what this header says. */
-#define OCA_VERSION 0x010E00u
+#define OCA_VERSION 0x010F00u
 uint32_t oca_version(void);
 
 enum oca_result {

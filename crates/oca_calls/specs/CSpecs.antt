@@ -1,7 +1,6 @@
 -- What an object is to be, and what it is, as C has it: one struct.
-use Rattle.std.specs.Prelude.{◌≡◌, ◌⊎◌, ℕ, ◌-◌, ◌==◌, ◌<◌, ◌≤◌, not, ℤ, pos, Bool, if◌then◌else◌, List, [], ◌∷◌, map, take}
-use Rattle.std.specs.Prelude.{length, Option}
-use Rattle.std.specs.Prelude.{Some, None, IfSome, IsSome, Result, Ok, Err, FitsSigned}
+use Rattle.std.specs.Prelude.{◌≡◌, ◌⊎◌, ℕ, ◌-◌, ◌==◌, ◌<◌, ◌≤◌, not, ℤ, pos, Bool, if◌then◌else◌, List, [], ◌∷◌, map}
+use Rattle.std.specs.Prelude.{take, length, Option, Some, None, IfSome, IsSome, Result, Ok, Err, FitsSigned}
 use Rattle.std.specs.Int.{w64, FitsUnsigned, cast_unsigned, from_bool}
 use Rattle.std.specs.List.{AllByRecursion}
 use Rattle.oca_types.specs.declared.class.Class.{Class}
