@@ -1,13 +1,11 @@
 -- Lines that are printed one after another.
-use Rattle.std.proofs.Common.{◌≡◌, ℕ, ◌+◌, List, [], ◌∷◌, ◌++◌, length, take, drop, ◌≤◌, arith, Some, None, Result, Err, refl, sym, ap, ◌∙◌, append_assoc, append-nil, subst}
+use Rattle.std.proofs.Common.{◌≡◌, ℕ, ◌+◌, List, [], ◌∷◌, ◌++◌, take, drop, Some, None, Result, Err, refl, sym, ap, ◌∙◌, append_assoc, append-nil, subst}
 use Rattle.std.proofs.lemmas.List.{take-append-drop, take_more}
 use Rattle.std.proofs.lemmas.Option.{slice_get_within, get_or_from_slice_get}
 use Rattle.std.proofs.lemmas.Grind.{flat_map-append}
 use Rattle.std.specs.Prelude.{slice_get, Option}
 use Rattle.std.specs.Option.{option_map}
 use Rattle.std.specs.List.{flat_map}
-use Rattle.oca_types.specs.declared.class.Class.{Class}
-use Rattle.oca_model.specs.Words.{class_word}
 use Rattle.oca_tree.specs.declared.object.Object.{Object}
 use Rattle.oca_tree.specs.declared.tree.ObjectInfo.{ObjectInfo}
 use Rattle.oca_tree.specs.Objects.{object_of}
@@ -20,10 +18,6 @@ use Rattle.oca_script.proofs.PrintLemmas.{PrintsAll-then, PrintsPart-then, print
 use Rattle.oca_textree.specs.Written.{line_of}
 use Rattle.oca_textree.specs.PrivateWritten.{tree_line_text}
 use Rattle.oca_textree.proofs.Standing.{itself-in}
-
--- the word of a class has at most 8 bytes
-pub short_word : (k : Class) → length (class_word k) ≤ 8
-short_word _ = omega arith
 
 lines-more : (f : Object → List ℕ) (xs : List Object) (i : ℕ) (x : Object) → slice_get xs i ≡ Some x
     → flat_map f (take (i + 1) xs) ≡ flat_map f (take i xs) ++ f x

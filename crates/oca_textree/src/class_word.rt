@@ -9,7 +9,6 @@ use oca_model::{class_word, with_integers};
 use oca_types::Class;
 
 /// The word of a class.
-#[tactic(auto, using(crate::proofs::WritingLemmas::short_word))]
 pub fn word(class: Class) -> &'static [u8]
     ensures value { result.now ≡ class_word class }
     ensures short { length result.now ≤ 8 }
