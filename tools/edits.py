@@ -372,19 +372,25 @@ def between(crate, module, name, edited):
 def depends(crate, path, reads):
     """Whether what the prover makes under this path is of a source that reads these definitions: but for a plain type."""
     parts = re.sub(r"^(specs\.declared|specs|proofs)\.", "", path).split(".")
-    for file, text in sources_of(crate).items():
+    sources = sources_of(crate)
+    for file, text in sources.items():
         module = module_of(file)
         is_its = module and parts[:len(module)] == module
-        if is_its and reads.search(text) and not any(is_plain_type(text, it) for it in parts):
+        is_plain = path.startswith("specs.declared.") and any(is_plain_type(sources, text, it) for it in parts)
+        if is_its and reads.search(text) and not is_plain:
             return True
     return False
 
 
-def is_plain_type(text, name):
-    """Whether a source declares this enum or struct, and the prover makes of it its cases or its fields alone: it has no
-    model and no ghost field."""
+def is_plain_type(sources, text, name):
+    """Whether a source with this text declares this enum or struct, and the prover makes of it its cases or its fields
+    alone: neither it nor a type of the crate in it has a model or a ghost field."""
     declared = re.search(rf"(?m)^(?:pub(?:\([a-z: ]+\))? )?(?:enum|struct) {name}\b(?:[^{{]*?;$|(?s:.*?)^}}$)", text)
-    return bool(declared) and "ghost" not in declared[0] and not re.search(rf"\bModel for {name}\b", text)
+    if not declared or "ghost" in declared[0] or re.search(rf"\bModel for {name}\b", text):
+        return False
+    inside = {*re.findall(r"\b[A-Z]\w*", declared[0])} - {name}
+    of_crate = [(it, other) for it in inside for other in sources.values() if re.search(rf"(?m)^(?:pub.*)?(?:enum|struct) {it}\b", other)]
+    return all(is_plain_type(sources, other, it) for it, other in of_crate)
 
 
 def proofs_of(crate, function):
