@@ -1,5 +1,5 @@
 -- What a program takes on its command line, how matching words with that ends, and the command that matched words name.
-use Rattle.std.specs.Prelude.{◌≡◌, ℕ, Bool, List, [], ◌∷◌, false, true, map, Option, Some, None, Result, Ok, Err}
+use Rattle.std.specs.Prelude.{◌≡◌, ℕ, List, [], false, true, fold, map, Option, Some, None, Result, Ok, Err}
 use Rattle.std.specs.Option.{option_map}
 use Rattle.clap.specs.declared.builder.action.ArgAction.TheVariants.{Append, Set, SetTrue}
 use Rattle.clap.specs.declared.builder.command.Command.{Command}
@@ -22,12 +22,9 @@ use Rattle.oca_program.specs.declared.table.OptionRow.{OptionRow}
 
 -- ---- what a program takes
 
--- an option with a value, one that must be given, and a flag
+-- an option with a value, and a flag
 abbrev pub option_rule : List ℕ → Rule
 option_rule name = record (new_rule name) { long = Some name; action = Some Set; value_names = 1 }
-
-abbrev pub required_rule : List ℕ → Rule
-required_rule name = record (option_rule name) { required = true }
 
 abbrev pub flag_rule : List ℕ → Rule
 flag_rule name = record (new_rule name) { long = Some name; action = Some SetTrue }
@@ -43,7 +40,7 @@ words_rule name =
     }
 
 abbrev pub rule_by : Kind → List ℕ → Rule
-rule_by kind.Required name = required_rule name
+rule_by kind.Required name = record (option_rule name) { required = true }
 rule_by kind.Optional name = option_rule name
 rule_by kind.Flag name = flag_rule name
 rule_by kind.Words name = words_rule name
@@ -83,8 +80,7 @@ command_fields row = record { name = row.name.now; options = map row_fields row.
 
 -- a command that takes these as well, behind its own
 abbrev pub with_rules : App → List Rule → App
-with_rules app [] = app
-with_rules app (rule ∷ rules) = with_rules (with_rule app rule) rules
+with_rules app rules = fold with_rule app rules
 
 -- the command of this name that takes these options, and no further command
 abbrev pub row_app : CommandRows → App
@@ -95,8 +91,7 @@ row_command row = (row_app row).top
 
 -- a program with these commands as well
 abbrev pub with_shapes : App → List Shape → App
-with_shapes app [] = app
-with_shapes app (shape ∷ shapes) = with_shapes (with_subcommand app shape) shapes
+with_shapes app shapes = fold with_subcommand app shapes
 
 -- a program with a version, without its commands
 abbrev pub bare_program : CommandRows → App

@@ -24,11 +24,7 @@ abbrev pub fault_status : RunFault → ℕ
 fault_status BadWords = 2
 fault_status (Line number fault) = 2
 fault_status (Object number fault) = 2
-fault_status NoMemory = 1
-fault_status Read = 1
-fault_status Write = 1
-fault_status TooMuch = 1
-fault_status Socket = 1
+fault_status other = 1
 
 -- the fault of the run, where lines that are served had this one
 abbrev pub run_fault : ReplayFault → RunFault

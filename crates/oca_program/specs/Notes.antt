@@ -5,12 +5,7 @@ use Rattle.oca_script.specs.Ends.{Output}
 use Rattle.oca_script.specs.Printing.{WritesOut}
 use Rattle.oca_program.specs.Faults.{note_text}
 
--- one note was printed, as far as the writes went
-pub record PrintsOneNote (old new : Output) : Type 0 where
-  pub note : List ℕ
-  pub written : Result Unit WriteFailed
-  pub writes : WritesOut written old new (note_text note)
-
--- ONE NOTE, OR NOTHING, was printed.
+-- ONE NOTE, OR NOTHING, was printed, as far as the writes went.
 abbrev pub PrintsANote : Output → Output → Type 0
-PrintsANote old new = (new ≡ old) ⊎ PrintsOneNote old new
+PrintsANote old new =
+    (new ≡ old) ⊎ ((note : List ℕ) × (written : Result Unit WriteFailed) × WritesOut written old new (note_text note))

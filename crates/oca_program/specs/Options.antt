@@ -41,19 +41,13 @@ sized most n = if nat_le 1 n && nat_le n most then Some n else None
 abbrev pub is_host : ℕ → Bool
 is_host ip = nat_le 16777216 ip && nat_lt ip 3758096384
 
-abbrev pub at_host : Peer → Option Peer
-at_host p = if is_host p.ip && not (p.port == 0) then Some p else None
-
 -- where a device is: the address of one host, and a port that is not 0
 abbrev pub host_of : List ℕ → Option Peer
-host_of text = then_in (peer_of text) at_host
-
-abbrev pub at_own : ℕ → Option ℕ
-at_own ip = if (ip == 0) || is_host ip then Some ip else None
+host_of text = then_in (peer_of text) (λ p. if is_host p.ip && not (p.port == 0) then Some p else None)
 
 -- the address of a socket: that of one host, or 0.0.0.0, every one of the machine
 abbrev pub own_of : List ℕ → Option ℕ
-own_of text = then_in (address_of text) at_own
+own_of text = then_in (address_of text) (λ ip. if (ip == 0) || is_host ip then Some ip else None)
 
 -- ---- forms
 

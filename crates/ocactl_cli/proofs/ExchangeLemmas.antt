@@ -1,6 +1,6 @@
 -- The outcomes of commands, and their text.
 use Rattle.std.proofs.Common.{◌≡◌, ◌⊎◌, Bool, ℕ, ◌+◌, ◌-◌, ◌<◌, ◌≤◌, true, false, List, [], ◌∷◌, ◌++◌, length, Result, Ok, Err, refl, sym, ap, ◌∙◌, subst, arith, append-nil, append_assoc, inl, inr}
-use Rattle.std.specs.Prelude.{OnOk, ℤ, Option, Some, None, map, ◌==◌, ◌||◌, if◌then◌else◌}
+use Rattle.std.specs.Prelude.{IfSome, OnOk, ℤ, Option, Some, None, map, ◌==◌, ◌||◌, if◌then◌else◌}
 use Rattle.std.proofs.lemmas.Bool.{ne_eqb}
 use Rattle.std.proofs.lemmas.List.{map-append, length-map}
 use Rattle.oca_types.specs.declared.words.Handle.{Handle}
@@ -8,8 +8,9 @@ use Rattle.oca_types.specs.Peers.{RequestFields}
 use Rattle.oca_net.specs.EndStates.{EndState}
 use Rattle.oca_script.specs.declared.fault.ReplayFault.{ReplayFault}
 use Rattle.oca_script.specs.declared.fault.WriteFailed.{WriteFailed}
-use Rattle.oca_script.specs.Ends.{Output}
+use Rattle.oca_script.specs.Ends.{Input, Output}
 use Rattle.oca_script.specs.Printing.{Prints, WritesOut}
+use Rattle.oca_script.specs.Replaying.{Replays, Outcome as ReadsLines}
 use Rattle.oca_script.proofs.PrintLemmas.{PrintsAll-nil, prints-then, prints-less, written-out, front}
 use Rattle.oca_control.specs.declared.fault.ControlFault.{ControlFault}
 use Rattle.oca_control.specs.declared.fault.ControlFault.TheVariants.{Lost}
@@ -26,8 +27,8 @@ use Rattle.oca_control.specs.Limits.{longest_life}
 use Rattle.oca_control.specs.Links.{LinkState}
 use Rattle.oca_control.specs.Asking.{refused_by, Begins, Waits, ReceivesSoOften, IsPresent}
 use Rattle.oca_control.specs.Waiting.{ReceivesInAWait, WaitsWhile}
-use Rattle.ocactl_cli.specs.Requests.{LineAsked, Send}
-use Rattle.ocactl_cli.specs.Exchanges.{SessionState, FirstIsOpen, TakesOne, Idles, IdledNot, OneTurned, OnePrinted, AwaitsFirst, Awaits, NoneAwaited, OneAwaited, AwaitsUntil, DoesLine, DoesTakenUp, SubmitsCommand, Refuses, Concludes, FinishesUnless, is_write_failure, ended_by, line_wait, outcome_line, outcome_status, TakesUp, since}
+use Rattle.ocactl_cli.specs.Requests.{LineAsked, Send, asked_line}
+use Rattle.ocactl_cli.specs.Exchanges.{SessionState, AwaitsLine, SendsLines, FirstIsOpen, TakesOne, Idles, IdledNot, OneTurned, OnePrinted, AwaitsFirst, Awaits, NoneAwaited, OneAwaited, AwaitsUntil, DoesLine, DoesTakenUp, SubmitsCommand, Refuses, Concludes, FinishesUnless, is_write_failure, ended_by, line_wait, outcome_line, outcome_status, TakesUp, since}
 use Rattle.ocactl_cli.specs.PrivateExchanges.{PrintsUnlessFailed, AndPrints, SendsOrRefuses, Submitted, TakesFirst}
 
 -- ---- printing, unless a write has failed
@@ -139,15 +140,13 @@ answer-came false params status = refl
 none-came : (h n : ℕ) (l k : LinkState) (o : Outcome) (d e : EndState) → WaitsWhile h n l o k d e → is_lost_or_unanswered o ≡ (outcome_status o == 3)
 none-came h n l k (outcomes.Answered a) d e w = answer-came (a.status == 0) a.params.items a.status
 none-came h n l k (outcomes.Refused fault) d e w = absurd w.waits
-none-came h n l k outcomes.Lost d e w = refl
-none-came h n l k outcomes.Unanswered d e w = refl
+none-came h n l k other d e w = refl
 
 -- nor where it was known
 none-known : (h : ℕ) (l k : LinkState) (o : Outcome) (d e : EndState) → Waits h 0 l o k d e → is_lost_or_unanswered o ≡ (outcome_status o == 3)
 none-known h l k (outcomes.Answered a) d e w = answer-came (a.status == 0) a.params.items a.status
 none-known h l k (outcomes.Refused fault) d e w = absurd w
-none-known h l k outcomes.Lost d e w = refl
-none-known h l k outcomes.Unanswered d e w = refl
+none-known h l k other d e w = refl
 
 -- nothing was received where it was known
 asks-none : (h : ℕ) (o : Outcome) (l k : LinkState) (d e : EndState) → Waits h 0 l o k d e → ReceivesInAWait d.receives e.receives
@@ -269,11 +268,9 @@ pub serves-command : (request : RequestFields) (left : ℕ) (v z : Result Unit W
 serves-command request left v z old s new a b c is h k =
     and-then (Ok tt) v z a b c k.text h k.prints (λ text does. (s, text, k.text, k.does.0, subst (λ (n : ℕ). AwaitsUntil n old s text) is does, k.does.1, refl))
 
-pub as-line : (old new : SessionState) (l m : LineAsked) (z : Result Unit WriteFailed) (a c : Output) → m ≡ l → AndPrints (DoesTakenUp old l new) (Ok tt) z a c → AndPrints (DoesTakenUp old m new) (Ok tt) z a c
-as-line old new l m z a c e h = subst (λ (x : LineAsked). AndPrints (DoesTakenUp old x new) (Ok tt) z a c) (sym e) h
-
-pub does-line : (old s new : SessionState) (l : LineAsked) (z : Result Unit WriteFailed) (a c : Output) → TakesUp old s → AndPrints (DoesTakenUp s l new) (Ok tt) z a c → AndPrints (DoesLine old l new) (Ok tt) z a c
-does-line old s new l z a c taken h = record { text = h.text; does = (s, taken, h.does); prints = h.prints }
+pub does-line : (old s new : SessionState) (l m : LineAsked) (z : Result Unit WriteFailed) (a c : Output) → TakesUp old s → m ≡ l → AndPrints (DoesTakenUp s l new) (Ok tt) z a c → AndPrints (DoesLine old m new) (Ok tt) z a c
+does-line old s new l m z a c taken e h =
+    subst (λ (x : LineAsked). AndPrints (DoesLine old x new) (Ok tt) z a c) (sym e) (record { text = h.text; does = (s, taken, h.does); prints = h.prints })
 
 -- ---- the end
 
@@ -299,3 +296,11 @@ concludes ended result old new v z a b c h k none is = record {
   writes = written-last v z a b c h.text h.prints k none;
   ends = is;
 }
+
+-- the lines were served, and it ended so
+pub sends-lines : (old mid new : SessionState) (was between is : Output) (had has : Input) (ended result : Result Unit ReplayFault)
+    → IfSome had.remaining (λ given. Replays asked_line DoesLine AwaitsLine old mid was between ended given)
+    → ReadsLines asked_line DoesLine AwaitsLine old mid was between had has ended → FinishesUnless (is_write_failure ended) ended mid new between is result
+    → SendsLines old new was is had has result
+sends-lines old mid new was between is had has ended result known reads finishes =
+    record { middle = mid; between = between; ended = ended; known = known; reads = reads; finishes = finishes }

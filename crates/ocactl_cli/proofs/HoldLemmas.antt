@@ -1,7 +1,7 @@
 -- Locks that are kept.
-use Rattle.std.proofs.Common.{◌≡◌, ◌⊎◌, Bool, true, inl, inr, Result, Ok, Err, ℕ, ◌+◌, ◌<◌, ◌≤◌, List, [], ◌∷◌, ◌++◌, length, take, get_or, sym, ap, ◌∙◌, subst, false}
+use Rattle.std.proofs.Common.{◌≡◌, ◌⊎◌, Bool, true, inl, inr, Result, Ok, Err, ℕ, ◌+◌, ◌<◌, List, [], ◌∷◌, ◌++◌, length, take, get_or, sym, ap, ◌∙◌, subst, false}
 use Rattle.std.specs.Prelude.{map, IfErr, IfOk, OnOk, ◌==◌}
-use Rattle.std.proofs.lemmas.List.{flat_map_more, take_all}
+use Rattle.std.proofs.lemmas.List.{flat_map_more}
 use Rattle.oca_types.specs.declared.words.Ono.{Ono}
 use Rattle.oca_script.specs.Ends.{Input, Output}
 use Rattle.oca_script.specs.Printing.{PrintsAll}
@@ -42,11 +42,6 @@ pub locked-next : (onos : List Ono) (i : ℕ) (d : Ono) (status now : ℕ) (held
 locked-next onos i d status now held more r s t a b c h x y =
     subst (λ (ns : List ℕ). LocksEach ns r t now more a c) (sym (map-take ono_number onos i d h))
     (locked-more (map ono_number (take i onos)) (ono_number (get_or onos i d)) status now y.0 held more r s t a b c x y.1 y.2)
-
--- all of them
-pub all-locked : (onos : List Ono) (i status : ℕ) (held : List Ono) (r s : PanelState) (a b : Output) → length onos ≤ i
-    → LocksEach (map ono_number (take i onos)) r s status held a b → LocksEach (map ono_number onos) r s status held a b
-all-locked onos i status held r s a b end x = subst (λ (os : List Ono). LocksEach (map ono_number os) r s status held a b) (take_all i onos end) x
 
 -- some locks were kept
 pub kept-some : (held : List Ono) (before : ℕ) (ended : Result ℕ RunFault) (s t : PanelState) (i j : Input) (a b : Output) → (length held == 0) ≡ false

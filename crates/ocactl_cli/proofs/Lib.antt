@@ -1,6 +1,4 @@
-pub mod WaitLemmas
 pub mod ExchangeLemmas
-mod PairLemmas
 mod RunLemmas
 mod TurnLemmas
 mod ObjectLemmas

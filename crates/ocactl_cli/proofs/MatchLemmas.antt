@@ -1,7 +1,7 @@
 -- Words that are matched with the program's command line.
 use Rattle.std.proofs.Common.{◌≡◌, ℕ, Bool, true, false, List, [], ◌∷◌, Result, refl, sym, ap, subst}
-use Rattle.std.specs.Prelude.{◌==◌, ◌||◌, if◌then◌else◌, map}
-use Rattle.std.proofs.lemmas.Bool.{eqb-true}
+use Rattle.std.specs.Prelude.{◌==◌, if◌then◌else◌, map}
+use Rattle.std.proofs.lemmas.Bool.{eqb-true, or_parts}
 use Rattle.clap.specs.declared.error.Error.{Error}
 use Rattle.clap.specs.declared.parser.matches.ArgMatches.{ArgMatches}
 use Rattle.clap.specs.Faults.{is_simple_and_free}
@@ -36,15 +36,11 @@ pub no-blank : (word : List ℕ) → ((rest : List ℕ) → word ≡ 32 ∷ rest
 no-blank [] apart = refl
 no-blank (c ∷ more) apart = by-blank (c == 32) c more refl apart
 
-or-left : (a b : Bool) → (a || b) ≡ false → a ≡ false
-or-left true b h = h
-or-left false b h = refl
-
 -- a word that takes no blank has none
 kept : (word : List ℕ) → takes_blank word ≡ false → without_blank word ≡ word
 kept [] h = refl
 kept (c ∷ []) h = rw h refl
-kept (c ∷ d ∷ more) h = rw (or-left (c == 32) _ h) refl
+kept (c ∷ d ∷ more) h = rw (or_parts (c == 32) _ h).0 refl
 
 put-on : (t : Bool) (word : List ℕ) → takes_blank word ≡ t → without_blank (if t then 32 ∷ word else word) ≡ word
 put-on true word h = refl

@@ -1,16 +1,16 @@
 -- Several objects.
-use Rattle.std.proofs.Common.{◌≡◌, inl, inr, ℕ, zero, suc, ◌+◌, ◌<◌, ◌≤◌, Bool, true, false, List, [], ◌∷◌, ◌++◌, length, take, drop, get_or, Result, Ok, Err, refl, sym, ap, ◌∙◌, subst, arith, append-nil}
+use Rattle.std.proofs.Common.{◌≡◌, inl, inr, ℕ, ◌+◌, ◌<◌, ◌≤◌, Bool, true, false, List, [], ◌∷◌, ◌++◌, length, take, drop, get_or, Result, Ok, Err, refl, sym, ap, ◌∙◌, subst, arith, append-nil}
 use Rattle.std.specs.Prelude.{map, fold, flat_map, IfOk, OnOk, OnErr}
-use Rattle.std.proofs.lemmas.List.{append_assoc, length-append, map-append, length-map, flat_map_more, take_all, take-append-drop}
+use Rattle.std.proofs.lemmas.List.{append_assoc, length-append, map-append, length-map, flat_map_more, take_all, take_more, take-append-drop}
 use Rattle.std.proofs.lemmas.List.Sums.{fold-append}
 use Rattle.std.specs.Io.KnownBytes.{Appends}
-use Rattle.std.proofs.KnownBytes.{Appends-nil, Appends-trans}
+use Rattle.std.proofs.KnownBytes.{Appends-trans}
 use Rattle.oca_types.specs.declared.words.Handle.{Handle}
 use Rattle.oca_types.specs.declared.words.Ono.{Ono}
 use Rattle.oca_script.specs.declared.fault.WriteFailed.{WriteFailed}
 use Rattle.oca_script.specs.Ends.{Output}
 use Rattle.oca_script.specs.Printing.{PrintsAll, PrintsPart, WritesWhole}
-use Rattle.oca_script.proofs.PrintLemmas.{whole, front as front_written}
+use Rattle.oca_script.proofs.PrintLemmas.{PrintsAll-nil, whole, front as front_written}
 use Rattle.oca_program.specs.Faults.{fault_in}
 use Rattle.oca_program.specs.declared.fault.Failure.{Failure}
 use Rattle.oca_control.specs.Asking.{IsPresent}
@@ -32,9 +32,7 @@ use Rattle.ocactl_cli.proofs.TurnLemmas.{in-turn}
 module _ {A B : Type 0} (f : A → B) where
   -- the first items and the next one
   pub map-take : (xs : List A) (i : ℕ) (d : A) → i < length xs → map f (take (i + 1) xs) ≡ map f (take i xs) ++ f (get_or xs i d) ∷ []
-  map-take [] i d h = absurd (omega arith)
-  map-take (x ∷ xs) zero d h = refl
-  map-take (x ∷ xs) (suc i) d h = let e : suc i + 1 ≡ suc (i + 1) = omega arith in rw e (ap (λ (l : List B). f x ∷ l) (map-take xs i d (omega arith)))
+  map-take xs i d h = ap (map f) (take_more xs i d h) ∙ map-append f (take i xs) (get_or xs i d ∷ [])
 
   -- the first items, the next one, and the rest
   pub map-split : (xs : List A) (i : ℕ) (d : A) → i < length xs
@@ -51,11 +49,7 @@ pub writes-none : (a b : Output) → PrintsAll a b [] → b.held ≡ [] → Writ
 writes-none a b h empty = whole a b [] h empty
 
 pub writes-nothing : (a : Output) → a.held ≡ [] → WritesWhole a a []
-writes-nothing a empty = record {
-  appends = subst (Appends a.contents a.contents) (sym empty ∙ sym (append-nil a.held)) (Appends-nil a.contents);
-  none_held = empty;
-  failed = refl;
-}
+writes-nothing a empty = writes-none a a (PrintsAll-nil a) empty
 
 pub writes-then : (a b c : Output) (x y : List ℕ) → WritesWhole a b x → WritesWhole b c y → WritesWhole a c (x ++ y)
 writes-then a b c x y h k =
@@ -256,26 +250,20 @@ sets-next ahead w since moment h r s t x mid more status now a b p begins are =
     }
 
 -- it was refused, and its line was written behind those of all in flight
-refused-next : (ahead : ℕ) (w : Assignment) (since moment : ℕ) (f : ControlFault) (r s t u : PanelState) (x : List SetCommand) (mid : List (ℕ × Assignment)) (status now last : ℕ) (a b c : Output)
-    → MakesPlace ahead r s x (map set_in_flight mid) status now a b → BeginsSet since moment (set_command w (Err f)) s t → EndsRefused w f t u (map set_in_flight mid) now last b c
-    → SetsOn ahead (assignment_of w) since moment r u x [] status last a c
-refused-next ahead w since moment f r s t u x mid status now last a b c p begins ends =
-    let one : SetCommand = set_command w (Err f) in
-    let few : length (map set_in_flight mid) < ahead = p.few in
-    record {
-      on = λ (assignments : List (ℕ × Value)) (start : PanelState) (before : Output) (begun : List (ℕ × Value)) (so : SoFar ahead assignments start before begun since r x status a).
-          first-ended ahead assignments start before (begun ++ assignment_of w ∷ []) moment one [] u u (Refused f) ends.so_far last ends.between c (inr (inr refl)) (refl, refl) ends.reports
-          (ends.waits.on ahead assignments start before (begun ++ assignment_of w ∷ []) moment (one ∷ []) (inr refl)
-          (begins-next ahead w since moment (Err f) r s t x mid status now a b p begins assignments start before begun so));
-      few = omega (arith, few);
-    }
-
 pub sets-refused : (ahead : ℕ) (w : Assignment) (since moment : ℕ) (f : ControlFault) (r s t u : PanelState) (x : List SetCommand) (mid none : List (ℕ × Assignment)) (status now : ℕ) (q : Result ℕ WriteFailed) (a b c : Output)
     → MakesPlace ahead r s x (map set_in_flight mid) status now a b → BeginsSet since moment (set_command w (Err f)) s t
     → IfOk q (λ n. EndsRefused w f t u (map set_in_flight mid) now n b c) → OnOk q (none ≡ [])
     → IfOk q (λ n. SetsOn ahead (assignment_of w) since moment r u x (map set_in_flight none) status n a c)
 sets-refused ahead w since moment f r s t u x mid none status now (Ok n) a b c p begins ends empty =
-    rw empty (refused-next ahead w since moment f r s t u x mid status now n a b c p begins ends)
+    let one : SetCommand = set_command w (Err f) in
+    let few : length (map set_in_flight mid) < ahead = p.few in
+    rw empty (record {
+      on = λ (assignments : List (ℕ × Value)) (start : PanelState) (before : Output) (begun : List (ℕ × Value)) (so : SoFar ahead assignments start before begun since r x status a).
+          first-ended ahead assignments start before (begun ++ assignment_of w ∷ []) moment one [] u u (Refused f) ends.so_far n ends.between c (inr (inr refl)) (refl, refl) ends.reports
+          (ends.waits.on ahead assignments start before (begun ++ assignment_of w ∷ []) moment (one ∷ []) (inr refl)
+          (begins-next ahead w since moment (Err f) r s t x mid status now a b p begins assignments start before begun so));
+      few = omega (arith, few);
+    })
 sets-refused ahead w since moment f r s t u x mid none status now (Err e) a b c p begins ends empty = tt
 
 -- the first assignments and the next one
@@ -348,12 +336,6 @@ locked-in-time locks onos i d since now r s t h x one =
     subst (λ (ns : List ℕ). LocksInTime locks ns now r t) (sym (map-take ono_number onos i d h))
     (OneLocked (ono_number (get_or onos i d)) now one.0 x one.1)
 
--- all of them
-pub all-in-time : (locks : Bool) (onos : List Ono) (i since : ℕ) (r s : PanelState) → length onos ≤ i
-    → LocksInTime locks (map ono_number (take i onos)) since r s → (at : ℕ) × LocksInTime locks (map ono_number onos) at r s
-all-in-time locks onos i since r s end x =
-    (since, subst (λ (os : List Ono). LocksInTime locks (map ono_number os) since r s) (take_all i onos end) x)
-
 -- ---- objects that are read or locked
 
 module _ (One : ℕ → PanelState → PanelState → ObjectLine → Type 0) where
@@ -388,13 +370,16 @@ module _ (One : ℕ → PanelState → PanelState → ObjectLine → Type 0) whe
       → AsksUntil One Stops (map ono_number onos) r t a c
   until-next Stops onos i d status line r s t a b c h x asks stops = record {
     asked = map ono_number (take i onos);
-    rest = ono_number (get_or onos i d) ∷ map ono_number (drop (i + 1) onos);
+    target = ono_number (get_or onos i d);
+    rest = map ono_number (drop (i + 1) onos);
     status = status;
     before = s;
     between = b;
+    line = line;
     whole = map-split ono_number onos i d h;
     asks = x;
-    stops = (line, asks, stops);
+    one = asks;
+    stops = stops;
   }
 
   -- the line of an object was not written

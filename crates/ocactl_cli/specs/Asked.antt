@@ -8,7 +8,6 @@ use Rattle.oca_program.specs.declared.fault.RunFault.TheVariants as fault
 use Rattle.ocactl_cli.specs.Words.{AreNumbers, behind_options, hold_flag, linking_fields, linking_in, reach_fields}
 use Rattle.ocactl_cli.specs.Words.{reach_in, sending_fields, sending_in, ahead_in, given_turns, parsed_pairs}
 use Rattle.ocactl_cli.specs.PrivateObjects.{pair_of}
-use Rattle.ocactl_cli.specs.declared.words.Linking.{Linking}
 use Rattle.ocactl_cli.specs.declared.words.Reach.{Reach}
 use Rattle.ocactl_cli.specs.declared.words.Asked.{Asked}
 use Rattle.ocactl_cli.specs.declared.words.Asked.TheVariants as asked
@@ -48,27 +47,19 @@ IsRefusal why = (why ≡ fault.BadWords) ⊎ (why ≡ fault.NoMemory)
 
 -- ---- every command
 
--- a link for a replay, as the options say it
-abbrev pub AsksReplay : ArgMatches → Linking → Type 0
-AsksReplay options linking = linking_in options ≡ Some (linking_fields linking)
-
 -- a device that is reached so, as the options say it
 abbrev pub AsksReach : ArgMatches → Reach → Type 0
 AsksReach options reach = reach_in options ≡ Some (reach_fields reach)
 
--- objects are handled so, as the options say it
-abbrev pub AsksHandling : ArgMatches → Reach → (turns ahead : ℕ) → Type 0
-AsksHandling options reach turns ahead =
-    AsksReach options reach × (given_turns options ≡ Some turns)
-    × (ahead_in (span_size reach.span) options ≡ Some ahead)
-
 -- WHAT A COMMAND WITH THESE OPTIONS ASKS FOR: just what they say, by the command's name.
 abbrev pub OptionsAsk : List ℕ → ArgMatches → Asked → Type 0
-OptionsAsk name options (asked.Replay linking) = IsWord name (codes "replay") × AsksReplay options linking
+OptionsAsk name options (asked.Replay linking) =
+    IsWord name (codes "replay") × (linking_in options ≡ Some (linking_fields linking))
 OptionsAsk name options (asked.Send reach sending) =
     IsWord name (codes "send") × AsksReach options reach × (sending_in options ≡ Some (sending_fields sending))
 OptionsAsk name options (asked.Run reach ahead) =
     IsWord name (codes "run") × AsksReach options reach
     × (ahead_in (span_size reach.span) options ≡ Some (span_size ahead))
 OptionsAsk name options (asked.Do reach turns task) =
-    (ahead : ℕ) × AsksHandling options reach turns ahead × AsksTask name options ahead task
+    (ahead : ℕ) × AsksReach options reach × (given_turns options ≡ Some turns)
+    × (ahead_in (span_size reach.span) options ≡ Some ahead) × AsksTask name options ahead task

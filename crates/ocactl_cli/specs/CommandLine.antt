@@ -11,10 +11,6 @@ use Rattle.oca_program.specs.declared.table.Kind.TheVariants as kind
 abbrev pub words_row : OptionFields
 words_row = record { name = codes "ONO"; kind = kind.Words; form = Text }
 
--- the flag that keeps locks: it takes no value
-abbrev pub hold_row : OptionFields
-hold_row = a_flag (codes "hold")
-
 abbrev pub span_row : OptionFields
 span_row = with_form (codes "span") (Number 3 1 32)
 
@@ -38,32 +34,27 @@ reach_rows =
 abbrev pub objects_rows : List OptionFields
 objects_rows = reach_rows ++ turns_row ∷ port_row ∷ []
 
-abbrev pub set_rows : List OptionFields
-set_rows = objects_rows ++ ahead_row ∷ []
-
-abbrev pub replay_rows : List OptionFields
-replay_rows =
-    needed (codes "device") AnyPeer ∷ span_row ∷ needed (codes "first-handle") (Number 10 0 4294967295) ∷ []
-
-abbrev pub send_rows : List OptionFields
-send_rows =
-    reach_rows ++ needed (codes "target") (Number 10 0 4294967295) ∷ needed (codes "level") (Number 5 0 65535)
-    ∷ needed (codes "index") (Number 5 0 65535) ∷ needed (codes "count") (Number 3 0 255)
-    ∷ with_form (codes "params") Bytes ∷ turns_row ∷ port_row ∷ []
-
-abbrev pub run_rows : List OptionFields
-run_rows = reach_rows ++ ahead_row ∷ port_row ∷ []
-
+-- `--hold` keeps locks; it takes no value
 abbrev pub own_commands : List CommandRows
 own_commands =
     record { name = codes "tree"; options = objects_rows }
     ∷ record { name = codes "get"; options = objects_rows ++ words_row ∷ [] }
-    ∷ record { name = codes "set"; options = set_rows ++ words_row ∷ [] }
-    ∷ record { name = codes "lock"; options = objects_rows ++ hold_row ∷ words_row ∷ [] }
+    ∷ record { name = codes "set"; options = objects_rows ++ ahead_row ∷ words_row ∷ [] }
+    ∷ record { name = codes "lock"; options = objects_rows ++ a_flag (codes "hold") ∷ words_row ∷ [] }
     ∷ record { name = codes "unlock"; options = objects_rows ++ words_row ∷ [] }
-    ∷ record { name = codes "replay"; options = replay_rows }
-    ∷ record { name = codes "send"; options = send_rows }
-    ∷ record { name = codes "run"; options = run_rows } ∷ []
+    ∷ record {
+      name = codes "replay";
+      options =
+          needed (codes "device") AnyPeer ∷ span_row ∷ needed (codes "first-handle") (Number 10 0 4294967295) ∷ [];
+    }
+    ∷ record {
+      name = codes "send";
+      options =
+          reach_rows ++ needed (codes "target") (Number 10 0 4294967295) ∷ needed (codes "level") (Number 5 0 65535)
+          ∷ needed (codes "index") (Number 5 0 65535) ∷ needed (codes "count") (Number 3 0 255)
+          ∷ with_form (codes "params") Bytes ∷ turns_row ∷ port_row ∷ [];
+    }
+    ∷ record { name = codes "run"; options = reach_rows ++ ahead_row ∷ port_row ∷ [] } ∷ []
 
 -- THE COMMAND LINE OF THE PROGRAM.
 unfoldable pub own_app : App

@@ -1,7 +1,7 @@
 -- The outcomes of commands that are sent over a network, one or those of lines (*profile*).
 use Rattle.std.specs.Prelude.{IfSome, MatchOption, Option, ◌≡◌, ◌⊎◌, ℕ, ℤ, ◌+◌, ◌-◌, ◌<◌, ◌≤◌, ◌==◌, Bool, ◌||◌, ◌&&◌, not, min}
 use Rattle.std.specs.Prelude.{true, false, Some, None, List, [], ◌∷◌, ◌++◌, length, codes, Result, Ok}
-use Rattle.std.specs.Prelude.{Err}
+use Rattle.std.specs.Prelude.{Err, unwrap_or}
 use Rattle.oca_types.specs.declared.words.Handle.{Handle}
 use Rattle.oca_types.specs.Peers.{RequestFields}
 use Rattle.oca_net.specs.EndStates.{EndState}
@@ -18,7 +18,7 @@ use Rattle.oca_control.specs.Asking.{Begins, Asks, Waits, IsPresent, refused_by}
 use Rattle.oca_control.specs.Waiting.{ReceivesInAWait, WaitsWhile}
 use Rattle.oca_control.specs.Untaken.{answer_under}
 use Rattle.oca_script.specs.declared.fault.ReplayFault.{ReplayFault}
-use Rattle.oca_script.specs.declared.fault.ReplayFault.TheVariants.{Line, Read, Write, TooMuch}
+use Rattle.oca_script.specs.declared.fault.ReplayFault.TheVariants.{Write}
 use Rattle.oca_script.specs.declared.fault.WriteFailed.{WriteFailed}
 use Rattle.oca_script.specs.Ends.{Input, Output}
 use Rattle.oca_script.specs.Printing.{WritesOut}
@@ -150,8 +150,7 @@ AwaitsLine old new text = Idles (record old { at_hand = None }) new text
 -- A line is at hand since it was read, or since the line before it was submitted, whichever came last; the first one
 -- that is served behind a read, since now.
 abbrev pub since : (at_hand : Option ℕ) → (now : ℕ) → ℕ
-since None now = now
-since (Some moment) now = moment
+since at_hand now = unwrap_or at_hand now
 
 pub record TakesUp (old new : SessionState) : Type 0 where
   pub now : ℕ
@@ -223,11 +222,8 @@ pub record Concludes (ended : Result Unit ReplayFault) (old new : SessionState) 
 
 -- a write failed
 abbrev pub is_write_failure : Result Unit ReplayFault → Bool
-is_write_failure (Ok u) = false
-is_write_failure (Err (Line number fault)) = false
-is_write_failure (Err Read) = false
 is_write_failure (Err Write) = true
-is_write_failure (Err TooMuch) = false
+is_write_failure other = false
 
 -- the same, unless a write had failed
 abbrev pub FinishesUnless : (unwritten : Bool) → Result Unit ReplayFault → SessionState → SessionState → Output → Output

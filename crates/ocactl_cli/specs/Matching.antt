@@ -27,9 +27,8 @@ BlanksLoseNothing = (word : List ℕ) → without_blank (with_blank word) ≡ wo
 
 -- the first word behind the program's name is `set`
 abbrev pub is_set : List (List ℕ) → Bool
-is_set [] = false
-is_set (program ∷ []) = false
 is_set (program ∷ name ∷ more) = bytes_eq name (codes "set")
+is_set other = false
 
 -- the words as they are matched
 abbrev pub matched_words : List (List ℕ) → List (List ℕ)

@@ -132,9 +132,7 @@ trouble_status (trouble.Refused status) = 4
 trouble_status trouble.Unreadable = 4
 trouble_status trouble.NoValue = 4
 trouble_status trouble.NoSuchWord = 2
-trouble_status (trouble.NotSubmitted fault) = 3
-trouble_status trouble.Lost = 3
-trouble_status trouble.Unanswered = 3
+trouble_status no_answer = 3
 
 -- 0 where it was done
 abbrev pub done_status : Result Unit Trouble → ℕ
@@ -142,11 +140,8 @@ done_status (Ok u) = 0
 done_status (Err why) = trouble_status why
 
 abbrev pub object_status : ObjectLine → ℕ
-object_status (shown.Value value) = 0
-object_status (shown.Position n name) = 0
-object_status shown.Locked = 0
-object_status shown.Unlocked = 0
 object_status (shown.Failed why) = trouble_status why
+object_status done = 0
 
 -- of two statuses: 3 before 2 before 4 before 0
 abbrev pub max_severity : ℕ → ℕ → ℕ
@@ -408,25 +403,21 @@ pub record AsksAll (One : ℕ → PanelState → PanelState → ObjectLine → T
   pub turns : InTurn One targets lines old new
   pub reports : ReportsAll lines status was is
 
--- the next one of these was asked, and that ended so at its line
-abbrev pub StopsAtNext : (ℕ → PanelState → PanelState → ObjectLine → Type 0)
-    → (ObjectLine → List ℕ → Output → Output → Type 0) → List ℕ → PanelState → PanelState → Output → Output → Type 0
-StopsAtNext One Stops [] old new was is = ⊥
-StopsAtNext One Stops (target ∷ rest) old new was is =
-    (line : ObjectLine) × One target old new line × Stops line (line_of_object target line) was is
-
 -- Of the first of these objects it was asked so, one after another, until that ended at the line of one.
 pub record AsksUntil (One : ℕ → PanelState → PanelState → ObjectLine → Type 0)
     (Stops : ObjectLine → List ℕ → Output → Output → Type 0) (targets : List ℕ) (old new : PanelState)
     (was is : Output) : Type 0 where
   pub asked : List ℕ
+  pub target : ℕ
   pub rest : List ℕ
   pub status : ℕ
   pub before : PanelState
   pub between : Output
-  pub whole : targets ≡ asked ++ rest
+  pub line : ObjectLine
+  pub whole : targets ≡ asked ++ target ∷ rest
   pub asks : AsksAll One asked old before status was between
-  pub stops : StopsAtNext One Stops rest before new between is
+  pub one : One target before new line
+  pub stops : Stops line (line_of_object target line) between is
 
 -- it was not written, but for a front of it
 abbrev pub IsUnwritten : ObjectLine → List ℕ → Output → Output → Type 0
@@ -593,6 +584,4 @@ abbrev pub is_locking : Task → Bool
 is_locking (task.Lock onos) = true
 is_locking (task.Unlock onos) = true
 is_locking (task.Hold onos) = true
-is_locking (task.Get onos) = false
-is_locking (task.Set ahead pairs) = false
-is_locking task.Tree = false
+is_locking other = false

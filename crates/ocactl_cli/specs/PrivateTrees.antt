@@ -7,29 +7,26 @@ use Rattle.oca_program.specs.declared.fault.RunFault.TheVariants.{Write}
 use Rattle.oca_panel.specs.declared.walk.Place.{Place}
 use Rattle.oca_panel.specs.declared.walk.Visit.{Visit}
 use Rattle.oca_panel.specs.Panels.{PanelState}
-use Rattle.oca_panel.specs.Walks.{WalkState, StepsToPlace}
+use Rattle.oca_panel.specs.Walks.{VisitsPlace, WalkEnds, WalkState}
 use Rattle.ocactl_cli.specs.Objects.{GivesUp, Reports}
 use Rattle.ocactl_cli.specs.PrivateObjects.{ReportsText}
 use Rattle.ocactl_cli.specs.Trees.{Walks, left_text, status_with_left, visit_status, visit_text}
 
--- the lines of a visit are written, where there was one; or the sink failed
-abbrev pub ReportsFound : Option Visit → (status : ℕ) → Result (Option ℕ) Failure → Output → Output → Type 0
-ReportsFound (Some visit) status (Ok (Some now)) was is =
-    ReportsText (visit_status visit) (visit_text visit) status now was is
-ReportsFound (Some visit) status (Ok None) was is = ⊥
-ReportsFound (Some visit) status (Err failure) was is = (failure.fault ≡ Write) × (is.failed ≡ true)
-ReportsFound None status result was is = (result ≡ Ok None) × (is ≡ was)
+-- The next place was visited and its lines were written, or there was none.
+abbrev pub StepsOn : (status : ℕ) → Option ℕ → WalkState → PanelState → Output → WalkState → PanelState → Output → Type 0
+StepsOn status (Some now) walk old was further new is =
+    (visit : Visit) × VisitsPlace walk old new visit further
+    × ReportsText (visit_status visit) (visit_text visit) status now was is
+StepsOn status None walk old was further new is = WalkEnds walk old new further × (is ≡ was)
 
--- The next place was visited and its lines were written, or there was none; or it was given up.
-pub record TakesStep (status : ℕ) (result : Result (Option ℕ) Failure) (walk : WalkState) (old : PanelState)
-    (was : Output) (further : WalkState) (new : PanelState) (is : Output) : Type 0 where
-  pub found : Option Visit
-  pub steps : StepsToPlace walk old new found further
-  pub reports : ReportsFound found status result was is
+pub record TakesStep (status : ℕ) (next : Option ℕ) (walk : WalkState) (old : PanelState) (was : Output)
+    (further : WalkState) (new : PanelState) (is : Output) : Type 0 where
+  pub steps : StepsOn status next walk old was further new is
 
+-- or it was given up
 abbrev pub VisitsOne : (status : ℕ) → Result (Option ℕ) Failure → WalkState → PanelState → Output → WalkState
     → PanelState → Output → Type 0
-VisitsOne status (Ok now) walk old was further new is = TakesStep status (Ok now) walk old was further new is
+VisitsOne status (Ok next) walk old was further new is = TakesStep status next walk old was further new is
 VisitsOne status (Err failure) walk old was further new is = GivesUp failure.fault is
 
 -- all that was visited, and the lines that were written so far

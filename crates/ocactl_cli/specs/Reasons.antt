@@ -1,5 +1,5 @@
 -- Why no answer came, as far as it is known (*profile*).
-use Rattle.std.specs.Prelude.{ℕ, ◌-◌, Bool, true, false, Option, Some, None}
+use Rattle.std.specs.Prelude.{ℕ, ◌-◌, Bool, true, false, Option, Some, None, unwrap_or}
 use Rattle.ocactl_cli.specs.declared.reason.Reason.{Reason}
 use Rattle.ocactl_cli.specs.declared.reason.Reason.TheVariants as reasons
 
@@ -14,5 +14,4 @@ reason_by false now None false false = reasons.NeverHeard
 
 -- the first handle: that of the words, where they give one
 abbrev pub first_handle_for : Option ℕ → ℕ → ℕ
-first_handle_for None else_one = else_one
-first_handle_for (Some handle) else_one = handle
+first_handle_for handle else_one = unwrap_or handle else_one

@@ -12,9 +12,8 @@ pub data LineAsked : Type 0 where
 
 -- the one field `wait`
 abbrev pub is_wait : List (List ℕ) → Bool
-is_wait [] = false
 is_wait (a ∷ []) = bytes_eq a (codes "wait")
-is_wait (a ∷ b ∷ more) = false
+is_wait other = false
 
 abbrev pub sent : Result RequestFields LineFault → Result LineAsked LineFault
 sent (Ok request) = Ok (Send request)

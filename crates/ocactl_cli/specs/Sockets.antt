@@ -1,5 +1,5 @@
 -- Where the socket of the program is bound, and the link over it (*profile*).
-use Rattle.std.specs.Prelude.{◌≡◌, ◌⊎◌, ◌+◌, ◌==◌, ℕ, Bool, true, false, Option, None, Some}
+use Rattle.std.specs.Prelude.{◌≡◌, ◌⊎◌, ◌+◌, ◌==◌, ℕ, Bool, true, false, Option, None, Some, unwrap_or}
 use Rattle.oca_types.specs.declared.words.Peer.{Peer}
 use Rattle.oca_types.specs.Sizes.{span_size}
 use Rattle.oca_net.specs.EndStates.{EndState, IsPresent}
@@ -37,8 +37,7 @@ IsUnreached why = (why ≡ fault.Socket) ⊎ (why ≡ fault.NoMemory)
 
 -- the port that was given, else one of the system's choice
 abbrev pub port_or_any : Option ℕ → ℕ
-port_or_any None = 0
-port_or_any (Some port) = port
+port_or_any port = unwrap_or port 0
 
 -- ---- the link
 
@@ -90,10 +89,7 @@ abbrev pub IsLinkedBy : Probed → Reach → OwnPort → (before : WatchState) �
 IsLinkedBy probed.NotAnswering reach own before start end_there =
     IsLinkedElsewhere reach own start end_there
     ⊎ IsLinkedFurther own.first_handle.0 (unheard before) start end_there
-IsLinkedBy probed.Answering reach own before start end_there =
-    IsLinkedFurther own.first_handle.0 before start end_there
-IsLinkedBy probed.NotHeard reach own before start end_there =
-    IsLinkedFurther own.first_handle.0 before start end_there
+IsLinkedBy other reach own before start end_there = IsLinkedFurther own.first_handle.0 before start end_there
 
 -- THE DEVICE WAS ASKED from a socket whether it answers commands from there, and linked by what was found.
 pub record IsLinkedBehind (reach : Reach) (own : OwnPort) (before : EndState) (start : LinkStart)

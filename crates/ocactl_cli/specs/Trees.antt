@@ -37,21 +37,14 @@ visit_text visit = found_text visit.place visit.found
 
 -- the exit status
 abbrev pub found_status : Found → ℕ
-found_status (found.Object d) = 0
 found_status (found.Block d listed) = done_status listed
 found_status (found.Undescribed why) = trouble_status why
-found_status found.Again = 0
+found_status other = 0
 
 abbrev pub visit_status : Visit → ℕ
 visit_status visit = found_status visit.found
 
 -- ---- all places
-
-abbrev pub visits_text : List Visit → List ℕ
-visits_text visits = flat_map visit_text visits
-
-abbrev pub most_severe_visit : List Visit → ℕ
-most_severe_visit visits = fold (λ worst visit. max_severity worst (visit_status visit)) 0 visits
 
 -- Places were visited, one after another, each the next one.
 pub data Walks : WalkState → PanelState → List Visit → WalkState → PanelState → Type 0 where
@@ -80,5 +73,6 @@ pub record PrintsTree (old new : PanelState) (status : ℕ) (was is : Output) : 
   pub walk : WalkState
   pub walks : Walks begun_walk old visits walk new
   pub over : IsOver walk
-  pub worst : status ≡ status_with_left walk.waiting (most_severe_visit visits)
-  pub writes : WritesWhole was is (visits_text visits ++ left_text walk.waiting)
+  pub worst : status
+      ≡ status_with_left walk.waiting (fold (λ worst visit. max_severity worst (visit_status visit)) 0 visits)
+  pub writes : WritesWhole was is (flat_map visit_text visits ++ left_text walk.waiting)

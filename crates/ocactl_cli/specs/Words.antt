@@ -1,6 +1,6 @@
 -- What the options of the controller's program say (*profile*).
 use Rattle.std.specs.Prelude.{◌≡◌, ℕ, ◌/◌, ◌==◌, Bool, List, [], ◌∷◌, codes, length, map, nat_lt, if◌then◌else◌}
-use Rattle.std.specs.Prelude.{Option, Some, None}
+use Rattle.std.specs.Prelude.{Option, Some, None, unwrap_or}
 use Rattle.std.specs.Option.{option_map}
 use Rattle.clap.specs.Words.{found_of, matched_of, raw_values}
 use Rattle.clap.specs.declared.parser.matches.ArgMatches.{ArgMatches}
@@ -22,23 +22,19 @@ use Rattle.ocactl_cli.specs.Matching.{without_blank}
 abbrev pub span_in : ArgMatches → Option ℕ
 span_in words = then_in (read_or 16 (number_of 3 255) (given words (codes "span"))) (sized 32)
 
-pub record LinkingFields : Type 0 where
-  pub device : Peer
-  pub first_handle : ℕ
-  pub span : ℕ
-
-abbrev pub linking_fields : Linking → LinkingFields
-linking_fields l = record { device = l.device; first_handle = l.first_handle; span = span_size l.span }
+-- the device, the first handle and the span
+abbrev pub linking_fields : Linking → Peer × ℕ × ℕ
+linking_fields l = (l.device, l.first_handle, span_size l.span)
 
 abbrev pub first_handle_in : ArgMatches → Option ℕ
 first_handle_in words = read_as (number_of 10 4294967295) (given words (codes "first-handle"))
 
-unfoldable pub linking_in : ArgMatches → Option LinkingFields
+unfoldable pub linking_in : ArgMatches → Option (Peer × ℕ × ℕ)
 linking_in words =
     then_in (read_as peer_of (given words (codes "device"))) (λ device.
     then_in (first_handle_in words) (λ first_handle.
     then_in (span_in words) (λ span.
-    Some (record { device = device; first_handle = first_handle; span = span }))))
+    Some (device, first_handle, span))))
 
 -- ---- the device over a network
 
@@ -127,12 +123,8 @@ abbrev pub given_turns : ArgMatches → Option ℕ
 given_turns words = read_or 200 (number_of 10 4294967295) (given words (codes "turns"))
 
 -- the words behind the options, none where there are none
-abbrev pub or_none : Option (List (List ℕ)) → List (List ℕ)
-or_none None = []
-or_none (Some texts) = texts
-
 abbrev pub behind_options : ArgMatches → List (List ℕ)
-behind_options words = or_none (option_map raw_values (matched_of (found_of words) (codes "ONO")))
+behind_options words = unwrap_or (option_map raw_values (matched_of (found_of words) (codes "ONO"))) []
 
 -- whether locks are to be kept until the input ends
 abbrev pub hold_flag : ArgMatches → Bool

@@ -14,8 +14,5 @@ reply_line_text lines.NoAnswer = taken_text None
 
 -- the bytes that a line shows are those of a datagram
 abbrev pub LineWithin : Line → Type 0
-LineWithin (lines.Submission r) = Unit {0}
 LineWithin (lines.Due due bytes) = length bytes.now ≤ 1472
-LineWithin (lines.Reception r) = Unit {0}
-LineWithin (lines.Answer a) = Unit {0}
-LineWithin lines.NoAnswer = Unit {0}
+LineWithin other = Unit {0}

@@ -19,15 +19,12 @@ pub data LinkCall : Type 0 where
 -- ---- how many fields there are
 
 abbrev pub one_text : List (List ℕ) → Option (List ℕ)
-one_text [] = None
 one_text (a ∷ []) = Some a
-one_text (a ∷ b ∷ more) = None
+one_text other = None
 
 abbrev pub two_texts : List (List ℕ) → Option (List ℕ × List ℕ)
-two_texts [] = None
-two_texts (a ∷ []) = None
 two_texts (a ∷ b ∷ []) = Some (a, b)
-two_texts (a ∷ b ∷ c ∷ more) = None
+two_texts other = None
 
 -- the fields of a command: ONO LEVEL INDEX COUNT HEX
 pub record CommandTexts : Type 0 where
@@ -38,13 +35,8 @@ pub record CommandTexts : Type 0 where
   pub params : List ℕ
 
 abbrev pub command_texts : List (List ℕ) → Option CommandTexts
-command_texts [] = None
-command_texts (a ∷ []) = None
-command_texts (a ∷ b ∷ []) = None
-command_texts (a ∷ b ∷ c ∷ []) = None
-command_texts (a ∷ b ∷ c ∷ d ∷ []) = None
 command_texts (a ∷ b ∷ c ∷ d ∷ e ∷ []) = Some (record { target = a; level = b; index = c; count = d; params = e })
-command_texts (a ∷ b ∷ c ∷ d ∷ e ∷ f ∷ more) = None
+command_texts other = None
 
 -- ---- what they ask for
 

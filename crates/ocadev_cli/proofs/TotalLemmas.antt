@@ -1,14 +1,14 @@
 -- Reports of rounds, one after another.
-use Rattle.std.proofs.Common.{◌≡◌, ℕ, ◌+◌, ◌≤◌, min, false, [], refl, ap, ◌∙◌, arith}
+use Rattle.std.proofs.Common.{◌≡◌, ℕ, ◌+◌, ◌≤◌, min, refl, ap, ◌∙◌, arith}
 use Rattle.oca_net.specs.Ends.{last_u64}
 use Rattle.oca_net.specs.EndStates.{EndState}
 use Rattle.oca_device.specs.declared.report.Report.{Report}
 use Rattle.oca_device.specs.Devices.{DeviceState}
 use Rattle.oca_device.specs.Reports.{added, capped, no_turns}
 use Rattle.oca_device.specs.Replies.{ServesEnd}
-use Rattle.oca_device.specs.Following.{ElectronicsState, ServesEndWith}
+use Rattle.oca_device.specs.Following.{ServesEndWith}
 use Rattle.oca_device.proofs.Turns.{with_none, with_more}
-use Rattle.ocadev_cli.specs.Totals.{ServesOn}
+use Rattle.ocadev_cli.specs.Totals.{ServesOn, no_electronics}
 
 abbrev cap : ℕ → ℕ
 cap n = min n last_u64
@@ -19,15 +19,12 @@ cap-more t b = omega arith
 capped-more : (t b : Report) → capped (added (capped t) b) ≡ capped (added t b)
 capped-more t b = simp cap-more
 
-abbrev silent : ElectronicsState
-silent = record { tells = false; followed = [] }
-
-with-silent : (a b : DeviceState) (e f : EndState) (r : Report) → ServesEnd a b e f r → ServesEndWith a b e f silent silent r
+with-silent : (a b : DeviceState) (e f : EndState) (r : Report) → ServesEnd a b e f r → ServesEndWith a b e f no_electronics no_electronics r
 with-silent a b e f r h = record { serves = h; telling = refl; followed = λ told w tree events rep. absurd (cc told) }
 
 -- no round
 pub on-none : (d : DeviceState) (e : EndState) (p : Report) → p ≡ no_turns → ServesOn d d e e p
-on-none d e p is = record { report = no_turns; serves = (with_none d e silent).serves; prints = is }
+on-none d e p is = record { report = no_turns; serves = (with_none d e no_electronics).serves; prints = is }
 
 -- one round more
 pub on-more : (a b c : DeviceState) (e f g : EndState) (p r s : Report) → ServesOn a b e f p → ServesEnd b c f g r → s ≡ capped (added p r) → ServesOn a c e g s

@@ -29,9 +29,7 @@ executed_text method ono status =
 
 abbrev pub done_text : MethodId → ℕ → CommandOutcome → List ℕ
 done_text method ono (outcome.Executed status) = executed_text method ono status
-done_text method ono outcome.Duplicate = []
-done_text method ono outcome.Reused = []
-done_text method ono outcome.Old = []
+done_text method ono other = []
 
 -- of a command that asks for a response; nothing of one that asks for none
 abbrev pub effect_text : Effect → List ℕ
@@ -41,9 +39,7 @@ effect_text e = if e.respond then done_text e.method e.target.0 e.outcome else [
 
 abbrev pub is_executed : CommandOutcome → Bool
 is_executed (outcome.Executed status) = true
-is_executed outcome.Duplicate = false
-is_executed outcome.Reused = false
-is_executed outcome.Old = false
+is_executed other = false
 
 -- some command was not executed
 abbrev pub are_mixed : List Effect → Bool

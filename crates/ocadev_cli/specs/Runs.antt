@@ -1,5 +1,5 @@
 -- What a run of the program does, by its words (*profile*).
-use Rattle.std.specs.Prelude.{◌≡◌, ◌⊎◌, ℕ, Bool, List, [], Option, Some, None, Result, Ok, Err, is_some}
+use Rattle.std.specs.Prelude.{◌≡◌, ◌⊎◌, ℕ, Bool, List, [], Option, Some, None, Result, Ok, Err, is_some, unwrap_or}
 use Rattle.clap.specs.declared.parser.matches.ArgMatches.{ArgMatches}
 use Rattle.oca_types.specs.declared.words.Peer.{Peer}
 use Rattle.oca_types.specs.Sizes.{DeviceSizes}
@@ -44,8 +44,7 @@ ReplaysMade sizes (Ok tree) ended had has was is = ReplaysOn sizes tree ended ha
 
 -- how many turns are served: as many as are given, or without an end that a run comes to
 abbrev pub turns_until : Option ℕ → ℕ
-turns_until None = last_u64
-turns_until (Some turns) = turns
+turns_until turns = unwrap_or turns last_u64
 
 -- A DEVICE of these objects and of the sizes that the words say served a socket, which was bound at the address and the
 -- port that they say, for as many turns as they say, and kept its state if they name a file for that; and this is
@@ -66,20 +65,15 @@ abbrev pub ServesOrFails : ArgMatches → List Object → Result Report RunFault
 ServesOrFails words tree (Ok report) = ServesAt words tree report
 ServesOrFails words tree (Err why) = (why ≡ fault.Socket) ⊎ (why ≡ fault.NoMemory)
 
-abbrev pub ReportsOf : Result Report RunFault → Result ℕ RunFault → Output → Output → Type 0
-ReportsOf (Ok report) ended was is = PrintsText (report_text report) ended was is
-ReportsOf (Err why) ended was is = FailsWith why ended was is
+-- what there is was printed in these words, or why there is nothing
+abbrev pub PrintsOf : {X : Type 0} → (X → List ℕ) → Result X RunFault → Result ℕ RunFault → Output → Output → Type 0
+PrintsOf shown (Ok x) ended was is = PrintsText (shown x) ended was is
+PrintsOf shown (Err why) ended was is = FailsWith why ended was is
 
 abbrev pub ServesMade : ArgMatches → Result (List Object) RunFault → Result ℕ RunFault → Output → Output → Type 0
 ServesMade words (Err why) ended was is = FailsWith why ended was is
 ServesMade words (Ok tree) ended was is = (served : Result Report RunFault) × ServesOrFails words tree served
-    × ReportsOf served ended was is
-
--- THE OBJECTS are printed in these words.
-abbrev pub ShowsMade : (List Object → List ℕ) → Result (List Object) RunFault → Result ℕ RunFault → Output → Output
-    → Type 0
-ShowsMade shown (Err why) ended was is = FailsWith why ended was is
-ShowsMade shown (Ok tree) ended was is = PrintsText (shown tree) ended was is
+    × PrintsOf report_text served ended was is
 
 -- each on the objects that were asked for, where there are some
 abbrev pub DoesReplay : ArgMatches → Result ℕ RunFault → Input → Input → Output → Output → Type 0
@@ -94,7 +88,7 @@ DoesServe words ended was is = (there : Bool) × (made : Result (List Object) Ru
 
 abbrev pub DoesShow : (List Object → List ℕ) → ObjectSource → Result ℕ RunFault → Output → Output → Type 0
 DoesShow shown objects ended was is = (made : Result (List Object) RunFault) × MakesObjects objects made
-    × ShowsMade shown made ended was is
+    × PrintsOf shown made ended was is
 
 -- ---- the whole run
 

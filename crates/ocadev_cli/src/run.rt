@@ -10,8 +10,8 @@ ghost use Rattle.ocadev_cli.specs.Words.{keep_in, objects_in, sizes_in, turns_in
 ghost use Rattle.oca_textree.specs.Written.{text_of};
 ghost use Rattle.oca_program.specs.Endings.{DoesMatched};
 ghost use Rattle.oca_program.specs.Faults.{fault_in};
-ghost use Rattle.ocadev_cli.specs.Printing.{tree_text};
-ghost use Rattle.ocadev_cli.specs.Runs.{DoesCommand, DoesReplay, DoesServe, DoesShow, ReplaysMade, ReportsOf};
+ghost use Rattle.ocadev_cli.specs.Printing.{report_text, tree_text};
+ghost use Rattle.ocadev_cli.specs.Runs.{DoesCommand, DoesReplay, DoesServe, DoesShow, PrintsOf, ReplaysMade};
 ghost use Rattle.ocadev_cli.specs.Runs.{RunsDevice, ServesOrFails, turns_until};
 ghost use Rattle.ocadev_cli.specs.Totals.{KeepsServing, StoresOn, ServesOn, silent_store};
 ghost use Rattle.oca_device.specs.Keeping.{StoreState};
@@ -204,7 +204,7 @@ fn reported<W: Sink>(
     served: Result<Report, Failure>,
     printer: &mut Printer<W>,
 ) -> Result<u8, Failure>
-    ensures { ReportsOf (fault_in served) (fault_in result) printer.old printer.new }
+    ensures { PrintsOf report_text (fault_in served) (fault_in result) printer.old printer.new }
 {
     match served {
         Ok(report) => written(print_report(&report, printer)),

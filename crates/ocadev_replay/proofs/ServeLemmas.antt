@@ -1,5 +1,5 @@
 -- What serving an event, and a run of events, does to a device.
-use Rattle.std.proofs.Common.{◌≡◌, ℕ, List, ◌∷◌, ◌++◌, Option, Some, None, Result, Ok, Err, refl, sym, ap, ◌∙◌, subst}
+use Rattle.std.proofs.Common.{◌≡◌, ℕ, List, ◌∷◌, ◌++◌, Option, Some, None, Result, Err, refl, sym, ap, ◌∙◌, subst}
 use Rattle.std.specs.Prelude.{codes, IfSome}
 use Rattle.std.specs.List.{flat_map}
 use Rattle.oca_types.specs.declared.words.Peer.{Peer}
@@ -10,7 +10,7 @@ use Rattle.oca_device.specs.Devices.{DeviceState, Represents}
 use Rattle.oca_device.specs.Events.{Event, Datagram, Tick}
 use Rattle.oca_device.specs.Answers.{packets, verdict}
 use Rattle.oca_script.specs.declared.fault.ReplayFault.{ReplayFault}
-use Rattle.oca_script.specs.declared.fault.ReplayFault.TheVariants.{Line, Read, Write, TooMuch}
+use Rattle.oca_script.specs.declared.fault.ReplayFault.TheVariants.{Read, Write}
 use Rattle.oca_script.specs.declared.fault.WriteFailed.{WriteFailed}
 use Rattle.oca_script.specs.Ends.{Input, Output}
 use Rattle.oca_script.specs.Printing.{Prints, WritesWhole}
@@ -90,11 +90,9 @@ part w tree events a b u v r given requests text at_a runs writes begins = recor
 
 replays : (w : DeviceSizes) (tree : List Object) (events : List Event) (a b : DeviceState) (u v : Output) (r : Result Unit ReplayFault) (given : List ℕ) → Represents w a tree events
     → ReplaysScript asked_event ServesEvent NeverIdles a b u v r given → ReplaysEvents w tree events b u v r given
-replays w tree events a b u v (Ok x) given at_a h = whole w tree events a b u v (Ok x) given h.requests h.text at_a h.runs h.writes h.ends
-replays w tree events a b u v (Err (Line n f)) given at_a h = whole w tree events a b u v (Err (Line n f)) given h.requests h.text at_a h.runs h.writes h.ends
-replays w tree events a b u v (Err TooMuch) given at_a h = whole w tree events a b u v (Err TooMuch) given h.requests h.text at_a h.runs h.writes h.ends
 replays w tree events a b u v (Err Read) given at_a h = part w tree events a b u v (Err Read) given h.requests h.text at_a h.runs h.writes h.ends
 replays w tree events a b u v (Err Write) given at_a h = part w tree events a b u v (Err Write) given h.requests h.text at_a h.runs h.writes h.ends
+replays w tree events a b u v ended given at_a h = whole w tree events a b u v ended given h.requests h.text at_a h.runs h.writes h.ends
 
 pub outcome-of : (w : DeviceSizes) (tree : List Object) (events : List Event) (a b : DeviceState) (u v : Output) (had has : Input) (r : Result Unit ReplayFault) → Represents w a tree events
     → ScriptOutcome asked_event ServesEvent NeverIdles a b u v had has r → ReplayOutcome w tree events b u v had has r

@@ -45,6 +45,5 @@ begun r = option_map (λ b. (b.0, b.1, b.2.now)) r
 
 -- what the fields after the moment and the peer of a datagram make the line ask for
 abbrev pub datagram_after : ℕ → Peer → List (List ℕ) → Result Event LineFault
-datagram_after now from [] = Err Form
 datagram_after now from (bytes ∷ []) = needs Hex (hex_of bytes) (λ sent. Ok (Datagram from sent now))
-datagram_after now from (bytes ∷ next ∷ more) = Err Form
+datagram_after now from other = Err Form

@@ -1,11 +1,11 @@
 -- What a replay does to a device, and what it writes (profile).
-use Rattle.std.specs.Prelude.{◌≡◌, ℕ, List, ◌∷◌, ◌++◌, Result, Ok, Err}
+use Rattle.std.specs.Prelude.{◌≡◌, ℕ, List, ◌∷◌, ◌++◌, Result, Err}
 use Rattle.oca_types.specs.Sizes.{DeviceSizes}
 use Rattle.oca_tree.specs.declared.object.Object.{Object}
 use Rattle.oca_device.specs.Devices.{DeviceState, Represents}
 use Rattle.oca_device.specs.Events.{Event}
 use Rattle.oca_script.specs.declared.fault.ReplayFault.{ReplayFault}
-use Rattle.oca_script.specs.declared.fault.ReplayFault.TheVariants.{Line, Read, Write, TooMuch}
+use Rattle.oca_script.specs.declared.fault.ReplayFault.TheVariants.{Read, Write}
 use Rattle.oca_script.specs.declared.fault.WriteFailed.{WriteFailed}
 use Rattle.oca_script.specs.Ends.{Input, Output}
 use Rattle.oca_script.specs.Printing.{Prints, WritesWhole}
@@ -34,15 +34,11 @@ pub record ServesEventAndPrints (old : DeviceState) (e : Event) (new : DeviceSta
 abbrev pub device_script : List ℕ → Script Event
 device_script bytes = script asked_event bytes
 
--- the text that a script prints on a device that represents the events
-abbrev pub device_text : DeviceSizes → List Object → List Event → List ℕ → List ℕ
-device_text w tree events given = events_text w tree events (device_script given).requests
-
 -- The script ended so: the text of its events was written, and the device represents them after those before.
 pub record Whole (w : DeviceSizes) (tree : List Object) (events : List Event) (new : DeviceState) (was is : Output)
     (result : Result Unit ReplayFault) (given : List ℕ) : Type 0 where
   pub ending : (device_script given).ending ≡ result
-  pub writes : WritesWhole was is (device_text w tree events given)
+  pub writes : WritesWhole was is (events_text w tree events (device_script given).requests)
   pub represents : Represents w new tree (events_then events (device_script given).requests)
 
 -- A read or a write failed: some first events were served, and their text was written, or a front of it.
@@ -56,12 +52,9 @@ pub record Part (w : DeviceSizes) (tree : List Object) (events : List Event) (ne
 -- what a replay of `given` did, by its result
 abbrev pub ReplaysEvents : DeviceSizes → List Object → List Event → DeviceState → Output → Output
     → Result Unit ReplayFault → List ℕ → Type 0
-ReplaysEvents w tree events new was is (Ok u) given = Whole w tree events new was is (Ok u) given
-ReplaysEvents w tree events new was is (Err (Line number fault)) given = Whole w tree events new was is
-    (Err (Line number fault)) given
 ReplaysEvents w tree events new was is (Err Read) given = Part w tree events new was is (Err Read) given
 ReplaysEvents w tree events new was is (Err Write) given = Part w tree events new was is (Err Write) given
-ReplaysEvents w tree events new was is (Err TooMuch) given = Whole w tree events new was is (Err TooMuch) given
+ReplaysEvents w tree events new was is ended given = Whole w tree events new was is ended given
 
 -- There are bytes, those that the source gave where they are known, and the script of these and of what it has left was
 -- replayed.

@@ -24,8 +24,6 @@ datagram_of moment peer bytes =
 -- The event that the fields of a line ask for. Where the second field is `quiet` it is a clock reading, and a datagram
 -- else.
 abbrev pub asked_event : List (List ℕ) → Result Event LineFault
-asked_event [] = Err Form
-asked_event (moment ∷ []) = Err Form
 asked_event (moment ∷ second ∷ []) = if is_quiet second then tick_of moment else Err Form
 asked_event (moment ∷ second ∷ third ∷ []) = if is_quiet second then Err Form else datagram_of moment second third
-asked_event (moment ∷ second ∷ third ∷ fourth ∷ more) = Err Form
+asked_event other = Err Form

@@ -1,11 +1,10 @@
 -- What the options of the panel's program say (*profile*).
-use Rattle.std.specs.Prelude.{ℕ, ◌/◌, ◌==◌, ◌&&◌, nat_lt, List, Bool, false, codes, if◌then◌else◌, is_some, Option, Some, None}
-use Rattle.std.specs.Str.{bytes_eq}
+use Rattle.std.specs.Prelude.{ℕ, ◌/◌, ◌==◌, ◌&&◌, nat_lt, List, Bool, codes, if◌then◌else◌, is_some, Option, Some, None}
 use Rattle.clap.specs.declared.parser.matches.ArgMatches.{ArgMatches}
 use Rattle.oca_types.specs.declared.words.Peer.{Peer}
 use Rattle.oca_types.specs.Sizes.{span_size}
 use Rattle.oca_script.specs.Fields.{number_of, peer_of, then_in}
-use Rattle.oca_program.specs.Options.{given, read_as, read_or, sized, host_of, is_host, own_of}
+use Rattle.oca_program.specs.Options.{given, read_as, read_or, sized, host_of, is_host, is_true, own_of}
 use Rattle.ocapanel_cli.specs.declared.words.Serving.{Serving}
 
 -- where the device is
@@ -16,13 +15,9 @@ device_in words = read_as host_of (given words (codes "device"))
 abbrev pub at_own_machine : Peer → Option Peer
 at_own_machine p = if p.ip / 16777216 == 127 then Some p else None
 
--- whether a flag stands among the words: its text is then `true`
-abbrev pub says_true : Option (List ℕ) → Bool
-says_true None = false
-says_true (Some text) = bytes_eq text (codes "true")
-
+-- whether a flag stands among the words
 abbrev pub is_said : ArgMatches → List ℕ → Bool
-is_said words flag = says_true (given words flag)
+is_said words flag = is_true (given words flag)
 
 -- an address of one host, 1.0.0.0 to 223.255.255.255; of this machine alone where no token is asked for
 abbrev pub at_network : (no_token : Bool) → Peer → Option Peer

@@ -4,7 +4,7 @@ use Rattle.oca_program.specs.Faults.{note_text}
 use Rattle.oca_program.proofs.fault.print_made_note.Goals as goal
 
 pub returns-in-Ok-clause-one : goal.returns-in-Ok-clause-one
-returns-in-Ok-clause-one g c = inr (record { note = c.as_str.result.now; written = c.print_note.ensures.0; writes = c.print_note.ensures.1 })
+returns-in-Ok-clause-one g c = inr (c.as_str.result.now, c.print_note.ensures.0, c.print_note.ensures.1)
 
 pub returns-in-Ok-clause-made : goal.returns-in-Ok-clause-made
 returns-in-Ok-clause-made g c =

@@ -1,9 +1,10 @@
 use Rattle.std.proofs.Common.{inl, refl, true}
+use Rattle.std.proofs.lemmas.List.{take_all}
 use Rattle.std.proofs.lemmas.Result.{err_from_is_err_and}
 use Rattle.oca_script.proofs.PrintLemmas.{front}
 use Rattle.ocactl_cli.specs.Objects.{NoneLocked}
-use Rattle.ocactl_cli.proofs.ObjectLemmas.{locked-in-time, all-in-time}
-use Rattle.ocactl_cli.proofs.HoldLemmas.{all-locked, locked-none, locked-next, locking-stopped}
+use Rattle.ocactl_cli.proofs.ObjectLemmas.{locked-in-time}
+use Rattle.ocactl_cli.proofs.HoldLemmas.{locked-none, locked-next, locking-stopped}
 use Rattle.ocactl_cli.proofs.holding.lock_each.Goals as goal
 
 pub loop-ono-init : goal.loop-ono-init
@@ -32,7 +33,7 @@ returns-in_err-status-clause-stops g c =
 
 pub returns-clause-in_time : goal.returns-clause-in_time
 returns-clause-in_time g c =
-    all-in-time true c.args.onos.now c.loop-ono.ono-index _ _ _ c.loop-ono-test.false c.loop-ono.invariant.in_time
+    (c.loop-ono.since, rw (take_all c.loop-ono.ono-index c.args.onos.now c.loop-ono-test.false) at c.loop-ono.invariant.in_time)
 
 pub returns-clause-locks : goal.returns-clause-locks
-returns-clause-locks g c = all-locked c.args.onos.now c.loop-ono.ono-index _ _ _ _ _ _ c.loop-ono-test.false c.loop-ono.invariant.locks
+returns-clause-locks g c = rw (take_all c.loop-ono.ono-index c.args.onos.now c.loop-ono-test.false) at c.loop-ono.invariant.locks

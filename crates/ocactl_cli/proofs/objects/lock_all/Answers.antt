@@ -1,5 +1,6 @@
+use Rattle.std.proofs.lemmas.List.{take_all}
 use Rattle.ocactl_cli.specs.Objects.{Locks, NoneLocked}
-use Rattle.ocactl_cli.proofs.ObjectLemmas.{asked-none, asked-next, asked-nothing, asked-until, locked-in-time, all-in-time}
+use Rattle.ocactl_cli.proofs.ObjectLemmas.{asked-none, asked-next, asked-nothing, asked-until, locked-in-time}
 use Rattle.ocactl_cli.proofs.objects.lock_all.Goals as goal
 
 pub loop-ono-init : goal.loop-ono-init
@@ -24,4 +25,4 @@ returns-in_err-own-clause-part g c =
 
 pub returns-clause-in_time : goal.returns-clause-in_time
 returns-clause-in_time g c =
-    all-in-time c.args.locks c.args.onos.now c.loop-ono.ono-index _ _ _ c.loop-ono-test.false c.loop-ono.invariant.in_time
+    (c.loop-ono.since, rw (take_all c.loop-ono.ono-index c.args.onos.now c.loop-ono-test.false) at c.loop-ono.invariant.in_time)

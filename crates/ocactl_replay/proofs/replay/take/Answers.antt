@@ -1,4 +1,4 @@
-use Rattle.std.proofs.Common.{ap, sym, ◌∙◌, Some, None}
+use Rattle.std.proofs.Common.{ap, sym, ◌∙◌}
 use Rattle.std.specs.Option.{option_map}
 use Rattle.oca_control.specs.Answers.{answer_fields}
 use Rattle.ocactl_replay.specs.Printing.{taken_text}
