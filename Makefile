@@ -95,7 +95,7 @@ uninstall:
 library: $(LIBRARY)
 
 crates/oca_c/out/$(TARGET)/liboca_c.a: $(foreach name,c calls types pdu model tree session net device control,$(wildcard crates/oca_$(name)/src/*.rt crates/oca_$(name)/src/*/*.rt crates/oca_$(name)/specs/*.antt crates/oca_$(name)/proofs/*.antt))
-	@python3 gate/library.py $(TARGET)
+	@python3 gate/build.py --library $(TARGET)
 
 clean:
 	rm -rf bin crates/*/out out

@@ -33,13 +33,9 @@ def shown(text):
     """An item as it is declared, in one line: neither its contract nor its body, of a type what is public of it."""
     text = re.sub(r"(?m)^\s*(?:///?.*|#\[.*|(?:pub )?ghost .*)\n", "", text)
     kind = re.match(ITEM, text.strip())[2]
-    if kind in ("fn", "const", "type"):
-        end = r"\n\s*(?:ensures|requires|decreases|where)\b|\n?\s*\{|;"
-    elif kind == "trait":
-        end = r"[:{]"
-    else:
-        end = r"\n\}|;"
-    text = re.split(end, text, maxsplit=1)[0]
+    of_code = r"\n\s*(?:ensures|requires|decreases|where)\b|\n?\s*\{|;"
+    ends = {"fn": of_code, "const": of_code, "type": of_code, "trait": r"[:{]", "struct": r"\n\}|;", "enum": r"\n\}|;"}
+    text = re.split(ends[kind], text, maxsplit=1)[0]
     if kind == "struct":
         text = re.sub(r"(?m)^    (?!pub )\w+: .*\n?|(?<=\()[a-z]\w*(?=\))", "", text)
     text = re.sub(r"\(\s+", "(", re.sub(r",?\s+\)", ")", " ".join(text.split())))
@@ -99,15 +95,11 @@ def about(crate):
     return first_sentence(lines)
 
 
-def of_header():
-    read = reference.paragraphs(reference.HEADER.read_text())
-    return [(" ".join(declared.rstrip(";").split()).removeprefix("static inline "), first_sentence([said]))
-            for said, calls, _ in read for declared in calls.values()]
-
-
 def made():
     parts = [table(f"`{crate}`\n\n{textwrap.fill(about(crate), 120)}", listed(crate)) for crate in LIBRARIES]
-    return "\n".join([MARK, *parts, table("`oca.h`", of_header())])
+    of_header = [(" ".join(declared.rstrip(";").split()).removeprefix("static inline "), first_sentence([said]))
+                 for said, calls, _ in reference.paragraphs(reference.HEADER.read_text()) for declared in calls.values()]
+    return "\n".join([MARK, *parts, table("`oca.h`", of_header)])
 
 
 if __name__ == "__main__":

@@ -1,11 +1,15 @@
 #!/usr/bin/env python3
-"""Proves and builds programs with the crates below them, libraries side by side as crates.txt allows.
+"""Proves and builds programs with the crates below them, libraries side by side as crates.txt allows; or the library for C.
 
-Usage: build.py FOLDER PROGRAM..     each program is copied into FOLDER
+Usage: build.py FOLDER PROGRAM..                each program is copied into FOLDER
+       build.py --library [TARGET [CPU]]        TARGET is x86_64-unknown-linux-gnu or aarch64-unknown-linux-gnu
 
 A library is proved from nothing and holds its statements alone, in out/statements of its crate; a program is proved and
-built as `rt run` does it. What stands as it would be built now is taken. A line is printed for each crate as it
-ends."""
+built as `rt run` does it. What stands as it would be built now is taken. A line is printed for each crate as it ends.
+
+The library for C is crates/oca_c/out/TARGET/liboca_c.a, for every processor of that kind unless CPU names one (x86-64-v2,
+x86-64-v3; neoverse-v2). Crates that the gate has just proved are taken, else all are built. An earlier archive is removed.
+`oca_c` is proved by as many processes as there are processors, or as LIBRARY_JOBS says."""
 import os
 import shutil
 import subprocess
@@ -26,6 +30,7 @@ LONG = 0.6  # of the seconds of the longest chain of crates that is left: a crat
 SHORT = 30  # seconds: a crate that takes fewer itself is not worth a second process, however long its chain is
 # What a program is run with to be built: words that only print.
 WORDS = {"trials": ["calls"], "amplifier": [], "panel": []}
+LEAST = {"x86_64-unknown-linux-gnu": "x86-64", "aarch64-unknown-linux-gnu": "generic"}  # processors of each kind
 
 
 def apart(crates):
@@ -51,11 +56,6 @@ def is_made(rt, crate):
     return note.is_file() and note.read_text() == made_from(rt, crate)
 
 
-def all_below_are_made(rt, crate):
-    """Whether each library that the crate is built over is still what was built in this run, of what its sources still are."""
-    return all(is_made(rt, it) for it in crate.below())
-
-
 def build_library(rt, crate, jobs):
     """Proves and builds a library; what the prover says of one that fails is shown. Answers whether it is built."""
     with tempfile.TemporaryFile("w+", errors="replace") as crate.out:
@@ -79,19 +79,19 @@ def build_program(rt, crate, jobs):
 
 
 def build_once(rt, crate, build, jobs):
-    """Builds the crate if it must; whether it is there, not of sources that changed, and the seconds."""
-    begun, is_there = time.monotonic(), is_made(rt, crate)
-    if not is_there:
-        stamp, is_changed = crate.stamp(), not all_below_are_made(rt, crate)
-        if not is_changed and build(rt, crate, jobs):
-            said = made_from(rt, crate)
-            is_there = said.split("\n")[0] == stamp and all_below_are_made(rt, crate)
-            is_changed = not is_there
-        if is_there:
+    """Builds the crate if it must. Answers whether it is there, of what its sources and each library below it still are."""
+    if is_made(rt, crate):
+        return True
+    stamp, all_below_are_made = crate.stamp(), lambda: all(is_made(rt, it) for it in crate.below())
+    if all_below_are_made():
+        if not build(rt, crate, jobs):
+            return False
+        said = made_from(rt, crate)
+        if said.split("\n")[0] == stamp and all_below_are_made():
             note_of(crate).write_text(said)
-        if is_changed:
-            print(f"build: what {crate.name} is built of was changed meanwhile: NOT BUILT, begin again")
-    return is_there, time.monotonic() - begun
+            return True
+    print(f"build: what {crate.name} is built of was changed meanwhile: NOT BUILT, begin again")
+    return False
 
 
 def work(crate):
@@ -112,11 +112,9 @@ def shares(ready, idle, number, long):
     those that no other waits for. A long chain gets half of all at least, and the only long one three of four."""
     given, left, least = [], idle, number // 2 if len(long) > 1 else number * 3 // 4
     for at, crate in enumerate(ready[:idle]):
-        jobs = max(1, left // (len(ready) - at), least if crate in long else 0)
-        given.append((crate, min(jobs, left, 4)))
-        left -= given[-1][1]
-        if not left:
-            break
+        jobs = min(max(1, left // (len(ready) - at), least if crate in long else 0), left, 4)
+        left -= jobs
+        given += [(crate, jobs)] if jobs else []
     return given
 
 
@@ -146,13 +144,14 @@ def build_all(rt, libraries, programs=(), folder=None):
     ended, crates = [], sorted([*libraries, *programs], key=lambda it: len(it.below()))
 
     def make(crate, jobs):
-        is_program = crate in programs
-        is_built, seconds = build_once(rt, crate, build_program if is_program else build_library, jobs)
+        is_program, begun = crate in programs, time.monotonic()
+        is_built = build_once(rt, crate, build_program if is_program else build_library, jobs)
         if is_built and is_program:
             new = shutil.copy(Path(crate.folder, "out", crate.name), Path(folder, f".{crate.name}"))  # now: newer than its sources
             os.replace(new, Path(folder, crate.name))  # which may be running
         ended.append(crate)
-        print(f"build: {len(ended)} of {len(crates)}: {crate.name} {'proved' if is_built else 'NOT PROVED'}, {seconds:.0f} s", flush=True)
+        said = f"{crate.name} {'proved' if is_built else 'NOT PROVED'}, {time.monotonic() - begun:.0f} s"
+        print(f"build: {len(ended)} of {len(crates)}: {said}", flush=True)
         return is_built
 
     return side_by_side(crates, kit.lanes(rt), make)
@@ -160,8 +159,7 @@ def build_all(rt, libraries, programs=(), folder=None):
 
 def run_program(name, jobs):
     """Proves, builds and runs a program as `rt run` does, but for the locks of the crates' folders, which the caller has."""
-    rt = kit.toolchain()
-    crates = kit.crates(rt)
+    crates = kit.crates(kit.toolchain())
     apart(crates.values())
     crate = crates[name]
     os.chdir(crate.folder)
@@ -170,9 +168,39 @@ def run_program(name, jobs):
     return crate.run(["--jobs", jobs], WORDS.get(name, ["--help"]))
 
 
+def library(target="x86_64-unknown-linux-gnu", cpu=None, *more):
+    """Builds the library for C. Answers the status: the compiler's, or 1 where it made no archive, or a source was changed
+    meanwhile, of which none is left."""
+    if target not in LEAST or more:
+        sys.exit(__doc__)
+    rt = kit.toolchain()
+    os.chdir(TOP)
+    crate = kit.crates(rt)["oca_c"]
+    rt.lock([*crate.below(), crate])  # until this process ends
+    is_left, to = all(kit.is_left_by_the_gate(rt, it) for it in crate.below()), Path(crate.folder, "out", target, "liboca_c.a")
+    words = ["--jobs", os.environ.get("LIBRARY_JOBS") or str(rt.processors()), "--target", target, "--cpu", cpu or LEAST[target]]
+    with kit.in_memory(rt):
+        if not is_left:
+            apart(crate.below())
+            if not build_all(rt, set(crate.below())):
+                return 1
+        to.parent.mkdir(parents=True, exist_ok=True)
+        to.unlink(missing_ok=True)
+        stamp = crate.stamp()
+        status = crate.compile(words, str(to))
+    is_changed = crate.stamp() != stamp
+    if status == 0 and (is_changed or not to.is_file()):
+        print(f"library: {to} was NOT BUILT{': a source was changed meanwhile, begin again' if is_changed else ''}")
+        to.unlink(missing_ok=True)
+        return 1
+    return status
+
+
 def main():
     if sys.argv[1:2] == ["--one"]:
         return run_program(*sys.argv[2:])
+    if sys.argv[1:2] == ["--library"]:
+        return library(*sys.argv[2:])
     if len(sys.argv) < 3:
         sys.exit(__doc__)
     folder, names = TOP / sys.argv[1], sys.argv[2:]

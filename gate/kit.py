@@ -1,4 +1,8 @@
-"""The toolchain: the command `rt` of a kit for Rattle. All that is private to it and that the gate, the builds and the edits use stands here."""
+#!/usr/bin/env python3
+"""The toolchain: the command `rt` of a kit for Rattle. All that is private to it and that the gate, the builds and the edits use stands here.
+
+Usage: kit.py CRATE PATH..     checks functions of a crate, as `rt check --only PATH` in its folder, over the sources of the
+                               crates below it, which are not proved and built first; keeps nothing"""
 import contextlib
 import importlib.machinery
 import importlib.util
@@ -97,3 +101,14 @@ def in_memory(rt):
         tempfile.tempdir = None
         shutil.rmtree(room, ignore_errors=True)
         remover.stdin.close()
+
+
+def main(name, *paths):
+    rt = toolchain()
+    crate = crates(rt)[name]
+    words = crate.words(["--jobs", "1"] + [word for path in paths for word in ("--only", path)], as_source=True)
+    return subprocess.call([rt.RATTLE, "check", *words], cwd=crate.folder)
+
+
+if __name__ == "__main__":
+    sys.exit(main(*sys.argv[1:]) if len(sys.argv) > 1 else __doc__)

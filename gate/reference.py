@@ -16,6 +16,7 @@ from tables import table
 ANSWERS = table("answers")["answers"]  # of a call, by the first form that its name has
 HEADER = TOP / "include/oca.h"
 CALL = r"^(?:static inline )?(?:(?:enum|struct) oca_\w+|const char|u?int\d+_t|size_t|void) \*?(oca_\w+)\([^)]*\)"
+TYPE = r"^(?:((?:struct|enum) oca_\w+) \{[^}]*\}|typedef \w+ \(\*(oca_\w+)\)\([^)]*\));"
 # On each page anyway; and what the header's own functions call, which has no page.
 NAMED_ANYWAY = ("struct oca_device", "struct oca_link", "enum oca_result")
 HELPERS = {"oca_device_close_any", "oca_link_close_any", "oca_outcome_of"}
@@ -27,30 +28,18 @@ def answers_of(name):
     return [f"{of}{it}" for it in ["DONE", *said.split()]] if said else []
 
 
-def answers_text(header, name):
-    numbers = dict(re.findall(r"(OCA_\w+) = (\d+)", header))
-    texts = dict(re.findall(r'case (OCA_\w+): return "([^"]*)";', header))
-    return "\n".join(f"{it} ({numbers[it]}): {texts[it]}" for it in answers_of(name))
-
-
 def comment_in(text):
     parts = re.findall(r"/\*(.*?)\*/", text, re.S)
     return " ".join(" ".join(re.sub(r"^ \* ?", "", line).strip() for line in part.splitlines()) for part in parts).strip()
 
 
-def declarations(text):
-    """The calls that a paragraph of the header declares, each with its declaration, and its enums, structs and types of functions by name."""
-    calls = {found[1]: found[0] + ";" for found in re.finditer(CALL, text, re.M) if found[1] not in HELPERS}
-    types = {found[1]: found[0] for found in re.finditer(r"^((?:struct|enum) oca_\w+) \{[^}]*\};", text, re.M)}
-    types.update({found[1]: found[0] for found in re.finditer(r"^typedef \w+ \(\*(oca_\w+)\)\([^)]*\);", text, re.M)})
-    return calls, types
-
-
 def paragraphs(header):
-    """The paragraphs of the header that declare something: what is said, the calls, the types."""
+    """The paragraphs of the header that declare something: what is said, the calls, each with its declaration, and the enums,
+    structs and types of functions by name."""
     body = header[header.index("#define OCA_H"):]
     for text in re.split(r"\n\s*\n", body):
-        calls, types = declarations(text)
+        calls = {found[1]: found[0] + ";" for found in re.finditer(CALL, text, re.M) if found[1] not in HELPERS}
+        types = {found[1] or found[2]: found[0] for found in re.finditer(TYPE, text, re.M)}
         if calls or types:
             front = re.match(r"(\s*/\*.*?\*/)*", text, re.S)[0]
             yield comment_in(front), calls, types
@@ -77,21 +66,22 @@ def roff(text):
     return re.sub(r"^([.'])", r"\\&\1", safe, flags=re.M)
 
 
-def day_of(version):
-    """The day on which a version was set: that of the newest version in CHANGELOG.md, if it is this one."""
-    newest = re.search(r"^## \[(.+)\] - ([\d-]+)$", (TOP / "CHANGELOG.md").read_text(), re.M)
-    return newest[2] if newest and newest[1] == version else "of no day"
-
-
 def title(name, section, version, kind):
-    return f'.TH {name} {section} {day_of(version.split()[-1])} "{version}" "{kind}"'
+    """The title of a page, with the day on which this version was set: that of the newest one in CHANGELOG.md, if it is this one."""
+    newest = re.search(r"^## \[(.+)\] - ([\d-]+)$", (TOP / "CHANGELOG.md").read_text(), re.M)
+    day = newest[2] if newest and newest[1] == version.split()[-1] else "of no day"
+    return f'.TH {name} {section} {day} "{version}" "{kind}"'
 
 
-def page(name, said, declared, types, general, answers, version):
+def page(header, general, name, said, declared, types):
     about = said.split("\n")[0].split(". ")[0].split("; ")[0].rstrip(".")
-    parts = [title(name, 3, f"oca {version}", "OCA (AES70) for C"), ".SH NAME", f"{name} \\- {about}", ".SH SYNOPSIS", ".nf", "#include <oca.h>", "",
+    head = title(name, 3, f"oca {version_of(header)}", "OCA (AES70) for C")
+    parts = [head, ".SH NAME", f"{name} \\- {about}", ".SH SYNOPSIS", ".nf", "#include <oca.h>", "",
              *[roff(of) + "\n" for of in types], roff(declared), ".fi", ".SH DESCRIPTION", said]
     if re.search("enum oca_((store|socket)_)?result oca_", declared):
+        numbers = dict(re.findall(r"(OCA_\w+) = (\d+)", header))
+        texts = dict(re.findall(r'case (OCA_\w+): return "([^"]*)";', header))
+        answers = "\n".join(f"{it} ({numbers[it]}): {texts[it]}" for it in answers_of(name))
         parts += [".SH RETURN VALUE", ".nf", roff(answers), ".fi"]
     return "\n".join([*parts, ".SH NOTES", roff(general), ""])
 
@@ -105,8 +95,8 @@ def write(folder):
     header = HEADER.read_text()
     found, general = pages(header)
     folder.mkdir(parents=True, exist_ok=True)
-    for name, (said, declared, types) in found.items():
-        (folder / f"{name}.3").write_text(page(name, said, declared, types, general, answers_text(header, name), version_of(header)))
+    for name, its in found.items():
+        (folder / f"{name}.3").write_text(page(header, general, name, *its))
     return found
 
 

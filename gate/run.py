@@ -1,13 +1,12 @@
 #!/usr/bin/env python3
-"""The gate: `rt ci`, and then the steps of the file `steps` beside this one.
+"""The gate: `rt ci`, and then the steps of the file `steps` beside this one, which says what a step is.
 
 Usage: run.py                    all of it
        run.py steps [FILE]       the steps alone, of this file
 
-The steps of a paragraph run three at a time, in their order; a paragraph begins when the one before is over. What a
-step prints is shown when it ends: as a whole if it failed, else its last lines. A line that begins with '&' is a step
-beside those three, which gives way to them and is awaited at the end. One with '&&' begins as soon as `rt ci` has
-proved a crate; the file GATE_PROVED has the proved crates, a line each, and at the end '(ended)'.
+A paragraph of steps begins when the one before is over. What a step prints is shown when it ends: as a whole if it
+failed, else its last lines. A step beside others gives way to them and is awaited at the end. One beside `rt ci` begins
+as soon as that has proved a crate; the file GATE_PROVED has the proved crates, a line each, and at the end '(ended)'.
 
 A step has failed if one of its checks failed, if its status is not 0, if it passed fewer checks than its line names, or
 if it took longer. The gate fails too for a line that can't be read, and for a tool in no step. The last lines are a
@@ -22,6 +21,7 @@ import signal
 import subprocess
 import sys
 import tempfile
+import threading
 import time
 from collections import Counter
 from concurrent.futures import ThreadPoolExecutor, as_completed
@@ -47,10 +47,8 @@ class Step:
 
     def __init__(self, line):
         read = re.fullmatch(r"\s*(&{0,2})\s*(\d+)\s+([\d.]+)\s+(\S.*)", line)
-        self.is_read = bool(read) and int(read[2]) > 0
-        self.is_beside, self.is_early = bool(read and read[1]), bool(read and read[1] == "&&")
-        self.least, self.minutes = (int(read[2]), float(read[3])) if read else (1, 0)
-        self.command = read[4] if read else line
+        sign, least, minutes, self.command = read.groups() if read else ("", 0, 0, line)
+        self.least, self.minutes, self.is_beside, self.is_early = int(least), float(minutes), bool(sign), sign == "&&"
 
 
 def give_way():
@@ -58,13 +56,6 @@ def give_way():
     os.nice(19)
     with contextlib.suppress(OSError), open("/proc/self/autogroup", "w", encoding="ascii") as file:
         file.write("19")
-
-
-def started(command, gives_way=False):
-    """Starts a command, with a group of processes of its own, so that all that it starts can be ended with it."""
-    RUNNING.append(subprocess.Popen(command, shell=True, cwd=TOP, stdin=subprocess.DEVNULL, stdout=subprocess.PIPE, stderr=subprocess.STDOUT,
-        text=True, errors="replace", start_new_session=True, preexec_fn=give_way if gives_way else None))
-    return RUNNING[-1]
 
 
 def end(process):
@@ -82,68 +73,60 @@ def last_line(text):
     return next((line.strip() for line in reversed(text.splitlines()) if line.strip()), "")
 
 
-def counted(last, status, least):
-    """How many checks passed and failed, by the last line or the status; why they are too few."""
-    counts = re.fullmatch(r"(\d+) passed, (\d+) failed", last)
-    passed, failed = map(int, counts.groups()) if counts else (int(status == 0), 0)
-    why = ""
-    if status != 0 and failed == 0:
-        why = f"it ended with status {status}"
-    elif failed == 0 and passed < least:
-        why = f"it passed {passed} checks, and the least is {least}"
-    return passed, failed + bool(why), why
-
-
 def note_wrong(lines):
     """Notes the lines that say what failed; of a failed command that has none, the last three."""
     lines = [line.strip() for line in lines if line.strip()]
     WRONG.extend([line for line in lines if SAYS_WRONG.search(line) and SAYS_WELL not in line] or lines[-3:])
 
 
-def judged(command, begun, text, status, least):
-    """How many checks of a command that has ended passed and failed, and what is told of it at its end."""
-    passed, failed, why = counted(last_line(text), status, least)
+def ran(command, least, minutes=24 * 60, gives_way=False, note=lambda _: None):
+    """Runs a command, for so many minutes at most, with a group of processes of its own, so that all that it starts can be ended
+    with it. Each line that it prints is handed on. Answers how many checks passed and failed, by its last line or its
+    status, what it printed, and what is told of it."""
+    begun, said, why = time.monotonic(), [], ""
+    process = subprocess.Popen(command, shell=True, cwd=TOP, stdin=subprocess.DEVNULL, stdout=subprocess.PIPE, stderr=subprocess.STDOUT,
+                               text=True, errors="replace", start_new_session=True, preexec_fn=give_way if gives_way else None)
+    RUNNING.append(process)
+    late = threading.Timer(60 * minutes, end, [process])
+    late.daemon = True
+    late.start()
+    with process:
+        for line in process.stdout:
+            said.append(line)
+            note(line)
+    late.cancel()
+    taken, text, status = (time.monotonic() - begun) / 60, "".join(said), process.returncode
+    if taken >= minutes:
+        text, status = f"{text}\nit took too long and was ended\n", status or 1
+    counts = re.fullmatch(r"(\d+) passed, (\d+) failed", last_line(text))
+    passed, failed = map(int, counts.groups()) if counts else (int(status == 0), 0)
+    if not failed and (status or passed < least):
+        failed, why = 1, f"it ended with status {status}" if status else f"it passed {passed} checks, and the least is {least}"
     if failed:
         note_wrong(text.splitlines())
-    minutes = (time.monotonic() - begun) / 60
-    TABLE.append(f"gate: {minutes:5.1f} minutes, {passed:5} passed, {failed} failed: {command[:60]}")
-    told = f"gate: {minutes:.1f} minutes for {command[:60]}"
-    return (passed, failed), f"gate: FAILED: {why}: {command[:60]}\n{told}" if why else told
+    TABLE.append(f"gate: {taken:5.1f} minutes, {passed:5} passed, {failed} failed: {command[:60]}")
+    told = f"gate: {taken:.1f} minutes for {command[:60]}"
+    return (passed, failed), text, f"gate: FAILED: {why}: {command[:60]}\n{told}" if why else told
 
 
 def watched(command, least, note=lambda _: None):
     """Runs a command, shows what it prints as it prints it, and answers how many checks passed and failed. Each line is handed on."""
     print(f"gate: {command}", flush=True)
-    begun, said = time.monotonic(), []
-    with started(command) as process:
-        for line in process.stdout:
-            print(line, end="", flush=True)
-            said.append(line)
-            note(line)
-    count, told = judged(command, begun, "".join(said), process.returncode, least)
+    count, _, told = ran(command, least, note=lambda line: print(line, end="", flush=True) or note(line))
     print(told, flush=True)
     return count
 
 
 def kept(step):
-    """Runs a step, and answers how many checks passed and failed, and what it printed."""
-    begun = time.monotonic()
-    with started(step.command, step.is_beside) as process:
-        try:
-            text = process.communicate(timeout=60 * step.minutes)[0]
-            status = process.returncode
-        except subprocess.TimeoutExpired:
-            end(process)
-            text, status = process.communicate()[0] + "\nit took too long and was ended\n", 1
-    count, told = judged(step.command, begun, text, status, step.least)
+    """Runs a step, and answers how many checks passed and failed, and what is shown of it at its end."""
+    count, text, told = ran(step.command, step.least, step.minutes, step.is_beside)
     shown = text if count[1] else "".join(text.splitlines(keepends=True)[-LAST_LINES:])
     return count, f"gate: {step.command}\n{shown}{told}"
 
 
 def paragraphs(file):
-    text = "\n".join(line for line in file.read_text().splitlines() if not line.startswith("#"))
-    parts = [part for part in re.split(r"\n\s*\n", text.strip("\n")) if part.strip()]
-    return [[Step(line) for line in part.splitlines()] for part in parts]
+    parts = re.split(r"\n\s*\n", re.sub(r"(?m)^#.*\n?", "", file.read_text()))
+    return [[Step(line) for line in part.strip("\n").split("\n")] for part in parts if part.strip()]
 
 
 def left_out(steps, tools):
@@ -178,54 +161,35 @@ def processor_minutes():
     return (used.ru_utime + used.ru_stime) / 60
 
 
-def show_each(runs):
-    """Shows what steps printed, each when it ends, and answers their counts."""
-    counts = []
-    for ended in as_completed(runs):
-        count, text = ended.result()
-        print(text, flush=True)
-        counts.append(count)
-    return counts
-
-
-class Early:
-    """The steps that run beside `rt ci`, and the file that tells them which crates it has proved."""
-
-    def __init__(self, steps, pool, room):
-        self.left, self.pool, self.begun, self.file = [step for step in steps if step.is_early], pool, {}, Path(room, "proved")
-        self.file.touch()
-        os.environ["GATE_PROVED"] = str(self.file)
-
-    def add(self, name):
-        with self.file.open("a") as file:
-            print(name, file=file)
-
-    def note(self, line):
-        proved = PROVED.match(line)
-        if proved:
-            self.add(proved[1])
-            self.begun |= {step: self.pool.submit(kept, step) for step in self.left}
-            self.left = []
-
-
-def first_of_ci(rt):
-    """The crate that `rt ci` is asked for first: most others wait for it, and several processes prove it. None if
-    RT_JOBS says the lanes, if only one check can run, or if `rt ci` takes no names: in some kits, and in any if CI is
-    true."""
-    takes_names = rt.ci_takes_names and os.environ.get("CI") != "true"
-    return waited_for() if takes_names and kit.lanes(rt) > 1 and not kit.said_lanes() else None
+def show(run):
+    """Shows what a step that has ended printed, and answers its counts."""
+    count, text = run.result()
+    print(text, flush=True)
+    return count
 
 
 def of_ci(steps, others, room):
-    """Runs `rt ci`, and beside it, in this pool, the steps that begin early. Answers its counts, and the steps that have begun."""
-    early, rt = Early(steps, others, room), kit.toolchain()
-    first = first_of_ci(rt)
-    if first:
-        watched(f"rt ci {first}", 1)
-    count = watched(f"RT_JOBS={kit.lanes(rt)} rt ci", least_of_ci(), early.note)
-    early.add(kit.ENDED)
+    """Runs `rt ci`, and beside it, in this pool, the steps that begin early. Answers its counts, and the steps that have begun.
+    `rt ci` is asked first for the crate that most others wait for, which several processes prove; not if RT_JOBS says the
+    lanes, if only one check can run, or if `rt ci` takes no names: in some kits, and in any if CI is true."""
+    rt, begun = kit.toolchain(), {}
+    os.environ["GATE_PROVED"] = f"{room}/proved"
+    with open(f"{room}/proved", "w", buffering=1, encoding="utf-8") as file:
+
+        def note(line):
+            proved = PROVED.match(line)
+            if proved:
+                print(proved[1], file=file)
+                begun.update({step: others.submit(kept, step) for step in steps if step.is_early and step not in begun})
+
+        takes_names = rt.ci_takes_names and os.environ.get("CI") != "true"
+        first = waited_for() if takes_names and kit.lanes(rt) > 1 and not kit.said_lanes() else None
+        if first:
+            watched(f"rt ci {first}", 1)
+        count = watched(f"RT_JOBS={kit.lanes(rt)} rt ci", least_of_ci(), note)
+        print(kit.ENDED, file=file)
     print(f"gate: {processor_minutes():.1f} processor minutes for rt ci", flush=True)
-    return count, early.begun
+    return count, begun
 
 
 def run_steps(parts, others, early):
@@ -236,26 +200,18 @@ def run_steps(parts, others, early):
             begun, used = time.monotonic(), processor_minutes()
             beside += [early.get(step) or others.submit(kept, step) for step in steps if step.is_beside]
             here = [step for step in steps if not step.is_beside]
-            counts += show_each([pool.submit(kept, step) for step in here])
+            counts += map(show, as_completed([pool.submit(kept, step) for step in here]))
             minutes = (time.monotonic() - begun) / 60
             print(f"gate: {minutes:.1f} minutes, {processor_minutes() - used:.1f} processor minutes for {len(here)} steps", flush=True)
-    return counts + show_each(beside)
-
-
-def sets_aside_here():
-    """Whether `rt ci` sets aside what crates keep in git's folder here, and not on another disk."""
-    git = TOP / ".git"
-    return git.is_dir() and not git.is_symlink() and os.access(git, os.W_OK)
+    return [*counts, *map(show, as_completed(beside))]
 
 
 def writes():
-    """Has what this starts write in memory what it removes again, where nothing is lost by it."""
-    return kit.in_memory(kit.toolchain()) if sets_aside_here() and shutil.which("rt") else contextlib.nullcontext()
-
-
-def refused(steps):
-    wrong = [f"a step is no 'LEAST MINUTES COMMAND', with LEAST above 0: {step.command}" for step in steps if not step.is_read]
-    return wrong if steps else ["there is no step"]
+    """Has what this starts write in memory what it removes again, where nothing is lost by it: where `rt ci` sets aside what
+    crates keep in git's folder here, and not on another disk."""
+    git = TOP / ".git"
+    is_here = git.is_dir() and not git.is_symlink() and os.access(git, os.W_OK)
+    return kit.in_memory(kit.toolchain()) if is_here and shutil.which("rt") else contextlib.nullcontext()
 
 
 def main(words):
@@ -267,22 +223,23 @@ def main(words):
     if not words:
         kit.command()  # or one line says that there is none
     parts = paragraphs(Path(words[1]) if len(words) > 1 else HERE / "steps")
-    steps = [step for part in parts for step in part]
-    wrong = refused(steps)
+    steps = sum(parts, [])
+    wrong = [f"a step is no 'LEAST MINUTES COMMAND', with LEAST above 0: {step.command}" for step in steps if not step.least]
+    wrong += [] if steps else ["there is no step"]
     if len(words) < 2:
         wrong += [f"no step runs tools/{name}" for name in left_out(steps, TOP / "tools")]
     for line in wrong:
         print(f"gate: FAILED: {line}", flush=True)
     note_wrong(f"FAILED: {line}" for line in wrong)
-    parts = [[step for step in part if step.is_read] for part in parts]
+    parts = [[step for step in part if step.least] for part in parts]
     with writes(), tempfile.TemporaryDirectory() as room, ThreadPoolExecutor() as others:
         early = {}
         if not words:
             print(f"gate: every proof, then {len(steps)} steps: from nothing 40 to 50 minutes on four processors. "
                   "Each crate and each step is shown as it ends.", flush=True)
-            count, early = of_ci([step for part in parts for step in part], others, room)
+            count, early = of_ci(sum(parts, []), others, room)
             counts.append(count)
-        counts += [(0, len(wrong))] + run_steps(parts, others, early)
+        counts += [(0, len(wrong)), *run_steps(parts, others, early)]
     passed, failed = (sum(of) for of in zip(*counts))
     print("\n".join(TABLE))
     for line in WRONG[:MOST_WRONG]:

@@ -1,5 +1,5 @@
-"""The rows of the gate's own test that are of what builds, proves and installs: `make`, .ci/run, build.py, library.py
-and install.sh, each tried over stand-ins of what it runs."""
+"""The rows of the gate's own test that are of what builds, proves and installs: `make`, .ci/run, build.py and
+install.sh, each tried over stand-ins of what it runs; and what the other rows use too."""
 import contextlib
 import functools
 import io
@@ -17,7 +17,6 @@ from unittest.mock import patch
 
 import build
 import kit
-import library
 import run
 
 sys.path.insert(0, str(run.TOP / "tools"))
@@ -27,6 +26,7 @@ from checks import waited
 from tables import data
 
 DATA = data("gate_of_builds")
+CHECKS = []  # what is tried
 
 
 def said(call, *given):
@@ -45,10 +45,40 @@ def is_same(wanted, got):
     return got == wanted
 
 
+def check(what):
+    """Enters a function among the checks: what it is called, and whether it is so, in a folder of its own."""
+    return lambda is_so: CHECKS.append((what, is_so)) or is_so
+
+
+def each(rows):
+    """Enters a check for each of these rows: it is called by the first value, and is given the others, and its folder."""
+    return lambda is_so: [check(what)(functools.partial(is_so, *given)) for what, *given in rows] and is_so
+
+
+def of_rows(what, rows):
+    """Enters one check: of all values of each row but the last, and of a folder, the function gives the last one."""
+    given = lambda gives: [gives(*given, Path(tempfile.mkdtemp())) for *given, _ in rows]
+    return lambda gives: check(what)(lambda _: is_same([wanted for *_, wanted in rows], given(gives))) and gives
+
+
 def laid(folder, texts):
     for name, text in texts.items():
         Path(folder, name).parent.mkdir(parents=True, exist_ok=True)
         Path(folder, name).write_text(text)
+
+
+def stand_in(file, text):
+    laid(file.parent, {file.name: f"#!/bin/sh\n{text}\n"})
+    file.chmod(0o755)
+
+
+def over_stand_ins(top, programs, *words, cwd=None, **settings):
+    """How a command ends, and what it prints, where these programs stand in for the system's, whatever runs this."""
+    for name, text in programs.items():
+        stand_in(top / "path" / name, text)
+    env = {name: value for name, value in os.environ.items() if not name.startswith(("MAKE", "MFLAGS", "PYTHONPATH"))}
+    env |= {"PATH": f"{top}/path:{os.environ['PATH']}", **settings}
+    return subprocess.run([*map(str, words)], cwd=cwd, env=env, capture_output=True, text=True, timeout=60)
 
 
 def of_prover(lines, is_wrong=None):
@@ -58,23 +88,28 @@ def of_prover(lines, is_wrong=None):
     return SimpleNamespace(returncode=int(is_wrong), stdout=told)
 
 
-def main_of(program, tools, *words):
+def main_of(program, *words, tools=None):
+    """How a program ends with these words, over these tools; its last line, and all that it prints."""
     with patch.object(kit, "toolchain", lambda: tools), patch.object(sys, "argv", [f"{program.__name__}.py", *map(str, words)]):
-        return said(program.main)
+        status, told = said(program.main)
+    return status, run.last_line(told), told
 
 
 class FakeCrate(SimpleNamespace):
-    """What a crate is asked for; it can stand in a set."""
+    """What a crate is asked for, in the folder of its name; it can stand in a set."""
     __hash__ = object.__hash__
 
+    def __init__(self, name="", top="", below=(), **more):
+        usual = {"count": lambda _: 1, "stamp": lambda: "sources", "makes_rlib": lambda: True, "below": lambda: [*below]}
+        super().__init__(name=name, folder=str(Path(top, name)), **usual | more)
 
-def sum_of(file):
-    return Path(file).read_text() if Path(file).is_file() else "none"
 
-
-def fake_tools(processors=2, free=9e9, **more):
+def fake_tools(processors=2, free=9e9, crates=(), **more):
     """The toolchain's command, as far as a build asks it."""
-    return SimpleNamespace(free=lambda: free, processors=lambda: processors, RATTLE="rattle", sum_of=sum_of, **more)
+    usual = {"crates_below": lambda _: [*crates], "lock": list, "guarded": list, "RATTLE": "rattle"}
+    usual["sum_of"] = lambda file: Path(file).read_text() if Path(file).is_file() else "none"
+    usual["files_of"] = lambda folder: [it for part in ("src", "specs") for it in Path(folder).glob(f"{part}/*")]
+    return SimpleNamespace(free=lambda: free, processors=lambda: processors, **usual | more)
 
 
 @contextlib.contextmanager
@@ -84,220 +119,6 @@ def without(*names):
         for name in names:
             os.environ.pop(name, None)
         yield
-
-
-def fake_library(folder, name, below, asked, status=lambda: 0):
-    """A crate whose library is built in a folder of its own: what the prover is asked is noted in `asked`."""
-    rlib, crate = Path(folder, name, "out/statements", f"{name}.rlib"), None
-
-    def call(*words):
-        asked.append((name, *words))
-        print(f"said of {name}", file=crate.out)
-        if status() == 0:
-            rlib.mkdir()
-            (rlib / "format").write_text(f"made at {time.monotonic_ns()}")
-        return status()
-
-    crate = FakeCrate(name=name, folder=str(Path(folder, name)), below=lambda: [*below], count=lambda _: 1, makes_rlib=lambda: True,
-                      stamp=lambda: "sources", words=lambda flags, keeps: [*flags, f"keeps={keeps}"], call=call)
-    return crate
-
-
-def built(crates, **more):
-    build.apart(crates)
-    with without("RT_JOBS"):
-        return said(build.build_all, fake_tools(**more), {*crates})
-
-
-def proves_each_library(folder):
-    """`build.py` checks each library once, behind those below it, not if one of them fails, and for its statements."""
-    found = []
-    for at, (failing, *_) in enumerate(DATA.failing):
-        asked, top = [], folder / f"libraries-{at}"
-        made = lambda name, *below: fake_library(top, name, below, asked, lambda: at * (name == failing))
-        a, d = made("a"), made("d")
-        b = made("b", a)
-        c, e = made("c", a, b), made("e", d, a)
-        is_built, told = built([c, b, e, a, d])
-        names = "".join(name for name, *_ in asked)
-        in_order = all(names.index(low) < names.index(high) for low, high in ("ab", "bc") if high in names)
-        found.append([is_built, "".join(sorted(names)), in_order])
-        found += [(f"said of {it}\n" in told, f": {it} NOT PROVED," in told) == (it == failing,) * 2 for it in "abcd"]
-        for name, *words in asked:
-            jobs, to = words.pop(3), f"{top}/{name}/out/statements/{name}.rlib"
-            found.append(jobs in "12" and words == ["rattle", "build", "--jobs", "keeps=False", "--statements", "-o", to])
-    asked = []
-    built([fake_library(folder / "libraries-alone", "a", [], asked)], processors=4, free=99e9)
-    found.append(len(asked) == 1 and asked[0][3:5] == ("--jobs", "4"))
-    return [it for it in found if it is not True] == [[*wanted, True] for _, *wanted in DATA.failing]
-
-
-def takes_what_stands(folder):
-    """`build.py` takes what it built of the same sources and libraries, and nothing that changed."""
-    asked, found = [], []
-    made = lambda name, *below: fake_library(folder / "standing", name, below, asked)
-    a, d = made("a"), made("d")
-    b = made("b", a)
-    c, e = made("c", a, b), made("e", a, d)
-    call, call_e = b.call, e.call
-    has = lambda it, text: lambda: setattr(it, "stamp", lambda: text)
-    calls = lambda it, how: lambda: setattr(it, "call", how)
-
-    def changes_before():
-        a.stamp = lambda: "third"
-        return "of before"
-
-    def replaced(it, *words):
-        Path(it.rlib, "format").write_text("replaced")
-        return call_e(*words)
-
-    def over(it):
-        return lambda: (has(e, f"over {it.name}")(), calls(e, functools.partial(replaced, it))())
-
-    meanwhile = lambda: (has(b, "of before")(), calls(b, lambda *words: has(b, "third")() or call(*words))())
-    rows = [(lambda: None, True, "abcde", False), (lambda: None, True, "", False), (has(b, "second"), True, "bc", False),
-            (lambda: Path(a.rlib, "format").write_text("another"), True, "abce", False), (lambda: shutil.rmtree(d.rlib), True, "de", False),
-            (meanwhile, False, "b", True), (calls(b, call), True, "bc", False), (lambda: None, True, "", False),
-            (lambda: build.note_of(b).write_text(""), True, "bc", False), (lambda: setattr(b, "stamp", changes_before), False, "", True),
-            (has(b, "of before"), True, "abce", False), (over(a), False, "e", True), (calls(e, call_e), True, "abce", False),
-            (over(d), False, "e", True), (calls(e, call_e), True, "de", False)]
-    for change, *_ in rows:
-        asked.clear()
-        change()
-        is_built, told = built([a, b, c, d, e])
-        found.append([is_built, "".join(sorted(name for name, *_ in asked)), "NOT BUILT, begin again" in told])
-    return is_same([wanted for _, *wanted in rows], found)
-
-
-def begun_with(crates, number, goes_on, until):
-    """With how many of these processes each crate but `d` and `g` is made; `goes_on` waits until `until` is begun."""
-    given, is_begun, crates = {}, threading.Event(), crates_of(crates)
-
-    def make(crate, jobs):
-        given[crate.name] = jobs
-        if crate.name == until:
-            is_begun.set()
-        return crate.name != goes_on or is_begun.wait(30)
-
-    is_made = build.side_by_side(crates, number, make)
-    return is_made and " ".join(f"{it.name}{given[it.name]}" for it in crates if it.name not in "dg")
-
-
-def meets(barrier):
-    with contextlib.suppress(threading.BrokenBarrierError):
-        return barrier.wait() >= 0
-    return False
-
-
-def crates_of(text):
-    """The crates that a text lists, lowest first: of each its name, its hundreds of seconds, and the names of those below it."""
-    made = {}
-    for name, hundreds, *below in map(str.split, text.split(", ")):
-        made[name] = FakeCrate(name=name, below=lambda its=[made[it] for it in below]: its, count=lambda _, of=float(hundreds): 1000 * of)
-    return [*made.values()]
-
-
-def shares_processors(_):
-    """`build.py` begins a crate for each idle processor, with more processes for long chains."""
-    shared = lambda ready, idle, number, long: " ".join(f"{name}{jobs}" for name, jobs in build.shares([*ready], idle, number, [*long]))
-    return is_same([wanted for *_, wanted in DATA.shares], [shared(*row) for *row, _ in DATA.shares])
-
-
-def begins_in_order(_):
-    """`build.py` begins no crate before those below it, and as many at once as there are processors, or as RT_JOBS says."""
-    found, number, crates = [], [], crates_of("a 1, b 5, c 2, d 9 a c, e 1 a b c")
-    for most in (1, 2, 4):
-        begun, used, lock = [], [0], threading.Lock()
-
-        def noted(crate, jobs):
-            with lock:
-                begun.append(crate.name)
-                used.append(used[-1] + jobs)
-            time.sleep(0.01)
-            with lock:
-                used.append(used[-1] - jobs)
-            return True
-
-        is_made = build.side_by_side(crates, most, noted)
-        found.append(is_made and sorted(begun) == [*"abcde"] and max(used) <= most and begun.index("d") > max(map(begun.index, "ac")))
-        found.append(most > 1 or begun == ["c", "a", "d", "b", "e"])
-    for processors, free, says in ((4, 9e9, ""), (4, 3e9, ""), (2, 99e9, ""), (4, 99e9, "3"), (4, 99e9, "0")):
-        with patch.dict(os.environ, RT_JOBS=says), patch.object(build, "side_by_side", lambda _, most, make: number.append(most)):
-            build.build_all(fake_tools(processors, free), [])
-    found.append(build.chains(crates) == {"a": 1000, "b": 600, "c": 1100, "d": 900, "e": 100} and build.work(crates[0]) == 100)
-    return all(found) and number == [2, 1, 2, 3, 4] and build.work(crates_of("oca_tree 1")[0]) == build.SECONDS["oca_tree"]
-
-
-def gives_long_chains_more(_):
-    """`build.py` gives more processes to a crate that begins a long chain, as long as it is longer than the others."""
-    found = [is_same(wanted, begun_with(*row)) for *row, wanted in DATA.long_chains]
-    meeting = threading.Barrier(4, timeout=30)
-    return all(found) and build.side_by_side(crates_of("a 9, b 1, c 1, d 1"), 8, lambda *_: meets(meeting))
-
-
-def builds_each_program(folder):
-    """`build.py` has each program built in a process of its own, or takes what stands."""
-    top, log, found = folder / "programs", folder / "log-of-programs", []
-    for place in (top / "crates/a/out", top / "crates/b/out", folder / "bin-of-both"):
-        place.mkdir(parents=True)
-
-    def again(status, is_proved=True, stamps="", lost=""):
-        laid(top, {"gate/build.py": DATA.builder.format(log=str(log), number=len(found), status=status)})
-        low = fake_library(top / "crates", "low", [], [], lambda: int(not is_proved))
-        programs = [FakeCrate(name=name, folder=str(top / "crates" / name), below=lambda: [low], count=lambda _: 1,
-                              makes_rlib=lambda: False, stamp=lambda it=name: "second" if it in stamps else "sources") for name in ("a", "b")]
-        build.apart([low, *programs])
-        if lost:
-            Path(top, "crates", lost).write_text("old")
-        log.write_text("")
-        with without("RT_JOBS"), patch.object(build, "TOP", top), contextlib.ExitStack() as running:
-            held = [(running.enter_context(it.open()), it.read_text()) for it in (folder / "bin-of-both").iterdir()]
-            tools = fake_tools(4, 99e9, guarded=lambda: ["env", "ENDS=with it"])
-            is_built, told = said(build.build_all, tools, {low}, programs, folder / "bin-of-both")
-            is_replaced = all(file.read() == text for file, text in held)
-        can_run = all(os.access(it, os.X_OK) and it.stat().st_mtime > 1e9 for it in (folder / "bin-of-both").iterdir())
-        asked = "".join(sorted(line.removeprefix(f"{top} --one ") for line in log.read_text().split("\n")))
-        has = " ".join(sorted(f"{it.name}: {it.read_text()}" for it in (folder / "bin-of-both").iterdir()))
-        found.append((is_built, asked, has, ("said of a\n" in told) == (status != 0) and is_replaced and can_run))
-
-    for row in DATA.of_programs:
-        again(**{name: it for name, it in row.items() if name not in ("is_built", "asks", "has")})
-    asks = lambda row: "".join(f"{name} 2 with it" for name in row["asks"])
-    return is_same([(row["is_built"], asks(row), row["has"], True) for row in DATA.of_programs], found)
-
-
-def proves_a_program(folder):
-    """`build.py --one` proves, builds and runs a program in its own folder as `rt run` does."""
-    asked, found, crates, with_words = [], [], [], {"ocadev": ["--help"], "trials": ["calls"], "amplifier": [], "panel": []}
-    are_apart = lambda: all(it.rlib == f"{it.folder}/out/statements/{it.name}.rlib" for it in crates)
-    for name in with_words:
-        (folder / name).mkdir(parents=True)
-        run_it = lambda *words, it=name: asked.append((are_apart() and Path.cwd().name, *words)) or len(it)
-        crates.append(FakeCrate(name=name, folder=str(folder / name), run=run_it))
-    for name in with_words:
-        for it in crates:
-            it.rlib = "none"
-        with contextlib.chdir(folder):
-            found.append(main_of(build, fake_tools(crates_below=lambda _: crates), "--one", name, 3)[0])
-    return found == [*map(len, with_words)] and asked == [(name, ["--jobs", "3"], words) for name, words in with_words.items()]
-
-
-def builds_what_is_named(folder):
-    """`build.py` builds the programs that are named and all libraries below, all locked; an unknown name is a fault."""
-    x, y, z, other = (FakeCrate(name=name, folder=name, below=list) for name in ("x", "y", "z", "other"))
-    a, b = FakeCrate(name="a", folder="a", below=lambda: [x, y]), FakeCrate(name="b", folder="b", below=lambda: [y, z])
-    crates, found, asked = [x, y, z, other, a, b], [], []
-    named = lambda its: "".join(sorted(it.name for it in its))
-    tools = fake_tools(1, 99e9, crates_below=lambda _: crates, lock=lambda its: asked.append("locks " + named(its)) or [])
-    for is_proved, names in ((True, "ab"), (True, "b"), (False, "ab"), (True, "ac"), (True, "")):
-        of_all = lambda _, low, programs, to: asked.append(f"{named(low)} {named(programs)} to {to.name}" + writes()) or is_proved
-        with patch.object(build, "build_all", of_all), contextlib.chdir(folder), memory_at(folder / "memory-of-named"):
-            status = main_of(build, tools, folder / "named", *names)[0]
-        found.append((int(status not in (None, 0)), asked[:]))
-        asked.clear()
-    is_apart = all(it.rlib == f"{it.name}/out/statements/{it.name}.rlib" for it in crates)
-    both = ["locks abxyz", "xyz ab to named in memory"]
-    return is_apart and found == [(0, both), (0, ["locks byz", "yz b to named in memory"]), (1, both), (1, []), (1, [])]
 
 
 @contextlib.contextmanager
@@ -319,117 +140,241 @@ def writes():
     return " in memory" if is_there else ""
 
 
+def fake_library(folder, name, below, asked, meanwhile=lambda _: None):
+    """A crate whose library is built in a folder of its own: what the prover is asked is noted in `asked`. Meanwhile something may happen."""
+    rlib = Path(folder, name, "out/statements", f"{name}.rlib")
+
+    def call(*words):
+        asked.append((name, *words))
+        meanwhile(f"{name} is built")
+        print(f"said of {name}", file=crate.out)
+        if crate.status == 0:
+            rlib.mkdir()
+            (rlib / "format").write_text(f"made at {time.monotonic_ns()}")
+        return crate.status
+
+    crate = FakeCrate(name, folder, below, words=lambda flags, keeps: [*flags, f"keeps={keeps}"], call=call, sources="sources", status=0,
+                      stamp=lambda: meanwhile(f"{name} is summed") or crate.sources)
+    return crate
+
+
+def built_in_turn(rows, folder):
+    """What becomes of five libraries, of which b and e stand above a, c above both a and b, and e above d, as each row says: whether all are built,
+    which are checked, each as it is to be and behind those below it, and whether it is told that something changed."""
+    asked, found, its, tools = [], [], {}, fake_tools()
+
+    def change(words):
+        for name, how in map(str.split, words):
+            if how == "fails":
+                its[name].status = 3
+            elif how == "replaced":
+                Path(its[name].rlib, "format").write_text(how)
+            elif how == "lost":
+                shutil.rmtree(its[name].rlib)
+            elif how == "untold":
+                build.note_of(its[name]).write_text("")
+            else:
+                its[name].sources = how
+
+    for name, below in {"a": "", "d": "", "b": "a", "c": "ab", "e": "da"}.items():
+        its[name] = fake_library(folder, name, [its[it] for it in below], asked, lambda what: change(then) if what == when else None)
+    for before, when, then, _ in rows:
+        asked.clear()
+        change(before)
+        build.apart(its.values())
+        with without("RT_JOBS"):
+            is_built, told = said(build.build_all, tools, {*its.values()})
+        names = "".join(name for name, *_ in asked)
+        are_so = [names.index(low) < names.index(high) for low, high in ("ab", "bc") if high in names and low in names]
+        are_so += [(f"said of {it}\n" in told, f": {it} NOT PROVED," in told) == (f"{it} fails" in before,) * 2 for it in its if not when]
+        for name, *words in asked:
+            to = f"{folder}/{name}/out/statements/{name}.rlib"
+            are_so.append(words.pop(3) in "12" and words == ["rattle", "build", "--jobs", "keeps=False", "--statements", "-o", to])
+        found.append(all(are_so) and (is_built, "".join(sorted(names)), "NOT BUILT, begin again" in told))
+    return is_same([wanted for *_, wanted in rows], found)
+
+
+@check("`build.py` checks each library once, behind those below it, not if one of them fails, and for its statements.")
+def proves_each_library(folder):
+    asked, tools = [], fake_tools(4, 99e9)
+    alone = fake_library(folder, "f", [], asked)
+    build.apart([alone])
+    with patch.dict(os.environ, RT_JOBS=""):
+        is_built = said(build.build_all, tools, {alone})[0]
+    is_asked = [it[3:5] for it in asked] == [("--jobs", "4")]
+    return is_built and is_asked and all(built_in_turn([row], folder / f"but-{row[0]}") for row in DATA.failing)
+
+
+check("`build.py` takes what it built of the same sources and libraries, and nothing that changed.")(
+    functools.partial(built_in_turn, DATA.standing))
+
+
+def crates_of(text):
+    """The crates that a text lists, lowest first: of each its name, its hundreds of seconds, and the names of those below it."""
+    made = {}
+    for name, hundreds, *below in map(str.split, text.split(", ")):
+        made[name] = FakeCrate(name, below=[made[it] for it in below], count=lambda _, of=float(hundreds): 1000 * of)
+    return [*made.values()]
+
+
+@of_rows("`build.py` gives more processes to a crate that begins a long chain, as long as it is longer than the others.", DATA.long_chains)
+def begun_with(crates, number, goes_on, until, _):
+    """With how many of these processes each crate but `d` and `g` is made; `goes_on` waits until `until` is begun."""
+    given, is_begun, crates = {}, threading.Event(), crates_of(crates)
+
+    def make(crate, jobs):
+        given[crate.name] = jobs
+        if crate.name == until:
+            is_begun.set()
+        return crate.name != goes_on or is_begun.wait(30)
+
+    is_made = build.side_by_side(crates, number, make)
+    return is_made and " ".join(f"{it.name}{given[it.name]}" for it in crates if it.name not in "dg")
+
+
+of_rows("`build.py` begins a crate for each idle processor, with more processes for long chains.", DATA.shares)(
+    lambda ready, idle, number, long, _: " ".join(f"{name}{jobs}" for name, jobs in build.shares([*ready], idle, number, [*long])))
+
+
+@check("`build.py` begins no crate before those below it, and as many at once as there are processors, or as RT_JOBS says.")
+def begins_in_order(_):
+    found, number, crates, meeting = [], [], crates_of("a 1, b 5, c 2, d 9 a c, e 1 a b c"), threading.Barrier(4, timeout=30)
+    for most in (1, 2, 4):
+        begun, used, lock = [], [0], threading.Lock()
+
+        def noted(crate, jobs):
+            with lock:
+                begun.append(crate.name)
+                used.append(used[-1] + jobs)
+            time.sleep(0.01)
+            with lock:
+                used.append(used[-1] - jobs)
+            return True
+
+        is_made = build.side_by_side(crates, most, noted)
+        found.append(is_made and sorted(begun) == [*"abcde"] and max(used) <= most and begun.index("d") > max(map(begun.index, "ac")))
+        found.append(most > 1 or begun == ["c", "a", "d", "b", "e"])
+    for processors, free, says in ((4, 9e9, ""), (4, 3e9, ""), (2, 99e9, ""), (4, 99e9, "3"), (4, 99e9, "0")):
+        with patch.dict(os.environ, RT_JOBS=says), patch.object(build, "side_by_side", lambda _, most, make: number.append(most)):
+            build.build_all(fake_tools(processors, free), [])
+    found.append(build.chains(crates) == {"a": 1000, "b": 600, "c": 1100, "d": 900, "e": 100} and build.work(crates[0]) == 100)
+    found.append(build.side_by_side(crates_of("a 9, b 1, c 1, d 1"), 8, lambda *_: meeting.wait() >= 0))  # all four at once
+    return all(found) and number == [2, 1, 2, 3, 4] and build.work(crates_of("oca_tree 1")[0]) == build.SECONDS["oca_tree"]
+
+
+@check("`build.py` has each program built in a process of its own, or takes what stands.")
+def builds_each_program(folder):
+    top, to, log, found = folder / "programs", folder / "bin-of-both", folder / "log-of-programs", []
+    for place in (top / "crates/a/out", top / "crates/b/out", to):
+        place.mkdir(parents=True)
+    tools = fake_tools(4, 99e9, guarded=lambda: ["env", "ENDS=with it"])
+    for number, row in enumerate(DATA.of_programs):
+        laid(top, {"gate/build.py": DATA.builder.format(log=str(log), number=number, status=row["status"])})
+        low = fake_library(top / "crates", "low", [], [])
+        low.status = int(not row.get("is_proved", True))
+        stamps = {name: lambda it="second" if name in row.get("stamps", "") else "sources": it for name in "ab"}
+        programs = [FakeCrate(name, top / "crates", [low], makes_rlib=lambda: False, stamp=stamp) for name, stamp in stamps.items()]
+        build.apart([low, *programs])
+        if "lost" in row:
+            Path(top, "crates", row["lost"]).write_text("old")
+        log.write_text("")
+        with without("RT_JOBS"), patch.object(build, "TOP", top), contextlib.ExitStack() as running:
+            held = [(running.enter_context(it.open()), it.read_text()) for it in to.iterdir()]
+            is_built, told = said(build.build_all, tools, {low}, programs, to)
+            is_replaced = all(file.read() == text for file, text in held)
+        can_run = all(os.access(it, os.X_OK) and it.stat().st_mtime > 1e9 for it in to.iterdir())
+        asked = sorted(line.removeprefix(f"{top} --one ") for line in log.read_text().splitlines())
+        has = " ".join(sorted(f"{it.name}: {it.read_text()}" for it in to.iterdir()))
+        wanted = row["is_built"], [f"{name} 2 with it" for name in row["asks"]], row["has"], row["status"] != 0, True, True
+        found.append(is_same(wanted, (is_built, asked, has, "said of a\n" in told, is_replaced, can_run)))
+    return all(found)
+
+
+def are_apart(crates):
+    return all(it.rlib == f"{it.folder}/out/statements/{it.name}.rlib" for it in crates)
+
+
+@of_rows("`build.py --one` proves, builds and runs a program in its own folder as `rt run` does.", DATA.run_with)
+def run_with(name, folder):
+    """With which words a program is run in its own folder, where all libraries are then apart, and its status is answered."""
+    asked, crates = [], [FakeCrate("other", folder, rlib="none")]
+    crates += [FakeCrate(name, folder, run=lambda *words: asked.append((Path.cwd().name, are_apart(crates), *words)) or 7)]
+    (folder / name).mkdir()
+    with contextlib.chdir(folder):
+        status = main_of(build, "--one", name, 3, tools=fake_tools(crates=crates))[0]
+    return is_same((7, 1, name, True), (status, len(asked), *asked[0][:2])) and tuple(map(tuple, asked[0][2:]))
+
+
+@of_rows("`build.py` builds the programs that are named and all libraries below, all locked; an unknown name is a fault.", DATA.named)
+def builds_what_is_named(names, is_proved, folder):
+    x, y, z, other = map(FakeCrate, ("x", "y", "z", "other"))
+    crates, asked = [x, y, z, other, FakeCrate("a", below=[x, y]), FakeCrate("b", below=[y, z])], []
+    named = lambda its: "".join(sorted(it.name for it in its))
+    of_all = lambda _, low, programs, to: asked.append(f"{named(low)} {named(programs)} to {to.name}" + writes()) or is_proved
+    tools = fake_tools(1, 99e9, crates, lock=lambda its: asked.append("locks " + named(its)))
+    with patch.object(build, "build_all", of_all), contextlib.chdir(folder), memory_at(folder / "memory"):
+        status = main_of(build, folder / "named", *names, tools=tools)[0]
+    return int(status not in (None, 0)), *(asked if not asked or are_apart(crates) else ["not apart"])
+
+
+@check("`build.py` has checks write in memory, if it has room, and all is removed at the end.")
 def writes_in_memory(folder):
-    """`build.py` has checks write in memory, if it has room, and all is removed at the end."""
-    found = []
-    for at, (processors, free, is_mounted_so, space, mode, said, is_there) in enumerate(DATA.of_memory):
+    found, place = [], folder / "memory-of-a-killed"
+    for at, (processors, free, is_mounted_so, space, mode, says, is_there) in enumerate(DATA.of_memory):
         with memory_at(folder / f"memory-{at}", 0 if is_mounted_so else os.ST_NOEXEC, space):
             before = tempfile.gettempdir()
             kit.MEMORY.chmod(mode)
-            os.environ["RT_JOBS"] = said
+            os.environ["RT_JOBS"] = says
             with kit.in_memory(fake_tools(processors, free)):
                 found.append(writes() == " in memory" * is_there)
             found.append("TMPDIR" not in os.environ and tempfile.gettempdir() == before and not [*kit.MEMORY.iterdir()])
-    with memory_at(folder / "memory-said"):
-        os.environ["TMPDIR"] = str(folder)
-        with kit.in_memory(fake_tools(2, 14e9)):
-            found.append(os.environ["TMPDIR"] == str(folder))
-    with memory_at(folder / "memory-there"):
-        kit.MEMORY = folder / "none"
-        with kit.in_memory(fake_tools(2, 14e9)):
-            found.append("TMPDIR" not in os.environ)
-    place = folder / "memory-of-a-killed"
-    place.mkdir()
-    place.chmod(0o755)
+    with memory_at(place), patch.dict(os.environ, TMPDIR=str(folder)), kit.in_memory(fake_tools(2, 14e9)):
+        found.append(os.environ["TMPDIR"] == str(folder))
+    with memory_at(place), patch.object(kit, "MEMORY", folder / "none"), kit.in_memory(fake_tools(2, 14e9)):
+        found.append("TMPDIR" not in os.environ)
+    words = [sys.executable, "-c", DATA.killed, run.HERE, place]
     with without("TMPDIR", "RT_JOBS"):
-        ran = subprocess.run([sys.executable, "-c", DATA.killed, run.HERE, place], timeout=60, start_new_session=True, stdout=subprocess.PIPE, text=True)
+        ran = subprocess.run(words, timeout=60, start_new_session=True, stdout=subprocess.PIPE, text=True)
     was_there = Path(ran.stdout).parent == place and ran.returncode == -signal.SIGKILL
     return all(found) and was_there and waited(lambda: not any(place.iterdir()), 30) is not None
 
 
-def writes_where_git_is(folder):
-    """The gate has what it starts write into memory where git's folder and the toolchain are here, and else changes nothing."""
-    found = []
+@of_rows("The gate has what it starts write into memory where git's folder and the toolchain are here, and else changes nothing.", DATA.of_git)
+def written_by_the_gate(kind, has_rt, folder):
     stand_in(folder / "path/rt", "exit 1")
     (folder / "path/sh").symlink_to("/bin/sh")
-    link = lambda place: place.symlink_to(folder / "top-0/.git")
-    for at, (make, has_rt) in enumerate(((Path.mkdir, True), (Path.touch, True), (lambda _: None, True), (Path.mkdir, False), (link, True))):
-        top = folder / f"top-{at}"
-        top.mkdir()
-        make(top / ".git")
-        with patch.object(run, "TOP", top), patch.object(kit, "toolchain", lambda: fake_tools(2, 99e9)), \
-                patch.dict(os.environ, PATH=str(folder / "path") if has_rt else str(folder / "none")), \
-                memory_at(folder / f"memory-of-top-{at}"), run.writes():
-            found.append(writes())
-    return found == [" in memory", "", "", "", ""]
+    (folder / "elsewhere").mkdir()
+    link = lambda place: place.symlink_to(folder / "elsewhere")
+    {"a folder": Path.mkdir, "a file": Path.touch, "a link": link, "nothing": str}[kind](folder / ".git")
+    with patch.object(run, "TOP", folder), patch.object(kit, "toolchain", lambda: fake_tools(2, 99e9)), \
+            patch.dict(os.environ, PATH=str(folder / "path") if has_rt else str(folder / "none")), memory_at(folder / "memory"), run.writes():
+        return writes()
 
 
+@check("What is alone at the ports that `ocactl` takes by turns is so whatever TMPDIR says, and for each user.")
 def keeps_others_out(folder):
-    """What is alone at the ports that `ocactl` takes by turns is so whatever TMPDIR says, and for each user."""
     asked = []
     locks = SimpleNamespace(LOCK_EX="alone", flock=lambda file, how: asked.append((file.name, how)))
     for at in range(2):
-        with memory_at(folder / f"memory-of-ports-{at}"), kit.in_memory(fake_tools(2, 99e9)), patch.object(checks, "fcntl", locks), checks.by_itself():
+        with memory_at(folder / f"memory-{at}"), kit.in_memory(fake_tools(2, 99e9)), patch.object(checks, "fcntl", locks), checks.by_itself():
             pass
-    return len(asked) == 2 and {*asked} == {(f"/tmp/oca-own-ports-{os.getuid()}", "alone")}
+    return asked == [(f"/tmp/oca-own-ports-{os.getuid()}", "alone")] * 2
 
 
-def stand_in(file, text):
-    laid(file.parent, {file.name: f"#!/bin/sh\n{text}\n"})
-    file.chmod(0o755)
-
-
-def without_make():
-    return {name: value for name, value in os.environ.items() if not name.startswith(("MAKE", "MFLAGS", "PYTHONPATH"))}
-
-
+@each([(f"make {goal} fails with what it runs", goal) for goal in DATA.goals])
 def make_fails_with(goal, folder):
     """Whether `make` runs for this goal, with its settings, what it is to, in that order, shows what it prints, and fails where one of it does."""
-    top, log = folder / "make", folder / "make.log"
-    for name in ("python3", "sh"):
-        stand_in(top / f"path/{name}", f'echo "$*" >> "{log}"\necho "said by $*"\n[ "$*" != "$FAILS" ]')
-    (top / "Makefile").write_text((run.TOP / "Makefile").read_text())
-    for fails in ("", *DATA.goals[goal]):
+    log, runs = folder / "make.log", [*DATA.goals[goal]]
+    programs = dict.fromkeys(("python3", "sh"), f'echo "$*" >> "{log}"\necho "said by $*"\n[ "$*" != "$FAILS" ]')
+    laid(folder, {"Makefile": (run.TOP / "Makefile").read_text()})
+    for fails in ("", *runs):
         log.write_text("")
-        env = dict(without_make(), PATH=f"{top}/path:{os.environ['PATH']}", FAILS=fails)
-        ran = subprocess.run(["make", "-C", top, *goal.split()], env=env, capture_output=True, text=True, timeout=60)
-        runs = [*DATA.goals[goal]]
+        ran = over_stand_ins(folder, programs, "make", "-C", folder, *goal.split(), FAILS=fails)
         wanted = runs[:runs.index(fails) + 1] if fails else runs
-        said = [line.removeprefix("said by ") for line in ran.stdout.splitlines() if line.startswith("said by ")]
-        if not is_same((not fails, wanted, wanted), (ran.returncode == 0, log.read_text().splitlines(), said)):
+        told = [line.removeprefix("said by ") for line in ran.stdout.splitlines() if line.startswith("said by ")]
+        if not is_same((not fails, wanted, wanted), (ran.returncode == 0, log.read_text().splitlines(), told)):
             return False
     return True
-
-
-def builds_programs_anew(folder):
-    """`make install` builds programs that are missing, or older than a source or definition."""
-    found, programs = [], ("ocadev", "ocactl", "ocapanel")
-    for at, (name, second, _) in enumerate(DATA.sources):
-        top = folder / f"programs-{at}"
-        laid(top, {"Makefile": (run.TOP / "Makefile").read_text()})
-        made(top / "crates/low/src/in/a.rt", 50)
-        made(top / "crates/low_tests/src/a.rt", 200)
-        if name:
-            for program in programs:
-                made(top / "bin" / program, 100)
-            made(top / "crates/low" / name, second)
-        for program in programs:
-            asked = ["make", "-q", "-C", top, f"bin/{program}"]
-            found.append(subprocess.run(asked, env=without_make(), capture_output=True, timeout=60).returncode == 0)
-    return found == [is_there for *_, is_there in DATA.sources for _ in programs]
-
-
-def ci_runs_the_gate(folder):
-    """`.ci/run` calls `make test` in the repository's own folder, from wherever it is called, and ends as that does."""
-    top, log = folder / "ci", folder / "ci.log"
-    stand_in(top / "path/make", f'echo "$PWD: $*" >> "{log}"\necho said\nexit "$STATUS"')
-    stand_in(top / ".ci/run", (run.TOP / ".ci/run").read_text().removeprefix("#!/bin/sh\n"))
-    found = []
-    for status in (0, 1, 7):
-        env = dict(without_make(), PATH=f"{top}/path:{os.environ['PATH']}", STATUS=str(status))
-        ran = subprocess.run([top / ".ci/run"], cwd="/", env=env, capture_output=True, text=True, timeout=60)
-        found.append((ran.returncode, ran.stdout))
-    return found == [(it, "said\n") for it in (0, 1, 7)] and log.read_text() == f"{top}: test\n" * 3
 
 
 def made(place, second):
@@ -441,78 +386,76 @@ def made(place, second):
     os.utime(place, (second, second))
 
 
-def left_crates(folder, changes):
-    """Two crates, low below high, as the gate leaves their libraries, with files made anew at a second, or taken away at second 0."""
-    for name in ("low", "high"):
-        for file, second in (("src/lib.rt", 50), ("specs/A.antt", 50), (f"out/rlib/{name}.rlib", 100)):
-            made(folder / name / file, second)
-    for name, second in changes:
-        made(folder / name, second) if second else (folder / name).rmdir()
-    low, high = (FakeCrate(name=name, folder=str(folder / name), rlib=str(folder / f"{name}/out/rlib/{name}.rlib"),
-                           is_built=lambda: False) for name in ("low", "high"))
-    low.below, high.below = list, lambda: [low]
-    return low, high
+@of_rows("`make install` builds programs that are missing, or older than a source or definition.", DATA.sources)
+def programs_that_stand(name, second, folder):
+    """Whether all programs stand for `make` as they are where this file is made anew, or where none is there; none if some do."""
+    programs = [f"bin/{it}" for it in ("ocadev", "ocactl", "ocapanel")]
+    laid(folder, {"Makefile": (run.TOP / "Makefile").read_text()})
+    made(folder / "crates/low/src/in/a.rt", 50)
+    made(folder / "crates/low_tests/src/a.rt", 200)
+    for file, at in {**dict.fromkeys(programs, 100), f"crates/low/{name}": second}.items() if name else []:
+        made(folder / file, at)
+    found = {over_stand_ins(folder, {}, "make", "-q", "-C", folder, program).returncode == 0 for program in programs}
+    return found.pop() if len(found) == 1 else None
 
 
-def files_of(folder):
-    return [str(it) for part in ("src", "specs") for it in Path(folder).glob(f"{part}/*")]
+@check("`.ci/run` calls `make test` in the repository's own folder, from wherever it is called, and ends as that does.")
+def ci_runs_the_gate(folder):
+    log, found = folder / "ci.log", []
+    stand_in(folder / ".ci/run", (run.TOP / ".ci/run").read_text().removeprefix("#!/bin/sh\n"))
+    for status in (0, 1, 7):
+        make = f'echo "$PWD: $*" >> "{log}"\necho said\nexit {status}'
+        ran = over_stand_ins(folder, {"make": make}, folder / ".ci/run", cwd="/")
+        found.append((ran.returncode, ran.stdout))
+    return found == [(it, "said\n") for it in (0, 1, 7)] and log.read_text() == f"{folder}: test\n" * 3
 
 
-def takes_what_the_gate_left(folder):
-    """`library.py` and `edits.py` take what `rt ci` left only if it is whole and newest."""
-    found = []
-    for at, (is_taken, *changes) in enumerate(DATA.left):
-        low, high = left_crates(folder / f"left-{at}", changes)
-        crate = FakeCrate(name="oca_c", folder=str(folder / f"left-{at}"), below=lambda: [low, high], stamp=lambda: "sources")
-        crate.compile = lambda words, to: Path(to).touch() or int(writes() != " in memory")
-        tools = fake_tools(1, 99e9, crates_below=lambda _: [crate], lock=lambda _: [], files_of=files_of)
-        made, is_apart = [], lambda: writes() == " in memory" and all("/out/statements/" in it.rlib for it in (low, high))
-        build_all = lambda _, crates: made.append({*crates} == {low, high} and is_apart()) or True
-        with patch.object(edits, "rt", tools), patch.object(build, "build_all", build_all), \
-                contextlib.chdir(folder), memory_at(folder / "memory-of-library"):
-            stand = all(map(edits.stands, (low, high)))
-            got = main_of(library, tools)[0], made, stand, "/out/rlib/" in low.rlib
-        found.append(is_same((0, [] if is_taken else [True], is_taken, is_taken), got))
-    return all(found)
+@of_rows("`build.py` compiles the library for C for what is asked, if the crates below are built, and tells its end.", DATA.asked_of_library)
+@of_rows("`build.py` and `edits.py` take what `rt ci` left only if it is whole and newest.", DATA.left)
+@of_rows("`build.py` leaves no archive of an earlier or failed run, or of sources that changed.", DATA.archives)
+def library_of(row, folder):
+    """How `build.py --library` ends over what the gate left, low below high below the library for C, with files made anew at a second, or taken
+    away at second 0; whether it builds those two; what it compiles for, and which archive is left: one of an earlier run was there."""
+    words, status, built, compiled = row.get("words", []), row.get("status", 0), [], []
+    for file, second in [("low/src/lib.rt", 50), ("low/specs/A.antt", 50), ("low/out/rlib/low.rlib", 100), ("high/src/lib.rt", 50),
+                         ("high/specs/A.antt", 50), ("high/out/rlib/high.rlib", 100), *row.get("changes", [])]:
+        made(folder / file, second) if second else (folder / file).rmdir()
+    low, high = (FakeCrate(name, folder, rlib=str(folder / f"{name}/out/rlib/{name}.rlib"), is_built=lambda: False) for name in ("low", "high"))
+    high.below = lambda: [low]
+    archive = folder / "oca_c/out" / ([*words] or ["x86_64-unknown-linux-gnu"])[0] / "liboca_c.a"
+    laid(folder, {archive: "old"})
+
+    def compile_it(words, to):
+        compiled.append(" ".join(words[words.index(word) + 1] for word in ("--target", "--cpu")))
+        if row.get("makes", True):
+            Path(to).write_text("new")
+        return status if writes() == " in memory" else "not in memory"
+
+    def build_all(_, crates):
+        built.append({*crates} == {low, high} and writes() == " in memory" and all("/out/statements/" in it.rlib for it in (low, high)))
+        return row.get("is_built", True)
+
+    stamps = ["second" if row.get("is_changed") else "first", "first"]
+    crate = FakeCrate("oca_c", folder, [low, high], stamp=stamps.pop, compile=compile_it)
+    tools = fake_tools(1, 99e9, [crate, low, high])
+    with patch.object(edits, "rt", tools), patch.object(build, "build_all", build_all), contextlib.chdir(folder), memory_at(folder / "memory"):
+        stand = all(map(edits.stands, (low, high)))
+        status = main_of(build, "--library", *words, tools=tools)[0]
+    is_taken = built == [] and stand and "/out/rlib/" in low.rlib
+    return status, "taken" if is_taken else "built" if built == [True] and not stand else "wrong", *compiled, archive.exists() and archive.read_text()
 
 
-def leaves_no_old_library(folder):
-    """`library.py` leaves no archive of an earlier or failed run, or of sources that changed."""
-    found, to = [], folder / "old.a"
-    for status, makes, is_changed, *_ in DATA.archives:
-        to.write_text("old")
-        compile_it = lambda _, to: (Path(to).write_text("new") if makes else None, status)[1]
-        crate = SimpleNamespace(compile=compile_it, stamp=["second" if is_changed else "first", "first"].pop)
-        found.append((said(library.compiled, crate, [], str(to))[0], to.exists() and to.read_text()))
-    return is_same([wanted for *_, wanted in DATA.archives], found)
-
-
-def installs_whole(folder):
-    """`install.sh` fails where the compiler, the linker, the archiver or the pages fail, or where a file is missing that it is to install."""
-    kind, found = f"{os.uname().machine}-unknown-linux-gnu", []
-    for at, fails in enumerate(DATA.installs):
-        top = folder / f"install-{at}"
-        for name in ("gate", "include", "man", "c"):
-            shutil.copytree(run.TOP / name, top / name, ignore=shutil.ignore_patterns("__pycache__"))
-        stand_in(top / "path/cc", DATA.compiler)
-        stand_in(top / "path/ar", '[ "$FAILS" != archive ]')
-        stand_in(top / "path/python3", '[ "$FAILS" != pages ] && mkdir -p "$2" && echo page > "$2/oca_page.3"')
-        files = {"no library": "made.a", "no header": "include/oca.h", "no program": "bin/ocactl", "no page": "man/ocapanel.1"}
-        for name in ("made.a", *(f"bin/{it}" for it in ("ocadev", "ocactl", "ocapanel"))):
-            stand_in(top / name, "")
-        if fails in files:
-            (top / files[fails]).unlink()
-        env = dict(os.environ, PATH=f"{top}/path:{os.environ['PATH']}", CC="cc", AR="ar", FAILS=fails,
-                   DESTDIR=str(top / "to"), LIBRARY="made.a", PREFIX="/usr")
-        for words in (["library", kind], ["programs"]):
-            ran = subprocess.run(["sh", "gate/install.sh", "install", *words], cwd=top, env=env, capture_output=True)
-            found.append(ran.returncode == 0)
-    return is_same([True, True] + [False, True] * 6 + [True, False] * 2, found)
-
-
-# What is tried, each in a folder of its own.
-ROWS = [(f"make {goal} fails with what it runs", functools.partial(make_fails_with, goal)) for goal in DATA.goals] + [(it.__doc__, it) for it in (
-    ci_runs_the_gate, proves_each_library, takes_what_stands, shares_processors, begins_in_order,
-    gives_long_chains_more, builds_each_program, builds_what_is_named, proves_a_program, writes_in_memory,
-    writes_where_git_is, keeps_others_out, takes_what_the_gate_left, leaves_no_old_library, installs_whole,
-    builds_programs_anew)]
+@of_rows("`install.sh` fails where the compiler, the linker, the archiver or the pages fail, or where a file is missing that it is to install.",
+         DATA.installs)
+def is_installed(fails, folder):
+    """Whether `install.sh` installs the library, and the programs, where this fails, or this file is missing."""
+    kind = f"{os.uname().machine}-unknown-linux-gnu"
+    for name in ("gate", "include", "man", "c"):
+        shutil.copytree(run.TOP / name, folder / name, ignore=shutil.ignore_patterns("__pycache__"))
+    laid(folder, dict.fromkeys(("made.a", "bin/ocadev", "bin/ocactl", "bin/ocapanel"), "made"))
+    if (folder / fails).is_file():
+        (folder / fails).unlink()
+    settings = {"CC": "cc", "AR": "ar", "FAILS": fails, "DESTDIR": str(folder / "to"), "LIBRARY": "made.a", "PREFIX": "/usr"}
+    runs = [over_stand_ins(folder, DATA.installers, "sh", "gate/install.sh", "install", *words, cwd=folder, **settings)
+            for words in (["library", kind], ["programs"])]
+    return tuple(ran.returncode == 0 for ran in runs)

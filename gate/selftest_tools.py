@@ -1,43 +1,219 @@
-"""The rows of the gate's own test that are of the tools: what they compare, judge and count, over stand-ins of what
+"""The checks of the gate's own test that are of the tools: what they compare, judge and count, over stand-ins of what
 they try, and that each of their functions is called."""
 import ast
 import contextlib
 import functools
 import os
 import re
-import sys
+import time
 from collections import Counter
 from pathlib import Path
 from types import SimpleNamespace
 from unittest.mock import patch
 
 import api
+import kit
 import run
-from selftest_builds import FakeCrate, edits, fake_tools, is_same, laid, memory_at, of_prover, said, stand_in, writes
+from selftest_builds import (FakeCrate, check, edits, fake_tools, is_same, laid, main_of, memory_at, of_prover, of_rows, said,
+                             stand_in, writes)
 
 import checks
 import fuzz
 import keep
 import lossy
-import neighbours
+import machines
+import peers
 import scenes
 import snippets
 import unreliable
 from tables import as_it_stands, data
 
-DATA, ROWS_OF_SCENES = data("gate_of_tools"), as_it_stands("gate_of_tools")["scenes"]
-
-# What the prover says where a proof names what is no more.
-GONE = "error: `x` is not in scope"
+DATA = data("gate_of_tools")
 
 KEPT = []  # of which crates the prover was asked, what was kept there before, False where nothing was to be kept, and where it writes
 
 
-def crate_of_edits(folder, name, edits, bodies=DATA.bodies, constant=""):
+def unproved(names):
+    return [f"fn a::m::{it}: not proved: the search did not prove a goal" for it in names]
+
+
+def edited(folder, texts, changes):
+    """A crate of these files, and edits of its `src/m.rt` by their names: of each what stands above it, the old text and the new one."""
+    made = {f"{name}.edit": f"{above}file: src/m.rt\nold: {old}\nnew: {new}\n" for name, (above, old, new) in changes.items()}
+    laid(folder, {**texts, **made})
+    crate = SimpleNamespace(folder=str(folder), name="a")
+    return crate, {name: edits.Edit(folder / f"{name}.edit", crate) for name in changes}
+
+
+def trial_of(crate, says):
+    """A trial of the crate's edits where the prover says what this gives, by the texts and by what is without a proof; and what it is asked."""
+    trial, asked = edits.Trial(crate, crate.folder), []
+
+    def checked(texts, paths, without, proofs):
+        asked.append((texts, sorted(paths), sorted(it.path() for it in without)))
+        return edits.Answer(of_prover(says(texts, without)), {*texts} - {*proofs})
+
+    trial.checked = checked
+    return trial, asked
+
+
+def run_beside(file, crates, most, calls):
+    """What `edits.py` gives of these crates' tasks beside proofs, and how many ran at once at most."""
+    running, at_once = [], []
+
+    def call(name):
+        running.append(name)
+        at_once.append(len(running))
+        time.sleep(0.3)
+        running.remove(name)
+        with file.open("a") as told:
+            told.writelines(f"{it}\n" for it in calls.get(name, []))
+        return name
+
+    below = {name: FakeCrate(name, below=[*map(FakeCrate, its)]) for name, its in crates.items()}
+    tasks = [(below[name], 10 - number, functools.partial(call, name)) for number, name in enumerate(crates)]
+    return edits.side_by_side(tasks, most), max(at_once)
+
+
+@check("Beside `rt ci` the edits of a crate wait for the libraries below it and for an idle processor, and only half as many checks run as later.")
+def waits_for_proofs(folder):
+    found, real, asked, file = [], edits.is_idle, [], folder / "proved"
+    later, free = {"z": "c", "y": "ab", "x": "a", "w": ""}, dict.fromkeys("pqrst", "")
+    tells = {"w": ["a"], "x": ["b"], "y": [kit.ENDED]}
+    with patch.object(edits, "is_idle", lambda _: True), patch.dict(os.environ, GATE_PROVED=str(file)):
+        found += [edits.proved_beside() is None]
+        file.touch()
+        found += [edits.proved_beside() == set()]
+        found += [run_beside(file, later, 1, tells) == (["w", "x", "y", "z"], 1), edits.proved_beside() is None]
+        found += [run_beside(file, free, 4, {})[1] == 4]
+        file.write_text("")
+        found += [run_beside(file, free, 4, {})[1] == 2]
+        edits.is_idle = lambda _: asked.append(1) or len(asked) > 3 and not file.write_text(f"{kit.ENDED}\n")
+        found += [run_beside(file, {"p": ""}, 1, {}) == (["p"], 1), len(asked) == 4]
+    return all(found) and real(1_000_000) and not real(0)
+
+
+check("An edit that is not refused has failed, and so has one that tries the tool itself and is judged wrongly.")(
+    lambda _: [said(edits.verdict, [{kind: int(kind == one) for kind in edits.KINDS}])[0] for one in edits.KINDS] == [(1, 0), (0, 1), (1, 0), (0, 1)])
+
+
+@check("`edits.py` leaves out no file of a folder but a text about it: what is no edit is tried, and fails.")
+def lists_each_edit(folder):
+    laid(folder, dict.fromkeys(("a.edit", "b.edits", "c", "README.md"), ""))
+    found = [edits.Edit(it, SimpleNamespace(folder=folder)) for it in edits.listed(folder)]
+    return [(it.path.name, it.why == "it is no edit") for it in found] == [("a.edit", False), ("b.edits", True), ("c", True)]
+
+
+of_rows("`edits.py` gives a method the path that the prover prints: with other types than its own parameters where its `impl` is of those.",
+        DATA.heads)(lambda head, _: edits.functions_of("src/m.rt", f"{head} {{\n    fn f() {{}}\n}}\n")[0].path())
+
+
+@of_rows("An edit is refused only if a goal of its own function fails; one of no function if any does. Why not is told.", DATA.said_of_edits)
+def refused_by(status, lines, _):
+    tried = {"f": [edits.Function(["m"], None, "f")], "g": [edits.Function(["m"], None, "g")], " ": []}
+    answer = edits.Answer(SimpleNamespace(returncode=status, stdout="\n".join(lines) + "\n"), {})
+    refused = "".join(name for name, its in tried.items() if answer.refuses(its))
+    return all(answer.reason(SimpleNamespace(functions=its)) for name, its in tried.items() if name not in refused) and refused
+
+
+def of_copies(folder):
+    changes = {"a": ("", "n + 1", "n + 2"), "b": ("", "n + 1", "n + 3"), "c": ("", "T(1)", "T(2)"), "d": ("", "T(1)", "T(3)")}
+    return edited(folder, {"src/m.rt": DATA.source, "proofs/m/f/Answers.antt": DATA.of_f}, changes)
+
+
+@check("A further edit of a function is tried in a copy of it, beside a copy as it stands; one of a trait's method, or of two functions, "
+       "in another check. Edits that are left are tried without copies.")
+def copies_edits(folder):
+    crate, of = of_copies(folder)
+    groups = edits.grouped(of.values(), crate, True)
+    is_grouped = [(it.placed, it.copied) for it in groups] == [([of["a"], of["c"]], [of["b"]]), ([of["d"]], [])]
+    alone = [it.edits() for it in edits.grouped(of.values(), crate)]
+    texts = groups[0].texts(crate, groups[0].copies(crate))
+    behind = DATA.source.replace("n + 1\n}\n", "n + 2\n}\n" + DATA.copies).replace("T(1)", "T(2)")
+    proofs = {f"proofs/m/{it}/Answers.antt": DATA.of_f.replace("proofs.m.f.", f"proofs.m.{it}.") for it in ("f_as_it_stands", "f_edited_1")}
+    return is_grouped and alone == [[of["a"], of["c"]], [of["b"], of["d"]]] and texts == {"src/m.rt": behind, **proofs}
+
+
+@of_rows("Of two edits of a function those are refused of which the prover says so, if the copy as it stands is proved.", DATA.said_of_copies)
+def refused_copies(told, folder):
+    crate, of = of_copies(folder)
+    lines = unproved(told.split()) if isinstance(told, str) else told
+    trial, asked = trial_of(crate, lambda *_: lines or ["fn a::m::g: not proved: it calls a::m::f"])
+    left = trial.try_group(edits.grouped([of["a"], of["b"]], crate, True)[0])
+    is_told = not trial.why and [it for it in (of["a"], of["b"]) if not it.is_refused] == left and all(it.why for it in left)
+    return is_told and asked[0][1] == ["m::f", "m::f_as_it_stands", "m::f_edited_1"] and " ".join(name for name in "ab" if of[name].is_refused)
+
+
+@check("Edits of definitions are tried in copies of their laws in one check, beside a copy that must be proved. A law is alone if the prover "
+       "makes something of a source that reads such a definition, but for a plain type.")
+def copies_laws(folder):
+    edits_of = {name: f"of: law::law_of_a\nfile: specs/Words.antt\nold: word = 1\nnew: word = {name}\n" for name in "23"}
+    laid(folder, {**DATA.of_law, **{f"{name}.edit": text for name, text in edits_of.items()}})
+    crate = SimpleNamespace(folder=str(folder), name="a")
+    found = []
+    for told, refused in DATA.said_of_laws:
+        of = [edits.Edit(folder / f"{name}.edit", crate) for name in edits_of]
+        trial, asked = trial_of(crate, lambda *_, lines=told: lines)
+        groups = edits.grouped(of, crate, True)
+        trial.try_group(groups[0])
+        found.append(len(groups) == 1 and not trial.why and [it.name for it in of if it.is_refused] == refused.split())
+    texts, paths, _ = asked[0]
+    found += [paths == [f"law{it}::law_of_a" for it in ("_as_0_stands", "_edited_1", "_edited_2")]]
+    found += [{path: text for path, text in texts.items() if "_edited_2" in path} == DATA.of_law_edited]
+    found += [texts["specs/Lib.antt"].startswith(DATA.of_law_listed), "mod law_edited_1;" in texts["src/lib.rt"]]
+    for text, groups in DATA.types_of_law:
+        laid(folder, {"src/m.rt": text})
+        found.append(len(edits.grouped(of, crate, True)) == groups)
+    return all(found)
+
+
+@check("Untouched functions are checked without bodies, some kinds aside; then once with them.")
+def empties_functions(folder):
+    crate, of = edited(folder, {"src/m.rt": DATA.bodies}, {"one": ("", "other(n)", "1 + other(n)")})
+    texts, empty = edits.emptied(crate, {}, of["one"].functions)
+    found = [texts == {"src/m.rt": DATA.empty}, [it.path() for it in empty] == ["m::other", "m::T::of"]]
+    for row in DATA.said_of_empty:
+        trial, asked = trial_of(crate, lambda _, without, of=row: of[0] if without else of[1])
+        trial.try_group(edits.Group(of["one"]), True)
+        found.append((of["one"].is_refused, [it for *_, it in asked]) == (row[2], [["m::T::of", "m::other"], []][:row[3]]))
+    return all(found)
+
+
+@check("Edits with clauses narrow their functions to those, if no call and no hand proof needs more.")
+def narrows_contracts(folder):
+    changes = {"f": "n + 1", "g": "n + f(n)", "h": "    g(n)", "by_hand": "n + 2"}
+    crate, of = edited(folder, {"src/m.rt": DATA.promises, "proofs/m/by_hand/Answers.antt": ""},
+                       {name: ("clause: low\n", text, f"{text} + 1") for name, text in changes.items()})
+    found = [not it.why for it in of.values()]
+    for names, narrow in (("f g by_hand", "g"), ("f g h", "h"), ("f by_hand", "f"), ("by_hand", "")):
+        groups = edits.grouped([of[it] for it in names.split()], crate, True)
+        texts, _ = edits.emptied(crate, groups[0].texts(crate, []), [of[it].functions[0] for it in names.split()])
+        texts, paths = edits.narrowed(crate, texts, groups[0].wanted(crate, []))
+        wanted = {name: "\n    n: u8,\n) -> u8\n" + (DATA.narrow if name == narrow else DATA.contract) for name in of}
+        starts = {name: texts["src/m.rt"].split(f"fn {name}(")[1].startswith(wanted[name]) for name in of}
+        found += [len(groups) == 1, paths == ({f"m::{narrow}"} if narrow else set()), all(starts.values())]
+    return all(found)
+
+
+@of_rows("An edit that names a clause is refused where the prover refuses it by that clause alone.", DATA.said_of_clauses)
+def told_of_clause(clause, narrow, whole, folder):
+    laid(folder, {"src/m.rt": DATA.promises, "wrong/f.edit": f"clause: {clause}\nfile: src/m.rt\nold: n + 1\nnew: n + 3\n"})
+    trial, _ = trial_of(SimpleNamespace(folder=str(folder), name="a"),
+                        lambda texts, _: unproved(whole if "0 < result" in texts["src/m.rt"].split("n + 3")[0] else narrow))
+    trial.run()
+    return said(trial.told)[1].strip().split(": ", 1)[1]
+
+
+of_rows("A word of a function's name counts as a call of it unless it can be none: a field, a use, a contract, another type's.", DATA.of_calls)(
+    lambda code, _: " ".join(it.name for it in edits.functions_of("src/m.rt", DATA.called)
+                             if edits.is_called(it, "src/m.rt", {"src/m.rt": DATA.called, "src/n.rt": code})))
+
+
+def crate_of_edits(folder, name, edits, bodies=DATA.its_bodies, constant=""):
     functions = "".join(f"{'const ' * (it == constant)}fn {it}() {{\n    {body}\n}}\n" for it, body in bodies.items())
     texts = {f"wrong/{edit}.edit": "file: src/lib.rt\nold: {}\nnew: {}\n".format(*DATA.tried[edit]) for edit in edits}
     laid(folder / "crates" / name, {"src/lib.rt": f"const N = 1;\n{functions}", **texts})
-    return FakeCrate(name=name, folder=str(folder / "crates" / name), below=list, count=lambda _: 1)
+    return FakeCrate(name, folder / "crates")
 
 
 def said_by_the_prover(crate, texts, flags, kept):
@@ -48,96 +224,109 @@ def said_by_the_prover(crate, texts, flags, kept):
         if "wrong" in inside or "N = 2;" in body and name == "f":
             lines += [f"fn {crate.name}::{name}: not proved: the search did not prove a goal"]
         elif "gone" in inside:
-            lines += [f"proofs/{name}/F.antt:1:2: {GONE}", f"fn {crate.name}::{name}: not proved: its proof"]
+            lines += [f"proofs/{name}/F.antt:1:2: error: `x` is not in scope", f"fn {crate.name}::{name}: not proved: its proof"]
         elif inside.startswith("#[tactic(none)] unreachable!();"):
             lines += [f"fn {crate.name}::{name}: no proof: expected answers; `#[tactic(none)]` leaves `unreachable-requires`"]
     return of_prover(lines)
 
 
-def told_by_edits(folder, crates, words, most=60):
+def told_by_edits(folder, crates, words=(), most=60):
     """The status of `edits.py`, what it tells of each edit, and its last line, where these are all crates and a lane tries so many edits at most."""
-    tools = fake_tools(1, 99e9, edited=edits.rt.edited, unread=edits.rt.unread, STALE=edits.rt.STALE, PARTS=("src", "specs"),
-                       checked=said_by_the_prover, guarded=list, crates_below=lambda _: crates)
+    tools = fake_tools(1, 99e9, crates, edited=edits.rt.edited, unread=edits.rt.unread, STALE=edits.rt.STALE, PARTS=("src", "specs"),
+                       checked=said_by_the_prover)
     with patch.multiple(edits, ROOT=folder, SELFTEST=folder / "none", rt=tools, MOST=most), memory_at(folder / "memory"), contextlib.chdir(folder):
         status, told = said(edits.main, words)
     return status, dict(re.findall(r"(?m)^crates/(\S+)\.edit: (.*)$", told)), run.last_line(told)
 
 
-def tries_edits_in_groups(folder):
-    """`edits.py` tells of each edit what the prover says of that one, in groups of any size."""
-    every, right = {"a": DATA.tried, "b": DATA.good_ones, "c": ["d_h_is_right"]}, True
+@of_rows("`edits.py` tells of each edit what the prover says of that one, in groups of any size.", DATA.groups)
+def told_wrongly(words, most, folder):
+    """What is told otherwise than it is to be of these crates' edits, and how many pass and fail."""
+    every = {"a": DATA.tried, "b": DATA.good_ones, "c": ["d_h_is_right"]}
     crates = [crate_of_edits(folder, name, edits) for name, edits in every.items()]
-    for words, most in (([], 60), ([], 3), (["b"], 60), (["a"], 60), (["c"], 60)):
-        status, told, last = told_by_edits(folder, crates, words, most)
-        wanted = {f"{name}/wrong/{edit}": DATA.tried[edit][2] for name in words or every for edit in every[name]}
-        good = sum(it == "refused" for it in wanted.values())
-        wrong = [it for it in {*told, *wanted} if not told.get(it, "").startswith(wanted.get(it, "none"))]
-        ends = (int(good < len(wanted)), f"{good} passed, {len(wanted) - good} failed")
-        right &= is_same(([], *ends), ([(it, told.get(it)) for it in wrong], status, last))
-    return right
+    status, told, last = told_by_edits(folder, crates, words, most)
+    wanted = {f"{name}/wrong/{edit}": DATA.tried[edit][2] for name in words or every for edit in every[name]}
+    wrong = [f"{it}: {told.get(it)}" for it in {*told, *wanted} if not told.get(it, "").startswith(wanted.get(it, "none"))]
+    return tuple(wrong), status, last
 
 
+@check("`edits.py` keeps what checks prove for several groups, or with EDITS_KEPT, in memory.")
 def keeps_for_more_groups(folder):
-    """`edits.py` keeps what checks prove for several groups, or with EDITS_KEPT, in memory."""
     crates = [crate_of_edits(folder, "a", ["a_f", "c_g"]), crate_of_edits(folder, "b", ["a_f", "i_number"])]
     laid(Path(crates[0].folder), {"out/incremental/work": ""})
     found = []
     for says in ("", "1"):
         KEPT.clear()
         with patch.dict(os.environ, EDITS_KEPT=says):
-            status, *_ = told_by_edits(folder, crates, [])
+            status, *_ = told_by_edits(folder, crates)
         found.append((status, sorted(KEPT, key=str)))
     row = lambda name, kept: (name, kept, " in memory")
-    others = [row("b", []), row("b", [])]
-    return found == [(0, [row("a", False), *others]), (0, [row("a", ["work"]), *others])]
+    return found == [(0, [row("a", kept), row("b", []), row("b", [])]) for kept in (False, ["work"])]
 
 
+@check("`edits.py` counts no edit of a crate as refused where a function fails that none touches, and that it can't empty.")
 def sees_what_is_not_proved(folder):
-    """`edits.py` counts no edit of a crate as refused where a function fails that none touches, and that it can't empty."""
-    crate = crate_of_edits(folder, "a", ["a_f", "c_g", "h_h"], dict(DATA.bodies, i="wrong as it is"), "i")
-    status, told, last = told_by_edits(folder, [crate], [])
-    are_so = [it.startswith("FAILED: i is not proved") for it in told.values()]
-    return (status, last, are_so) == (1, "0 passed, 3 failed", [True] * 3)
+    crate = crate_of_edits(folder, "a", ["a_f", "c_g", "h_h"], dict(DATA.its_bodies, i="wrong as it is"), "i")
+    status, told, last = told_by_edits(folder, [crate])
+    return (status, last) == (1, "0 passed, 3 failed") and all(it.startswith("FAILED: i is not proved") for it in told.values())
 
 
-def compares_scripts(folder):
-    """`fuzz.py` passes only if each program is as the reference, on each script, in all it says."""
-    place, found, drawn = folder / "fuzzed", [], []
-    laid(place, {"out": "answer\n", "err": "fault\n"})
+@of_rows("`fuzz.py` passes only if each program is as the reference, on each script, in all it says.", DATA.of_scripts)
+def passes_fuzz(what, folder):
+    """Whether it passes where one of the programs does this on each script, and the other one is as the reference."""
+    laid(folder, {"out": "answer\n", "err": "fault\n"})
+    drawn, found, good = [], set(), DATA.of_scripts[0][0]
     script_of = lambda letter: lambda r: drawn.append(r.random()) or (["words", letter], b"a line\nand more\n", lambda _: (b"answer\n", "fault", 2))
-    cases = [(what, DATA.of_scripts[0][0], good) for what, good in DATA.of_scripts]
-    for device, link, good in cases + [(link, device, good) for device, link, good in cases]:
-        for name, what, letter in (("ocadev", device, "d"), ("ocactl", link, "l")):
-            heard = f'[ "$*" = "words {letter}" ] && grep -q line || exit 9'
-            stand_in(place / name, f"{heard}\ncd '{place}'\n{what}")
+    for device, link in ((what, good), (good, what)):
+        for name, does, letter in (("ocadev", device, "d"), ("ocactl", link, "l")):
+            stand_in(folder / name, f'[ "$*" = "words {letter}" ] && grep -q line || exit 9\ncd \'{folder}\'\n{does}')
         drawn.clear()
         with patch.multiple(fuzz, device_script=script_of("d"), link_script=script_of("l")):
-            status, last, told = ran_as(fuzz, str(place), "0.5")
+            status, last, told = main_of(fuzz, folder, "0.5")
         passed, failed = map(int, re.fullmatch(r"(\d+) passed, (\d+) failed", last).groups())
-        is_tried = (passed > 1 or not good) and len({*drawn}) == len(drawn) > 0
-        found.append(is_same((0, 0, False, True) if good else (1, 1, True, True), (status, failed, "DIFFERENCE" in told, is_tried)))
-    return all(found)
+        is_tried = (passed > 1 or what != good) and len({*drawn}) == len(drawn) > 0
+        found.add((status, failed, "DIFFERENCE" in told, is_tried))
+    return {(0, 0, False, True): True, (1, 1, True, True): False}.get(found.pop()) if len(found) == 1 else found
 
 
-def ran_as(tool, *words):
-    with patch.object(sys, "argv", [f"{tool.__name__}.py", *words]):
-        status, told = said(tool.main)
-    return status, run.last_line(told), told
+of_rows("`snippets.py` sees where a session prints otherwise.", DATA.sessions)(lambda expected, printed, _: snippets.is_like(expected, printed))
+of_rows("`snippets.py` sees where a piece of code is not in its file.", DATA.pieces)(lambda piece, _: snippets.is_in(piece, "\n".join(DATA.file)))
+check("`snippets.py` tells the blocks of a document.")(lambda _: is_same(
+    [(3, "", ["$ b", "c"]), (8, "sh x/y", ["e"])], [*snippets.blocks("a\n\n    $ b\n    c\n\nd\n```sh x/y\ne\n```\n")]))
 
 
-def runs_what_documents_say(folder):
-    """`snippets.py` finds each session and piece of code of each of its documents, and fails where one of them is not so."""
-    top, found = folder / "documents", []
+def snippets_of(folder, documents, texts):
+    """How `snippets.py` ends over these files, its last line, and where it says that something is wrong."""
     stand_in(folder / "says-bin/says", 'echo "$*"')
-    for old, new in DATA.changed:
-        laid(top, {"code/of.txt": "first\nsecond\n", "A.md": DATA.document, "B.md": DATA.document.replace(old, new, 1)})
-        with patch.multiple(snippets, TOP=top, DOCUMENTS=["A.md", "B.md"]):
-            found.append(ran_as(snippets, str(folder / "says-bin"))[:2])
-    return is_same([(0, "6 passed, 0 failed")] + [(1, "5 passed, 1 failed")] * len(DATA.changed[1:]), found)
+    laid(folder, texts)
+    with patch.multiple(snippets, TOP=folder, DOCUMENTS=documents):
+        status, last, told = main_of(snippets, folder / "says-bin")
+    return status, last, re.findall(r"(?m)^WRONG: (\S+): ", told)
 
 
+@of_rows("`snippets.py` finds each session and piece of code of each of its documents, and fails where one of them is not so.", DATA.changed)
+def runs_what_documents_say(old, new, folder):
+    texts = {"code/of.txt": "first\nsecond\n", "A.md": DATA.document, "B.md": DATA.document.replace(old, new, 1)}
+    return snippets_of(folder, ["A.md", "B.md"], texts)[:2]
+
+
+@of_rows("`snippets.py` finds each example of a doc comment, and fails where no test has it as it stands.", DATA.of_comments)
+def finds_examples(old, new, folder):
+    texts = {"crates/a/src/in/lib.rt": DATA.documented, "crates/a_tests/src/in/tests.rt": DATA.with_it.replace(old, new, 1)}
+    return snippets_of(folder, [], texts)[:2]
+
+
+@of_rows("`snippets.py` fails where the table of a document is broken, and says where.", DATA.tables)
+def broken_tables(text, folder):
+    """The lines of this text where it says so, as README.md and in docs/."""
+    status, last, places = snippets_of(folder, [], {"README.md": text, "docs/A.md": text})
+    found = [int(it.split(":")[1]) for it in places if it.startswith("README.md:")]
+    is_well = places == [f"{name}:{line}" for name in ("README.md", "docs/A.md") for line in found] and status == int(bool(found))
+    return tuple(found) if is_well and (found or last == "2 passed, 0 failed") else (status, last, places)
+
+
+@check("`snippets.py` comes to each session, with each of its commands, and each block of code with a path of README.md and of all of docs/.")
 def finds_what_documents_say(_):
-    """`snippets.py` comes to each session, with each of its commands, and each block of code with a path of README.md and of all of docs/."""
     wanted, found = [], []
     for file in [run.TOP / "README.md", *sorted((run.TOP / "docs").glob("*.md"))]:
         name, lines = str(file.relative_to(run.TOP)), file.read_text().splitlines()
@@ -149,91 +338,77 @@ def finds_what_documents_say(_):
     return len(wanted) > 15 and is_same([], [it for it in wanted if found.count(it) < wanted.count(it)])
 
 
-def finds_examples(folder):
-    """`snippets.py` finds each example of a doc comment, and fails where no test has it as it stands."""
-    top, found = folder / "documented", []
-    for old, new in (("", ""), ("of(1)?", "of(2)?"), ("    if a { b() }\n", ""), ("let a", "let b"), (DATA.with_it, "")):
-        laid(top, {"crates/a/src/in/lib.rt": DATA.documented, "crates/a_tests/src/in/tests.rt": DATA.with_it.replace(old, new, 1)})
-        with patch.multiple(snippets, TOP=top, DOCUMENTS=[]):
-            found.append(ran_as(snippets, "none")[:2])
-    return found == [(0, "1 passed, 0 failed")] + [(1, "0 passed, 1 failed")] * 4
-
-
-def refuses_broken_tables(folder):
-    """`snippets.py` fails where the table of a document is broken, and says where."""
-    top, found = folder / "tables", []
-    (top / "docs").mkdir(parents=True)
-    for name in ("README.md", "docs/A.md"):
-        for text, wrong in DATA.tables:
-            (top / name).write_text(text)
-            with patch.multiple(snippets, TOP=top, DOCUMENTS=[]):
-                status, last, told = ran_as(snippets, "none")
-            places = re.findall(r"(?m)^WRONG: (\S+): ", told)
-            is_well = (status, places) == (int(bool(wrong)), [f"{name}:{line}" for line in wrong]) and (wrong or last.split(" ")[0] == "1")
-            found.append(is_well or print(f"snippets.py: {text!r}: {status}, {places}"))
-        (top / name).unlink()
-    return all(found)
-
-
+@check("`api.py` lists each public item of a library, and no other, with the first sentence of its comment.")
 def lists_what_is_public(folder):
-    """`api.py` lists each public item of a library, and no other, with the first sentence of its comment."""
     laid(folder / "crates/a/src", DATA.library)
     with patch.object(api, "TOP", folder):
-        rows, about = api.listed("a"), api.about("a")
-    return is_same(([*DATA.listed], "What it is: a sample."), (rows, about))
+        return is_same(([*DATA.listed], "What it is: a sample."), (api.listed("a"), api.about("a")))
 
 
-def judged_neighbours(told, alone):
-    """How `neighbours.py` ends if a peer says this beside the last of the silent hosts, and that alone."""
-    beside = set()
+@of_rows("A run of lossy.py is as promised only where each of its numbers is right: each is made wrong alone.", DATA.of_lossy)
+def is_as_promised(numbers, _):
+    made = object.__new__(lossy.Run)
+    its = {"executed": 5, "old": 1, "copies": 1, "wrong": 0, "missing": 0, "status": 0} | numbers
+    vars(made).update(its, report=its, network=SimpleNamespace(behind=its["copies"]))
+    return made.is_as_promised(5)
 
-    def ran(room, folder, silent, seconds):
+
+@check("The network of lossy.py is bad both ways, by a clock that goes on with each datagram.")
+def carries_badly(_):
+    """It has done and counted what it is to: losses, doubles, and copies that wait for 20 to 700 ms."""
+    count, clock = 5000, SimpleNamespace(now=0)
+    waits, order = [[] for _ in range(count)], []
+    with patch.object(peers, "time", SimpleNamespace(time=lambda: clock.now / 1000)):
+        network = lossy.bad_network(None, 1)
+        network.carry = lambda way, number, _: order.append((way, number)) or waits[number].append(clock.now - number)
+        for moment in range(count + 1000):
+            clock.now = moment
+            if moment < count:
+                network.accept(moment % 3 == 0, moment, None)
+            network.deliver()
+    network.front.close()
+    copies, twice, lost = sum(waits, []), [its for its in waits if len(its) == 2], sum(not its for its in waits)
+    overtaken, latest = 0, {True: -1, False: -1}
+    for way, number in order:
+        overtaken += number < latest[way]
+        latest[way] = max(latest[way], number)
+    shares = {"lost": (lost / count, 0.2), "doubled": (len(twice) / (count - lost), 0.2), "held": (sum(it > 20 for it in copies) / len(copies), 0.15),
+              "copies apart": (sum(abs(a - b) > 100 for a, b in twice) / len(twice), 0.23)}
+    wrong = [f"{what}: {got:.2f}" for what, (got, wanted) in shares.items() if abs(got - wanted) > 0.03]
+    counts = network.carried, network.lost, network.doubled, network.overtaken
+    wrong += [f"counts {counts}"] if counts != (count, lost, len(twice), overtaken) or not overtaken else []
+    wrong += ["copies, waits or ways"] if max(map(len, waits)) > 2 or min(copies) < 0 or max(copies) > 701 else []
+    return is_same([], wrong) and all(way == (number % 3 == 0) for way, number in order)
+
+
+@of_rows("`machines.py` fails a run beside silent hosts whose questions are not answered, or late, each time, and tries each of its runs.",
+         DATA.of_neighbours)
+def judged_neighbours(told, alone, _):
+    """How many checks pass and fail if a peer says this beside the last of the silent hosts, and that alone; but those beside the others."""
+    its, beside = checks.Checks(), set()
+
+    def ran(room, folder, silent):
         beside.add(silent)
-        return alone if silent is None else told if silent == neighbours.RUNS[-1] else (20, 20, alone[2], 4000)
+        return alone if silent == machines.RUNS[0] else told if silent == machines.RUNS[-1] else (20, 20, alone[2], 4000)
 
-    is_able = SimpleNamespace(is_able=lambda _: True, Machines=lambda *_: contextlib.nullcontext())
-    with patch.multiple(neighbours, namespaces=is_able, run=ran):
-        return (*ran_as(neighbours, "bin", "4")[:2], beside == {None, *neighbours.RUNS})
-
-
-def judges_neighbours(_):
-    """`neighbours.py` fails a run whose questions are not answered, or late, each time, and tries each of its runs."""
-    count = len(neighbours.RUNS)
-    sent = neighbours.forged("10.91.0.100", 9000, b"abc")
-    head, udp = sent[:20], sent[20:]
-    total = sum(int.from_bytes(head[at:at + 2], "big") for at in range(0, 20, 2))
-    found = [is_same((0xffff, 31), ((total & 0xffff) + (total >> 16), len(sent))), is_same((b"\x45\0\0\x1f", b"\x40\x11"), (head[:4], head[8:10])),
-             is_same((b"\x0a\x5b\0\x64\x0a\x5b\0\1", b"\x23\x28\xfd\xe8\0\x0b\0\0abc"), (head[12:], udp))]
-    for told, alone, passed, failed in DATA.of_neighbours:
-        ends = (int(failed > 0), f"{count - 1 + passed} passed, {failed} failed", True)
-        found.append(is_same(ends, judged_neighbours(told, alone)))
-    return count > 1 and all(found)
+    with patch.multiple(machines, Machines=lambda *_: contextlib.nullcontext(), run=ran):
+        said(machines.silent_hosts, its)
+    return beside == {*machines.RUNS} and (its.passed - len(machines.RUNS) + 2, its.failed)
 
 
-def played(steps):
+@of_rows("A scene fails where what a verb gives is not what its row says, waits for what comes, and breaks off at a verb or a name that is none.",
+         as_it_stands("gate_of_tools")["scenes"])
+def played(steps, _):
     """How many checks a scene over a list passes and fails, or that it breaks off."""
     its, there, calls = checks.Checks(), [], []
     verbs = {"adds": there.append, "all": lambda: there, "first": lambda: there[0] if there else None, "same": lambda it: it,
              "bytes": lambda: there[0].encode(), "late": lambda: calls.append(0) or len(calls), "table": lambda: {"one": "a", "two": None}}
-    try:
-        said(scenes.Scene(its, verbs, name="name").play, steps)
-    except (KeyError, TypeError):
-        return ["breaks off"]
-    return [its.passed, its.failed]
-
-
-def plays_scenes(_):
-    """A scene fails where what a verb gives is not what its row says, waits for what comes, and breaks off at a verb or a name that is none."""
     with patch.object(scenes, "waited", functools.partial(checks.waited, seconds=0.2)):
-        return is_same([wanted for *wanted, _ in ROWS_OF_SCENES], [played(steps) for *_, steps in ROWS_OF_SCENES])
-
-
-SCOPES = (ast.FunctionDef, ast.Lambda, ast.ListComp, ast.SetComp, ast.DictComp, ast.GeneratorExp)
-
-
-def own_names(tree):
-    nodes = list(ast.walk(tree))
-    return {it.arg for it in nodes if isinstance(it, ast.arg)} | {it.id for it in nodes if isinstance(it, ast.Name) and isinstance(it.ctx, ast.Store)}
+        try:
+            said(scenes.Scene(its, verbs, name="name").play, steps)
+        except (KeyError, TypeError):
+            return "breaks off"
+    return [its.passed, its.failed]
 
 
 def named_in(tree, modules):
@@ -241,14 +416,15 @@ def named_in(tree, modules):
     left, found = [(tree, frozenset())], Counter()
     while left:
         node, own = left.pop()
-        own = own | own_names(node) if isinstance(node, SCOPES) else own
+        if isinstance(node, (ast.FunctionDef, ast.Lambda, ast.ListComp, ast.SetComp, ast.DictComp, ast.GeneratorExp)):
+            own = own | {it.arg if isinstance(it, ast.arg) else it.id for it in ast.walk(node)
+                         if isinstance(it, ast.arg) or isinstance(it, ast.Name) and isinstance(it.ctx, ast.Store)}
         left += [(it, own) for it in ast.iter_child_nodes(node)]
         if isinstance(node, ast.Name):
             found[node.id] += node.id not in own
         elif isinstance(node, ast.Attribute):
-            found["." + node.attr] += 1
             of = modules.get(getattr(node.value, "id", None))
-            found[f"{of}.{node.attr}"] += of is not None
+            found.update([f".{node.attr}", f"{of}.{node.attr}"])
         elif isinstance(node, ast.ImportFrom):
             found.update(f"{node.module}.{it.name}" for it in node.names)
     return found
@@ -256,127 +432,84 @@ def named_in(tree, modules):
 
 def imported(tree):
     """The modules that a piece of code imports, by what they are called there; those of which it imports names, by these."""
-    found = {}
-    for it in ast.walk(tree):
-        if isinstance(it, ast.Import):
-            found.update({name.asname or name.name: name.name for name in it.names})
-        elif isinstance(it, ast.ImportFrom):
-            found.update({name.asname or name.name: it.module for name in it.names})
-    return found
-
-
-def texts_in(tree):
-    constants = (it.value for it in ast.walk(tree) if isinstance(it, ast.Constant))
-    return {it.replace("-", "_") for it in constants if isinstance(it, str)}
-
-
-def looks_up(tree):
-    """Whether the code looks up an attribute of itself whose name is made as it runs."""
-    calls = [it for it in ast.walk(tree) if isinstance(it, ast.Call) and getattr(it.func, "id", "") == "getattr"]
-    return any(getattr(it.args[0], "id", "") == "self" and not isinstance(it.args[1], ast.Constant) for it in calls)
+    its = [(it, name) for it in ast.walk(tree) if isinstance(it, (ast.Import, ast.ImportFrom)) for name in it.names]
+    return {name.asname or name.name: getattr(it, "module", name.name) for it, name in its}
 
 
 def uncalled(folders):
     """The functions and methods of these folders that nothing names but they themselves: no other code of their module,
     of one that imports it, or of the module of their class's base. Decorated ones, and names that Python calls, are
-    left out."""
-    trees = {file: ast.parse(file.read_text()) for folder in folders for file in sorted(folder.glob("*.py"))}
+    left out; and methods of which a text has the name, where the module looks up an attribute of `self` by a name that is made."""
+    sources = {file: file.read_text() for folder in folders for file in sorted(folder.glob("*.py"))}
+    trees = {file: ast.parse(text) for file, text in sources.items()}
     modules = {file: imported(tree) for file, tree in trees.items()}
     names = {file: named_in(tree, modules[file]) for file, tree in trees.items()}
-    texts = set().union(*map(texts_in, trees.values()))
+    texts = {str(it.value).replace("-", "_") for tree in trees.values() for it in ast.walk(tree) if isinstance(it, ast.Constant)}
     found = []
     for file, tree in trees.items():
         classes = [of for of in ast.walk(tree) if isinstance(of, ast.ClassDef)]
         homes = {of: [modules[file].get(getattr(getattr(base, "value", base), "id", "")) for base in of.bases] for of in classes}
         above = {it: homes[of] for of in classes for it in of.body}
         users = [names[it] for it in trees if it != file and file.stem in modules[it].values()]
+        looks_up = re.search(r"getattr\(self, (?![\"'])", sources[file])
         for it in (it for it in ast.walk(tree) if isinstance(it, ast.FunctionDef) and not it.decorator_list):
             name, of_others = ("." + it.name,) * 2 if it in above else (it.name, f"{file.stem}.{it.name}")
             count = names[file][name] - named_in(it, modules[file])[name] + sum(its[of_others] for its in users)
             count += sum(its[name] for other, its in names.items() if other.stem in above.get(it, []))
-            is_python = re.fullmatch("__.*__|do_[A-Z]+", it.name) or it.name in texts and it in above and looks_up(tree)
+            is_python = re.fullmatch("__.*__|do_[A-Z]+", it.name) or it.name in texts and it in above and looks_up
             found += [] if count or is_python else [f"{file.name}:{it.lineno}: {it.name}"]
     return found
 
 
+@check("Each function of the tools and of the gate is named by another piece of them; one that is not is found.")
 def calls_all_that_it_has(folder):
-    """Each function of the tools and of the gate is named by another piece of them; one that is not is found."""
-    laid(folder / "modules", DATA.modules)
+    laid(folder, DATA.modules)
     left = uncalled([run.TOP / it for it in ("tools", "gate", "bench", "examples", "examples/python")])
-    return is_same([], left) and sorted(uncalled([folder / "modules"])) == [*DATA.uncalled]
-
-
-# a definition of a spec: its line begins with its name, or with what it is and its name
-DEFINED = re.compile(r"(?m)^(?:abbrev |unfoldable )?(?:pub )?(?:record |data )?(?!use\b|mod\b|record\b|data\b|abbrev\b|unfoldable\b|pub\b)(\w+)\s*[:({]")
+    return is_same([], left) and is_same([*DATA.uncalled], sorted(uncalled([folder])))
 
 
 def defined_twice(top):
-    """The names that the specs of two modules define, each with these modules."""
-    places = {}
-    for file in sorted(top.glob("crates/*/specs/**/*.antt")):
-        for name in set(DEFINED.findall(file.read_text())):
-            places.setdefault(name, []).append(str(file.relative_to(top)))
-    return {name: files for name, files in places.items() if len(files) > 1}
+    """The names that the specs of two modules define: a line begins with the name, or with what it is and the name."""
+    defined = re.compile(r"(?m)^(?:abbrev |unfoldable )?(?:pub )?(?:record |data )?(?!(?:use|mod|record|data|abbrev|unfoldable|pub)\b)(\w+)\s*[:({]")
+    found = Counter(name for file in top.glob("crates/*/specs/**/*.antt") for name in {*defined.findall(file.read_text())})
+    return [name for name, count in found.items() if count > 1]
 
 
+@check("A name has one definition in all specs; where it has two, the name is found.")
 def finds_names_defined_twice(folder):
-    """A name has one definition in all specs; where it has two, the name is found."""
     laid(folder / "crates", DATA.specs)
-    return is_same({}, defined_twice(run.TOP)) and [*defined_twice(folder)] == ["same"]
+    return is_same([], defined_twice(run.TOP)) and defined_twice(folder) == ["same"]
 
 
-# What a run asks for, reads and writes that `unreliable.py` makes fail, and what each failure is answered with.
-OF_FAILURES = {"REFUSE": (4, b"no memory\n"), "FAIL_READ": (3, b"read failed\n"), "FAIL_WRITE": (5, b"write failed\n")}
-
-
-def run_with(slip):
-    """A run with 4 requests for memory, 3 reads and 5 writes of a byte, which passes over the failure `slip` alone."""
-    def of(words, script, **settings):
-        counts = [number for number, _ in OF_FAILURES.values()]
+@of_rows("`unreliable.py` fails each request, read and write of a run in turn, and finds the one that a run passes over.", DATA.slips)
+def tried_over(slip, number, _):
+    """Whether a run with 4 requests for memory, 3 reads and 5 writes of a byte has failed that passes over this failure alone, and how many of
+    each kind are tried."""
+    def ran(words, script, **settings):
+        counts = [count for count, _ in DATA.failures.values()]
         failing = {name: number for name, number in settings.items() if name != "PIECE"} or settings
-        if failing == dict([slip]):
+        if failing == {slip: number}:
             return b"1", b"", 0, counts
-        for setting, (number, fault) in OF_FAILURES.items():
-            if 0 < settings.get(setting, 0) <= number:
-                return b"12345"[:settings[setting] - 1] if setting == "FAIL_WRITE" else b"", fault, 1, counts
+        for setting, (count, fault) in DATA.failures.items():
+            if 0 < settings.get(setting, 0) <= count:
+                return b"12345"[:settings[setting] - 1] if setting == "FAIL_WRITE" else b"", fault.encode(), 1, counts
         return b"12345", b"", 0, counts
-    return of
+
+    its = unreliable.Runs("", "")
+    its.run = ran
+    requests = said(its.memory, ["a"], b"")[0][0]
+    said(its.after_building, ["a"], b"", requests)
+    said(its.failing_ends, ["a"], b"", 1)
+    said(its.pieces_of, ["a"], b"")
+    return its.failed > 0, *map(its.tried.get, ("refused", "ends", "pieces"))
 
 
-def fails_each_in_turn(_):
-    """`unreliable.py` fails each request, read and write of a run in turn, and finds the one that a run passes over."""
-    wrong = []
-    slips = [("REFUSE", n) for n in range(1, 6)] + [("FAIL_READ", n) for n in range(1, 4)] + [
-        ("FAIL_WRITE", n) for n in range(1, 6)] + [("PIECE", n) for n in (1, 7, 100)] + [("REFUSE_FROM", 5)]
-    for slip in [("", 0), *slips]:
-        runs = unreliable.Runs("", "")
-        runs.run = run_with(slip)
-        requests = said(runs.memory, ["a"], b"")[0][0]
-        said(runs.after_building, ["a"], b"", requests)
-        said(runs.failing_ends, ["a"], b"", 1)
-        said(runs.pieces_of, ["a"], b"")
-        wanted = (slip != ("", 0), 4 - (slip in slips[:4]), 8, 3)
-        wrong += [slip] if (runs.failed > 0, *map(runs.tried.get, ("refused", "ends", "pieces"))) != wanted else []
-    return is_same([], wrong)
-
-
-def sees_what_is_not_kept(folder):
-    """`keep.py` kills a device, and finds one that comes back with less than was answered, with more than was set, or not at all."""
-    found = []
-    for at, (kept, is_well) in enumerate(DATA.of_keepers):
-        place = folder / f"keeper-{at}"
-        stand_in(place / "ocadev", f"exec '{sys.executable}' '{place}/device.py' \"$@\"")
-        laid(place, {"device.py": DATA.keeper.replace("{KEPT}", kept)})
-        its = keep.Checks(str(place))
-        with patch.multiple(keep, KILLS=3, random=SimpleNamespace(uniform=lambda *_: 0.15)):
-            said(keep.kills, its, str(place))
-        found.append(is_same((is_well, is_well), (its.passed == 5, its.failed == 0)))
-    return all(found)
-
-
-# What is tried, each in a folder of its own.
-ROWS = [(it.__doc__, it) for it in (
-    tries_edits_in_groups, sees_what_is_not_proved, compares_scripts, runs_what_documents_say,
-    finds_what_documents_say, judges_neighbours, calls_all_that_it_has, keeps_for_more_groups, finds_examples,
-    refuses_broken_tables, lists_what_is_public, finds_names_defined_twice, fails_each_in_turn,
-    sees_what_is_not_kept, plays_scenes)]
+@of_rows("`keep.py` kills a device, and finds one that comes back with less than was answered, with more than was set, or not at all.",
+         DATA.of_keepers)
+def is_kept(kept, folder):
+    stand_in(folder / "ocadev", f"exec python3 '{folder}/device.py' \"$@\"")
+    laid(folder, {"device.py": DATA.keeper.replace("{KEPT}", kept)})
+    its = keep.Checks(str(folder))
+    with patch.multiple(keep, KILLS=3, random=SimpleNamespace(uniform=lambda *_: 0.15)):
+        said(keep.kills, its, str(folder))
+    return its.failed == 0 if (its.failed == 0) == (its.passed == 5) else (its.passed, its.failed)

@@ -96,57 +96,7 @@ static uint32_t status_of(struct oca_device *d) {
     return oca_device_packet(d, 0, bytes, sizeof bytes, &size) == OCA_DONE ? bytes[18] : 99;
 }
 
-/* Whether the answers to a command wait: of this peer, under this handle, at this moment. */
-static bool waits_behind(struct oca_device *d, uint16_t port, uint32_t handle, uint32_t target, uint16_t level, uint16_t index, const uint8_t *params, size_t size) {
-    struct oca_verdict v = {9, 9, 9, 9, 9, 9, 9};
-    uint8_t bytes[64] = {0};
-    bool waits = false;
-    const size_t whole = command(bytes, handle, target, level, index, size > 0, params, size);
-    same("a command of one that waits", oca_device_datagram(d, 1, port, bytes, whole, 1000, &v), OCA_DONE);
-    same("whether its answers wait", oca_device_waits(d, &waits), OCA_DONE);
-    return waits;
-}
-
-/* Objects as some tests add them. */
-static struct oca_spec gain_spec(void) {
-    struct oca_spec spec = oca_spec_of("gain", oca_within(oca_int16(-5), oca_int16(-600), oca_int16(100)));
-    spec.lockable = 0;
-    spec.label = oca_name_of("Vocals");
-    return spec;
-}
-
-static struct oca_spec mode_spec(void) {
-    struct oca_spec spec = oca_spec_of("mode", oca_alone(oca_position(2)));
-    oca_spec_position(&spec, "off");
-    oca_spec_position(&spec, "");
-    oca_spec_position(&spec, "high");
-    spec.enabled = 0;
-    spec.enableds[1] = 0;
-    return spec;
-}
-
 static enum oca_result spec_added(struct oca_device *d, struct oca_spec spec) { return oca_device_add(d, 4096, 4200, &spec); }
-
-/* An object of each class, whose setting and limits differ. */
-static size_t specs_of_each_class(struct oca_spec *specs) {
-    const struct oca_reading readings[] = {oca_alone(oca_mute(false)), oca_alone(oca_polarity(true)), oca_alone(oca_boolean(true)),
-        oca_within(oca_int8(-2), oca_int8(-128), oca_int8(127)), oca_within(oca_int16(-600), oca_int16(-601), oca_int16(32767)),
-        oca_within(oca_int32(INT32_MIN + 1), oca_int32(INT32_MIN), oca_int32(5)), oca_within(oca_int64(INT64_MIN + 1), oca_int64(INT64_MIN), oca_int64(INT64_MAX)),
-        oca_within(oca_uint8(254), oca_uint8(3), oca_uint8(255)), oca_within(oca_uint16(0xfedc), oca_uint16(0xfed0), oca_uint16(0xffff)),
-        oca_within(oca_uint32(0x89abcdef), oca_uint32(7), oca_uint32(UINT32_MAX)), oca_within(oca_uint64(UINT64_MAX - 1), oca_uint64(9), oca_uint64(UINT64_MAX))};
-    const size_t count = sizeof readings / sizeof *readings;
-    for (size_t i = 0; i < count; i++) {
-        specs[i] = oca_spec_of("each", readings[i]);
-        specs[i].role.text[3] = (uint8_t)('a' + i);
-        specs[i].lockable = i % 2;
-        specs[i].enabled = i % 3 != 0;
-        specs[i].label = oca_name_of(i % 5 ? "label" : "");
-    }
-    specs[count] = gain_spec();
-    specs[count + 1] = mode_spec();
-    specs[count + 1].reading = oca_within(oca_position(2), oca_position(0), oca_position(2));
-    return count + 2;
-}
 
 static bool same_object(const struct oca_spec *told, const struct oca_spec *given) { return memcmp(told, given, sizeof *told) == 0; }
 

@@ -1,7 +1,8 @@
 #!/usr/bin/env python3
-"""The library for C: its header, its programs, and what it does when memory is refused.
+"""The library for C: its header, its programs, its store, and what it does when memory is refused.
 
-Usage: c_library.py BIN     BIN is the folder with `ocadev` and `ocactl`; the library is proved and built
+Usage: c_library.py         what needs no proof: the store of c/store.c, and the heap of examples/c
+       c_library.py BIN     all. BIN is the folder with `ocadev` and `ocactl`; the library is proved and built
 
 Device and panel of examples/c are compiled strictly as C11 and as C++17 from what `make install` installs, by oca.pc
 and by CMake, and run against each other, `ocadev` and `ocactl`, also under valgrind, for AArch64 under emulation, and
@@ -9,8 +10,10 @@ on the first x86-64; what is not installed here is named as NOT TRIED. The mixer
 also sanitized. Each call is tried on a closed handle and at its limits (c_library.c), in any order
 (c_library_random.c), and the panel over a bad network and at wrong peers (c_library_panel.c). Each request for memory
 is refused in turn. Header and library name the same functions. What is installed lies below its folder, one for each
-kind of processor, and `make uninstall` leaves nothing. The last line is 'N passed, M failed'."""
+kind of processor, and `make uninstall` leaves nothing. The file of a store is whole behind each failure (c_store.c):
+each call of the system is wrapped (-Wl,--wrap) and can fail. The last line is 'N passed, M failed'."""
 import contextlib
+import fcntl
 import filecmp
 import itertools
 import os
@@ -28,7 +31,7 @@ import reference
 import c_rows
 import oca_profile as oca
 from c_rows import LANGUAGES, SANITIZED, STRICT, compiled, ran
-from checks import Checks, bound, free_port, lines_in, over_the_layer, port_said, read_until
+from checks import Checks, bound, ended, free_port, lines_in, over_the_layer, port_said, read_until
 from embedded import bound_at, channels
 from keep import Peer, over_kills
 from peers import Lossy
@@ -45,11 +48,12 @@ CALLS = 1_500_000  # of a run of random ones
 PARTS = ("panel", "kept", "store", "socket", "serve")  # of c/, but the heap
 FULL = oca.pdu(1, [oca.Command(handle, 4097, 4, 1).body() for handle in range(1, 87)])  # a datagram of 1,472 bytes
 CAREFUL = ["valgrind", "-q", "--error-exitcode=99", "--leak-check=full"]
+KINDS = (("", []), ("sanitized", SANITIZED))  # how a test in C is compiled
 
 
 def library(target):
     """The library for a kind of processor, proved and built by one process, since other steps run beside this one."""
-    run = ran(sys.executable, "gate/library.py", target, cwd=TOP, timeout=None, env=dict(os.environ, LIBRARY_JOBS="1"))
+    run = ran(sys.executable, "gate/build.py", "--library", target, cwd=TOP, timeout=None, env=dict(os.environ, LIBRARY_JOBS="1"))
     if run.returncode:
         sys.exit(f"no library for {target}:\n{run.stdout[-2000:]}{run.stderr[-2000:]}")
     return TOP / f"crates/oca_c/out/{target}/liboca_c.a"
@@ -75,10 +79,6 @@ def serving(words, **how):
     return run, port_said(run)
 
 
-def rest(run):
-    return run.communicate(timeout=120)[0], run.returncode
-
-
 def stop(run):
     run.kill()
     return run.communicate(timeout=120)[1]
@@ -89,38 +89,43 @@ def said_by(words, **how):
     return run.stdout, run.returncode
 
 
-def started(words):
-    run = ran(*words)
-    return run.stdout, run.stderr.split(" ")[0], run.returncode
+def symbols(form, *words):
+    """What a program that lists symbols says of them, by this form of its lines."""
+    return set(re.findall(form, ran(*words, check=True).stdout, re.MULTILINE))
 
 
 def device_and_panel(checks, made, device="c11", panel="c11", before=(), seconds=3):
     """The device of the example, and the panel against it."""
     run, port = serving([*before, made / f"device-{device}", 0, seconds])
     checks.same(f"{before}: the panel ({panel})", said_by([*before, made / f"panel-{panel}", port]), (PANEL, 0))
-    checks.same(f"{before}: the device ({device})", rest(run), (AMPLIFIER, 0))
+    checks.same(f"{before}: the device ({device})", ended(run, 120)[::2], (AMPLIFIER, 0))
+
+
+def both_ends(checks, made):
+    """The device and the panel of the examples in each language; they, each call and the panel of the library under valgrind."""
+    for device, panel in itertools.product(LANGUAGES, repeat=2):
+        device_and_panel(checks, made, device, panel)
+    if shutil.which("valgrind"):
+        checks.same("each call under valgrind", said_by([*CAREFUL, made / "calls-c11"])[1], 0)
+        checks.same("the panel of the library under valgrind", said_by([*CAREFUL, made / "network-c11"])[1], 0)
+        device_and_panel(checks, made, before=CAREFUL, seconds=8)
 
 
 def panels(checks, made, prefix, folder):
     """The panel of c/panel.c over its own network, strict and sanitized, and at `ocadev`."""
     test = c_rows.test("c_library_panel", made)
-    for language in LANGUAGES:
-        for name, more in ((f"network-{language}", []), (f"network-{language}-sanitized", SANITIZED)):
-            compiled(made / name, "-Wconversion", *more, f"-I{prefix}/include", "-Doca_link_datagram=handed", test, TOP / "c/panel.c",
-                     "-x", "none", prefix / "lib/liboca.a", language=language)
-            checks.counted(f"the panel of the library ({name})", *said_by([made / name]))
-    for words in ([], ["--tree", TOP / "examples/stagebox.tree"]):
-        run, port = serving([f"{folder}/ocadev", "serve", "--port", 0, "--turns", 100000, *words])
-        told = said_by([f"{folder}/ocactl", "tree", "--device", f"127.0.0.1:{port}", "--port", free_port()])
-        checks.same(f"`ocactl` finds objects {words}", (told[0].startswith("100 1.1.3 0 root\n"), told[0].count("\n") > 5, told[1]), (True, True, 0))
-        for language in LANGUAGES:
-            checks.same(f"the walk ({language}) at `ocadev` {words}", said_by([made / f"network-{language}-sanitized", port]), told)
-        run.kill()
-        checks.same(f"the walk of a device that is gone {words}", said_by([made / "network-c11-sanitized", port]), ("lost\n", 1))
+    for language, (kind, more) in itertools.product(LANGUAGES, KINDS):
+        name = "-".join(filter(None, ("network", language, kind)))
+        compiled(made / name, "-Wconversion", *more, f"-I{prefix}/include", "-Doca_link_datagram=handed", test, TOP / "c/panel.c",
+                 "-x", "none", prefix / "lib/liboca.a", language=language)
+        checks.counted(f"the panel of the library ({name})", *said_by([made / name]))
+    plays(checks, "walk", made, folder=folder, stagebox=TOP / "examples/stagebox.tree")
 
 
 def each_call(checks, made, prefix):
-    """Each call under the sanitizers, over an arena, over a heap that counts the blocks that were not given back, and on the first x86-64."""
+    """Each call in each language, under the sanitizers, over an arena, over a heap that counts its blocks, and on the first x86-64."""
+    for language in LANGUAGES:
+        checks.counted(f"each call ({language})", *said_by([made / f"calls-{language}"]))
     calls, core = made / "c_library.c", prefix / "lib/liboca_c.a"
     for what, words in (("under the sanitizers", [*SANITIZED, calls, *(TOP / f"c/{name}.c" for name in PARTS), prefix / "lib/liboca.a"]),
                         ("over an arena", ["-DARENA=(6u<<20)", calls, TOP / "examples/c/heap.c", core]),
@@ -176,7 +181,7 @@ def large_datagrams(checks, made):
             for data in (large, oca.command(9999, 4097, 4, 1)):
                 end.send(data)
             checks.same(f"the {name} behind a datagram that is too large", (len(large), end.recv(2000)), (1473, oca.response(9999, 0, 1, b"\1")))
-        rest(run)
+        ended(run, 120)
 
 
 def warnings(checks, made, prefix):
@@ -215,9 +220,11 @@ class Trial(Scene):
             "runs": self.runs,
             "runs over": lambda settings, calls, *words: self.runs(*words, CALLS=calls, **settings),
             "says": lambda program, *words: said_by([made / program, *words]),
-            "starts": lambda program, *words: started([made / program, *words]),
+            "starts": self.starts,
             "fails": self.fails,
-            "ocactl sends": lambda words: said_by([f"{names['folder']}/ocactl", "send", *self.to(), *words.split()]),
+            "ocactl": lambda *words: said_by([f"{names['folder']}/ocactl", words[0], "--device", f"127.0.0.1:{self.port}", "--port", free_port(),
+                                              *" ".join(words[1:]).split()]),
+            "finds objects": lambda told: told[0].startswith("100 1.1.3 0 root\n") and told[0].count("\n") > 5 and told[1] == 0,
             "peer": lambda gain: self.begins_peer(self.port, gain),
             "peer over losses": self.begins_losses,
             "has lost": lambda: self.way.lost > 0,
@@ -229,20 +236,32 @@ class Trial(Scene):
             "one after another": lambda *lists: [*itertools.chain(*lists)],
             "calls of": lambda name: lines_in(made / name),
             "turned": lambda whole, at: f"{whole[:2 * at]}{int(whole[2 * at:2 * at + 2], 16) ^ 1:02x}{whole[2 * at + 2:]}",
-            "cut": lambda whole: whole[:-2]},
+            "cut": lambda whole: whole[:-2],
+            "locks": self.locks,
+            "make": lambda goal, prefix, settings: make(goal, prefix, names["archive"], **settings),
+            "files below": lambda place: files_below(made / place),
+            "looks at what was made": lambda place: installed_as_made(checks, made, names["archive"], made / place),
+            "unlike": lambda place, own, files: [*itertools.chain(*filecmp.cmpfiles(made / place, TOP / own, files, shallow=False)[1:])],
+            "wrong modes": lambda place: modes_below(made / place),
+            "panel by flags": lambda place: panel_below(made, made / place)},
             made=made, silent=silent.getsockname()[1], panel=PANEL, python=sys.executable, mute=TOP / "examples/c/mute.py", **names)
 
     def runs(self, program, *words, **how):
         self.run, self.port = serving([*self.before, self.made / program, *words], **how)
         self.names["port"] = self.port
 
+    def starts(self, program, *words):
+        """What a run prints, the first word that it says of faults, and its status."""
+        run = ran(self.made / program, *words)
+        return run.stdout, run.stderr.split(" ")[0], run.returncode
+
     def fails(self, program, *words):
         """What a run says of faults, and its status."""
         run = ran(*self.before, self.made / program, *words)
         return run.stderr, run.returncode
 
-    def to(self):
-        return "--device", f"127.0.0.1:{self.port}", "--port", str(free_port())
+    def locks(self, name):
+        fcntl.flock(self.open.enter_context(open(self.made / name)), fcntl.LOCK_EX)
 
     def begins_peer(self, port, gain):
         self.peer = Peer(port, gain)
@@ -308,9 +327,7 @@ def arenas(checks, made):
         checks.same(f"arenas of each size ({language})", (re.fullmatch(r"[1-9]\d{6} passed, 0 failed\n", out) is not None, status), (True, 0))
 
 
-PROGRAMS = ("ocadev", "ocactl", "ocapanel")
-# What others have installed beside, which stays there.
-OTHERS = ["opt/oca/lib/another.a", "opt/oca/lib/pkgconfig/another.pc", "opt/oca/share/man/man3/another.3"]
+PROGRAMS = ["ocadev", "ocactl", "ocapanel"]
 
 
 def make(goal, prefix, archive, folder=TOP, **more):
@@ -326,76 +343,57 @@ def files_below(room):
 
 def installed_as_made(checks, made, archive, place):
     """What is installed is what was made: header, archives, pages; and what names a folder names the prefix's."""
-    words = [sys.executable, "gate/reference.py", made / "pages"]
-    subprocess.run(words, cwd=TOP, stdout=subprocess.DEVNULL, check=True)
-    pages = {it.name: it.read_text() for it in (made / "pages").iterdir()}
-    there = {it.name: it.read_text() for it in (place / "share/man/man3").glob("oca_*.3")}
+    texts = lambda folder: {it.name: it.read_text() for it in folder.glob("*.3") if it.stem != "another"}
+    reference.write(made / "pages")
+    pages, there = texts(made / "pages"), texts(place / "share/man/man3")
     checks.same("the manual pages", (len(pages) > 90, sorted(there)), (True, sorted(pages)))
     checks.same("their texts", there == pages, True)
     checks.same("oca.h as it was made", (place / "include/oca.h").read_bytes() == (TOP / "include/oca.h").read_bytes(), True)
     members = lambda file: ran("ar", "t", file, check=True).stdout.split()
-    own = members(archive)
-    parts = [f"{name}.o" for name in PARTS]
-    checks.same("what liboca_c.a has", members(place / "lib/liboca_c.a"), [*own, *parts])
-    checks.same("what liboca.a has", members(place / "lib/liboca.a"), [*own, *parts, "malloc.o"])
+    for name, more in (("liboca_c.a", []), ("liboca.a", ["malloc.o"])):
+        checks.same(f"what {name} has", members(place / "lib" / name), [*members(archive), *(f"{it}.o" for it in PARTS), *more])
     said = (place / "lib/pkgconfig/oca.pc").read_text() + (place / "lib/cmake/oca/oca-config.cmake").read_text()
     named = re.findall(r"^prefix=(.*)$|^set\(oca_include \"(.*)\"\)$", said, re.MULTILINE)
     checks.same("the folders that are named", named, [("/opt/oca", ""), ("", "/opt/oca/include")])
     checks.same("nothing is left to be put in", re.findall(r"@\w+@", said), [])
 
 
-def stays_below(checks, made, archive):
-    """What `make install-library` writes lies below DESTDIR, and nothing of it beside; `make uninstall` takes it away."""
-    room = made / "a room"
-    make("install-library", "/opt/oca", archive, DESTDIR=room)
-    checks.same("what is installed below DESTDIR", files_below(room), [f"opt/oca/{it}" for it in INSTALLED])
-    checks.same("nothing beside it", Path("/opt/oca").exists(), False)
-    installed_as_made(checks, made, archive, room / "opt/oca")
-    for name in OTHERS:
-        (room / name).touch()
-    make("uninstall", "/opt/oca", archive, DESTDIR=room)
-    checks.same("what `make uninstall` leaves", files_below(room), OTHERS)
-    checks.same("a folder that was its own alone", (room / "opt/oca/lib/cmake/oca").exists(), False)
-    whole = INSTALLED + [it for name in PROGRAMS for it in (f"bin/{name}", f"share/man/man1/{name}.1")]
-    before = os.umask(0o077)  # of one who keeps files from others
-    make("install", "/opt/oca", archive, DESTDIR=room)
-    os.umask(before)
-    checks.same("what `make install` puts there", files_below(room), sorted([f"opt/oca/{it}" for it in whole] + OTHERS))
-    for place, own, files in (("bin", "bin", [*PROGRAMS]), ("share/man/man1", "man", [f"{name}.1" for name in PROGRAMS])):
-        alike, *others = filecmp.cmpfiles(room / "opt/oca" / place, TOP / own, files, shallow=False)
-        checks.same(f"what is in {place}, as it was made", (alike, others), (files, [[], []]))
+def modes_below(room):
+    """The files below a folder that may not be read or run as they are to be, with their modes."""
     runs = lambda it: it.parent.name == "bin" or ".so" in it.name
-    modes = {it.name: oct(it.stat().st_mode & 0o777) for it in room.rglob("*") if it.is_file() and it.stem != "another"
-             and it.stat().st_mode & 0o777 != (0o755 if runs(it) else 0o644)}
-    checks.same("what is installed that may not be read or run as it is to be", modes, {})
-    make("uninstall", "/opt/oca", archive, DESTDIR=room)
-    checks.same("what `make uninstall` leaves of it", files_below(room), OTHERS)
+    return {it.name: oct(it.stat().st_mode & 0o777) for it in room.rglob("*") if it.is_file() and it.stem != "another"
+            and it.stat().st_mode & 0o777 != (0o755 if runs(it) else 0o644)}
 
 
-def prefixes(checks, made, archive):
-    """Below prefixes with a space, with a sign of awk's, and a relative one the panel runs."""
-    relative = os.path.relpath(made / "rel", TOP)
-    for prefix, place in ((made / "with a space", made / "with a space"), (made / "a&b", made / "a&b"), (relative, made / "rel")):
-        make("install-library", prefix, archive)
-        checks.same(f"what is installed below {place.name}", files_below(place), INSTALLED)
-        cflags, libs = flags(place)
-        panel = compiled(made / "panel-placed", *cflags, TOP / "examples/c/panel.c", *libs)
-        checks.same(f"the panel of {place.name}", said_by([panel], env=os.environ | {"LD_LIBRARY_PATH": f"{place}/lib"}), ("", 2))
+def panel_below(made, place):
+    """What the panel that is compiled by the flags of this prefix says without a word."""
+    cflags, libs = flags(place)
+    panel = compiled(made / "panel-placed", *cflags, TOP / "examples/c/panel.c", *libs)
+    return said_by([panel], env=os.environ | {"LD_LIBRARY_PATH": f"{place}/lib"})
+
+
+def installs(checks, made, archive):
+    """What is installed stays below DESTDIR; below odd prefixes the panel runs."""
+    pages = [f"{name}.1" for name in PROGRAMS]
+    whole = [*INSTALLED, *(f"bin/{it}" for it in PROGRAMS), *(f"share/man/man1/{it}" for it in pages)]
+    below = lambda files: sorted(f"opt/oca/{it}" for it in files)
+    before = os.umask(0o077)  # of one who keeps files from others
+    plays(checks, "place", made, archive=archive, relative=os.path.relpath(made / "rel", TOP), installed=INSTALLED, own=below(INSTALLED),
+          others=below(DATA.others), whole=below([*whole, *DATA.others]), programs=PROGRAMS, pages=pages)
+    os.umask(before)
     if shutil.which("pkg-config"):
         told = said_by(["pkg-config", "--modversion", "oca"], env=os.environ | {"PKG_CONFIG_PATH": f"{made}/rel/lib/pkgconfig"})
         checks.same("the version that pkg-config tells", told, (f"{VERSION}\n", 0))
 
 
 def configured(made, folder, *words, version="1.1"):
+    """A project of CMake that has the panel: the status, what is said of faults, and of each target of the library its file and its headers."""
     project = made / "project"
     project.mkdir(exist_ok=True)
     shutil.copy(TOP / "examples/c/panel.c", project)
     (project / "CMakeLists.txt").write_text(DATA.project.replace("oca 1.1", f"oca {version}"))
-    return ran("cmake", "-S", project, "-B", folder, *words, cwd=made)
-
-
-def targets_in(run):
-    return re.findall(r"^-- (oca::.*)$", run.stdout, re.MULTILINE)
+    run = ran("cmake", "-S", project, "-B", folder, *words, cwd=made)
+    return run.returncode, run.stderr, re.findall(r"^-- (oca::.*)$", run.stdout, re.MULTILINE)
 
 
 def targets_below(prefix, lib):
@@ -407,9 +405,9 @@ def by_cmake(checks, made, prefix):
     """The panel as a project of CMake has it, with the shared library and with the static one; version 2 is not found."""
     if not shutil.which("cmake"):
         return print("NOT TRIED: CMake is not installed")
-    run = configured(made, "cmade", f"-DCMAKE_PREFIX_PATH={prefix}")
-    checks.same("cmake -S", (run.returncode, run.stderr), (0, ""))
-    checks.same("the files of each target", targets_in(run), targets_below(prefix, "lib"))
+    *told, targets = configured(made, "cmade", f"-DCMAKE_PREFIX_PATH={prefix}")
+    checks.same("cmake -S", told, [0, ""])
+    checks.same("the files of each target", targets, targets_below(prefix, "lib"))
     run = ran("cmake", "--build", "cmade", cwd=made)
     checks.same("cmake --build", (run.returncode, run.stderr), (0, ""))
     run, port = serving([made / "device-c++17", 0, 3])
@@ -418,9 +416,8 @@ def by_cmake(checks, made, prefix):
     run.communicate(timeout=120)
     for form, more, is_kept in DATA.versions:
         version = form.format(*map(sum, zip(map(int, VERSION.split(".")), more)))
-        found = configured(made, "none", f"-DCMAKE_PREFIX_PATH={prefix}", version=version)
-        is_refused = "oca-config.cmake, version:" in found.stderr
-        checks.same(f"version {version}", (found.returncode == 0, is_refused), (is_kept, not is_kept))
+        status, said, _ = configured(made, "none", f"-DCMAKE_PREFIX_PATH={prefix}", version=version)
+        checks.same(f"version {version}", (status == 0, "oca-config.cmake, version:" in said), (is_kept, not is_kept))
 
 
 ARM, OF_ARM = "aarch64-unknown-linux-gnu", "lib/aarch64-linux-gnu"
@@ -440,8 +437,8 @@ def installs_for_arm(checks, made, prefix, archive, **settings):
     built = ran(compiler, "-std=c11", *STRICT, *cflags, "-o", made / "panel-by-flags", TOP / "examples/c/panel.c", *libs)
     checks.same("the panel for AArch64 by its oca.pc", (built.returncode, built.stderr), (0, ""))
     if shutil.which("cmake"):
-        run = configured(made, f"for-{prefix.name}", f"-Doca_DIR={prefix}/{OF_ARM}/cmake/oca")
-        checks.same("the files of each target for AArch64", targets_in(run), targets_below(prefix, OF_ARM))
+        *_, targets = configured(made, f"for-{prefix.name}", f"-Doca_DIR={prefix}/{OF_ARM}/cmake/oca")
+        checks.same("the files of each target for AArch64", targets, targets_below(prefix, OF_ARM))
 
 
 def beside_another_kind(checks, made, archive):
@@ -488,16 +485,6 @@ class Board:
         return data if head[2:] == struct.pack(">IH", ip, port) else (head, data)
 
 
-# What the device without an operating system is asked, by commands of one peer, and what it answers.
-BARE = [(oca.command(1, 4097, 4, 2, 1, b"\2"), oca.response(1)), (oca.command(1, 4097, 4, 2, 1, b"\2"), oca.response(1)),
-        (oca.command(2, 4097, 4, 1), oca.response(2, 0, 1, b"\2")),
-        (oca.command(3, 4098, 5, 2, 1, struct.pack(">h", 101)), oca.response(3, 7)),
-        (oca.command(4, 4098, 5, 2, 1, struct.pack(">h", -600)), oca.response(4)),
-        (oca.command(5, 4098, 5, 1), oca.response(5, 0, 3, struct.pack(">hhh", -600, -600, 100))),
-        (oca.command(6, 9, 5, 1), oca.response(6, 5)),
-        (b"\x3b\0\1\0\0\0\x0b\4\0\1\0\5", b"\x3b\0\1\0\0\0\x0b\4\0\1\0\5")]
-
-
 def without_a_system(checks, made, prefix):
     """The bare device, over 24,576 bytes, answers one peer over its serial line, and no more."""
     if not shutil.which("qemu-system-aarch64"):
@@ -506,9 +493,9 @@ def without_a_system(checks, made, prefix):
     board = Board(compiled(made / "bare", *words, f"-I{prefix}/include", TOP / "examples/c/bare.c", TOP / "examples/c/heap.c",
                            f"{prefix}/{OF_ARM}/liboca_c.a", "-lgcc", language="arm"))
     checks.same("how the device without a system starts", board.read(2), b"\0\0")
-    for asked, wanted in BARE:
-        board.say(asked)
-        checks.same(f"what it answers to {asked[10:].hex()}", board.answer(), wanted)
+    for asked, wanted in DATA.bare:
+        board.say(bytes.fromhex(asked))
+        checks.same(f"what it answers to {asked[20:]}", board.answer(), bytes.fromhex(wanted))
     for what, data, of in (("a peer without room", oca.command(1, 4097, 4, 1), {"port": 65002}), ("a malformed datagram", b"\x3b\0", {}),
                            ("a datagram of 1,473 bytes", bytes(1473), {})):
         board.say(data, **of)
@@ -536,55 +523,62 @@ def on_arm(checks, made):
     checks.same("what `make uninstall` leaves for AArch64", files_below(prefix), [])
 
 
-def names(checks, archive, header, prefix):
+def names(checks, archive, prefix):
     """Each prototype has its symbol, and each symbol of the library its prototype."""
-    text = re.sub(r"/\*.*?\*/", "", header.read_text(), flags=re.DOTALL)
-    inline = set(re.findall(r"static inline [\w ]+?[ *](oca_\w+)\(", text))
-    prototypes = set(re.findall(r"^(?:(?:enum|struct) )?\w+ (oca_\w+)\(", text, flags=re.MULTILINE)) - inline
+    declared = {*re.findall(r"^(?:(?:enum|struct) )?\w+ (oca_\w+)\(", reference.HEADER.read_text(), re.MULTILINE)}
     for name in ("liboca_c.a", "liboca.a"):
-        symbols = ran("nm", "-g", "--defined-only", prefix / "lib" / name).stdout
-        exported = set(re.findall(r" T (oca_\w+)$", symbols, flags=re.MULTILINE))
-        checks.same(f"prototypes without a symbol in {name}", prototypes - exported, set())
-        checks.same(f"symbols without a prototype in {name}", exported - prototypes, set())
-    needed = ran("nm", "-u", archive).stdout
-    checks.same("what the library needs", sorted(set(re.findall(r" U (\w+)$", needed, flags=re.MULTILINE))),
+        exported = symbols(r" T (oca_\w+)$", "nm", "-g", "--defined-only", prefix / "lib" / name)
+        checks.same(f"prototypes without a symbol in {name}", declared - exported, set())
+        checks.same(f"symbols without a prototype in {name}", exported - declared, set())
+    checks.same("what the library needs", sorted(symbols(r" U (\w+)$", "nm", "-u", archive)),
                 ["memcpy", "memmove", "memset", "rattle_alloc", "rattle_dealloc", "rattle_realloc"])
-    shared = ran("nm", "-D", "--defined-only", prefix / "lib/liboca.so").stdout
-    checks.same("what the shared library exports", set(re.findall(r" T (\w+)$", shared, flags=re.MULTILINE)), prototypes)
-    told = ran("readelf", "-d", prefix / "lib/liboca.so").stdout
-    checks.same("its SONAME", re.findall(r"SONAME.*\[(.*)\]", told), ["liboca.so.1"])
+    checks.same("what the shared library exports", symbols(r" T (\w+)$", "nm", "-D", "--defined-only", prefix / "lib/liboca.so"), declared)
+    checks.same("its SONAME", symbols(r"SONAME.*\[(.*)\]", "readelf", "-d", prefix / "lib/liboca.so"), {"liboca.so.1"})
+
+
+def stores(checks, made):
+    """The store in each language: what each call answers, any call of the system failing; its example; and a program without it."""
+    own, test, wraps = ["-Wconversion", f"-I{TOP}/include"], c_rows.test("c_store", made), [f"-Wl,--wrap={name}" for name in DATA.wrapped]
+    needed = symbols(r" U (\w+)$", "nm", "-u", compiled(made / "store.o", *own, "-c", TOP / "c/store.c"))
+    checks.same("the calls of the system that the store makes", sorted(needed - {*DATA.plain}), [*DATA.wrapped])
+    (made / "without.c").write_text(DATA.without)
+    for language, compiler in LANGUAGES.items():
+        for kind, more in KINDS:
+            place = made / f"place-{language}{kind}"
+            place.mkdir()
+            run = ran(compiled(made / f"store-{language}{kind}", *own, *more, test, TOP / "c/store.c", *wraps, language=language), cwd=place)
+            checks.counted(f"the store ({f'{language} {kind}'.strip()})", run.stdout, run.returncode, run.stderr)
+        run = ran(*compiler, *STRICT, *own, "-o", made / "without", made / "without.c")
+        checks.same(f"a program without a store ({language})", (run.returncode, run.stderr), (0, ""))
+        compiled(made / "stored", *own, TOP / "examples/c/stored.c", TOP / "c/store.c", language=language)
+        plays(checks, "stored", made, kept=f"{made}/state-{language}", language=language)
+    if shutil.which("valgrind"):
+        run = ran("valgrind", "-q", "--error-exitcode=99", "--track-fds=no", made / "store-c11", cwd=made)
+        checks.same("the store under valgrind", run.returncode, 0)
 
 
 def main():
-    folder = os.path.abspath(sys.argv[1])
-    archive = library("x86_64-unknown-linux-gnu")
+    archive = library("x86_64-unknown-linux-gnu") if sys.argv[1:] else None
     checks = Checks()
     with tempfile.TemporaryDirectory() as place:
         made = Path(place)
-        prefix = made / "usr"
+        made.chmod(0o755)  # for the part of the store's test that is nobody's
+        prefix, folder = made / "usr", os.path.abspath(sys.argv[1]) if archive else ""
+        for part in (stores, arenas):
+            part(checks, made)
+        if not archive:
+            return checks.verdict()
         make("install-library", prefix, archive)
         c_rows.test("c_library", made)
         cflags, shared = flags(prefix)
         compile_all(made, "c11", *cflags, *shared, f"-Wl,-rpath,{prefix}/lib")
         compile_all(made, "c++17", *cflags, f"{prefix}/lib/liboca.a")
-        names(checks, archive, TOP / "include/oca.h", prefix)
+        names(checks, archive, prefix)
         for_every_processor(checks, archive)
-        for language in LANGUAGES:
-            checks.counted(f"each call ({language})", *said_by([made / f"calls-{language}"]))
-        panels(checks, made, prefix, folder)
-        for part in (stays_below, prefixes, beside_another_kind):
-            part(checks, made, archive)
-        for part in (warnings, by_cmake, each_call, random_calls):
-            part(checks, made, prefix)
-        mixers(checks, made, prefix, folder)
-        for part in (arenas, on_arm, large_datagrams, of_a_socket, refused_memory):
-            part(checks, made)
-        for device, panel in itertools.product(LANGUAGES, repeat=2):
-            device_and_panel(checks, made, device, panel)
-        if shutil.which("valgrind"):
-            checks.same("each call under valgrind", said_by([*CAREFUL, made / "calls-c11"])[1], 0)
-            checks.same("the panel of the library under valgrind", said_by([*CAREFUL, made / "network-c11"])[1], 0)
-            device_and_panel(checks, made, before=CAREFUL, seconds=8)
+        for part, *given in ((panels, prefix, folder), (installs, archive), (beside_another_kind, archive), (warnings, prefix), (by_cmake, prefix),
+                             (each_call, prefix), (random_calls, prefix), (mixers, prefix, folder), (on_arm,), (large_datagrams,),
+                             (of_a_socket,), (refused_memory,), (both_ends,)):
+            part(checks, made, *given)
     return checks.verdict()
 
 

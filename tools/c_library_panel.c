@@ -10,10 +10,6 @@
 
 #include "c_checks.h"
 
-static void says(const char *what, const char *got, const char *expected) {
-    same(what, strcmp(got, expected) == 0, 1);
-}
-
 #ifdef __cplusplus
 extern "C"
 #endif
@@ -160,33 +156,8 @@ static bool receive(void *context, uint64_t until, uint8_t *out, size_t out_len,
     return true;
 }
 
-static void opens(struct oca_panel *panel, struct network *network, uint32_t first) {
-    const struct oca_end end = {sizeof end, network, now_of, send_to, receive};
-    same("open", oca_panel_open(panel, &end, DEVICE_IP, DEVICE_PORT, first, 16, 10500), OCA_DONE);
-}
-
 static bool is_name(const struct oca_name *name, const char *text) {
     return name->size == strlen(text) && memcmp(name->text, text, name->size) == 0;
-}
-
-/* A strip with a mute, a gain, a polarity and a delay, and beside it a switch and a boolean. */
-static struct oca_device device_of(void) {
-    struct oca_device device = OCA_DEVICE_INIT;
-    struct { uint32_t container, ono; struct oca_spec spec; } objects[] = {
-        {100, 4096, oca_spec_of_block("strip")}, {4096, 4097, oca_spec_of("mute", oca_alone(oca_mute(true)))},
-        {4096, 4098, oca_spec_of("gain", oca_within(oca_int16(-7), oca_int16(-600), oca_int16(100)))},
-        {100, 4099, oca_spec_of("mode", oca_alone(oca_position(1)))}, {4096, 4100, oca_spec_of("phase", oca_alone(oca_polarity(true)))},
-        {100, 4101, oca_spec_of("pad", oca_alone(oca_boolean(true)))},
-        {4096, 4102, oca_spec_of("delay", oca_within(oca_uint64(UINT64_C(0x0102030405060708)), oca_uint64(3), oca_uint64(UINT64_MAX)))}};
-    objects[2].spec.label = oca_name_of("Gr\xc3\xb6\xc3\x9f" "e");
-    oca_spec_position(&objects[3].spec, "off");
-    oca_spec_position(&objects[3].spec, "low");
-    oca_spec_position(&objects[3].spec, "h\xe2\x82\xacgh");
-    same("open", oca_device_open(&device, 16), OCA_DONE);
-    for (size_t k = 0; k < sizeof objects / sizeof *objects; k++)
-        same("an object", oca_device_add(&device, objects[k].container, objects[k].ono, &objects[k].spec), OCA_DONE);
-    same("start", oca_device_start(&device, 31, 4), OCA_DONE);
-    return device;
 }
 
 struct seen { uint32_t len, onos[4100], containers[4100], classes[4100], at_most; };
@@ -249,41 +220,7 @@ static uint32_t answers_without_end(struct network *network, uint32_t ono, uint3
     return 2 + 90 * 14;
 }
 
-static void begins_network(struct network *network, struct oca_panel *panel) {
-    memset(network, 0, sizeof *network);
-    network->now = UINT64_C(1) << 40;
-    network->answers = answers_set;
-    opens(panel, network, 1);
-}
-
-static void answer_is(struct network *network, uint32_t count, const void *bytes, uint32_t len) {
-    network->answer_status = 0;
-    network->answer_count = count;
-    network->answer_len = len;
-    memcpy(network->answer, bytes, len);
-}
-
-/* How each question fares with the answer that the peer has; what it would have told is left as it was. */
 enum question { ASKS_CLASS, ASKS_ROLE, ASKS_NAMES, ASKS_MEMBERS, ASKS_GAIN, QUESTIONS };
-static uint32_t asked(struct oca_panel *panel, enum question question) {
-    struct oca_class_id id = {9, {9}, 9};
-    struct oca_name name = {9, {9}};
-    static struct oca_names names;
-    static struct oca_members members;
-    struct oca_reading reading = oca_alone(oca_int8(9));
-    struct oca_outcome outcome = {9, 9, 9};
-    names.count = members.count = 0;
-    switch (question) {
-    case ASKS_CLASS: outcome = oca_panel_class(panel, 4097, &id); break;
-    case ASKS_ROLE: outcome = oca_panel_role(panel, 4097, &name); break;
-    case ASKS_NAMES: outcome = oca_panel_position_names(panel, 4097, &names); break;
-    case ASKS_MEMBERS: outcome = oca_panel_members(panel, 4097, &members); break;
-    default: outcome = oca_panel_get_of(panel, 4097, OCA_CLASS_INT16, &reading); break;
-    }
-    if (outcome.asked != OCA_ASKED_DONE)
-        same("left as it was", id.count == 9 && id.class_number == 9 && name.size == 9 && names.count == 0 && members.count == 0 && reading.value.bits == 9, 1);
-    return outcome.asked;
-}
 
 static bool keeps(void *context, const struct oca_visit *visit) {
     *(struct oca_visit *)context = *visit;

@@ -110,6 +110,15 @@ static enum oca_result reads_spec(struct oca_device *d, uint32_t ono) {
     return result;
 }
 
+/* What a call of a device or a link answered, which was open before or not, and that may open it. */
+static void judge(enum oca_result result, bool was_open, bool may_open, bool is_sound) {
+    told(result);
+    expect(result <= OCA_NO_VALUE, "a result of a device or a link");
+    expect(was_open || may_open || result == OCA_CLOSED, "what is closed answers so");
+    expect(!was_open || !may_open || result == OCA_OPEN, "what is open is not opened");
+    expect(is_sound, "a device or a link is open or not");
+}
+
 /* A call of a device. */
 static void calls_device(struct oca_device *d) {
     static const uint8_t role[] = {'r', 'o', 'l', 'e', 0xff}, zeros[80] = {0};
@@ -124,12 +133,16 @@ static void calls_device(struct oca_device *d) {
     int count = 0;
     bool may_open = false;
     switch (below(DEVICE_COUNT)) { DEVICE_CALLS }
-    told(result);
-    expect(result <= OCA_NO_VALUE, "a result of a device");
-    expect(was_open || may_open || result == OCA_CLOSED, "a closed device answers so");
-    expect(!was_open || !may_open || result == OCA_OPEN, "an open device is not opened");
-    expect(d->is_open == (d->at != NULL), "a device is open or not");
+    judge(result, was_open, may_open, d->is_open == (d->at != NULL));
     looks(count, result == OCA_DONE || result == OCA_TOO_SMALL, "what a call of a device writes");
+}
+
+/* A stored struct is restored over any other. */
+static enum oca_result restores(const struct oca_spec *stored) {
+    struct oca_spec *spec = ROOM(0, struct oca_spec);
+    *spec = any_spec();
+    memcpy(places[0].before + EDGE, spec, sizeof *spec);
+    return CALL(oca_spec_restore)(spec, stored);
 }
 
 /* A call without a device: a stored struct, and words for values. */
@@ -137,24 +150,13 @@ static void calls_values(void) {
     static const char *const words[] = {"muted", "unmuted", "on", "off", "inverted", "-0", "+1", "255", "-129", "9223372036854775808", "\xff", ""};
     const struct oca_value value = any_value();
     const struct oca_spec stored = any_spec();
-    struct oca_value *found;
     const char *word = words[below(sizeof words / sizeof *words)];
     const size_t size = below(24);
     enum oca_result result = OCA_DONE;
-    switch (below(3)) {
-    case 0:
-        *(struct oca_spec *)memcpy(room(0, sizeof stored), &stored, sizeof stored) = any_spec();
-        memcpy(places[0].before + EDGE, places[0].whole + EDGE, sizeof stored);
-        result = CALL(oca_spec_restore)((struct oca_spec *)(void *)(places[0].whole + EDGE), &stored);
-        break;
-    case 1: result = CALL(oca_value_text)(&value, (uint8_t *)room(0, size), size, (size_t *)memset(room(1, sizeof(size_t)), 0, sizeof(size_t))); break;
-    default:
-        found = (struct oca_value *)room(0, sizeof value);
-        result = CALL(oca_value_from_text)(below(15), (const uint8_t *)word, strlen(word), found);
-        break;
-    }
+    int count = 0;
+    switch (below(VALUE_COUNT)) { VALUE_CALLS }
     told(result);
-    looks(1, result == OCA_DONE, "what a call of a value writes");
+    looks(count, result == OCA_DONE, "what a call of a value writes");
 }
 
 /* A call of a link. */
@@ -165,13 +167,9 @@ static void calls_link(struct oca_link *l) {
     const size_t size = below(2) ? (size_t)OCA_MOST_BYTES : below(OCA_MOST_BYTES + 1);
     enum oca_result result = OCA_DONE;
     int count = 0;
-    bool is_opening = false;
+    bool may_open = false;
     switch (below(LINK_COUNT)) { LINK_CALLS }
-    told(result);
-    expect(result <= OCA_NO_VALUE, "a result of a link");
-    expect(was_open || is_opening || result == OCA_CLOSED, "a closed link answers so");
-    expect(!was_open || !is_opening || result == OCA_OPEN, "an open link is not opened");
-    expect(l->is_open == (l->at != NULL), "a link is open or not");
+    judge(result, was_open, may_open, l->is_open == (l->at != NULL));
     looks(count, result == OCA_DONE, "what a call of a link writes");
 }
 

@@ -1,14 +1,14 @@
 """Tests in C of the library for C, made of rows of data. Other tools use it; it has no `main`.
 
 A file tools/rows/NAME_calls.toml has tables `part`, or lists of the cases of a switch (see `cases`). A `part` is a function in C: its `name`, what it
-`takes`, what it `has` (declarations), and its `rows`; with a word `when` it is empty unless this word is defined. A row is
+`takes` and `gives`, what it `has` (declarations), and its `rows`; with a word `when` it is empty unless this word is defined. A row is
 
     [WHAT, CALL, RESULT]              a call of the library, and what it answers, without OCA_
     [WHAT, CALL, RESULT, .., HOLDS]   the same, further calls, each with what it answers, and what holds behind them
     [WHAT, VALUE, WANTED]             a value in C, and what it must be
     [WHAT, HOLDS]                     what must hold, in C
     DONE                              what is done in between: a call, or a statement in C
-    {for = HEAD, rows = [..]}         rows that are gone through so often; `if` and `while` are alike
+    {for = HEAD, rows = [..]}         rows that are gone through so often; `if`, `while` and `switch` are alike
 
 WHAT is a text, or behind `= ` a value in C. A call is its name without oca_ and a word for each argument; where a pointer is to be given, the word is
 what it points to. Where bytes or items are given with their number, a word is a text in quotes, an array, or one of them and the number with a
@@ -107,8 +107,8 @@ def lines(rows, pointers):
             yield check(row, pointers)
 
 
-def function(name, rows, takes="void", has=(), when=""):
-    text = f"static void {name}({takes}) {{\n" + "\n".join([*(f"{it};" for it in has), *lines(rows, re.findall(r"\*(\w+)", takes))]) + "\n}\n"
+def function(name, rows, takes="void", has=(), when="", gives="void "):
+    text = f"static {gives}{name}({takes}) {{\n" + "\n".join([*(f"{it};" for it in has), *lines(rows, re.findall(r"\*(\w+)", takes))]) + "\n}\n"
     return f"#ifdef {when}\n{text}#else\nstatic void {name}(void) {{}}\n#endif\n" if when else text
 
 

@@ -1,5 +1,6 @@
-/* The store of the library for C: what each call answers, and that the file is whole after each failure. Linked with -Wl,--wrap for each call of
- * WRAPPED (tools/c_store.py), so that one of them can be made to fail. Usage: c_store, in an empty folder. The last line is 'N passed, M failed'. */
+/* The store of the library for C: what each call answers, and that the file is whole after each failure. Linked with -Wl,--wrap for each call that
+ * is `wrapped` in rows/c_library.toml, so that one of them can be made to fail. Usage: c_store, in an empty folder. The last line is 'N passed, M
+ * failed'. */
 #ifndef _GNU_SOURCE
 #define _GNU_SOURCE
 #endif
@@ -99,10 +100,7 @@ static long mode_of(const char *path) {
     return lstat(path, &found) ? -1 : (long)(found.st_mode & 07777);
 }
 
-static bool is_there(const char *path) {
-    struct stat found;
-    return lstat(path, &found) == 0;
-}
+static bool is_there(const char *path) { return mode_of(path) >= 0; }
 
 static void put_file(const char *path, const void *bytes, size_t size) {
     FILE *file = fopen(path, "wb");
@@ -116,39 +114,7 @@ static size_t whole(const char *path, uint8_t *out, size_t room) {
     return got;
 }
 
-/* What the store tells of a failure of the system. */
-static void told(const char *what, enum oca_store_result got, const char *call, int error) {
-    char text[200];
-    snprintf(text, sizeof text, "%s: it fails in %s", what, store.call ? store.call : "nothing");
-    same(text, got == OCA_STORE_SYSTEM && store.call && strcmp(store.call, call) == 0, true);
-    snprintf(text, sizeof text, "%s: its errno", what);
-    same(text, store.error, error);
-}
-
-/* What a load gives: these bytes. */
-static void holds(const char *what, const char *bytes) {
-    char out[64] = "", text[200];
-    size_t length = 99;
-    const enum oca_store_result got = oca_store_load(&store, out, sizeof out, &length);
-    snprintf(text, sizeof text, "%s: it holds %s", what, bytes);
-    same(text, got == OCA_STORE_DONE && length == strlen(bytes) && memcmp(out, bytes, length) == 0, true);
-}
-
 static enum oca_store_result save(const char *bytes) { return oca_store_save(&store, bytes, strlen(bytes)); }
-
-/* An open store of a file that holds this. */
-static void begin(const char *path, const char *bytes) {
-    char beside[400];
-    fail(NULL, 0, 0);
-    oca_store_close(&store);
-    unlink(path);
-    snprintf(beside, sizeof beside, "%s.new", path);
-    unlink(beside);
-    same("a store is opened", oca_store_open(path, &store), OCA_STORE_DONE);
-    if (bytes) same("and holds something", save(bytes), OCA_STORE_DONE);
-}
-
-/* ---- the tests ---- */
 
 /* A folder, a FIFO and a symbolic link, to a file and to none, in the place of FILE, FILE.new and FILE.lock. */
 static void put_other(const char *path, int kind) {
@@ -159,25 +125,6 @@ static void put_other(const char *path, int kind) {
 static void take_other(const char *path) {
     if (rmdir(path) && unlink(path)) abort();
 }
-
-/* What a program without permission is told, in a program of its own. */
-static int without_permission(void) {
-    char out[8];
-    size_t length = 0;
-    const unsigned long before = failed;
-    told("a folder that may not be written", oca_store_open("mine/file", &store), "open", EACCES);
-    told("a folder that may not be looked into", oca_store_open("hidden/file", &store), "open", EACCES);
-    same("a lock that is there", oca_store_open("mine/there", &store), OCA_STORE_DONE);
-    told("a file that may not be read", oca_store_load(&store, out, sizeof out, &length), "open", EACCES);
-    told("a save into a folder that may not be written", save("x"), "open", EACCES);
-    oca_store_close(&store);
-    return failed > before;
-}
-
-/* Each call of a save fails once: which call that is, how the store names it, which of them it is. */
-static const struct { const char *call, *name; int at; } of_save[] = {
-    {"fstatat", "stat", 1}, {"unlinkat", "unlink", 1}, {"openat", "open", 1}, {"fstat", "fstat", 1}, {"fchown", "fchown", 1}, {"fchmod", "fchmod", 1},
-    {"write", "write", 1}, {"write", "write", 2}, {"fsync", "fsync", 1}, {"close", "close", 1}, {"renameat", "rename", 1}, {"fsync", "fsync", 2}};
 
 #include "c_store_calls.h" /* made by c_rows.py of rows/c_store_calls.toml */
 

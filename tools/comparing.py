@@ -59,17 +59,13 @@ def runs_of(program, kind, head, texts):
 
 def events_of(lines):
     """The lines that `trials events` prints of each event: the last two are the number of sessions and the objects."""
-    found = [[]]
-    for line in lines:
-        found[-1].append(line)
-        if line.startswith("objects"):
-            found.append([])
-    return [its for its in found if its]
+    ends = [at + 1 for at, line in enumerate(lines) if line.startswith("objects")]
+    return [its for first, end in zip([0, *ends], [*ends, len(lines)]) if (its := lines[first:end])]
 
 
-# How runs are held against laws: the cases of a number; what the program says of cases; the walk of the laws along what it said of one, or a Break; that
-# as a text; what is counted of it; some that are altered, each with the law that is to refuse it and, if it is to stand there, the place of the break;
-# and the laws alone.
+# How runs are held against laws: the cases of a number; what the program says of cases; the walk of the laws along what it said of one, or a Break;
+# that as a text; what is counted of it; some that are altered, each with the law that is to refuse it and, if it is to stand there, the place of the
+# break; and the laws alone.
 Comparison = collections.namedtuple("Comparison", "made told hold shown count altered laws")
 
 

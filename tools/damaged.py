@@ -8,7 +8,9 @@ Each byte of 16 messages is replaced by each other value, each message is cut of
 second implementation (oca_profile.py) says. A refused datagram comes from a peer with a session and from one without;
 then another peer reads what no line of objects shows, and the first repeats its commands. A second device hears all but
 the damaged ones, and answers alike."""
+import itertools
 import sys
+from collections import Counter
 
 import oca_profile as oca
 from checks import Checks
@@ -38,6 +40,15 @@ def readings(first):
     return oca.pdu(1, [oca.Command(first + k, *of, 0, b"").body() for k, of in enumerate(READINGS)])
 
 
+def events_of_one(folder, events):
+    """What `trials events` says of each event of a history: its lines but the last two, and those."""
+    (lines,) = runs_of(f"{folder}/trials", "events", "history", [["history 32 16 0", *events]])
+    said = events_of(lines[1:])
+    if len(said) != len(events):
+        raise RuntimeError(f"{len(said)} of {len(events)} events")
+    return ((its[:-2], its[-2:]) for its in said)
+
+
 def event(peer, data):
     return f"0 {peer} {oca.hex_text(data)}"
 
@@ -48,64 +59,38 @@ def found(data):
         messages = oca.check(data)
     except oca.Fault as fault:
         return f"malformed {fault.kind} at {fault.at}", True
-    written = data if len(messages) == 1 and messages[0][0] != "response" else b""
-    return f"again {oca.hex_text(written)}", False
+    return f"again {oca.hex_text(data if len(messages) == 1 and messages[0][0] != 'response' else b'')}", False
 
 
-def blocks(folder, events):
-    """What `trials events` says of each event of a history: its lines but the last two, and those."""
-    (lines,) = runs_of(f"{folder}/trials", "events", "history", [["history 32 16 0", *events]])
-    said = events_of(lines[1:])
-    if len(said) != len(events):
-        raise RuntimeError(f"{len(said)} of {len(events)} events")
-    return [(its[:-2], its[-2:]) for its in said]
-
-
-class Trial(Checks):
-    def __init__(self, folder):
-        super().__init__(folder)
-        self.refused = self.again = 0
-
-    def message(self, message):
+def main():
+    checks, counts = Checks(sys.argv[1]), Counter()
+    for message in MESSAGES:
         begin = [event(SENDER, MESSAGES[k]) for k in BEFORE]
-        events, untouched, tried, refused = list(begin), list(begin), [], 0
-        for data in damaged(message):
-            line, is_refused = found(data)
-            tried.append((data, line, is_refused))
+        tried, events, untouched, refused = [(data, *found(data)) for data in damaged(message)], list(begin), list(begin), 0
+        for data, _, is_refused in tried:
             events.append("again " + oca.hex_text(data))
             if is_refused:
                 asked = [event(READER, readings(1 + refused * len(READINGS))), *(event(SENDER, MESSAGES[k]) for k in AGAIN)]
                 events += [event(SENDER, data), event(STRANGER, data), *asked]
                 untouched += asked
                 refused += 1
-        self.compare(tried, iter(blocks(self.folder, events)), iter(blocks(self.folder, untouched)))
-
-    def compare(self, tried, touched, untouched):
-        """Holds what the device said that heard the datagrams to the lines and to what the other device said."""
-        for _ in BEFORE:
-            state = self.told(touched, untouched)[1]
+        touched, others = events_of_one(checks.folder, events), events_of_one(checks.folder, untouched)
+        *_, (_, state) = alike(touched, others, len(BEFORE))
         for data, line, is_refused in tried:
             good = next(touched) == ([line], state)
             if is_refused:
-                good &= [next(touched) for _ in range(2)] == [([line], state)] * 2
-                for _ in range(1 + len(AGAIN)):
-                    had, state = self.told(touched, untouched)
-                    good &= had
-                self.refused += good
-            self.again += line.startswith("again 3b")
-            self.expect(line, good, oca.hex_text(data))
-
-    def told(self, touched, untouched):
-        one, other = next(touched), next(untouched)
-        return one == other, other[1]
+                good &= [next(touched), next(touched)] == [([line], state)] * 2
+                *had, (last, state) = alike(touched, others, 1 + len(AGAIN))
+                good &= last and all(it for it, _ in had)
+            counts[line.split(" ")[0]] += good and (is_refused or line.startswith("again 3b"))
+            checks.expect(line, good, oca.hex_text(data))
+    print(f"damaged datagrams: {counts['malformed']} refused with nothing changed, {counts['again']} of the others written back alike")
+    return checks.verdict()
 
 
-def main():
-    trial = Trial(sys.argv[1])
-    for message in MESSAGES:
-        trial.message(message)
-    print(f"damaged datagrams: {trial.refused} refused with nothing changed, {trial.again} of the others written back alike")
-    return trial.verdict()
+def alike(touched, others, count):
+    """Of so many events, whether both devices say the same, and what the one that hears no damaged datagram is then."""
+    return [(one == other, other[1]) for one, other in zip(itertools.islice(touched, count), itertools.islice(others, count))]
 
 
 if __name__ == "__main__":

@@ -8,35 +8,31 @@ No step of the gate.
 The frames are those of the scripts in examples/ and of each method in docs/PROTOCOL.md ("Each method, byte by byte"),
 with what `ocadev replay` answers. Each must be well formed, with the fields of section 2 of PROTOCOL; of a command
 without a response the dissector reads the header alone. The last line is 'N passed, M failed'."""
+import itertools
 import re
 import shutil
 import subprocess
 import sys
 import tempfile
 from collections import Counter
+from pathlib import Path
 
 import oca_profile as oca
 from checks import verdict
 from python_controller import script_of, worked_bytes
 from tables import TOP
 
-FIELDS = ("type", "msgcount", "handle", "tono", "mlevel", "midx", "pcount", "status")
-
-
-def scripts():
-    yield from (path.read_text() for path in sorted((TOP / "examples").glob("*.script")))
-    yield script_of(worked_bytes())
+FIELDS = ("type", "msgcount", "handle", "tono", "mlevel", "midx", "pcount", "status")  # the first two of a PDU, all others of a message
 
 
 def frames_of(program, script):
     """The datagrams of a script that have no fault, and those that answer them."""
     heard = re.findall(r"^\d+ [\d.]+:\d+ ([0-9a-fA-F]+|-)$", script, re.MULTILINE)
     told = subprocess.run([program, "replay"], input=script, capture_output=True, text=True, timeout=60, check=True).stdout.splitlines()
-    verdicts = [line for line in told if line.startswith(("served ", "malformed "))]
+    verdicts = [line.startswith("served ") for line in told if line.startswith(("served ", "malformed "))]
     if len(verdicts) != len(heard):
         sys.exit(f"dissected: {len(verdicts)} verdicts for {len(heard)} datagrams")
-    well = [bytes.fromhex(digits) for digits, verdict in zip(heard, verdicts) if verdict.startswith("served ")]
-    return well, [bytes.fromhex(line[2:]) for line in told if line.startswith("> ")]
+    return [bytes.fromhex(it) for it in itertools.compress(heard, verdicts)], [bytes.fromhex(line[2:]) for line in told if line.startswith("> ")]
 
 
 def read(frame):
@@ -56,17 +52,18 @@ def fields_of(message):
     """What the dissector reads of a command that asks for a response, or of a response."""
     if message[0] == "response":
         return dict(zip(("handle", "status", "pcount"), message[1:]))
-    return dict(zip(("handle", "tono", "mlevel", "midx", "pcount"), (message[2].handle, *message[2].asks())))
+    return dict(zip(FIELDS[2:], message[2][:5]))
 
 
 def dissected(frames):
     """Of each frame the fields that the dissector reads, and what it complains of."""
     dump = "".join(f"{'O' if is_answer else 'I'}\n000000 {frame.hex(' ')}\n" for frame, is_answer in frames)
+    how = {"capture_output": True, "text": True, "timeout": 120, "check": True}
     with tempfile.NamedTemporaryFile(suffix=".pcap") as file:
-        subprocess.run(["text2pcap", "-q", "-D", "-u", "9001,65000", "-", file.name], input=dump, capture_output=True, text=True, timeout=120, check=True)
+        subprocess.run(["text2pcap", "-q", "-D", "-u", "9001,65000", "-", file.name], input=dump, **how)
         fields = [word for name in ("ocp1." + name for name in FIELDS) for word in ("-e", name)]
         words = ["tshark", "-r", file.name, "-T", "fields", *fields, "-e", "_ws.malformed"]
-        lines = subprocess.run(words, capture_output=True, text=True, timeout=120, check=True).stdout.splitlines()
+        lines = subprocess.run(words, **how).stdout.splitlines()
     return [line.split("\t") for line in lines]
 
 
@@ -79,7 +76,7 @@ def main(folder):
     if not shutil.which("tshark"):
         sys.exit("dissected: there is no tshark")
     failed, kinds, frames = 0, Counter(), []
-    for script in scripts():
+    for script in [*map(Path.read_text, sorted((TOP / "examples").glob("*.script"))), script_of(worked_bytes())]:
         heard, answered = frames_of(f"{folder}/ocadev", script)
         frames += [(frame, False) for frame in heard] + [(frame, True) for frame in answered]
     told = dissected(frames)

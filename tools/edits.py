@@ -31,7 +31,6 @@ import re
 import shutil
 import sys
 import tempfile
-import threading
 import time
 from concurrent.futures import FIRST_COMPLETED, ThreadPoolExecutor, wait
 from pathlib import Path
@@ -44,21 +43,20 @@ SELFTEST = ROOT / "tools" / "edits_selftest"
 FLAGS = ["--jobs", "1"]
 EMPTIED = "#[tactic(none)] unreachable!();"  # a body of which no goal is searched for
 BY_HAND = ("Answers.antt", "Proof.antt")
-MOST = 60  # edits of a crate that are tried by one lane: with more, the others would wait for it at the end
+MOST = 75  # edits of a crate that are tried by one lane: with more, the others would wait for it at the end
+PUB = r"(?:pub(?:\([a-z: ]+\))? )?"
 CLAUSE = re.compile(r"( *)(requires|ensures|ghost)(\*?)(?: (\w+):?)? \{")
-FUNCTION = re.compile(r"( *)(?:pub(?:\([a-z: ]+\))? )?(?:const |unsafe |extern \"C\" )*fn (\w+)")
-BLOCK = re.compile(r"( *)(?:unsafe )?(?:pub(?:\([a-z: ]+\))? )?(impl|trait)\b(.*)")
+FUNCTION = re.compile(rf"( *){PUB}(?:const |unsafe |extern \"C\" )*fn (\w+)")
+BLOCK = re.compile(rf"( *)(?:unsafe )?{PUB}(impl|trait)\b(.*)")
 COPIED = re.compile(r"_edited_\d+$|_as_\d+_stands$")  # the name of a copied file of lemmas
 GONE = re.compile(r"has no field|is not in scope|has no `|was not admitted|is no name")
 # What is counted: whether an edit must not be refused, and whether all is well with it.
 KINDS = [(False, True), (False, False), (True, True), (True, False)]
-PRINTING = threading.Lock()
 rt = kit.toolchain(builds=False)
 
 
 def say(text):
-    with PRINTING:
-        print(text, flush=True)
+    print(f"{text}\n", end="", flush=True)  # in one piece, since several crates are told of at once
 
 
 class Function:
@@ -115,7 +113,7 @@ def module_of(path):
 
 
 def declares(text, name):
-    return re.search(rf"(?m)^ *(?:pub(?:\([a-z: ]+\))? )?(?:struct|enum|trait) {name}\b", text) is not None
+    return re.search(rf"(?m)^ *{PUB}(?:struct|enum|trait) {name}\b", text) is not None
 
 
 def text_of(crate, path, texts=None):
@@ -192,6 +190,8 @@ class Edit:
         self.text = path.read_text(errors="replace").strip("\n") if is_edit else ""
         self.files, self.of = self.all_of("file"), self.all_of("of")
         self.says, self.clause = ("".join(self.all_of(word)[:1]) for word in ("says", "clause"))
+        is_of_law = len(self.of) == len(self.files) == 1 and re.fullmatch(r"\w+::\w+ specs/\w+\.antt", f"{self.of[0]} {self.files[0]}")
+        self.law, self.between = self.of[0].split("::") if is_of_law and not must_pass else None, []
         self.why = rt.edited(self.text, crate.folder)[1] if is_edit else "it is no edit"
         if not self.why:
             self.functions = self.touched(crate)
@@ -230,30 +230,37 @@ class Edit:
         return not self.functions or self.must_pass
 
     def is_of_law(self, crate):
-        law = law_of(self) if self.is_alone() and not self.must_pass else None
-        return bool(law) and bool(between(crate, *law))
+        """Whether it can be tried in a copy of its law: then `between` has the other files to copy."""
+        self.between = between(crate, *self.law, Path(self.files[0])) if self.law and not self.functions else []
+        return bool(self.between)
 
     def can_be_copied(self):
         return len(self.files) == 1 and len(self.keys()) == 1 and not self.functions[0].is_of_trait
 
 
-def attributes_at(lines, first):
+def attributes_of(lines, function):
+    """The lines above a function that belong to it: its comment and its attributes."""
+    first = function.first
     while first > 0 and lines[first - 1].strip() and (lines[first - 1].lstrip().startswith("//") or lines[first - 1][-1] not in "};{"):
         first -= 1
-    return first
+    return lines[first:function.first]
+
+
+def is_of_cycle(lines, function):
+    return "cycle(" in "\n".join(attributes_of(lines, function))
 
 
 class Copy:
     """A copy of a function of a crate under another name, which stands behind it: with an edit, or as it stands where there
     is none. `edits` has those that it is tried for, `proofs` the files of its proofs, which are copies too."""
 
-    def __init__(self, crate, path, function, name, edits, edit=None):
-        self.crate, self.path, self.edits, self.edit = crate, path, edits, edit
+    def __init__(self, crate, name, edits, edit=None):
+        self.crate, self.path, self.edits, self.edit = crate, edits[0].files[0], edits, edit
+        function = edits[0].functions[0]
         self.origin, self.function = function, function.named(name)
-        lines = text_of(crate, path, edit and rt.edited(edit.text, crate.folder)[0]).split("\n")
+        lines = text_of(crate, self.path, edit and rt.edited(edit.text, crate.folder)[0]).split("\n")
         head = re.sub(rf"\bfn {function.name}\b", f"fn {name}", lines[function.first], count=1)
-        attributes = lines[attributes_at(lines, function.first):function.first]
-        self.lines = [*attributes, head, *lines[function.first + 1:function.last + 1]]
+        self.lines = [*attributes_of(lines, function), head, *lines[function.first + 1:function.last + 1]]
         old, new = (Path("proofs", *it.path().split("::")) for it in (self.origin, self.function))
         self.proofs = {str(new / file.name): file.read_text().replace(".".join(old.parts) + ".", ".".join(new.parts) + ".")
                        for file in proofs_of(crate, function)}
@@ -286,21 +293,15 @@ class LawCopy:
         module, name = law
         self.crate, self.edit, self.ending, self.origin = crate, edit, ending, LawFunction(module, name)
         self.function = LawFunction(module + ending, name, {it.stem + ending for it in files if it.parts[0] == "proofs"})
-        at = rf"\b(Rattle\.{crate.name}\.|crate::)"
-        self.renames = [(rf"{at}({it.parts[0]})(\.|::){it.stem}\b", rf"\1\2\3{it.stem}{ending}") for it in files]
-        self.renames.append((rf"{at}(proofs)(\.){module}\.", rf"\1\2\3{module}{ending}."))
+        names = [rf"{it.parts[0]}(?:\.|::){it.stem}\b" for it in files] + [rf"proofs\.{module}(?=\.)"]
+        named = re.compile(rf"\b(?:Rattle\.{crate.name}\.|crate::)(?:{'|'.join(names)})")
         changed = rt.edited(edit.text, crate.folder)[0] if edit else {}
         copied = {file: file.with_name(f"{file.stem}{ending}.antt") for file in files}
         copied[Path("src", f"{module}.rt")] = Path("src", f"{module}{ending}.rt")
         copied |= {file: Path("proofs", module + ending, *file.parts[2:]) for file in proofs_of_law(crate, module, name)}
-        self.texts = {str(to): self.renamed(text_of(crate, file, changed)) for file, to in copied.items()}
+        self.texts = {str(to): named.sub(rf"\g<0>{ending}", text_of(crate, file, changed)) for file, to in copied.items()}
         self.proofs = {path for path in self.texts if path.startswith("proofs/")}
         self.declared = [(f"{it.parts[0]}/Lib.antt", f"mod {it.stem}", "") for it in files] + [("src/lib.rt", f"mod {module}", ";")]
-
-    def renamed(self, text):
-        for old, new in self.renames:
-            text = re.sub(old, new, text)
-        return text
 
     def put_into(self, texts):
         """Adds its files to these texts of the crate, and declares each behind the one that it copies."""
@@ -308,13 +309,6 @@ class LawCopy:
             both = rf"\g<0>\n\g<1>{line}{self.ending}{end}"
             texts[path] = re.sub(rf"(?m)^((?:pub )?){line}{end}$", both, text_of(self.crate, path, texts))
         texts |= self.texts
-
-
-def law_of(edit):
-    """The module and the name of the law of an edit of one file of specs/, and this file."""
-    parts = edit.of[0].split("::") if len(edit.of) == 1 else []
-    is_so = len(parts) == 2 and len(edit.files) == 1 and re.fullmatch(r"specs/\w+\.antt", edit.files[0])
-    return (*parts, Path(edit.files[0])) if is_so else None
 
 
 def with_called(crate, module, name):
@@ -359,33 +353,29 @@ def between(crate, module, name, edited):
         todo += reached[at] - {*texts}
         texts |= {it: text_of(crate, it) for it in reached[at] - {*texts}}
     made[law] |= types_of_law(crate, module, name)
-    copied, is_new = {edited}, True
-    while is_new:
-        more = {at for at in reached if reached[at] & copied} - copied
-        copied, is_new = copied | more, bool(more)
+    copied = {edited}
+    while more := {at for at in reached if reached[at] & copied} - copied:
+        copied |= more
     files = copied - {law}
     reads = re.compile(rf"\bRattle\.{crate.name}\.specs\.({'|'.join(it.stem for it in files)})\b")
-    is_plain = law in copied and not any(depends(crate, path, reads) for at in copied for path in made[at])
+    sources = sources_of(crate)
+    is_plain = law in copied and not any(depends(sources, path, reads) for at in copied for path in made[at])
     return sorted(files) if is_plain else []
 
 
-def depends(crate, path, reads):
+def depends(sources, path, reads):
     """Whether what the prover makes under this path is of a source that reads these definitions: but for a plain type."""
     parts = re.sub(r"^(specs\.declared|specs|proofs)\.", "", path).split(".")
-    sources = sources_of(crate)
-    for file, text in sources.items():
-        module = module_of(file)
-        is_its = module and parts[:len(module)] == module
-        is_plain = path.startswith("specs.declared.") and any(is_plain_type(sources, text, it) for it in parts)
-        if is_its and reads.search(text) and not is_plain:
-            return True
-    return False
+    modules = {file: module_of(file) for file in sources}
+    its = [text for file, text in sources.items() if modules[file] and parts[:len(modules[file])] == modules[file] and reads.search(text)]
+    types = parts if path.startswith("specs.declared.") else []
+    return any(not any(is_plain_type(sources, text, it) for it in types) for text in its)
 
 
 def is_plain_type(sources, text, name):
     """Whether a source with this text declares this enum or struct, and the prover makes of it its cases or its fields
     alone: neither it nor a type of the crate in it has a model or a ghost field."""
-    declared = re.search(rf"(?m)^(?:pub(?:\([a-z: ]+\))? )?(?:enum|struct) {name}\b(?:[^{{]*?;$|(?s:.*?)^}}$)", text)
+    declared = re.search(rf"(?m)^{PUB}(?:enum|struct) {name}\b(?:[^{{]*?;$|(?s:.*?)^}}$)", text)
     if not declared or "ghost" in declared[0] or re.search(rf"\bModel for {name}\b", text):
         return False
     inside = {*re.findall(r"\b[A-Z]\w*", declared[0])} - {name}
@@ -400,8 +390,8 @@ def proofs_of(crate, function):
 
 def can_be_empty(lines, function):
     """Whether the body of the function can be left out: some kinds can't, nor can a one-liner."""
-    head, attributes = lines[function.first], lines[attributes_at(lines, function.first):function.first]
-    is_kept = function.is_of_trait or re.search(r"\bconst fn|extern \"C\"", head) or "cycle(" in "\n".join(attributes)
+    head = lines[function.first]
+    is_kept = function.is_of_trait or re.search(r"\bconst fn|extern \"C\"", head) or is_of_cycle(lines, function)
     return function.opens is not None and not is_kept and len(re.findall(r"\bfn \w", head)) == 1
 
 
@@ -423,6 +413,7 @@ def emptied(crate, texts, touched):
     return texts, found
 
 
+@functools.lru_cache(200)
 def calling_code(text, but=None):
     """What of a source can call functions: no comments, uses and contracts, and nothing of this function of the source."""
     lines = re.sub(r"(?m)^ *//.*$", "", text).split("\n")
@@ -430,7 +421,7 @@ def calling_code(text, but=None):
         is_itself = but and (it.of, it.trait, it.name) == (but.of, but.trait, but.name)
         for at in range(it.first, it.last + 1) if is_itself else range(it.first + 1, it.opens or 0):
             lines[at] = ""
-    return re.sub(r"(?ms)^ *(?:pub(?:\([a-z: ]+\))? )?(?:ghost )?use .*?;", "", "\n".join(lines))
+    return re.sub(rf"(?ms)^ *{PUB}(?:ghost )?use .*?;", "", "\n".join(lines))
 
 
 def called_as(function, text):
@@ -449,9 +440,8 @@ def is_called(function, path, sources):
     """Whether other code of these sources may call the function, which stands at this path. It is told by the name, since no
     types of values are known here: where a macro of the crate may make the call, by any word. A trait's method, which an
     operator may call, one of a cycle, and a function that has another name somewhere may always be called."""
-    text, lines = "\n".join(sources.values()), sources[path].split("\n")
-    attributes = "\n".join(lines[attributes_at(lines, function.first):function.first])
-    if function.is_of_trait or "cycle(" in attributes or re.search(rf"\b{function.name} as \w", text):
+    text = "\n".join(sources.values())
+    if function.is_of_trait or is_of_cycle(sources[path].split("\n"), function) or re.search(rf"\b{function.name} as \w", text):
         return True
     macros = re.compile("|".join([r"\bmacro_rules!", *(rf"\b{it}!" for it in re.findall(r"\bmacro_rules! (\w+)", text))]))
     word, call = re.compile(rf"(?<!fn )\b{function.name}\b"), called_as(function, text)
@@ -510,23 +500,18 @@ class Group:
         return sorted(self.of_functions(crate), key=lambda it: -it.origin.last) + self.of_their_laws(crate)
 
     def of_functions(self, crate):
-        found, seen = [], set()
+        found = []
         for number, edit in enumerate(self.copied, 1):
-            function, path = edit.functions[0], edit.files[0]
-            if not edit.keys() <= seen:
-                others = [it for it in self.copied if it.keys() == edit.keys()]
-                found.append(Copy(crate, path, function, f"{function.name}_as_it_stands", others))
-            seen |= edit.keys()
-            found.append(Copy(crate, path, function, f"{function.name}_edited_{number}", [edit], edit))
+            name, edits = edit.functions[0].name, [it for it in self.copied if it.keys() == edit.keys()]
+            found += [Copy(crate, f"{name}_as_it_stands", edits)] if edits[0] is edit else []
+            found.append(Copy(crate, f"{name}_edited_{number}", [edit], edit))
         return found
 
     def of_their_laws(self, crate):
         of, found = {}, []
         for number, edit in enumerate(self.of_laws, len(self.copied) + 1):
-            *law, edited = law_of(edit)
-            files = between(crate, *law, edited)
-            of.setdefault(tuple(law), set()).update(files)
-            found.append(LawCopy(crate, law, files, f"_edited_{number}", edit))
+            of.setdefault(tuple(edit.law), set()).update(edit.between)
+            found.append(LawCopy(crate, edit.law, edit.between, f"_edited_{number}", edit))
         return found + [LawCopy(crate, law, sorted(files), f"_as_{number}_stands") for number, (law, files) in enumerate(sorted(of.items()))]
 
     def wanted(self, crate, copies):
@@ -793,7 +778,7 @@ def main(names):
     for crate in crates:
         number = len(files_of_edits(crate))
         parts = -(-number // MOST)
-        work = (crate.count(rb"\n") + 30 * number) // parts
+        work = (crate.count(rb"\n") + 100 * number) // parts
         tasks += [(crate, work, functools.partial(tried, crate, part, parts)) for part in range(parts)]
     with kit.in_memory(rt):
         given = side_by_side(tasks, kit.lanes(rt))

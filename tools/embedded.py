@@ -7,17 +7,14 @@ Usage: embedded.py BIN     BIN is the folder with `amplifier`, `panel` and `ocad
 import os
 import re
 import struct
-import subprocess
 import sys
 import tempfile
 
 import oca_profile as oca
 import peers
-from checks import Checks, bound, port_said, sockets
+from checks import Checks, bound, ended, port_said, sockets
 from scenes import Scene, scenes_of, verbs_of_peer, verbs_of_run
-from tables import table
 
-DATA, OPENED = table("embedded"), "open channel 1: status 0\n"
 MUTES, GAINS = (4097, 5097), (4098, 5098)
 
 
@@ -28,13 +25,6 @@ class Peer(peers.Peer):
     def levels(self):
         states, settings = ([self.ask(ono, level, 1)[1] for ono in onos] for onos, level in ((MUTES, 4), (GAINS, 5)))
         return shown([("muted" if state == b"\1" else "open", int.from_bytes(setting[:2], "big", signed=True)) for state, setting in zip(states, settings)])
-
-
-def amplified(checks, **settings):
-    """A run of the amplifier, whose input stays open, its port, and a peer of it."""
-    run = checks.start("amplifier", 0, 100000, bufsize=1, **settings)
-    port = port_said(run)
-    return run, port, Peer(port)
 
 
 def shown(levels):
@@ -50,17 +40,36 @@ class Stage(Scene):
         super().__init__(checks, {
             **verbs_of_run(self), **verbs_of_peer(self),
             "amplifier": self.begins,
+            "amplifier, closed": lambda number: self.begins(preexec_fn=lambda: os.close(number)),
+            "amplifier's end": self.ends,
             "ocadev": self.serves,
             "asks all": lambda command: self.does["asks"](*command),
             "levels": lambda: self.peer.levels(),
             "panel": lambda *words: checks.ran("panel", self.port, *words)[0],
-            "panel at": lambda port, *words: checks.ran("panel", *str(port).split(), *words)[0]}, silent=silent.getsockname()[1])
+            "panel, closed": lambda number: checks.ran("panel", self.port, preexec_fn=lambda: os.close(number))[0],
+            "panel at": lambda port, *words: checks.ran("panel", *str(port).split(), *words)[0],
+            "panel at no port": lambda port: checks.ran("panel", port)[0].splitlines()[0][:7].strip(),
+            "listens at": lambda: bound_at(self.port),
+            "where the panel is": lambda: checks.start("panel", self.names["silent"]) and bound_at(silent.recvfrom(2000)[1][1]),
+            "looks at the channels": lambda: channels(checks, self.peer, (4096, 5096), -800)}, silent=silent.getsockname()[1])
 
-    def begins(self):
-        self.run, self.port, self.peer = amplified(self.checks)
+    def begins(self, **settings):
+        """An amplifier, whose input stays open, and a peer of it."""
+        self.run = self.checks.start("amplifier", 0, 100000, bufsize=1, **settings)
+        self.port = port_said(self.run)
+        self.peer = Peer(self.port)
 
     def serves(self, *words):
         self.run, self.port = self.checks.serve(*words)
+
+    def ends(self, words, lines, output=""):
+        """What an amplifier prints that ends by itself, with these lines as its input: behind where it listens, its notes, and its status."""
+        with tempfile.TemporaryFile("w+") as given, open(output or os.devnull, "w") as printed:
+            given.write(lines)
+            given.seek(0)
+            run = self.checks.start("amplifier", *words.split(), stdin=given, **{"stdout": printed} if output else {})
+            said, notes, status = ended(run)
+        return said, re.sub(r"^listening 127\.0\.0\.1:\d+\n", "", notes), status
 
 
 def scenes(checks):
@@ -80,53 +89,10 @@ def channels(checks, peer, blocks, low):
         checks.same(f"{block + 2}: its limits", peer.ask(block + 2, 5, 1), (0, struct.pack(">hhh", 0, low, 100)))
 
 
-def objects(checks):
-    channels(checks, amplified(checks)[2], (4096, 5096), -800)
-
-
 def bound_at(port):
     """The addresses of this machine at which somebody has this UDP port, of IPv4."""
     return [ip for (ip, own), *_ in sockets("udp") if own == port]
 
 
-def at_this_machine(checks):
-    """Amplifier and panel are at this machine alone; the panel says what is no port, and sends nothing."""
-    checks.same("where the amplifier listens", bound_at(amplified(checks)[1]), ["127.0.0.1"])
-    with bound() as silent:
-        checks.start("panel", silent.getsockname()[1])
-        checks.same("where the panel's socket is", bound_at(silent.recvfrom(2000)[1][1]), ["127.0.0.1"])
-    for port in ("x", "65536", "-1", ""):
-        said = checks.ran("panel", port)[0].splitlines()[0]
-        checks.same(f"the panel at port {port!r}", said[:7] in ("", "invalid", "number ", "cannot "), True)
-
-
-def closed(checks):
-    """Both serve where standard input or output is closed."""
-    for descriptor in (0, 1):
-        *_, peer = amplified(checks, preexec_fn=lambda: os.close(descriptor))
-        checks.same(f"the amplifier with {descriptor} closed", peer.levels(), shown((("muted", 0), ("muted", 0))))
-    checks.same("the panel with 0 closed", checks.ran("panel", amplified(checks)[1], preexec_fn=lambda: os.close(0))[0][:len(OPENED)], OPENED)
-    checks.same("an amplifier whose turns are over", checks.ran("amplifier", 0, 2)[2], 0)
-
-
-def ended(checks, words, lines, output=subprocess.PIPE):
-    """What an amplifier prints that ends by itself, with the lines of a file as its input: behind where it listens, its notes, and its status."""
-    with tempfile.TemporaryFile("w+") as given:
-        given.write(lines)
-        given.seek(0)
-        done = subprocess.run([f"{checks.folder}/amplifier", *words], stdin=given, stdout=output, stderr=subprocess.PIPE, text=True, timeout=60)
-    return done.stdout, re.sub(r"^listening 127\.0\.0\.1:\d+\n", "", done.stderr), done.returncode
-
-
-def ends(checks):
-    """A port or an output that fails is told, with status 1."""
-    with bound() as other, open("/dev/full", "w") as full:
-        taken = str(other.getsockname()[1])
-        for words, lines, printed, said in DATA["ended"]:
-            got = ended(checks, [taken if it == "PORT" else it for it in words], lines)
-            checks.same(f"an amplifier with the words {words}, {lines!r}", got, (printed, said, int("failed" in said)))
-        checks.same("an amplifier that cannot print", ended(checks, ["0", "9"], "open 1\n", full), (None, "write failed\n", 1))
-
-
 if __name__ == "__main__":
-    sys.exit(Checks(sys.argv[1]).tried(scenes, objects, at_this_machine, closed, ends))
+    sys.exit(Checks(sys.argv[1]).tried(scenes))

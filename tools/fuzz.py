@@ -8,6 +8,7 @@ Scripts have well-formed and damaged datagrams, duplicates, overtaking, other co
 moments that jump, every window and span, and bad lines. The first difference is made as small as it can be and printed;
 the status is 1."""
 import random
+import re
 import subprocess
 import sys
 import time
@@ -84,11 +85,9 @@ class Panel:
     def command(self):
         r = self.r
         kind = r.randrange(10)
-        if self.sent and kind < 3:  # a copy, of late or of long ago
+        if self.sent and kind < 3:  # a copy, of late or of long ago, or another command under its handle
             old = r.choice(self.sent[-40:] if kind else self.sent)
-            if r.randrange(4) == 0:  # another command under that handle
-                return self.new(old.handle)
-            return old
+            return old if r.randrange(4) else self.new(old.handle)
         step = r.choice([1, 1, 1, 1, 2, 3, 40, -1, -2, -5, 0])
         self.next = max(0, min(oca.U32, self.next + step))
         c = self.new(self.next)
@@ -144,32 +143,22 @@ def moment(r, now):
     return max(0, now + (step if r.randrange(3) == 0 or step < 3000 else 1))
 
 
-def hexed(r, data):
-    return oca.hex_text(data).upper() if r.randrange(4) == 0 else oca.hex_text(data)
-
-
 def finish(r, lines):
+    """The bytes of a script: bytes in capital letters here and there, perhaps a line that is put in, and none behind the last."""
+    lines = [re.sub("[0-9a-f]{2,}$", lambda found: found[0].upper(), line) if r.randrange(4) == 0 else line for line in lines]
     if r.randrange(4) == 0:
         lines.insert(r.randrange(len(lines) + 1), r.choice(ROWS["lines"]))
-    end = "" if r.randrange(3) == 0 else "\n"
-    return ("\n".join(lines) + end).encode()
+    return ("\n".join(lines) + ("" if r.randrange(3) == 0 else "\n")).encode()
 
 
 def device_script(r):
     window, room, channels = r.choice([1, 2, 3, 8, 31, 32, 32, 32, 63, 64]), r.choice(ROOMS), r.choice(CHANNELS)
-    peers = [f"127.0.0.{1 + k % 3}:{9000 + k}" for k in range(r.choice([1, 2, 3, room + 2]))]
-    panels = {p: Panel(r, channels) for p in peers}
+    panels = {f"127.0.0.{1 + k % 3}:{9000 + k}": Panel(r, channels) for k in range(r.choice([1, 2, 3, room + 2]))}
     now, lines = 0, []
     for _ in range(r.choice([3, 10, 40, 120])):
-        now = moment(r, now)
-        if r.randrange(10) == 0:
-            lines.append(f"{now} quiet")
-        else:
-            p = r.choice(peers)
-            lines.append(f"{now} {p} {hexed(r, datagram(r, panels[p]))}")
-    words = ["replay", "--window", str(window)]
-    words += ["--peers", str(room)] if room != 16 else []
-    words += ["--channels", str(channels)] if channels else []
+        now, sender = moment(r, now), r.choice([*panels])
+        lines.append(f"{now} quiet" if r.randrange(10) == 0 else f"{now} {sender} {oca.hex_text(datagram(r, panels[sender]))}")
+    words = ["replay", "--window", str(window)] + ["--peers", str(room)] * (room != 16) + ["--channels", str(channels)] * (channels > 0)
     return words, finish(r, lines), lambda s: oca.device_replay(s, window, room, channels)
 
 
@@ -183,22 +172,20 @@ def link_script(r):
         now = moment(r, now)
         kind = r.randrange(6)
         if kind == 0:
-            c = panel.new(0)
-            params = c.params if r.randrange(12) else bytes(r.choice([1444, 1445, 1446, 2000]))
-            lines.append(f"{now} submit {c.target} {c.level} {c.index} {c.count} {hexed(r, params)}")
-            link.submit(c.target, c.level, c.index, c.count, params, now)
+            _, *asked, params = panel.new(0)
+            params = params if r.randrange(12) else bytes(r.choice([1444, 1445, 1446, 2000]))
+            lines.append(" ".join(map(str, [now, "submit", *asked, oca.hex_text(params)])))
+            link.submit(*asked, params, now)
         elif kind in (1, 2):
             lines.append(f"{now} due")
             _, data = link.due(now)
-            if data and r.randrange(4):  # it comes to a device, perhaps twice
-                for _ in range(r.choice([1, 1, 2])):
-                    wire += model.datagram(here, data, now)[1]
+            for _ in range(r.choice([1, 1, 2, 0]) if data else 0):  # it comes to a device, perhaps twice
+                wire += model.datagram(here, data, now)[1]
         elif kind == 3:
             data = r.choice(wire) if wire and r.randrange(5) else datagram(r, panel)
-            if len(wire) > 1 and r.randrange(4) == 0:
-                data = data + r.choice(wire)
+            data += r.choice(wire) if len(wire) > 1 and r.randrange(4) == 0 else b""
             sender = device if r.randrange(6) else r.choice([here, (127, 0, 0, 2, 65000), (127, 0, 0, 1, 65001)])
-            lines.append("{} from {}.{}.{}.{}:{} {}".format(now, *sender, hexed(r, data)))
+            lines.append(f"{now} from {oca.peer_text(sender)} {oca.hex_text(data)}")
             link.datagram(sender, data, now)
         else:
             handle = r.choice([u[0].handle for u in link.untaken]) if link.untaken and r.randrange(4) else r.randrange(40)
@@ -230,9 +217,10 @@ def smallest(differs, script):
 
 
 def compare(program, words, script, expected):
-    if run(program, words, script) == expected(script):
+    differs = lambda it: run(program, words, it) != expected(it)
+    if not differs(script):
         return True
-    script = smallest(lambda s: run(program, words, s) != expected(s), script)
+    script = smallest(differs, script)
     print("DIFFERENCE:", program, *words, "on the script")
     print(script.decode(errors="replace"))
     print("the program: ", run(program, words, script))
@@ -241,10 +229,8 @@ def compare(program, words, script, expected):
 
 
 def main():
-    folder, seconds = sys.argv[1], float(sys.argv[2])
-    seed = int(sys.argv[3]) if len(sys.argv) > 3 else 1
-    r = random.Random(seed)
-    end, scripts, lines = time.time() + seconds, [0, 0], 0
+    folder, seconds, seed = [*sys.argv[1:], "1"][:3]
+    r, end, scripts, lines = random.Random(int(seed)), time.time() + float(seconds), [0, 0], 0
     while time.time() < end:
         for kind, (name, make) in enumerate((("ocadev", device_script), ("ocactl", link_script))):
             words, script, expected = make(r)

@@ -3,7 +3,7 @@
 `kill -9`, with the power cut at each system call, without room, with each step of a store refused or slow
 (`unreliable.c`), and over broken files. Whatever was answered with OK is there.
 
-Usage: keep.py BIN     BIN is the folder with `ocadev`
+Usage: keep.py BIN     BIN is the folder with `ocadev` and `ocactl`
 
 What is expected is built from docs/PROTOCOL.md, and not by the programs. The last line is 'N passed, M failed'."""
 import contextlib
@@ -24,21 +24,15 @@ from pathlib import Path
 
 import checks
 import peers
-from checks import Beside, lines_in, port_said, waited
-from scenes import Scene, scenes_of, verbs_of_files, verbs_of_peer
+from checks import Serving, ended, free_port, lines_in, port_said
+from scenes import Scene, play_all, verbs_of_files, verbs_of_peer
 from tables import data, octets
 
 TRIM = 4100
 KILLS = 30
-LISTENING = re.compile(r"listening [\d.]+:(\d+)\n")
 DONE = (0, b"")
 NOT_KEPT, AGAIN = r"note: the state is not kept: [^\n]*\n", "note: the state is kept again: "
 DATA = data("keep")
-UNENDED = "its last line does not say how many objects it has: it is cut off, or not of this program"
-
-
-def number(value):
-    return struct.pack(">h", value)
 
 
 class Peer(peers.Peer):
@@ -49,7 +43,7 @@ class Peer(peers.Peer):
         self.gain = gain
 
     def trims(self, value, **how):
-        return self.ask(self.gain, 5, 2, number(value), **how)
+        return self.ask(self.gain, 5, 2, struct.pack(">h", value), **how)
 
     def trim(self, **how):
         answer = self.ask(self.gain, 5, 1, **how)
@@ -62,33 +56,27 @@ def limit_files(most):
     resource.setrlimit(resource.RLIMIT_FSIZE, (most, resource.RLIM_INFINITY))
 
 
+def layer_of(keep):
+    """The settings of the layer for a device with this file: steps that are refused, and what is told of them."""
+    return {"REFUSING": f"{keep}.refusing", "TOLD": f"{keep}.told"}
+
+
 class Checks(checks.Checks):
-    def serve(self, keep, *words, most=None, refusing=False):
-        """A device at a port of the system's, what it says first, and its peer; over the layer or not."""
-        layer = {"REFUSING": f"{keep}.refusing", "TOLD": f"{keep}.told"} if refusing else {}
-        run = self.start("ocadev", "serve", "--port", "0", "--keep", keep, *words, stdin=subprocess.DEVNULL,
-                         preexec_fn=None if most is None else lambda: limit_files(most), **layer)
-        said = run.stderr.readline()
-        listening = LISTENING.fullmatch(said)
-        return run, said, Peer(int(listening[1])) if listening else None
-
-    @contextlib.contextmanager
-    def served(self, keep):
-        """The peer of such a device, which is killed behind it."""
-        run, _, peer = self.serve(keep)
-        yield peer
-        stop(run)
-
-    def set_once(self, keep):
-        with self.served(keep) as peer:
-            peer.trims(5)
+    def serve(self, keep, *words, most=None, **layer):
+        """A device with this file at a port of the system's, this port, and its peer."""
+        limit = None if most is None else lambda: limit_files(most)
+        run = self.start("ocadev", "serve", "--port", 0, "--keep", keep, *words, preexec_fn=limit, **layer)
+        port = port_said(run)
+        return run, port, Peer(port) if port else None
 
     def has(self, what, keep, value):
-        with self.served(keep) as peer:
-            self.same(what, peer and peer.trim(), value)
+        """A device that is started with this file has this trim."""
+        run, _, peer = self.serve(keep)
+        self.same(what, peer and peer.trim(), value)
+        stop(run)
 
     def shown(self, keep):
-        return subprocess.run([f"{self.folder}/ocadev", "show", "--text", "--tree", keep], capture_output=True, timeout=30, check=False).stdout
+        return self.ran("ocadev", "show", "--text", "--tree", keep, given=b"", text=False)[0]
 
     def kept(self, keep):
         """The trim in the file."""
@@ -109,9 +97,9 @@ def over_kills(checks, serve):
     """Whenever a device is killed, its file is whole and has what was answered, and at most the next command besides."""
     held = asked = answered = refused = 0
     for turn in range(KILLS + 1):
-        run, said, peer = serve()
+        run, _, peer = serve()
         if peer is None:
-            checks.same(f"it starts after kill {turn}", said, "listening")
+            checks.expect(f"it starts after kill {turn}", False)
             return
         value = peer.trim()
         checks.same(f"what was there after kill {turn}, {value} of {held}", value in (held, asked), True)
@@ -135,38 +123,37 @@ def put(path, words):
     os.rename(f"{path}.put", path)
 
 
-def lines_told(keep):
-    return lines_in(f"{keep}.told")
-
-
 class Room(Scene):
     """A scene of the rows in a folder of its own: a run of the device over a file there, and its controller."""
 
-    def __init__(self, checks, folder):
-        at = lambda name: Path(folder, name)
+    def __init__(self, checks):
+        self.open, self.keep, self.run, self.peer = contextlib.ExitStack(), "", None, None
+        self.folder = self.open.enter_context(tempfile.TemporaryDirectory())
+        at = lambda name: Path(self.folder, name)
         super().__init__(checks, {
             "serve": self.serve,
             "stop": lambda how=signal.SIGKILL: stop(self.run, how),
             "tells": self.tells,
-            "serve over the layer": lambda name: self.serve(name, refusing=True),
+            "serve over the layer": lambda name: self.serve(name, **layer_of(at(name))),
             "serve with room": lambda name, most: self.serve(name, most=most),
             "has room": lambda: resource.prlimit(self.run.pid, resource.RLIMIT_FSIZE, 2 * (resource.RLIM_INFINITY,)),
             **verbs_of_peer(self), **verbs_of_files(at),
             "statuses of what is set": lambda: [self.does["asks"](*it) for it in DATA.sets],
-            "sends": lambda value: self.peer.send(TRIM, 5, 2, number(value)),
-            "sends again": lambda handle, value: self.peer.copy(handle, TRIM, 5, 2, number(value)),
+            "sends": lambda value: self.peer.send(TRIM, 5, 2, struct.pack(">h", value)),
+            "sends again": lambda handle, value: self.peer.copy(handle, TRIM, 5, 2, struct.pack(">h", value)),
             "answered of": lambda *handles: [it for it in self.peer.answered if it in handles],
             "refusing": lambda words: put(f"{self.keep}.refusing", words),
             "refuses no more": lambda: os.remove(f"{self.keep}.refusing"),
-            "has refused": lambda step, count: lines_told(self.keep).count(f"refused {step}") >= count,
+            "has refused": lambda step, count: lines_in(f"{self.keep}.told").count(f"refused {step}") >= count,
             "kept": lambda: checks.kept(self.keep), "kept one of": lambda *values: checks.kept(self.keep) in values,
             "shows": lambda text: text.encode() in checks.shown(self.keep),
             "is whole": lambda what, name: checks.is_whole(what, at(name)),
             "has": lambda what, name, value: checks.has(what, at(name), value),
-            "refuses": lambda what, name, reason, place, is_over_the_layer=False:
-                refuses(checks, what, at(name), reason, at(place), refusing=is_over_the_layer),
-        }, folder=folder, not_kept=NOT_KEPT, kept_again=f"{AGAIN}{folder}/")
-        self.folder, self.keep, self.run, self.peer = folder, "", None, None
+            "put bytes": lambda name, text: at(name).write_bytes(octets(text)),
+            "cut off": lambda name: cut_off(at(name).read_bytes()),
+            "ends by itself": lambda name: self.ends(at(name)),
+            "ends over the layer": lambda name: self.ends(at(name), **layer_of(at(name))),
+        }, folder=self.folder, not_kept=NOT_KEPT, kept_again=f"{AGAIN}{self.folder}/")
 
     def serve(self, name, *words, **how):
         self.keep = f"{self.folder}/{name}"
@@ -177,103 +164,50 @@ class Room(Scene):
         return re.fullmatch(form, said) is not None or said
 
 
-def scenes(checks, folder):
-    for steps, _ in scenes_of("keep"):
-        Room(checks, tempfile.mkdtemp(dir=folder)).play(steps)
-        checks.end()
+    def ends(self, keep, **layer):
+        """What a device with this file prints and says, and its status, where it ends by itself."""
+        return self.checks.ran("ocadev", "serve", "--port", 0, "--keep", keep, seconds=30, **layer)
 
 
-IN_FLIGHT, STORES = 8, 10
+def cut_off(whole):
+    """A file cut off where a line ends, at its beginning, and before its last byte: how long each is, and its bytes."""
+    ends = [at + 1 for at, byte in enumerate(whole[:-1]) if byte == 10]
+    return [[size, whole[:size]] for size in [0, *ends, len(whole) - 1]]
 
 
-class Setter(Beside):
-    """A panel that sets without pause while it goes on: so many commands are on their way at once, each with another value."""
-
-    goes_on = True
-
-    def __init__(self, peer):
-        self.peer, self.open, self.statuses, self.last = peer, {}, [], 0
-        peer.socket.settimeout(3)
-
-    def step(self):
-        while self.goes_on and len(self.open) < IN_FLIGHT:
-            self.last += 1
-            self.open[self.peer.send(TRIM, 5, 2, number(self.last % 600))] = self.last % 600
-        try:
-            handle, status = struct.unpack(">IB", self.peer.socket.recv(2000)[14:19])
-            self.statuses += [status] if self.open.pop(handle, None) is not None else []
-        except TimeoutError:
-            for handle, value in self.open.items():
-                self.peer.copy(handle, TRIM, 5, 2, number(value))
+def scenes(checks, _):
+    play_all(checks, Room, "keep")
 
 
-def waits_of(lines, before, port):
-    """By the layer's lines: for how many stores each reading from this port waited, and how many stores there were."""
-    waits, stores = {}, 0
-    for words in map(str.split, lines):
-        stores += words == ["stored"]
-        if words[0] == "sent" and int(words[1]) == port:
-            waits.setdefault(int(words[2]), stores - before[int(words[2])])
-    return waits, stores
+COMMANDS, STORES = 120, 10
 
 
 def slow_store(checks, folder):
     """With an fsync of 300 ms, beside a panel that sets without pause, no reading waits for more than one store."""
     keep, what = f"{folder}/slow", "beside a slow store"
-    run, _, peer = checks.serve(keep, refusing=True)
-    reader, before, answered = Peer(peer.socket.getpeername()[1], patience=60), {}, 0
+    run, port, reader = checks.serve(keep, **layer_of(keep))
+    reader.socket.settimeout(60)
     put(f"{keep}.refusing", "slow 300")
-    stored, until = lambda: lines_told(keep).count("stored"), time.monotonic() + 120
-    with Setter(peer) as setter, contextlib.suppress(TimeoutError):
-        while stored() < STORES and time.monotonic() < until:
-            handle = reader.send(TRIM, 5, 1)
-            before[handle] = stored()  # behind the sending: what is stored before it is counted, is no store that the reading waited for
-            answered += len(reader.socket.recv(2000)) > 0
-            time.sleep(0.02)
-        setter.goes_on = False
-        waited(lambda: not setter.open, 60)
-    waits, stores = waits_of(lines_told(keep), before, reader.socket.getsockname()[1])
-    checks.same(f"{what}: readings that are not answered", len(before) - answered, 0)
+    lines = "".join(f"{TRIM} 5 2 1 {value:04x}\n" for value in range(1, COMMANDS + 1))
+    panel = checks.start("ocactl", "run", "--device", f"127.0.0.1:{port}", "--port", free_port(), "--ahead", 8, given=lines)
+    stored, before = lambda: lines_in(f"{keep}.told").count("stored"), {}
+    while panel.poll() is None:
+        handle = reader.send(TRIM, 5, 1)
+        before[handle] = stored()  # behind the sending: what is stored before it is counted, is no store that the reading waited for
+        reader.socket.recv(2000)
+        time.sleep(0.02)
+    waits, stores = {}, 0  # for how many stores each reading waited, by the layer's lines, and how many there were
+    for told, *its in map(str.split, lines_in(f"{keep}.told")):
+        stores += told == "stored"
+        if told == "sent" and int(its[0]) == reader.socket.getsockname()[1]:
+            waits.setdefault(int(its[1]), stores - before[int(its[1])])
+    checks.same(f"{what}: readings that are not answered", len(before) - len(waits), 0)
     checks.same(f"{what}: readings that wait for more than one store", [it for it in waits.items() if it[1] > 1], [])
     checks.same(f"{what}: some readings wait for one", 1 in waits.values(), True)
-    checks.same(f"{what}: commands that are not answered", len(setter.open), 0)
-    checks.same(f"{what}: statuses", set(setter.statuses), {0})
-    checks.same(f"{what}: more commands than stores", len(setter.statuses) > stores >= STORES, True)
+    checks.same(f"{what}: the answers to the commands", ended(panel), (COMMANDS * "answer 0 0 -\n", "", 0))
+    checks.same(f"{what}: more commands than stores", COMMANDS > stores >= STORES, True)
     checks.same(f"{what}: what it says", stop(run), "")
-    checks.has("behind a slow store: after a restart", keep, setter.last % 600)
-
-
-def refuses(checks, what, keep, reason, more=None, **how):
-    """It ends before it listens, with a line that names the reason."""
-    run, said, peer = checks.serve(keep, **how)
-    if peer is not None:
-        stop(run)
-    err = said + ("" if peer else run.stderr.read())
-    checks.same(f"{what}: nothing is served", (peer is None, run.wait(timeout=30)), (True, 1))
-    checks.same(f"{what}: the reason", err, f"note: {more or keep}: {reason}\nread failed\n")
-
-
-def broken(checks, folder):
-    """A broken file is refused with its line, nothing is served, and the file stays."""
-    for at, (contents, fault) in enumerate(DATA.broken):
-        keep, contents = f"{folder}/broken{at}", octets(contents)
-        Path(keep).write_bytes(contents)
-        run, said, peer = checks.serve(keep)
-        err = said + (run.communicate(timeout=30)[1] if peer is None else stop(run))
-        checks.same(f"broken {at}: the fault", err.splitlines()[-1], fault)
-        checks.same(f"broken {at}: the status", run.returncode, 2)
-        checks.same(f"broken {at}: the file", Path(keep).read_bytes(), contents)
-    # A file that is cut off: anywhere, it is refused, and stays.
-    whole, keep = f"{folder}/whole", f"{folder}/cut"
-    checks.set_once(whole)
-    state = Path(whole).read_bytes()
-    ends = [at + 1 for at, byte in enumerate(state[:-1]) if byte == 10]
-    for size in [0, *ends, len(state) - 1]:
-        Path(keep).write_bytes(state[:size])
-        refuses(checks, f"cut off at {size}", keep, UNENDED)
-        checks.same(f"cut off at {size}: the file", Path(keep).read_bytes(), state[:size])
-    Path(f"{folder}/more").write_bytes(state + b"9000 100 mute muted lockable a\n" + state.splitlines(True)[-1])
-    refuses(checks, "another end", f"{folder}/more", UNENDED)
+    checks.has("behind a slow store: after a restart", keep, COMMANDS)
 
 
 def unknown(checks, folder):
@@ -291,61 +225,37 @@ def unknown(checks, folder):
     os.chmod(f"{folder}/closed", 0o700)
 
 
-CALL = re.compile(r"(?:\[pid +\d+\] |\d+ +)?(\w+)\((.*)\) += (-?\d+)")
+CALL = re.compile(r"(?:\[pid +\d+\] |\d+ +)?(\w+)\((.*)\) += (\d+)")  # one that did not fail
 
 
-class Disk:
-    """The files and the folder of a device: the names, and the bytes of each file, as they are on the disk and behind each change since, the last
-    of which is what the system has. An fsync of a file puts its bytes on the disk, and one of the folder the names."""
-
-    def __init__(self, keep):
-        self.keep, self.names, self.files, self.handles = keep, [{}], [], {}
-
-    def open(self, path, handle, creates):
-        if creates and path not in self.names[-1]:
-            self.files.append([b""])
-            self.names.append(self.names[-1] | {path: len(self.files) - 1})
-        self.handles[handle] = self.names[-1].get(path, path)
-
-    def rename(self, old, new=None):
-        """A name goes, and another one, if any, is of its file."""
-        left = {name: file for name, file in self.names[-1].items() if name != old}
-        self.names.append(left | ({new: self.names[-1].get(old)} if new else {}))
-
-    def write(self, handle, contents):
-        file = self.handles.get(handle)
-        if isinstance(file, int):
-            self.files[file].append(self.files[file][-1] + contents)
-
-    def sync(self, handle):
-        file = self.handles.get(handle)
-        if isinstance(file, int):
-            del self.files[file][:-1]
-        elif file is not None:
-            del self.names[:-1]
-
-    def found(self):
-        """What the file may hold after a power cut now; nothing where it may not be there."""
-        for names in self.names:
-            yield from self.files[names[self.keep]] if self.keep in names else [None]
-
-    def note(self, name, words, result):
-        """A call of the system, with its words and its result, as strace prints them with -xx."""
+def behind_calls(log, keep):
+    """Behind each call of the system in a log of strace with -xx: its line, whether it sends an answer, and what the file may hold after a power cut
+    then, None where it may not be there. Of the names and of the bytes of each file there is what is on the disk, and what is so behind each change
+    since, the last of which the system has; an fsync of a file puts its bytes on the disk, and one of the folder the names."""
+    names, files, handles = [{}], [], {}
+    for call in filter(None, map(CALL.match, log)):
+        name, words, result = call.groups()
         texts = [bytes.fromhex(it.replace("\\x", "")) for it in re.findall(r'"((?:\\x[0-9a-f]{2})*)"', words)]
         paths, first = [os.path.normpath(os.fsdecode(it)) for it in texts[:2]], words.split(",")[0]
+        file = handles.get(first)  # the number of a file, or the path of the folder
         if name in ("openat", "open"):
-            self.open(paths[0], result, "O_CREAT" in words)
-        elif name == "write":
-            self.write(int(first), texts[0][:result])
-        elif name in ("fsync", "fdatasync"):
-            self.sync(int(first))
+            if "O_CREAT" in words and paths[0] not in names[-1]:
+                names.append(names[-1] | {paths[0]: len(files)})
+                files.append([b""])
+            handles[result] = names[-1].get(paths[0], paths[0])
+        elif name == "write" and isinstance(file, int):
+            files[file].append(files[file][-1] + texts[0][:int(result)])
+        elif name in ("fsync", "fdatasync") and file is not None:
+            del (files[file] if isinstance(file, int) else names)[:-1]
         elif name == "dup" or name == "fcntl" and "F_DUPFD" in words:
-            self.handles[result] = self.handles.get(int(first))
+            handles[result] = file
         elif name == "close":
-            self.handles.pop(int(first), None)
+            handles.pop(first, None)
         elif name.startswith(("rename", "unlink")):
-            self.rename(*paths[:1 + name.startswith("rename")])
-        return name == "sendto" and bool(texts) and len(texts[0]) == 20
+            left = {path: it for path, it in names[-1].items() if path != paths[0]}
+            names.append(left | ({paths[1]: names[-1].get(paths[0])} if name.startswith("rename") else {}))
+        yield call[0], name == "sendto" and bool(texts) and len(texts[0]) == 20, [
+            state for those in names for state in (files[those[keep]] if keep in those else [None])]
 
 
 def power_cuts(checks, folder):
@@ -356,20 +266,17 @@ def power_cuts(checks, folder):
     keep, log = f"{folder}/cuts/state", f"{folder}/log"
     os.mkdir(f"{folder}/cuts")
     calls = "openat,open,write,fsync,fdatasync,fcntl,dup,close,rename,renameat,renameat2,unlink,unlinkat,sendto"
-    run = subprocess.Popen(["strace", "-f", "-xx", "-s", "1000000", "-o", log, "-e", f"trace={calls}", f"{checks.folder}/ocadev", "serve",
-                            "--port", "0", "--keep", keep], stdin=subprocess.DEVNULL, stdout=subprocess.PIPE, stderr=subprocess.PIPE, text=True)
-    peer = Peer(port_said(run))
-    for value in range(1, 6):
-        checks.same("a command before the power is cut", peer.trims(value), DONE)
-    os.kill(int(Path(f"/proc/{run.pid}/task/{run.pid}/children").read_text().split()[0]), signal.SIGTERM)
-    run.communicate(timeout=30)
-    disk, answered, states, wrong = Disk(keep), 0, 0, []
-    for line in Path(log).read_text(encoding="ascii", errors="replace").splitlines(True):
-        call = CALL.match(line)
-        if call is None or int(call[3]) < 0:
-            continue
-        answered += disk.note(call[1], call[2], int(call[3]))
-        for state in disk.found():
+    words = ["strace", "-f", "-xx", "-s", "1000000", "-o", log, "-e", f"trace={calls}"]
+    with Serving(*words, f"{checks.folder}/ocadev", "serve", "--port", "0", "--keep", keep) as device:
+        peer, tracer = Peer(device.port), device.process.pid
+        for value in range(1, 6):
+            checks.same("a command before the power is cut", peer.trims(value), DONE)
+        os.kill(int(Path(f"/proc/{tracer}/task/{tracer}/children").read_text().split()[0]), signal.SIGTERM)
+        device.process.communicate(timeout=30)
+    answered, states, wrong = 0, 0, []
+    for line, is_answer, found in behind_calls(Path(log).read_text(encoding="ascii", errors="replace").splitlines(), keep):
+        answered += is_answer
+        for state in found:
             states += 1
             match = re.search(rb'\nobject 4100 .* int16 -600 600 (-?\d+) .*\n# end of \d+ objects\n\Z', state or b"", re.DOTALL)
             got = int(match[1]) if match else -1 if state is None else 0
@@ -382,7 +289,7 @@ def power_cuts(checks, folder):
 def main():
     with tempfile.TemporaryDirectory() as folder:
         its = Checks(sys.argv[1])
-        for part in (scenes, kills, slow_store, broken, power_cuts, unknown):
+        for part in (scenes, kills, slow_store, power_cuts, unknown):
             part(its, folder)
     return its.verdict()
 

@@ -9,12 +9,13 @@ Usage: law.py BIN [HISTORIES] [SEED]     BIN is the folder with `trials`
 The last line is 'N passed, M failed'."""
 import collections
 import random
+import re
 import sys
 
 import oca_profile as oca
 from comparing import Comparison, broken, changed, events_of, in_processes, runs_of, verdict, wrong_rules
 from fuzz import Panel, datagram, moment
-from oca_law import LARGEST_DATAGRAM, Datagram, Local, Tick, Told, shown_objects, walk
+from oca_law import Datagram, Passes, Sets, Told, objects_line, set_line, walk, written_line
 from schedules import PEERS, peer, some_change
 
 # ---- histories
@@ -34,21 +35,17 @@ class History:
         return self
 
     def tick(self):
-        self.events.append(Tick(self.now))
+        self.events.append(Passes(self.now))
 
-    def sets(self, ono, kind, value):
-        self.events.append(Local(ono, (kind, value)))
+    def sets(self, *change):
+        self.events.append(Sets(*change))
 
     def text(self):
-        lines = [f"history {self.window} {self.peers} {self.channels}"]
-        for e in self.events:
-            if isinstance(e, Local):
-                lines.append(oca.front_line(e.ono, *e.value))
-            elif isinstance(e, Tick):
-                lines.append(f"{e.now} quiet")
-            else:
-                lines.append(f"{e.now} {oca.peer_text(e.sender)} {oca.hex_text(e.data)}")
-        return lines
+        return [f"history {self.window} {self.peers} {self.channels}", *(LINES[type(event)](event) for event in self.events)]
+
+
+LINES = {Sets: lambda event: oca.front_line(*event), Passes: lambda event: f"{event.now} quiet",
+         Datagram: lambda event: f"{event.now} {oca.peer_text(event.sender)} {oca.hex_text(event.data)}"}
 
 
 def ask(handle, target, level, index, count=0, params=b"", respond=True):
@@ -83,15 +80,7 @@ def lapses(r):
         h.at(start + kept).says(0, other)
     for late in sorted(r.sample([3 * kept - 1, 3 * kept, 3 * kept + 1, 4 * kept, 5 * kept, 5 * kept + 1, 9 * kept], 4)):
         h.at(start + late)
-        kind = r.randrange(4)
-        if kind == 0:
-            h.tick()
-        elif kind == 1:
-            h.says(1, lock(1 + len(h.events), 4097, 3))
-        elif kind == 2:
-            h.says(2, b"\0")
-        else:
-            h.says(0, get(1 + len(h.events)))
+        r.choice([h.tick, lambda: h.says(1, lock(1 + len(h.events))), lambda: h.says(2, b"\0"), lambda: h.says(0, get(1 + len(h.events)))])()
     return h
 
 
@@ -172,7 +161,7 @@ def packings(r):
             body = [oca.Command(at + i, *r.choice(kinds), 0, b"").body() for i in range(r.choice([1, 2, 7]))]
             at += len(body)
             part = r.choice([oca.pdu(1, body)] * 5 + [oca.pdu(0, body), beat(5000), oca.pdu(4, [oca.u16(3)]), oca.response(1), get(at - 1)])
-            if size + len(part) <= LARGEST_DATAGRAM:
+            if size + len(part) <= oca.LARGEST:
                 parts.append(part)
                 size += len(part)
         h.says(0, *parts)
@@ -194,7 +183,7 @@ def fronts(r):
     h = History(r.choice([1, 32]))
     h.says(0, lock(1, 4100), lock(2, 4097, 6))
     for n in range(12):
-        ono, *change = oca.front_change(some_change(r))
+        _, ono, *change = some_change(r)
         h.sets(ono, *change)
         if r.randrange(3) == 0:
             h.at(h.now + r.choice([0, 1, 5001, 15001, 120001])).says(r.randrange(2),
@@ -221,7 +210,7 @@ def wander(r):
             reading(h, 40, handle)
             handle += 9
         elif kind == 2:
-            h.sets(*oca.front_change(some_change(r)))
+            h.sets(*some_change(r)[1:])
         elif kind == 3:
             n = r.choice(numbers)
             h.says(n, ask(min(oca.U32, r.choice([panels[n].next + 1, 1])), r.choice([4097, 4098, 4100]), 1, r.choice([3, 3, 6, 4])))
@@ -241,46 +230,28 @@ def made(seed, number):
 
 
 # ---- tales: what was said of the events of a history
-def verdict_of(text):
-    """The word of a verdict and its numbers; no reused command is told by a number that is left out."""
-    name, *rest = text.split(" ")
-    numbers = [int(it) for it in rest if it.isdigit()]
-    return (name, *numbers, 0) if name == "served" and len(numbers) == 3 else (name, *numbers)
-
-
 def tale_of(history, device):
+    """What a device of the second implementation, or a wrong one, tells."""
     tale = []
     for event in history.events:
-        packets, written = [], None
+        packets, written = [], ""
         if isinstance(event, Datagram):
-            text, packets = device.datagram(event.sender, event.data, event.now)
-            written = tuple(device.written)
-        elif isinstance(event, Tick):
+            verdict, packets = device.datagram(event.sender, event.data, event.now)
+            written = written_line(device.written)
+        elif isinstance(event, Passes):
             device.advance(event.now)
-            text = "quiet"
+            verdict = "quiet"
         else:
-            fault = device.set(event.ono, *event.value)
-            text = "set" if fault is None else f"refused {fault}"
-        tale.append(Told(verdict_of(text), tuple(packets), written, len(device.sessions), shown_objects(device.tree)))
+            verdict = set_line(device.set(*event))
+        tale.append(Told(verdict, tuple(packets), written, f"sessions {len(device.sessions)}", objects_line(device.tree)))
     return tale
 
 
-def objects_of(line):
-    read = []
-    for word in line.split(" ")[1:]:
-        ono, rest = word.split("=")
-        setting, _, held = rest.partition("/")
-        lock = ({"t": "total", "r": "read-only"}[held[0]], oca.peer_of(held[1:])) if held else None
-        read.append((int(ono), None if setting == "-" else int(setting), lock))
-    return tuple(read)
-
-
-def told_in(said, *others):
+def told_in(verdict, *others):
     """What these lines tell of an event."""
     *others, sessions, objects = others
     packets = tuple(bytes.fromhex(line[2:]) for line in others if line.startswith("> "))
-    written = tuple(int(word) for line in others if line.startswith("written ") for word in line.split(" ")[1:])
-    return Told(verdict_of(said), packets, written, int(sessions.removeprefix("sessions ")), objects_of(objects))
+    return Told(verdict, packets, "".join(line for line in others if line.startswith("written")), sessions, objects)
 
 
 def tales(program, histories):
@@ -292,7 +263,7 @@ def shown(history, tale, fault):
     lines = history.text()
     out = lines[:1]
     for line, told in list(zip(lines[1:], tale))[:fault.at + 1]:
-        out += [line, f"    {' '.join(map(str, told.verdict))}"] + [f"    > {packet.hex()}" for packet in told.packets]
+        out += [line, f"    {told.verdict}"] + [f"    > {packet.hex()}" for packet in told.packets]
     return "\n".join(out + [f"BREAK of '{fault.law}' at event {fault.at}: {fault.what}"])
 
 
@@ -300,39 +271,31 @@ def shown(history, tale, fault):
 def altered(r, history, tale):
     """(the sentence, the event, the tale with one line of it altered), or None."""
     at = r.randrange(len(tale))
-    told, kind = tale[at], r.randrange(10)
-    verdict, packets = told.verdict, list(told.packets)
-    if kind == 0 and verdict[0] == "served":
-        place = r.randrange(1, 5)
-        new = "verdict_is", told._replace(verdict=verdict[:place] + (verdict[place] + 1,) + verdict[place + 1:])
-    elif kind == 1 and verdict[0] == "malformed":
-        new = "verdict_is", told._replace(verdict=("malformed", verdict[1] + r.choice([0, 1]), verdict[2] + 1))
-    elif kind == 2 and isinstance(history.events[at], Datagram):
-        new = "verdict_is", told._replace(verdict=("served", 0, 0, 0, 0) if verdict == ("no-room",) else ("no-room",))
+    told, kind, is_datagram = tale[at], r.randrange(10), isinstance(history.events[at], Datagram)
+    packets = told.packets
+    k = r.randrange(len(packets)) if packets else 0
+    if kind < 2 and told.verdict.startswith(("served", "malformed")):
+        number = r.choice([*re.finditer(r"\d+", told.verdict)])
+        new = "verdict_is", {"verdict": told.verdict[:number.start()] + str(int(number[0]) + 1) + told.verdict[number.end():]}
+    elif kind == 2 and is_datagram:
+        new = "verdict_is", {"verdict": "served 0 0 0" if told.verdict == "no-room" else "no-room"}
     elif kind == 3 and packets:
-        k = r.randrange(len(packets))
-        new = "answers_are", told._replace(packets=tuple(packets[:k] + packets[k + 1:]))
-    elif kind == 4 and packets:
-        k = r.randrange(len(packets))
-        last = len(packets[k]) - 1  # the last parameter, or a ParamCount; of a keep-alive its time
-        packets[k] = packets[k][:last] + bytes([packets[k][last] ^ 1])
-        new = "answers_are", told._replace(packets=tuple(packets))
+        new = "answers_are", {"packets": packets[:k] + packets[k + 1:]}
+    elif kind == 4 and packets:  # the last parameter, or a ParamCount; of a keep-alive its time
+        new = "answers_are", {"packets": (*packets[:k], packets[k][:-1] + bytes([packets[k][-1] ^ 1]), *packets[k + 1:])}
     elif kind == 5 and len(packets) > 1:
-        new = "packets_are", told._replace(packets=(b"".join(packets[:2]), *packets[2:]))
+        new = "packets_are", {"packets": (b"".join(packets[:2]), *packets[2:])}
     elif kind == 6 and any(p[7] == 3 and p[9] > 1 for p in packets):
-        new = "packets_are", told._replace(packets=tuple(part for p in packets for part in parted(p)))
-    elif kind == 7 and told.objects:
-        k = r.randrange(len(told.objects))
-        ono, setting, held = told.objects[k]
-        one = (ono, setting, None if held else ("total", peer(0))) if setting is None or r.randrange(2) else (ono, setting ^ 1, held)
-        new = "objects_are", told._replace(objects=told.objects[:k] + (one,) + told.objects[k + 1:])
+        new = "packets_are", {"packets": tuple(part for p in packets for part in parted(p))}
+    elif kind == 7:
+        new = "objects_are", {"objects": other_object(r, told.objects.split(" "))}
     elif kind == 8:
-        new = "sessions_are", told._replace(sessions=told.sessions + r.choice([-1, 1]))
-    elif kind == 9 and told.written is not None and isinstance(history.events[at], Datagram):
-        new = "written_are", told._replace(written=told.written[1:] if told.written else (4097,))
+        new = "sessions_are", {"sessions": f"sessions {int(told.sessions.split(' ')[1]) + r.choice([-1, 1])}"}
+    elif kind == 9 and is_datagram:
+        new = "written_are", {"written": told.written.rpartition(" ")[0] if told.written else "written 4097"}
     else:
         return None
-    return new[0], at, tale[:at] + [new[1]] + tale[at + 1:]
+    return new[0], at, tale[:at] + [told._replace(**new[1])] + tale[at + 1:]
 
 
 def parted(packet):
@@ -340,6 +303,17 @@ def parted(packet):
         return [packet]
     bodies = [oca.response_body(*m[1:]) for m in oca.check(packet)]
     return [oca.pdu(3, bodies[:1]), oca.pdu(3, bodies[1:])]
+
+
+def other_object(r, words):
+    """A line of objects in which one of them has another setting or lock."""
+    k = r.randrange(1, len(words))
+    its, is_locked, _ = words[k].partition("/")
+    if r.randrange(2) or is_locked:
+        words[k] = its if is_locked else its + "/t127.0.0.1:9001"
+    else:
+        words[k] = re.sub(r"\d+$", lambda found: str(int(found[0]) + 1), its)
+    return " ".join(words)
 
 
 # ---- wrong devices
@@ -364,22 +338,16 @@ RULES, WRONG_HISTORIES = wrong_rules("wrong_devices"), 400
 def count_of(_, tale, __):
     total = collections.Counter(histories=1, events=len(tale), packets=sum(len(told.packets) for told in tale))
     for told in tale:
-        total["said " + told.verdict[0]] += 1
-        total["writes"] += len(told.written or ())
-        if told.verdict[0] == "served":
-            total.update(dict(zip(("executed", "duplicates", "old", "reused"), told.verdict[1:])))
+        word, *rest = told.verdict.split(" ")
+        total["said " + word] += 1
+        total["writes"] += told.written.count(" ")
+        if word == "served":
+            total.update(dict(zip(("executed", "duplicates", "old", "reused"), (int(it) for it in rest if it.isdigit()))))
     return total
 
 
 def alterations(r, history, tale, _):
     return [altered(r, history, tale) for _ in range(3)]
-
-
-def summary(seed, total, wrong):
-    sentences = collections.Counter(sentence for _, sentence, _ in wrong)
-    print(f"law: seed {seed}: " + ", ".join(f"{count} {name}" for name, count in sorted(total.items())) + "; 0 breaks")
-    print(f"wrong devices refused by the sentence that they break: {sum(found for found, _, _ in wrong)} of {len(wrong)} "
-          f"({', '.join(f'{name} {n}' for name, n in sorted(sentences.items()))})")
 
 
 def main():
@@ -388,7 +356,10 @@ def main():
     for found, _, said in wrong:
         if not found:
             print(f"FAILED: {said}")
-    summary(seed, total, wrong)
+    sentences = collections.Counter(sentence for _, sentence, _ in wrong)
+    print(f"law: seed {seed}: " + ", ".join(f"{count} {name}" for name, count in sorted(total.items())) + "; 0 breaks")
+    print(f"wrong devices refused by the sentence that they break: {sum(found for found, _, _ in wrong)} of {len(wrong)} "
+          f"({', '.join(f'{name} {n}' for name, n in sorted(sentences.items()))})")
     met = ["executed", "duplicates", "old", "reused", "said malformed", "said no-room", "packets", "said set", "said refused"]
     return verdict({"law": total["histories"] == count and all(total[name] for name in met), "wrong": all(found for found, _, _ in wrong),
                     "altered": total["altered"] > count and total["altered, refused"] == total["altered"]})

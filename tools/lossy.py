@@ -22,8 +22,8 @@ import sys
 import time
 
 import oca_profile as oca
-from checks import Serving, at, free_port, verdict, waited, write
-from peers import Flood, Lossy
+from checks import Checks, Serving, at, free_port, waited, write
+from peers import Flood, Lossy, Relay
 
 TURNS = 20000
 
@@ -32,39 +32,37 @@ def bad_network(device, seed):
     return Lossy(device, seed, 0.2, 0.2, 0.15, 0.02)
 
 
-class Directed(Lossy):
-    """Carries all but command 16 at once. Its first copy overtakes 15, and the next comes behind 30 other answers."""
+class Directed(Relay):
+    """Carries all but command 16 at once. Its first copy overtakes 15, the next comes behind 30 other answers; then goes its first answer."""
 
     LATE, OTHERS = 16, 30
 
     def __init__(self, device):
         super().__init__(device)
-        self.first, self.kept = [], []
+        self.first, self.kept, self.answered = [], [], set()
 
-    def accept(self, inward, data, to):
-        self.carried += 1
+    def forth(self, data, way):
         kind, *message = oca.check(data)[0]
         if kind == "keep-alive":
             return
-        handle = message[1].handle if inward else message[0]
-        if inward and len(self.first) < self.LATE:  # the first 16, the last of them first
+        if len(self.first) < self.LATE:  # the first 16, the last of them first
             self.first += [data] if data not in self.first else []
             for waiting in self.first[::-1] if len(self.first) == self.LATE else []:
-                self.carry(True, waiting, to)
+                super().forth(waiting, way)
                 time.sleep(0.002)
-        elif handle != self.LATE:
-            self.carry(inward, data, to)
-        elif not inward:
-            self.kept = [(data, to)]
-        elif len(self.answered) == self.OTHERS:
-            self.carry(True, data, to)
-            self.answered.add(self.LATE)
+        elif message[1].handle != self.LATE or len(self.answered) == self.OTHERS:
+            super().forth(data, way)
+            if message[1].handle == self.LATE:
+                time.sleep(0.2)
+                super().back(*self.kept)
 
-    def step(self):
-        super().step()
-        if self.LATE in self.answered and self.kept:  # the copy came: now its first answer goes to the controller
-            time.sleep(0.2)
-            self.carry(False, *self.kept.pop())
+    def back(self, data, controller):
+        kind, *message = oca.check(data)[0]
+        if kind == "response" and message[0] == self.LATE:
+            self.kept = self.kept or [data, controller]
+        elif kind == "response":
+            self.answered.add(message[0])
+            super().back(data, controller)
 
 
 def set_and_read(r, count):
@@ -86,11 +84,9 @@ def told_apart(r, count):
 
 
 def answers_of(commands):
-    tree, printed = oca.bench(), []
-    for command in commands:
-        status, items, params = oca.execute(tree, "the panel", command)
-        printed.append(f"answer {status} {items} {oca.hex_text(params)}")
-    return printed
+    tree = oca.bench()
+    done = (oca.execute(tree, "the panel", command) for command in commands)
+    return [f"answer {status} {items} {oca.hex_text(params)}" for status, items, params in done]
 
 
 class Run:
@@ -101,18 +97,17 @@ class Run:
         with Serving(f"{folder}/ocadev", "serve", "--port", 0, "--turns", TURNS, "--window", window, stdout=subprocess.PIPE) as serving:
             device = serving.process
             with network_of(serving.port) as self.network:
-                panel = subprocess.Popen([*words, "--device", at(self.network.front)], stdin=subprocess.PIPE, stdout=subprocess.PIPE)
-                lines = [f"{c.target} {c.level} {c.index} {c.count} {oca.hex_text(c.params)}\n" for c in commands]
-                write(panel, "".join(lines).encode())
+                panel = subprocess.Popen([*words, "--device", at(self.network.front)], stdin=subprocess.PIPE, stdout=subprocess.PIPE, text=True)
+                write(panel, "".join(f"{c.target} {c.level} {c.index} {c.count} {oca.hex_text(c.params)}\n" for c in commands))
                 waited(lambda: panel.poll() is not None, 2 * len(commands) + 60)
                 panel.kill()
                 time.sleep(1)  # what is still on its way
             with Flood(serving.port):
                 waited(lambda: device.poll() is not None, 30)
-        self.answers, self.status = panel.stdout.read().decode().splitlines(), panel.wait()
+        answers, self.status = panel.stdout.read().splitlines(), panel.wait()
         self.report = {name: int(n) for name, n in re.findall(r"([a-z-]+) ([0-9]+)", device.stdout.read())}
-        self.wrong = sum(a != b for a, b in zip(self.answers, answers_of(commands)))
-        self.missing = len(commands) - len(self.answers)
+        self.wrong = sum(a != b for a, b in zip(answers, answers_of(commands)))
+        self.missing = len(commands) - len(answers)
 
     def is_as_promised(self, count):
         """A copy may be too old only where it came behind its command's answer: nobody waits for it."""
@@ -120,35 +115,34 @@ class Run:
             and self.missing == 0 and self.status == 0
 
 
-def told(folder, commands, window, seed, words):
-    """Runs the commands, prints what came of them, and answers whether all was as promised."""
-    run = Run(folder, commands, window, lambda device: bad_network(device, seed), words)
+def told(checks, commands, window, seed, words):
+    """Runs the commands, prints what came of them, and whether all was as promised."""
+    run = Run(checks.folder, commands, window, lambda device: bad_network(device, seed), words)
     network = run.network
-    good = run.is_as_promised(len(commands))
     print(f"{len(commands)} commands, window {window}: of {network.carried} datagrams {network.lost} lost, {network.doubled} doubled, "
           f"{network.overtaken} overtaken; {run.report}, {network.behind} copies behind their answers; {run.wrong} answers wrong, "
-          f"{run.missing} missing, status {run.status}: {'as promised' if good else 'NOT as promised'}", flush=True)
-    return good
+          f"{run.missing} missing, status {run.status}", flush=True)
+    checks.expect(f"{len(commands)} commands, window {window}: as promised", run.is_as_promised(len(commands)))
 
 
-def directed(folder, window):
+def directed(checks, window):
     """Whether the late copy is answered from the window, or too old where the window is too small."""
-    run = Run(folder, told_apart(random.Random(1), 31), window, Directed, ["--ahead", "16"])
-    kept, old = run.report.get("kept"), run.report.get("old")
-    print(f"window {window}, 16 under way: command 16 is executed first, then 1 to 15, and 17 to 31; "
-          f"of a copy of 16 the device says: {'old' if old else 'a duplicate' if kept else 'nothing'}", flush=True)
-    return (run.report.get("executed"), bool(kept), bool(old)) == (31, window >= 31, window < 31)
+    run = Run(checks.folder, told_apart(random.Random(1), 31), window, Directed, ["--ahead", "16"])
+    print(f"window {window}, 16 under way: command 16 is executed first, then 1 to 15, and 17 to 31; then a copy of 16: {run.report}", flush=True)
+    found = run.report.get("executed"), bool(run.report.get("kept")), bool(run.report.get("old"))
+    checks.same(f"window {window}: commands executed, whether one is a duplicate, and too old", found, (31, window >= 31, window < 31))
 
 
 def main():
-    folder, words = sys.argv[1], sys.argv[2:]
+    checks, words = Checks(sys.argv[1]), sys.argv[2:]
     if words[:1] == ["directed"]:
-        good = [directed(folder, window) for window in (30, 31)]
+        for window in (30, 31):
+            directed(checks, window)
     else:
         count, seed = int(words[0]) if words else 200, int(words[1]) if len(words) > 1 else 1
-        good = [told(folder, set_and_read(random.Random(seed), count), 32, seed, []),
-                told(folder, told_apart(random.Random(seed), 4 * count), 31, seed, ["--ahead", "16"])]
-    return verdict(sum(good), len(good) - sum(good))
+        told(checks, set_and_read(random.Random(seed), count), 32, seed, [])
+        told(checks, told_apart(random.Random(seed), 4 * count), 31, seed, ["--ahead", "16"])
+    return checks.verdict()
 
 
 if __name__ == "__main__":

@@ -1,18 +1,21 @@
 #!/usr/bin/env python3
 """The built programs on a network that is not kind: signals, sends without room, failing sockets, closed descriptors,
-other addresses; and with little stack.
+other addresses; with little stack; and `ocactl` when it stands still with commands at hand.
 
 Usage: network.py BIN     BIN is the folder with `ocadev` and `ocactl`
 
 Signals and failing calls come from the layer `unreliable.c`. Times are held against waits that this script makes
-meanwhile, and a part with wrong times alone is repeated, since a machine may be busy. The last line is 'N passed, M
-failed'."""
+meanwhile, and a part with wrong times alone is repeated, since a machine may be busy.
+
+`ocactl` stands still stopped by signals, or since nobody reads what it prints. A relay loses what the row says, and the
+layer sets the clocks of both programs forward. Another controller changes the object meanwhile: earlier commands must
+not be done behind that, and are told as lost. The last line is 'N passed, M failed'."""
 import contextlib
 import errno
-import itertools
+import fcntl
 import os
-import re
 import resource
+import signal
 import socket
 import struct
 import subprocess
@@ -20,35 +23,22 @@ import sys
 import tempfile
 import time
 from collections import defaultdict
+from pathlib import Path
 
 import checks
 import oca_profile as oca
+import peers
 from checks import (
-    NOTE, Beside, at, bound, by_turns, comes, ended, free_port, heard, lines_in, next_command, next_line, nulls_of, port_said, read_note,
-    tries, write)
-from peers import Flood, Peer
-from scenes import Scene, answer_of, scenes_of, verbs_of_peer, verbs_of_run
-from tables import data
+    Ahead, Beside, at, bound, by_turns, comes, ended, free_port, heard, lines_in, next_command, next_line, nulls_of, port_said, read_note,
+    read_until, tries, waited, write)
+from scenes import Scene, answer_of, play_all, verbs_of_peer, verbs_of_run
+from tables import as_it_stands, data
 
 GET, ASKS = (4097, 4, 1), ("--target", 4097, "--level", 4, "--index", 1, "--count", 0)
 WAIT_MS, DATA = 50, data("network")
 # Linux's option by which the system tells when a datagram came
 SO_TIMESTAMPNS = 35
 TRIES = 12
-
-
-def get_command(handle):
-    return oca.command(handle, *GET)
-
-
-def response(handle, params=b"\1"):
-    return oca.response(handle, 0, 1, params)
-
-
-def answered(peer):
-    """The datagram that answers the next GetState of a peer."""
-    peer.ask(*GET)
-    return peer.response
 
 
 class Checks(checks.Checks):
@@ -62,8 +52,11 @@ class Checks(checks.Checks):
 
         return super().start(*words, preexec_fn=prepare, **{"stdin": subprocess.DEVNULL, **how})
 
-    def send(self, device, handle, *words, **settings):
-        return ended(self.start("ocactl", "send", "--device", device, "--first-handle", handle, *ASKS, *words, **settings))
+    def in_time(self, what, take, is_well, count=TRIES):
+        """A check that what this gives is well, at least once in so many times; and all that it gave."""
+        found = tries(count, take, is_well)
+        self.expect(what, is_well(found[-1]), f"{found}", is_time=True)
+        return found
 
 
 class Waits(Beside):
@@ -84,11 +77,11 @@ class Waits(Beside):
 
 def counts_in(report):
     words = report.split()
-    return {name: int(value) for name, value in zip(words[::2], words[1::2])}
+    return dict(zip(words[::2], map(int, words[1::2])))
 
 
 def turns_of(checks, turns, settings):
-    """What a run of so many turns counts, how many waits of 50 ms a turn takes, and whether one is shorter than such a wait."""
+    """How many waits of 50 ms a turn of a run takes, whether one is shorter than such a wait, and what the run of so many turns counts."""
     begun = time.monotonic()
     run, _ = checks.serve("--turns", turns, **settings)
     with Waits() as waits:
@@ -96,7 +89,7 @@ def turns_of(checks, turns, settings):
         counts = counts_in(run.communicate(timeout=60)[0])
     ended = time.monotonic()
     # the turns lie between the start and the end of the run, however late this script hears of either
-    return counts, (ended - listening) * 1000 / turns / waits.one, (ended - begun) * 1000 / turns < 0.9 * WAIT_MS
+    return (ended - listening) * 1000 / turns / waits.one, (ended - begun) * 1000 / turns < 0.9 * WAIT_MS, counts
 
 
 def quiet_turns(checks):
@@ -104,65 +97,15 @@ def quiet_turns(checks):
     turns = 20
     for failing, settings in ((0, {}), (0, {"SIGNALS": 30}), (0, {"SIGNALS": 1000}), (0, {"INTERRUPT": 5}),
                               (7, {"FAIL_RECEIVE": 7, "ERRNO": errno.ENETDOWN}), (20, {"FAIL_RECEIVE": 99, "ERRNO": errno.ENOBUFS, "SIGNALS": 1000})):
-        found = tries(TRIES, lambda: turns_of(checks, turns, settings), lambda it: it[1] < 1.2)
-        took = f"{[turn for _, turn, _ in found]} of such a wait"
-        counted = {(counts.get("quiet"), counts.get("failed-receives")) for counts, _, _ in found}
+        what = f"{settings}: a turn takes as long as a wait of 50 ms"
+        found = checks.in_time(what, lambda: turns_of(checks, turns, settings), lambda it: it[0] < 1.2)
+        counted = {(counts.get("quiet"), counts.get("failed-receives")) for *_, counts in found}
         checks.same(f"{settings}: quiet turns and failed ones", counted, {(turns - failing, failing)})
-        checks.expect(f"{settings}: no turn is shorter than a wait of 50 ms", not any(is_short for _, _, is_short in found), took)
-        checks.expect(f"{settings}: a turn takes as long as a wait of 50 ms", found[-1][1] < 1.2, took, is_time=True)
-
-
-def signals(checks):
-    """Commands are answered while signals come, and before each call of a socket some."""
-    for settings in ({"SIGNALS": 30}, {"SIGNALS": 1000}, {"INTERRUPT": 5}):
-        run, port = checks.serve(**settings)
-        peer = Peer(port)
-        for handle in range(1, 31):
-            checks.same(f"{settings}: answer {handle} of `serve`", answered(peer), response(handle))
-        for handle in range(1, 4):
-            got = checks.send(f"127.0.0.1:{port}", handle, **settings)
-            checks.same(f"{settings}: `send`", got, ("answer 0 1 01\n", "", 0), is_time=got[0] == "lost\n")
-
-
-# One command of `ocactl send` to a device, without its address.
-SENT = ("--target", 1, "--level", 1, "--index", 1, "--count", 0)
-
-
-def runs(checks):
-    """Sockets that the system refuses, descriptors that are closed, pipes that nobody reads, and little stack: what each run prints and
-    says, as far as its row tells, and its status."""
-    reader, unread = os.pipe()
-    os.close(reader)
-    _, port = checks.serve(stack=128 * 1024)
-    with bound() as taken, bound() as silent:
-        places = {"TAKEN": str(taken.getsockname()[1]), "SILENT": at(silent), "SERVED": f"127.0.0.1:{port}"}
-        filled = lambda text: re.sub("|".join(places), lambda place: places[place[0]], text)
-        for row in DATA.run:
-            streams = {"stdin": subprocess.PIPE} | dict.fromkeys(row.get("unread", ()), unread)
-            run = checks.start(*filled(row["words"]).split(), given=row.get("given", ""), close=row.get("closed", ()),
-                               stack=1024 * row.get("kib_of_stack", 0), **streams)
-            printed, said, status = ended(run)
-            printed, said = printed or "", said or ""
-            got = {"printed": printed, "begins": printed[:len(row.get("begins", ""))], "said": said, "last": said.rstrip("\n").split("\n")[-1]}
-            wanted = {name: filled(row[name]) for name in got if name in row}
-            checks.same(f"{row}", (status, {name: got[name] for name in wanted}), (row["status"], wanted))
-    os.close(unread)
-
-
-def arrivals(device):
-    """The datagrams that lie at a socket: each with where it came from, and the second in which the system took it."""
-    device.setblocking(False)
-    found = []
-    with contextlib.suppress(BlockingIOError):
-        while True:
-            data, told, _, sender = device.recvmsg(2000, 100)
-            moment = struct.unpack("qq", told[0][2][:16])
-            found.append((data, sender, moment[0] + moment[1] / 1e9))
-    return found
+        checks.expect(f"{settings}: no turn is shorter than a wait of 50 ms", not any(is_short for _, is_short, _ in found), f"{found}")
 
 
 def asks_the_host(checks):
-    """What the host is asked last by `ocactl get` from 127.0.0.2, how many ms that is awaited, and a wait of 50 ms."""
+    """What the host is asked last by `ocactl get` from 127.0.0.2, how many ms that is awaited, and by waits of 50 ms."""
     with bound() as device:
         device.setsockopt(socket.SOL_SOCKET, SO_TIMESTAMPNS, 1)
         own, to = free_port(), at(device)
@@ -170,18 +113,20 @@ def asks_the_host(checks):
         with Waits() as waits:
             run.communicate(timeout=60)
             ended = time.time()
-        data, sender, moment = (arrivals(device) or [(None, ("nowhere", 0), 0)])[-1]
-    return (data, sender[0], sender[1] != own), (ended - moment) * 1000, waits.one
+        device.setblocking(False)
+        with contextlib.suppress(BlockingIOError):
+            while True:
+                data, told, _, sender = device.recvmsg(2000, 100)
+        seconds, nanoseconds = struct.unpack("qq", told[0][2][:16])
+    took = (ended - seconds - nanoseconds / 1e9) * 1000
+    return (data, sender[0], sender[1] != own), took, took / waits.one
 
 
 def is_a_program_there(checks):
     """An unheard device's host is asked by an empty datagram, for 200 ms: four waits meanwhile."""
-    found = tries(TRIES, lambda: asks_the_host(checks), lambda it: it[1] / it[2] < 6)
-    took = [(ms, ms / wait) for _, ms, wait in found]
+    found = checks.in_time("a host is asked for 200 ms at most", lambda: asks_the_host(checks), lambda it: it[2] < 6)
     checks.same("what a host is asked that may have no program there", {what for what, *_ in found}, {(b"", "127.0.0.2", True)})
-    told = f"{took}: in milliseconds, and by waits of 50 ms"
-    checks.expect("a host is asked for 200 ms at least", min(took)[0] > 180, told)
-    checks.expect("a host is asked for 200 ms at most", took[-1][1] < 6, told, is_time=True)
+    checks.expect("a host is asked for 200 ms at least", min(took for _, took, _ in found) > 180, f"{found}")
 
 
 def gets_lines(checks, what, pauses, delay=0):
@@ -198,14 +143,11 @@ def gets_lines(checks, what, pauses, delay=0):
             data, sender = next_command(device)
             took.append((time.monotonic() - begun) * 1000)
             time.sleep(delay)
-            copies.append([data, *heard(device)].count(get_command(handle)))
+            copies.append([data, *heard(device)].count(oca.command(handle, *GET)))
             device.settimeout(10)
-            if sender:
-                device.sendto(response(handle), sender)
-            given.append((data, sender and next_line(run)))
-            if not given[-1][1]:
-                break
-        checks.same(f"{what}: its lines", given, [(get_command(handle), "answer 0 1 01\n") for handle in range(1, len(pauses) + 1)])
+            device.sendto(oca.response(handle, 0, 1, b"\1"), sender)
+            given.append((data, next_line(run)))
+        checks.same(f"{what}: its lines", given, [(oca.command(handle, *GET), "answer 0 1 01\n") for handle in range(1, len(pauses) + 1)])
         checks.same(f"{what}: its end", ended(run), ("", "", 0))
     return took, copies
 
@@ -215,67 +157,37 @@ def lines_at_once(checks):
     def take():
         with Waits() as waits:
             took, _ = gets_lines(checks, "`run`", [0, *7 * [1.2 * WAIT_MS / 1000]])
-        return sorted(took[1:])[3] / waits.one if len(took) == 8 else None  # the first line waits for the program to begin
+        return sorted(took[1:])[3] / waits.one  # the first line waits for the program to begin
 
-    fourth = tries(TRIES, take, lambda it: it is None or it < 0.5)
-    if None not in fourth:  # else the lines have failed
-        checks.expect("`run`: a line is sent sooner than half a wait of 50 ms ends", fourth[-1] < 0.5, f"{fourth} of such a wait", is_time=True)
+    checks.in_time("`run`: a line is sent sooner than half a wait of 50 ms ends", take, lambda it: it < 0.5)
 
 
 def a_line_behind_a_pause(checks):
     """A command behind a pause is sent at its own moment: it is sent again 250 ms later, and not at once."""
-    copies = tries(3, lambda: gets_lines(checks, "`run` with a pause", (0, 1), WAIT_MS / 1000)[1], lambda it: it[-1] == 1)
-    checks.same("`run` with a pause: how often the second command is sent in 50 ms", copies[-1][-1], 1, is_time=True)
+    take = lambda: gets_lines(checks, "`run` with a pause", (0, 1), WAIT_MS / 1000)[1]
+    checks.in_time("`run` with a pause: how often the second command is sent in 50 ms", take, lambda it: it[-1] == 1, 3)
 
 
 def a_stalled_neighbour(checks):
     """Datagrams to a host that takes none hold up nobody else."""
     with bound() as stalled:
         run, port = checks.serve(STALL=stalled.getsockname()[1])
-        peer = Peer(port)
+        peer = peers.Peer(port)
 
         def take():
-            """How many ms each of twenty answers took, and by how many waits of 50 ms the one in their middle."""
+            """By how many waits of 50 ms the one of twenty answers took that is in their middle, and how many ms each took."""
             took = []
             with Waits() as waits:
                 for handle in range(peer.handle + 1, peer.handle + 21):
                     for copy in range(5):
-                        stalled.sendto(get_command(5 * handle + copy), ("127.0.0.1", port))
+                        stalled.sendto(oca.command(5 * handle + copy, *GET), ("127.0.0.1", port))
                     begun = time.monotonic()
-                    checks.same(f"behind a stalled neighbour: answer {handle}", answered(peer), response(handle))
+                    peer.ask(*GET)
+                    checks.same(f"behind a stalled neighbour: answer {handle}", peer.response, oca.response(handle, 0, 1, b"\1"))
                     took.append((time.monotonic() - begun) * 1000)
-            return took, sorted(took)[10] / waits.one
+            return sorted(took)[10] / waits.one, took
 
-        found = tries(TRIES, take, lambda it: it[1] < 1.2)
-        what = "behind five sends without room an answer comes as soon as a wait of 50 ms ends"
-        checks.expect(what, found[-1][1] < 1.2, f"{found} ms", is_time=True)
-
-
-def closed_descriptors(checks):
-    """A standard input that is closed is at its end, and no socket takes a number of the three."""
-    with bound() as device:
-        port, to = free_port(), device.getsockname()[1]
-        run = checks.start("ocactl", "run", "--device", f"127.0.0.1:{to}", "--first-handle", 1, "--port", port, close=(0,))
-        with bound() as stranger:
-            while run.poll() is None:
-                stranger.sendto(b"4097 4 1 0 -\n", ("127.0.0.1", port))
-                time.sleep(0.01)
-        checks.same("`run` without an input", ended(run), ("", "", 0))
-        time.sleep(0.1)
-        checks.same("a stranger's line is not sent", heard(device), [])
-
-
-def null_at_closed(checks):
-    """The null device stands at each closed one of descriptors 0 to 2 before sockets, else at 0."""
-    with bound() as silent:
-        to = silent.getsockname()[1]
-        for words in (("ocadev", "serve", "--port", 0, "--turns", 1000), ("ocactl", "send", "--device", f"127.0.0.1:{to}", *SENT),
-                      ("ocapanel", "--device", f"127.0.0.1:{to}", "--listen", "127.0.0.1:0"), ("amplifier", 0, 1000), ("panel", to)):
-            for closed in (of for count in (0, 1, 2, 3) for of in itertools.combinations((0, 1, 2), count)):
-                run = checks.start(*words, close=closed)
-                checks.same(f"{words[0]}: {closed} closed: where the null device stands", nulls_of(run), sorted({0, *closed}))
-                run.kill()
-                run.communicate(timeout=60)
+        checks.in_time("behind five sends without room an answer comes as soon as a wait of 50 ms ends", take, lambda it: it[0] < 1.2)
 
 
 def a_failed_receive(checks):
@@ -284,95 +196,138 @@ def a_failed_receive(checks):
         with bound() as device:
             run = checks.start("ocactl", "send", "--device", at(device), "--first-handle", 1, *ASKS, FAIL_RECEIVE=1, ERRNO=errno.ENETDOWN)
             data, sender = device.recvfrom(2000)
-            device.sendto(response(1), sender)
+            device.sendto(oca.response(1, 0, 1, b"\1"), sender)
             checks.same("a receive that failed: the answer", ended(run), ("answer 0 1 01\n", "", 0))
             return heard(device)
 
-    found = tries(3, copies, lambda it: not it)[-1]
-    checks.expect("a receive that failed: the command is not sent again", not found, found, is_time=True)
+    checks.in_time("a receive that failed: the command is not sent again", copies, lambda it: not it, 3)
 
 
-def reports_behind_a_sleep(checks):
-    """`--stats 1`: behind a sleep of 20 seconds one report is told, and not one for each second of it."""
-    run, port = checks.serve("--stats", 1, SLEPT=20)
-    checks.same("--stats: the answer", answered(Peer(port)), response(1))
-    begun = time.monotonic()
-    lines = [run.stderr.readline() for _ in range(3)]
-    took = time.monotonic() - begun
-    checks.same("--stats behind a sleep: what is told", [line[:12] for line in lines], ["note: turns "] * 3)
-    checks.expect("--stats behind a sleep: three reports take more than a second", took > 1, f"{took:.2f} s")
+class Relay(peers.Relay):
+    """A way that counts the copies of commands that set or lock. It loses their answers while `loses_answers`, which it
+    keeps, their later copies while `loses_copies`, answers above `last`, and all that the controller sends while it
+    `is_cut`."""
+
+    def __init__(self, device, front=None):
+        self.loses_answers = self.loses_copies = True
+        self.is_cut, self.last = False, 2**32
+        self.copies = self.commands = self.answers = self.passed = 0
+        self.handles, self.senders, self.kept = set(), set(), []
+        super().__init__(device, front)
+
+    def forth(self, datagram, way):
+        found = peers.messages_in(datagram, "command")
+        setting = [command.handle for _, command in found if (command.level, command.index) in ((4, 2), (1, 3), (1, 4))]
+        self.handles.update(setting)
+        self.senders.update([way] * bool(setting))
+        self.commands += len(found)
+        if not self.is_cut and (not setting or not self.copies or not self.loses_copies):
+            super().forth(datagram, way)
+            self.passed += bool(setting)
+        self.copies += bool(setting)
+
+    def back(self, datagram, controller):
+        found = [handle for handle, *_ in peers.messages_in(datagram, "response")]
+        if any(handle > self.last or self.loses_answers and handle in self.handles for handle in found):
+            self.kept.append(datagram)
+        else:
+            self.answers += len(found)
+            super().back(datagram, controller)
+
+    def give(self):
+        for datagram in list(self.kept):
+            self.front.sendto(datagram, *self.ways)
 
 
 def bytes_of(datagram):
+    """The bytes of a datagram that a row gives in digits, or by its kind and its commands."""
     if isinstance(datagram, str):
         return bytes.fromhex(datagram)
     kind, *commands = datagram
     asked = [(handle, ono, *DATA.methods[name]) for name, handle, ono in commands]
-    return oca.pdu(kind, [oca.Command(*target, bool(params), bytes.fromhex(params)).body() for *target, params in asked])
+    return oca.pdu(kind, [oca.Command(*its, bool(params), bytes.fromhex(params)).body() for *its, params in asked])
 
 
 class Stage(Scene):
-    """A scene of the rows: a device with two peers, or another program, and a socket that answers nothing."""
+    """A scene of the rows: a device with two peers, or another program, and a socket that answers nothing; or `ocactl` by a way to the device, with
+    the time of both."""
 
-    def __init__(self, checks, room, silent, full):
-        self.run, self.port, self.peer, self.other, self.full = None, 0, None, None, full
-        self.silent, self.sender, self.came = silent, None, []
-        self.open = contextlib.ExitStack()
+    def __init__(self, checks):
+        self.run, self.port, self.peer, self.other, self.sender, self.came = None, 0, None, None, None, []
+        self.open, self.time, self.text, self.way = contextlib.ExitStack(), Ahead(), b"", None
+        room, self.silent = self.open.enter_context(tempfile.TemporaryDirectory()), self.open.enter_context(bound())
+        full, (reader, unread) = self.open.enter_context(open("/dev/full", "w")), os.pipe()
+        os.close(reader)
+        self.open.callback(os.close, unread)
         self.ends = defaultdict(lambda: self.open.enter_context(bound()))
-        come = lambda: self.came.extend(it.hex() for it in heard(silent)) or self.came
+        come = lambda: self.came.extend(it.hex() for it in heard(self.silent)) or self.came
         super().__init__(checks, {
             **verbs_of_run(self), **verbs_of_peer(self),
             "serve": self.serves,
             "program": self.begins,
             "program with an input": self.begins_with,
-            "peer": self.begins_peer,
-            "another asks": lambda *asked: answer_of(self.other.ask(*asked)),
+            "program into a full file": lambda words: self.begins({"stdout": full}, words),
+            "program that nobody reads": lambda stream, words: self.begins({stream: unread}, words),
+            "peer": lambda ip: setattr(self, "peer", peers.Peer(self.port, ip=ip)),
+            "another asks": lambda *asked: answer_of(self.other.ask(*asked[:3], *map(bytes.fromhex, asked[3:]))),
+            "nulls": lambda: nulls_of(self.run),
+            "whole answer": lambda *asked: self.other.ask(*asked) and oca.check(self.other.response),
+            "answers of": lambda count: sum(self.other.ask(*GET) == (0, b"\1") for _ in range(count)),
             "sends": lambda digits, times=1: [self.peer.socket.send(bytes.fromhex(digits)) for _ in range(times)],
             "sends command": lambda *command: self.peer.copy(*command),
-            "others send": lambda count, digits, times=1: self.others_send(count, bytes.fromhex(digits), times),
+            "others send": self.others_send,
+            "a stranger sends until it ends": self.stranger_sends,
             "how many it hears": lambda: len(heard(self.peer.socket)),
+            "hears": lambda: self.peer.socket.recv(2000),
             "counts": self.counts,
-            "is flooded": self.is_flooded,
-            "comes to its end": self.comes_to_its_end,
-            "lines but of a grant": lambda: sum(not line.startswith(NOTE) for line in self.ended[1].splitlines()),
+            "counts in a flood": self.counts_in_a_flood,
             "listens": self.listens,
             "reads the note of a grant": lambda: read_note(self.run),
             "tells": self.tells,
-            "answers of": self.answers_of,
             "takes": lambda port: self.open.enter_context(bound(port=port)),
             "handle of": lambda digits: int(digits[28:36], 16),
             "is command": lambda digits, command: digits == oca.command(int(digits[28:36], 16), *command).hex(),
             "is heard from": lambda port: self.sender[1] == port,
             "is by the clock": lambda handle: (int(time.time() * 100000) - handle) % 2**31 < 60 * 100000,
+            "clock": time.monotonic,
             "less": lambda number, other: number - other,
-            "program into a full file": lambda words: self.begins({"stdout": self.full}, words),
-            "last of what it says, and its status": lambda: (ended(self.run)[1].splitlines()[-1:], self.run.returncode),
+            "is at least": lambda number, least: number >= least,
             "is over": lambda: self.run.poll(),
             "terminates": lambda: self.run.terminate(),
-            "counted": lambda *names: [self.ended[0].get(name) for name in names],
-            "has kept": lambda count: self.ended[0]["kept"] >= count,
-            "notes": lambda: [line for line in self.ended[1].splitlines() if line.startswith("note: ")],
-            "last line": lambda: self.ended[1].splitlines()[-1],
-            "first served": lambda count: re.findall(" served (.*)", self.ended[1])[:count],
-            "hears": lambda: self.peer.socket.recv(2000),
             "how often was heard": lambda digits: come().count(digits),
             "heard but": lambda digits: sorted({*come()} - {digits}),
             "next": self.next,
             "answers": lambda handle, status: self.silent.sendto(oca.response(handle, status), self.sender),
-            "what comes until": lambda digits, count: heard_until(silent, bytes.fromhex(digits), count),
+            "what comes until": self.heard_until,
             "kinds in": lambda came, *but: sorted({*came} - {*but}),
             "at least": lambda count, came, digits: came.count(digits) >= count,
-            "says of windows": lambda: [it for it in ended(self.run)[1].splitlines()[:1] if "needs a window" in it],
             "lines of": lambda name: lines_in(f"{room}/{name}"),
-            "notes of a buffer": self.notes_of_a_buffer,
-            "one after another": lambda *lists: [*itertools.chain(*lists)],
-            "ends but what it says": lambda: ended(self.run)[::2]}, room=room, silent=at(silent),
-            free=free_port(), own=by_turns()[0])
+            "serve by a way": self.serves_by_a_way,
+            "control": self.control,
+            "control read late": self.read_late,
+            "time": self.time.set,
+            "stops": lambda: self.run.send_signal(signal.SIGSTOP),
+            "goes on": lambda: self.run.send_signal(signal.SIGCONT),
+            "way": lambda name: getattr(self.way, name),
+            "way has": lambda name, value: setattr(self.way, name, value),
+            "way gives": lambda: self.way.give(),
+            "is sent": lambda handle: handle in self.way.handles,
+            "how many are sent": lambda: len(self.way.handles),
+            "has kept": lambda: len(self.way.kept) > 0,
+            "awaits more": lambda name, count: waited(lambda: getattr(self.way, name) > count or self.run.poll() is not None, 2),
+            "awaits a full pipe": lambda: waited(lambda: self.is_blocked() or self.run.poll() is not None, 2),
+            "waits": self.is_blocked,
+            "looks": self.look,
+            "fills": self.fill,
+            "lines that are read": self.lines,
+            "rest": self.rest,
+            "status": lambda: self.run.wait(timeout=60)},
+            room=os.path.realpath(room), silent=at(self.silent), silent_port=self.silent.getsockname()[1], free=free_port(), own=by_turns()[0])
 
     def serves(self, settings, words=""):
         self.run, self.port = self.checks.serve(*words.split(), **settings)
         self.names["port"] = self.port
-        self.peer, self.other = Peer(self.port, 10, 1), Peer(self.port)
+        self.peer, self.other = peers.Peer(self.port, 10, 1), peers.Peer(self.port, copies=80)
 
     def begins(self, settings, words):
         self.run = self.checks.start(*words.split(), **{"stdin": subprocess.PIPE, **settings})
@@ -385,17 +340,6 @@ class Stage(Scene):
         os.close(reader)
         self.run.stdin = open(writer, "w")
 
-    def begins_peer(self, ip):
-        self.peer = Peer(self.port, ip=ip)
-
-    def comes_to_its_end(self):
-        self.ended = self.counts()
-
-    def is_flooded(self):
-        """The run comes to its end by datagrams, each of which is a turn."""
-        with Flood(self.port):
-            self.comes_to_its_end()
-
     def listens(self):
         self.port = port_said(self.run)
         return self.port > 0
@@ -406,51 +350,110 @@ class Stage(Scene):
         end.sendto(bytes_of(datagram), ("127.0.0.1", self.port))
         return self.run.stderr.readline().replace(at(end), "PEER")
 
-    def answers_of(self, count):
-        """How many of so many commands are answered."""
-        return sum(self.other.ask(*GET) == (0, b"\1") for _ in range(count))
-
-    def others_send(self, count, data, times):
+    def others_send(self, count, digits, times=1):
         """So many other peers send this so often."""
-        for _ in range(count):
-            other = self.open.enter_context(bound())
+        for other in (self.open.enter_context(bound()) for _ in range(count)):
             for _ in range(times):
-                other.sendto(data, self.peer.socket.getpeername())
+                other.sendto(bytes.fromhex(digits), self.peer.socket.getpeername())
+
+    def stranger_sends(self, text, port):
+        while self.run.poll() is None:
+            self.ends["stranger"].sendto(text.encode(), ("127.0.0.1", port))
+            time.sleep(0.01)
 
     def counts(self):
         """What a run counts at its end, what else it tells, and its status."""
         out, told, status = ended(self.run)
         return counts_in(out), told, status
 
-    def notes_of_a_buffer(self):
-        _, said, status = ended(self.run)
-        return [line.split(":")[1] for line in said.splitlines() if "send buffer" in line], status
+    def counts_in_a_flood(self):
+        """The same of a run that comes to its end by datagrams, each of which is a turn."""
+        with peers.Flood(self.port):
+            return self.counts()
 
     def next(self, *passed):
         """The next command that comes to the socket and is none of these."""
         data, self.sender = next_command(self.silent, [bytes.fromhex(it) for it in passed])
         return data
 
+    def heard_until(self, digits, count):
+        """The datagrams that come until this one has come so often, or for ten seconds none does."""
+        found, datagrams = [], comes(self.silent)
+        while found.count(digits) < count and (came := next(datagrams, None)):
+            found.append(came[0].hex())
+        return found
 
-def heard_until(device, wanted, count):
-    """The datagrams that come until this one has come so often, or for ten seconds none does."""
-    found, datagrams = [], comes(device)
-    while found.count(wanted) < count and (came := next(datagrams, None)):
-        found.append(came[0])
-    return found
+    def serves_by_a_way(self):
+        self.serves(self.time.settings)
+        self.way = self.open.enter_context(Relay(self.port))
+
+    def control(self, command, words=(), stdout=subprocess.PIPE):
+        to = ("--device", f"127.0.0.1:{self.way.port}", "--port", free_port(), "--first-handle", 1)
+        streams = {"stdin": subprocess.PIPE, "stdout": stdout, "stderr": subprocess.DEVNULL}
+        self.run = self.checks.start("ocactl", command, *to, *words, **streams, **self.time.settings)
+
+    def read_late(self, *command):
+        """The same, whose output nobody reads until somebody looks: the pipe is full."""
+        self.out, self.into = os.pipe()
+        fcntl.fcntl(self.into, fcntl.F_SETPIPE_SZ, 4096)
+        self.fills = os.open(f"/proc/self/fd/{self.into}", os.O_WRONLY | os.O_NONBLOCK)
+        self.fill()
+        self.control(*command, stdout=self.into)
+
+    def fill(self):
+        with contextlib.suppress(BlockingIOError):
+            while True:
+                os.write(self.fills, b"\0" * 4096)
+                time.sleep(0)
+
+    def is_blocked(self):
+        """Whether the program waits in a write to its standard output, by the number of this call on x86-64 or on AArch64."""
+        with contextlib.suppress(OSError, IndexError):  # it is `running`, or is gone
+            call = Path(f"/proc/{self.run.pid}/syscall").read_text(encoding="ascii").split()
+            return call[0] in ("1", "64") and call[1] == "0x1"
+        return False
+
+    def look(self):
+        self.text += os.read(self.out, 4096)
+
+    def lines(self):
+        """How many lines were read, with those that are there."""
+        self.text += read_until(self.out, lambda _: False, 0)
+        return self.text.count(b"\n")
+
+    def rest(self):
+        """The lines that were read, and what is printed from here on, to the end."""
+        for it in (self.into, self.fills):
+            os.close(it)
+        self.text += read_until(self.out, lambda _: False, 60)
+        os.close(self.out)
+        return self.text.replace(b"\0", b"").decode().split("\n")
 
 
 def scenes(checks, name="network", kind="scene"):
-    for steps, names in scenes_of(name, kind):
-        with tempfile.TemporaryDirectory() as room, bound() as silent, open("/dev/full", "w") as full:
-            stage = Stage(checks, os.path.realpath(room), silent, full)
+    play_all(checks, Stage, name, kind)
+
+
+def stopped_between(checks):
+    """Stopped for 20 seconds in the first of three commands: the rest is left out. Again where the first comes late, and is lost too."""
+    rows = as_it_stands("network")
+    for name, words, printed in rows["several"]:
+        is_late, tries = True, 0
+        while is_late and tries < 20:
+            stage, tries = Stage(checks), tries + 1
             with stage.open:
-                stage.play(steps, **names)
-        checks.end()
+                stage.play(rows["first_of_three"], name=name, words=words.split())
+                out, _, status = ended(stage.run)
+                is_late = out.startswith("4097 lost\n")
+                checks.same(f"{name} of three: what it printed, its status, and how many were sent", (out, status, len(stage.way.handles)),
+                            (f"{'4097 lost' if is_late else printed}\n4098 not sent\n4101 not sent\n", 3, 1))
+
+
+def at_own_ports(checks):
+    scenes(checks, kind="at_own_ports")
 
 
 if __name__ == "__main__":
     sys.exit(Checks(sys.argv[1]).tried(
-        runs, closed_descriptors, null_at_closed, quiet_turns, signals, is_a_program_there,
-        lines_at_once, a_line_behind_a_pause, a_stalled_neighbour, a_failed_receive, reports_behind_a_sleep, scenes,
-        alone=(runs,)))
+        at_own_ports, quiet_turns, is_a_program_there, lines_at_once, a_line_behind_a_pause,
+        a_stalled_neighbour, a_failed_receive, scenes, stopped_between, alone=(at_own_ports,)))

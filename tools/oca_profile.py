@@ -6,22 +6,31 @@ import contextlib
 import copy
 import re
 import struct
+from collections import Counter, namedtuple
 
 U32, U64 = 2**32 - 1, 2**64 - 1
 LARGEST = 1472
 
-# ---- datagrams
+
 class Fault(Exception):
-    def __init__(self, kind, at):
+    """What is wrong: of a datagram the fault's number and its place, of a command its status, of a line the word for it."""
+
+    def __init__(self, kind, at=None):
         super().__init__(kind, at)
         self.kind, self.at = kind, at
 
 
-def fails(holds, kind, at):
+def fails(holds, kind, at=None):
     if holds:
         raise Fault(kind, at)
 
 
+def need(value, kind):
+    fails(value is None, kind)
+    return value
+
+
+# ---- datagrams
 def number(data):
     return int.from_bytes(data, "big")
 
@@ -29,8 +38,7 @@ def number(data):
 def check(data):
     """The messages of a datagram, or the first Fault in the order of the checks."""
     fails(not data, 1, 0)
-    if len(data) > LARGEST:
-        raise Fault(2, 1472)
+    fails(len(data) > LARGEST, 2, LARGEST)
     messages, p = [], 0
     while p < len(data):
         kind, count, end = frame_at(data, p)
@@ -65,8 +73,7 @@ def messages_in(data, p, end, kind, count):
         if kind == 3:
             messages.append(("response", number(body[4:8]), body[8], body[9], body[10:]))
         else:
-            fields = [number(body[a:b]) for a, b in ((4, 8), (8, 12), (12, 14), (14, 16))]
-            messages.append(("command", kind == 1, Command(*fields, body[16], body[17:])))
+            messages.append(("command", kind == 1, Command(*struct.unpack_from(">IIHHB", body, 4), body[17:])))
         at += length
     fails(at < end, 7, p + 8)
     return messages
@@ -74,23 +81,19 @@ def messages_in(data, p, end, kind, count):
 
 def pdu(kind, bodies):
     rest = b"".join(bodies)
-    return b"\x3b\x00\x01" + (9 + len(rest)).to_bytes(4, "big") + bytes([kind]) + len(bodies).to_bytes(2, "big") + rest
+    return struct.pack(">BHIBH", 0x3B, 1, 9 + len(rest), kind, len(bodies)) + rest
 
 
 def response_body(handle, status, count, params):
-    return (10 + len(params)).to_bytes(4, "big") + handle.to_bytes(4, "big") + bytes([status, count]) + params
+    return struct.pack(">IIBB", 10 + len(params), handle, status, count) + params
 
 
-class Command:
-    def __init__(self, handle, target, level, index, count=0, params=b""):
-        self.handle, self.target, self.level, self.index = handle, target, level, index
-        self.count, self.params = count, bytes(params)
-
+class Command(namedtuple("Command", "handle target level index count params", defaults=(0, b""))):
     def asks(self):
         return (self.target, self.level, self.index, self.count, self.params)
 
     def body(self):
-        return struct.pack(">IIIHHB", 17 + len(self.params), self.handle, *self.asks()[:4]) + self.params
+        return struct.pack(">IIIHHB", 17 + len(self.params), *self[:5]) + self.params
 
 
 def command(*fields):
@@ -103,12 +106,10 @@ def response(handle, status=0, count=0, params=b""):
 
 # ---- objects
 
-CLASSES = {
-    "block": (1, 1, 3), "mute": (1, 1, 1, 2), "polarity": (1, 1, 1, 3), "switch": (1, 1, 1, 4),
-    "boolean": (1, 1, 1, 1, 1), "int8": (1, 1, 1, 1, 2), "int16": (1, 1, 1, 1, 3), "int32": (1, 1, 1, 1, 4),
-    "int64": (1, 1, 1, 1, 5), "uint8": (1, 1, 1, 1, 6), "uint16": (1, 1, 1, 1, 7), "uint32": (1, 1, 1, 1, 8),
-    "uint64": (1, 1, 1, 1, 9)}
-WIDTHS = {name: (int(name.lstrip("uint")) // 8, name[0] == "i") for name in CLASSES if name.startswith(("int", "uint"))}
+NUMBERS = ("int8", "int16", "int32", "int64", "uint8", "uint16", "uint32", "uint64")
+CLASSES = {"block": (1, 1, 3), "mute": (1, 1, 1, 2), "polarity": (1, 1, 1, 3), "switch": (1, 1, 1, 4)}
+CLASSES |= {kind: (1, 1, 1, 1, number) for number, kind in enumerate(("boolean", *NUMBERS), 1)}
+WIDTHS = {kind: (int(kind.lstrip("uint")) // 8, kind[0] == "i") for kind in NUMBERS}
 LIMITS = {name: (-1 << 8 * size - 1, (1 << 8 * size - 1) - 1) if signed else (0, (1 << 8 * size) - 1)
           for name, (size, signed) in WIDTHS.items()}
 OK, LOCKED, BAD_ONO, PARAMETER_ERROR, OUT_OF_RANGE = 0, 3, 5, 6, 7
@@ -130,6 +131,10 @@ class Object:
 
     def setting(self):
         return None if self.state is None else int(self.state)
+
+
+def object_at(tree, ono):
+    return next((o for o in tree if o.ono == ono), None)
 
 
 def bench(channels=0):
@@ -158,40 +163,21 @@ def tree_of_text(text):
         if line and not line.startswith(b"#"):
             try:
                 tree.append(listed(tree, line))
-            except LineFault as fault:
-                raise ObjectFault(k, str(fault)) from None
+            except Fault as fault:
+                raise ObjectFault(k, fault.kind) from None
     return tree
 
 
-class LineFault(Exception):
-    """The word for a line's fault."""
-
-
-def refused(holds, fault):
-    if holds:
-        raise LineFault(fault)
-
-
-def need(value, fault):
-    refused(value is None, fault)
-    return value
+FIELD = re.compile(b'"([^"]*)"(?= |$)|(?!")([^ ]*)')
 
 
 def parts(line):
     """The fields of a line, one at a time; one in quotes goes up to the next quote."""
-    while line is not None:
-        if line.startswith(b'"'):
-            part, quote, line = line[1:].partition(b'"')
-            refused(not quote or line[:1] not in (b"", b" "), "form")
-            line = line[1:] if line else None
-        else:
-            part, space, line = line.partition(b" ")
-            line = line if space else None
-        yield part
-
-
-def next_of(fields):
-    return need(next(fields, None), "form")
+    at = 0
+    while at <= len(line):
+        found = need(FIELD.match(line, at), "form")
+        yield found[2] if found[1] is None else found[1]
+        at = found.end() + 1
 
 
 HIDDEN = {*range(0x20), *range(0x7f, 0xa0), 0x61c, 0x200e, 0x200f, *range(0x2028, 0x202f), *range(0x2066, 0x206a)}
@@ -199,32 +185,34 @@ HIDDEN = {*range(0x20), *range(0x7f, 0xa0), 0x61c, 0x200e, 0x200f, *range(0x2028
 
 def utf8(data):
     text = data.decode("utf-8", "surrogateescape")
-    refused(any(ord(c) in HIDDEN or 0xdc80 <= ord(c) <= 0xdcff for c in text), "text")
+    fails(any(ord(c) in HIDDEN or 0xdc80 <= ord(c) <= 0xdcff for c in text), "text")
     return text
 
 
 def listed(tree, line):
-    """The object of a line; a LineFault has the word for its first fault from the left, or why it is not added."""
-    refused(any(b < 32 for b in line), "form")
+    """The object of a line; the Fault has the word for what is wrong first from the left, or why it is not added."""
+    fails(any(b < 32 for b in line), "form")
     fields = parts(line)
-    ono, container = (need(digits(next_of(fields).decode("latin-1"), 10, U32), "number") for _ in range(2))
-    kind = next_of(fields).decode("latin-1")
+    field = lambda: need(next(fields, None), "form")
+    word = lambda: field().decode("latin-1")
+    ono, container = (need(digits(word(), 10, U32), "number") for _ in range(2))
+    kind = word()
     state = names = low = high = None
-    refused(kind not in CLASSES, "class")
+    fails(kind not in CLASSES, "class")
     if kind in WORDS:
-        state = need(WORDS[kind].get(next_of(fields).decode("latin-1")), "value")
+        state = need(WORDS[kind].get(word()), "value")
     elif kind == "switch":
         names = []
-        for name in next_of(fields).split(b","):
+        for name in field().split(b","):
             names.append(utf8(name))
-            refused(len(names) > 16, "range")
-        wanted = next_of(fields)
+            fails(len(names) > 16, "range")
+        wanted = field()
         state = need(next((n for n, name in enumerate(names) if name.encode() == wanted), None), "value")
     elif kind != "block":
-        low, high, state = (need(digits(next_of(fields).decode("latin-1"), 20, LIMITS[kind][1], LIMITS[kind][0]), "number") for _ in range(3))
-    lockable = need({b"lockable": True, b"no-lock": False}.get(next_of(fields)), "lockable")
-    last = next_of(fields)
-    refused(next(fields, None) is not None, "form")
+        low, high, state = (need(digits(word(), 20, LIMITS[kind][1], LIMITS[kind][0]), "number") for _ in range(3))
+    lockable = need({b"lockable": True, b"no-lock": False}.get(field()), "lockable")
+    last = field()
+    fails(next(fields, None) is not None, "form")
     new = Object(ono, kind, container, utf8(last), lockable, state, names, low, high)
     refuse(tree, new)
     return new
@@ -235,20 +223,19 @@ def refuse(tree, new):
     block = next((o for o in tree if o.ono == new.container and o.kind == "block"), None)
     deep, at = 1, block
     while at is not None and at.ono != 100:
-        deep, at = deep + 1, next(o for o in tree if o.ono == at.container)
+        deep, at = deep + 1, object_at(tree, at.container)
     texts = [new.role] + (new.names or [])
-    for fault, holds in (("full", len(tree) >= 4096), ("reserved", new.ono < 4096), ("taken", any(o.ono == new.ono for o in tree)),
-            ("container", block is None), ("depth", deep >= 8), ("text", not new.role or any(len(t.encode()) > 64 for t in texts)),
-            ("range", new.low is not None and not new.low <= new.state <= new.high)):
-        refused(holds, fault)
+    fails(len(tree) >= 4096, "full")
+    fails(new.ono < 4096, "reserved")
+    fails(object_at(tree, new.ono), "taken")
+    fails(block is None, "container")
+    fails(deep >= 8, "depth")
+    fails(not new.role or any(len(t.encode()) > 64 for t in texts), "text")
+    fails(new.low is not None and not new.low <= new.state <= new.high, "range")
 
 
 def show(tree):
     return "".join(f"{o.ono} {'.'.join(map(str, CLASSES[o.kind]))} {o.container} {o.role}\n" for o in tree)
-
-
-class Bad(Exception):
-    pass
 
 
 class Reader:
@@ -256,16 +243,12 @@ class Reader:
         self.data = data
 
     def take(self, n):
-        if len(self.data) < n:
-            raise Bad
+        fails(len(self.data) < n, PARAMETER_ERROR)
         front, self.data = self.data[:n], self.data[n:]
         return front
 
     def number(self, n, signed=False):
         return int.from_bytes(self.take(n), "big", signed=signed)
-
-    def boolean(self):
-        return self.number(1) != 0
 
     def text(self):
         count = self.number(2)
@@ -275,18 +258,24 @@ class Reader:
                 if len(text) == count:
                     self.take(size)
                     return text
-        raise Bad
+        raise Fault(PARAMETER_ERROR)
 
-    def listed(self, obj, read):
-        if self.number(2) != len(obj.names):
-            raise Bad
-        return [read() for _ in obj.names]
+    def parameter(self, obj, letter):
+        """By its letter: a truth, a text, an integer of one or two bytes, the value of the object's class, and a list of as many truths or texts
+        as a switch has positions."""
+        if letter in "BT":
+            fails(self.number(2) != len(obj.names), PARAMETER_ERROR)
+            return [self.parameter(obj, letter.lower()) for _ in obj.names]
+        if letter == "t":
+            return self.text()
+        if letter == "v" and obj.kind in WIDTHS:
+            return self.number(*WIDTHS[obj.kind])
+        return self.number(int(letter)) if letter in "12" else self.number(1) != 0
 
     def all(self, obj, count, letters):
         """The parameters that these letters stand for, which are so many, and nothing behind them."""
-        args = [READERS[letter](self, obj) for letter in letters]
-        if self.data or count != len(letters):
-            raise Bad
+        args = [self.parameter(obj, letter) for letter in letters]
+        fails(self.data or count != len(letters), PARAMETER_ERROR)
         return args
 
 
@@ -296,11 +285,6 @@ def u16(n):
 
 def text_bytes(text):
     return u16(len(text)) + text.encode("utf-8")
-
-
-def class_bytes(obj):
-    fields = CLASSES[obj.kind]
-    return u16(len(fields)) + b"".join(u16(f) for f in fields) + u16(2)
 
 
 def members(tree, ono):
@@ -315,12 +299,12 @@ def descendants(tree, ono):
     return [o for o in tree if o.container in inside]
 
 
-def flag(is_so):
-    return bytes([1 if is_so else 0])
-
-
 def listed_bytes(items):
     return u16(len(items)) + b"".join(items)
+
+
+def class_bytes(obj):
+    return listed_bytes([*map(u16, CLASSES[obj.kind])]) + u16(2)
 
 
 def identification(obj, with_container=False):
@@ -352,31 +336,29 @@ def nothing(*_):
     return []
 
 
-# How parameters are read, a letter each: a truth, a text, an integer of one or two bytes, the value of the object's class, and a list of as many
-# truths or texts as a switch has positions.
-READERS = {"b": lambda r, _: r.boolean(), "t": lambda r, _: r.text(), "1": lambda r, _: r.number(1), "2": lambda r, _: r.number(2),
-           "v": lambda r, obj: r.boolean() if obj.kind == "boolean" else r.number(*WIDTHS[obj.kind]),
-           "B": lambda r, obj: r.listed(obj, r.boolean), "T": lambda r, obj: r.listed(obj, r.text)}
-# The methods of all classes and of each, by DefLevel and MethodIndex: what they need of a lock (R: read, W: write, L: lock), how their parameters are
-# read, what they answer, and what they change.
+def pair(level, index, letters, name, told):
+    """A method that answers what an object has under this name, and the next one, which sets it: its last parameter is what the first answers."""
+    return {(level, index): ("R", letters[:-1], told, nothing), (level, index + 1): ("W", letters, nothing, puts(name))}
+
+
+# The methods of all classes and of each, by DefLevel and MethodIndex: what they need of a lock (R: read, W: write, L: lock), the letters of their
+# parameters (`Reader.parameter`), what they answer, and what they change.
 OF_ALL = {
-    (1, 1): ("R", "", lambda tree, obj: [class_bytes(obj)], nothing), (1, 2): ("R", "", lambda tree, obj: [flag(obj.lockable)], nothing),
+    (1, 1): ("R", "", lambda tree, obj: [class_bytes(obj)], nothing), (1, 2): ("R", "", lambda tree, obj: [bytes([obj.lockable])], nothing),
     (1, 3): ("L", "", nothing, locks("total")), (1, 4): ("L", "", nothing, locks(None)), (1, 6): ("L", "", nothing, locks("read-only")),
     (1, 5): ("R", "", lambda tree, obj: [text_bytes(obj.role)], nothing),
-    (2, 1): ("R", "", lambda tree, obj: [flag(obj.enabled)], nothing), (2, 2): ("W", "b", nothing, puts("enabled")),
-    (2, 8): ("R", "", lambda tree, obj: [text_bytes(obj.label)], nothing), (2, 9): ("W", "t", nothing, puts("label")),
-    (2, 10): ("R", "", lambda tree, obj: [obj.container.to_bytes(4, "big")], nothing)}
+    (2, 10): ("R", "", lambda tree, obj: [obj.container.to_bytes(4, "big")], nothing),
+    **pair(2, 1, "b", "enabled", lambda tree, obj: [bytes([obj.enabled])]), **pair(2, 8, "t", "label", lambda tree, obj: [text_bytes(obj.label)])}
 OF_BLOCK = {(3, 5): ("R", "", lambda tree, obj: [listed_bytes([identification(o) for o in members(tree, obj.ono)])], nothing),
     (3, 6): ("R", "", lambda tree, obj: [listed_bytes([identification(o, True) for o in descendants(tree, obj.ono)])], nothing)}
-OF_STATE = {(4, 1): ("R", "", lambda tree, obj: [bytes([obj.state])], nothing), (4, 2): ("W", "1", nothing, puts("state"))}
+OF_STATE = pair(4, 1, "1", "state", lambda tree, obj: [bytes([obj.state])])
 OF_SWITCH = {
-    (4, 1): ("R", "", lambda tree, obj: [u16(obj.state), u16(0), u16(len(obj.names) - 1)], nothing), (4, 2): ("W", "2", nothing, puts("state")),
-    (4, 3): ("R", "2", lambda tree, obj, at: [text_bytes(obj.names[at])], nothing), (4, 4): ("W", "2t", nothing, puts("names")),
-    (4, 5): ("R", "", lambda tree, obj: [listed_bytes([text_bytes(name) for name in obj.names])], nothing), (4, 6): ("W", "T", nothing, puts("names")),
-    (4, 7): ("R", "2", lambda tree, obj, at: [flag(obj.enableds[at])], nothing), (4, 8): ("W", "2b", nothing, puts("enableds")),
-    (4, 9): ("R", "", lambda tree, obj: [listed_bytes([flag(it) for it in obj.enableds])], nothing), (4, 10): ("W", "B", nothing, puts("enableds"))}
-OF_VALUE = {(5, 1): ("R", "", lambda tree, obj: [flag(obj.state)] if obj.kind == "boolean" else number_bytes(obj), nothing),
-            (5, 2): ("W", "v", nothing, puts("state"))}
+    **pair(4, 1, "2", "state", lambda tree, obj: [u16(obj.state), u16(0), u16(len(obj.names) - 1)]),
+    **pair(4, 3, "2t", "names", lambda tree, obj, at: [text_bytes(obj.names[at])]),
+    **pair(4, 5, "T", "names", lambda tree, obj: [listed_bytes([text_bytes(name) for name in obj.names])]),
+    **pair(4, 7, "2b", "enableds", lambda tree, obj, at: [bytes([obj.enableds[at]])]),
+    **pair(4, 9, "B", "enableds", lambda tree, obj: [listed_bytes([bytes([it]) for it in obj.enableds])])}
+OF_VALUE = pair(5, 1, "v", "state", lambda tree, obj: number_bytes(obj) if obj.kind in WIDTHS else [bytes([obj.state])])
 METHODS = {kind: OF_ALL | {"block": OF_BLOCK, "mute": OF_STATE, "polarity": OF_STATE, "switch": OF_SWITCH}.get(kind, OF_VALUE) for kind in CLASSES}
 
 
@@ -385,47 +367,43 @@ def is_left_out(obj, level, index):
     return level == 2 and 3 <= index <= 13 or obj.kind == "block" and level == 3 and 1 <= index <= 20
 
 
+def takes(obj, value):
+    """Whether an object can be set to this value of its class."""
+    if obj.kind == "switch":
+        return value < len(obj.names) and obj.enableds[value]
+    return obj.low <= value <= obj.high if obj.kind in WIDTHS else obj.kind == "boolean" or value in (1, 2)
+
+
 def execute(tree, peer, c):
     """(status, count, parameters); the tree is changed only where the status is 0."""
-    obj = next((o for o in tree if o.ono == c.target), None)
-    if obj is None:
-        return BAD_ONO, 0, b""
-    key = (c.level, c.index)
-    if key not in METHODS[obj.kind]:
-        return NOT_IMPLEMENTED if is_left_out(obj, *key) else BAD_METHOD, 0, b""
-    access, letters, told, change = METHODS[obj.kind][key]
-    if obj.lock and obj.lock[1] != peer and (obj.lock[0] == "total" or access != "R"):
-        return LOCKED, 0, b""
     try:
-        args = Reader(c.params).all(obj, c.count, letters)
-    except Bad:
-        return PARAMETER_ERROR, 0, b""
-    level, index = key
-    n = len(obj.names) if obj.names else 0
-    if level == 4 and obj.kind in ("mute", "polarity") and index == 2 and args[0] not in (1, 2):
-        return OUT_OF_RANGE, 0, b""
-    if level == 4 and obj.kind == "switch" and index in (2, 3, 4, 7, 8):
-        if args[0] >= n or (index == 2 and not obj.enableds[args[0]]):
-            return OUT_OF_RANGE, 0, b""
-    if level == 5 and index == 2 and obj.kind != "boolean" and not obj.low <= args[0] <= obj.high:
-        return OUT_OF_RANGE, 0, b""
-    if key in ((1, 3), (1, 6)) and not obj.lockable:
-        return INVALID, 0, b""
-    if key == (1, 4) and obj.lock is None:
-        return INVALID, 0, b""
+        items = carried_out(tree, peer, c)
+    except Fault as fault:
+        return fault.kind, 0, b""
+    return OK, len(items), b"".join(items)
+
+
+def carried_out(tree, peer, c):
+    """What the method of a command answers, and the change is made; the Fault has the first status of a command that is refused."""
+    obj, key = object_at(tree, c.target), (c.level, c.index)
+    fails(obj is None, BAD_ONO)
+    fails(key not in METHODS[obj.kind], NOT_IMPLEMENTED if is_left_out(obj, *key) else BAD_METHOD)
+    access, letters, told, change = METHODS[obj.kind][key]
+    fails(obj.lock and obj.lock[1] != peer and (obj.lock[0] == "total" or access != "R"), LOCKED)
+    args = Reader(c.params).all(obj, c.count, letters)
+    fails(key in ((4, 2), (5, 2)) and not takes(obj, args[0]), OUT_OF_RANGE)
+    fails(obj.kind == "switch" and key in ((4, 3), (4, 4), (4, 7), (4, 8)) and args[0] >= len(obj.names), OUT_OF_RANGE)
+    fails(key in ((1, 3), (1, 6)) and not obj.lockable or key == (1, 4) and obj.lock is None, INVALID)
     items = told(tree, obj, *args)
-    params = b"".join(items)
-    if len(params) > 1452:
-        return OVERFLOW, 0, b""
-    if access == "W" and obj.failing:
-        return FAILED, 0, b""
+    fails(sum(map(len, items)) > 1452, OVERFLOW)
+    fails(access == "W" and obj.failing, FAILED)
     change(obj, peer, *args)
-    return OK, len(items), params
+    return items
 
 
 def writes(tree, c, reply):
     """Whether the command wrote: it was carried out, and its method writes."""
-    return reply[0] == OK and METHODS[next(o.kind for o in tree if o.ono == c.target)][c.level, c.index][0] == "W"
+    return reply[0] == OK and METHODS[object_at(tree, c.target).kind][c.level, c.index][0] == "W"
 
 
 # ---- changes at the front
@@ -436,38 +414,28 @@ CHANGES = ("label", "enabled", "unlock", "failing")
 BAD_LABEL, NOT_LOCKED = 2, 3
 
 
-def change_local(obj, kind, value):
-    """Changes an object's label or flags, or takes its lock off, whoever holds it. The number of the fault, or None."""
-    if kind == "label" and len(value.encode()) > 64:
-        return BAD_LABEL
-    if kind == "unlock" and obj.lock is None:
-        return NOT_LOCKED
-    if kind == "label":
-        obj.label = value
-    elif kind == "enabled":
-        obj.enabled = bool(value)
-    elif kind == "failing":
-        obj.failing = bool(value)
-    else:
-        obj.lock = None
-    return None
-
-
-def set_local(tree, ono, kind, value):
-    """Sets an object as its class's set method would, whoever has locked it. The number of the fault, which changes nothing, or None."""
-    obj = next((o for o in tree if o.ono == ono), None)
+def local_fault(obj, kind, value):
+    """Why the front does not set an object as its class's set method would, or does not change it so; or None."""
     if obj is None:
         return NO_OBJECT
     if kind in CHANGES:
-        return change_local(obj, kind, value)
+        is_bad = kind == "label" and len(value.encode()) > 64
+        return BAD_LABEL if is_bad else NOT_LOCKED if kind == "unlock" and obj.lock is None else None
     if obj.kind == "block":
         return NO_SETTING
     if obj.kind != kind:
         return OTHER_KIND
-    if (kind in WIDTHS and not obj.low <= value <= obj.high) or (kind == "switch" and not (value < len(obj.names) and obj.enableds[value])):
-        return TOO_FAR
-    obj.state = bool(value) if kind == "boolean" else value
-    return None
+    return None if takes(obj, value) else TOO_FAR
+
+
+def set_local(tree, ono, kind, value):
+    """Sets or changes an object at the front, whoever has locked it. The number of the fault, which changes nothing, or None."""
+    obj = object_at(tree, ono)
+    fault = local_fault(obj, kind, value)
+    if fault is None:
+        name = "lock" if kind == "unlock" else kind if kind in CHANGES else "state"
+        setattr(obj, name, bool(value) if kind in ("enabled", "failing", "boolean") else value)
+    return fault
 
 
 # ---- the device
@@ -532,8 +500,7 @@ class Device:
         if session is None:
             return "no-room", []
         session.heard = self.now
-        counts = {"fresh": 0, "duplicate": 0, "old": 0, "reused": 0}
-        answers = []
+        counts, answers = Counter(), []
         for message in messages:
             if message[0] == "keep-alive":
                 session.beat(number(message[1]) * (1000 if len(message[1]) == 2 else 1))
@@ -542,10 +509,8 @@ class Device:
                 counted, answer = self.command(session, *message[1:])
                 counts[counted] += 1
                 answers += answer
-        text = f"served {counts['fresh']} {counts['duplicate']} {counts['old']}"
-        if counts["reused"]:
-            text += f" reused {counts['reused']}"
-        return text, packets(answers)
+        reused = f" reused {counts['reused']}" if counts["reused"] else ""
+        return f"served {counts['fresh']} {counts['duplicate']} {counts['old']}{reused}", packets(answers)
 
     def command(self, session, respond, command):
         """As what a command counts, and its answer, if it gets one."""
@@ -651,43 +616,38 @@ class Network:
 
     def step(self, step):
         """The text of what the step led to, or None where it names what is not there."""
-        kind = step[0]
+        kind, *rest = step
+        if kind == "set":
+            fault = self.device.set(*rest)
+            return f"refused {fault}" if fault is not None else "changed" if rest[1] in CHANGES else "set"
+        now = None if kind == "take" else rest.pop(0)
         if kind == "tick":
-            self.device.advance(step[1])
+            self.device.advance(now)
             return "quiet"
-        if kind in FRONT:
-            fault = self.device.set(*front_change(step))
-            return ("set" if kind == "set" else "changed") if fault is None else f"refused {fault}"
+        number, *rest = rest
         if kind == "other":
-            _, now, peer, data = step
-            return None if any(p == peer for p, _ in self.links) else self.device.datagram(peer, data, now)[0]
-        if kind in ("to-device", "to-link"):
-            _, now, k = step
-            sent = self.to_device if kind == "to-device" else self.to_links
-            if k >= len(sent):
-                return None
-            peer, data = sent[k]
-            if kind == "to-link":
-                return next(link for p, link in self.links if p == peer).datagram(DEVICE, data, now)
-            text, out = self.device.datagram(peer, data, now)
+            return None if any(peer == number for peer, _ in self.links) else self.device.datagram(number, *rest, now)[0]
+        its = {"to-device": self.to_device, "to-link": self.to_links}.get(kind, self.links)
+        if number >= len(its):
+            return None
+        peer, link = its[number]
+        if kind == "to-device":
+            text, out = self.device.datagram(peer, link, now)
             self.to_links += [(peer, packet) for packet in out]
             return text
-        number = step[1] if kind == "take" else step[2]
-        if number >= len(self.links):
-            return None
-        peer, link = self.links[number]
+        if kind == "to-link":
+            return next(its for p, its in self.links if p == peer).datagram(DEVICE, link, now)
         if kind == "take":
-            answer = link.take(step[2])
-            return "none" if answer is None else f"answer {answer[0]} {answer[1]} {hex_text(answer[2])}"
+            return answer_line(link.take(*rest))
         if kind == "submit":
-            return link.submit(*step[3:], step[1])
+            return link.submit(*rest, now)
         if kind == "renew":
-            _, now, _, first, span = step
+            first, span = rest
             if first < link.next:
                 return "not renewed"
             self.links[number] = peer, Link(DEVICE, first, span, now)
             return "renewed"
-        said, data = ("", pdu(4, [u16(5)])) if kind == "beside" else link.due(step[1])
+        said, data = ("", pdu(4, [u16(5)])) if kind == "beside" else link.due(now)
         if data is None:
             return said
         self.to_device.append((peer, data))
@@ -697,15 +657,6 @@ class Network:
         sent = [("to-device", d) for d in self.to_device] + [("to-link", d) for d in self.to_links]
         return ["schedule"] + outcomes + [f"{way} {peer_text(peer)} {hex_text(data)}" for way, (peer, data) in sent] \
             + [f"sessions {len(self.device.sessions)}"]
-
-
-# What a step at the front is called; a setting says its class, the others are CHANGES.
-FRONT = ("set", *CHANGES)
-
-
-def front_change(step):
-    """The object of a step at the front, what is changed, and to what."""
-    return step[1:] if step[0] == "set" else (step[1], step[0], step[2])
 
 
 def front_line(ono, kind, value):
@@ -719,13 +670,11 @@ def peer_text(peer):
 
 
 def step_line(step):
-    kind = step[0]
-    if kind == "take":
-        return " ".join(map(str, step))
-    if kind in FRONT:
-        return front_line(*front_change(step))
-    rest = [peer_text(f) if isinstance(f, tuple) else hex_text(f) if isinstance(f, bytes) else str(f) for f in step[2:]]
-    return " ".join([str(step[1]), kind] + rest)
+    kind, *rest = step
+    if kind == "set":
+        return front_line(*rest)
+    now, *rest = [peer_text(it) if isinstance(it, tuple) else hex_text(it) if isinstance(it, bytes) else str(it) for it in rest]
+    return " ".join([kind, now, *rest] if kind == "take" else [now, kind, *rest])
 
 
 # ---- scripts
@@ -751,36 +700,42 @@ def hex_text(data):
     return data.hex() if data else "-"
 
 
+def answer_line(answer):
+    return "none" if answer is None else f"answer {answer[0]} {answer[1]} {hex_text(answer[2])}"
+
+
+# How a field of a line is read, and the word for one that is wrong.
+WORD, MOMENT, PEER, HEX = (str, "form"), (lambda it: digits(it, 20, U64), "moment"), (peer_of, "peer"), (hex_of, "hex")
+ONE, TWO, FOUR = [(lambda it, size=size: digits(it, *size), "number") for size in ((3, 255), (5, 65535), (10, U32))]
+# The lines of a controller's script but for `take`, by the word behind the moment.
+LINK_LINES = {"due": (), "from": (PEER, HEX), "submit": (FOUR, TWO, TWO, ONE, HEX)}
+
+
+def read_as(fields, *forms):
+    """The fields of a line that is to have a field for each of these."""
+    fails(len(fields) != len(forms), "form")
+    return [need(read(field), word) for field, (read, word) in zip(fields, forms)]
+
+
 def device_line(device, fields):
-    is_quiet = fields[1:2] == ["quiet"]
-    refused(len(fields) != (2 if is_quiet else 3), "form")
-    now = need(digits(fields[0], 20, U64), "moment")
-    if is_quiet:
-        device.advance(now)
+    if fields[1:2] == ["quiet"]:
+        device.advance(read_as(fields, MOMENT, WORD)[0])
         return ["quiet"]
-    peer = need(peer_of(fields[1]), "peer")
-    data = need(hex_of(fields[2]), "hex")
+    now, peer, data = read_as(fields, MOMENT, PEER, HEX)
     text, out = device.datagram(peer, data, now)
     return [text] + ["> " + hex_text(p) for p in out]
 
 
 def link_line(link, fields):
     if fields[0] == "take":
-        refused(len(fields) != 2, "form")
-        answer = link.take(need(digits(fields[1], 10, U32), "number"))
-        return ["none" if answer is None else f"answer {answer[0]} {answer[1]} {hex_text(answer[2])}"]
+        return [answer_line(link.take(read_as(fields, WORD, FOUR)[1]))]
     keyword = fields[1] if len(fields) > 1 else ""
-    refused(len(fields) != {"submit": 7, "due": 2, "from": 4}.get(keyword, -1), "form")
-    now = need(digits(fields[0], 20, U64), "moment")
+    fails(keyword not in LINK_LINES, "form")
+    now, _, *rest = read_as(fields, MOMENT, WORD, *LINK_LINES[keyword])
     if keyword == "due":
         kind, data = link.due(now)
         return [kind if data is None else f"{kind} {hex_text(data)}"]
-    if keyword == "from":
-        peer = need(peer_of(fields[2]), "peer")
-        return [link.datagram(peer, need(hex_of(fields[3]), "hex"), now)]
-    sizes = ((10, U32), (5, 65535), (5, 65535), (3, 255))
-    numbers = [need(digits(field, *size), "number") for field, size in zip(fields[2:], sizes)]
-    return [link.submit(*numbers, need(hex_of(fields[6]), "hex"), now)]
+    return [(link.submit if keyword == "submit" else link.datagram)(*rest, now)]
 
 
 def replay(script, serve):
@@ -792,14 +747,14 @@ def replay(script, serve):
     out = []
     for k, line in enumerate([*lines, partial], 1):
         try:
-            refused(len(line) > 4096, "too long")
+            fails(len(line) > 4096, "too long")
             if over and k > len(lines):
                 return text_of(out), "too much input", 1
             if line and not line.startswith(b"#"):
-                refused(not line.isascii(), "form")
+                fails(not line.isascii(), "form")
                 out += serve(line.decode("ascii").split(" "))
-        except LineFault as fault:
-            return text_of(out), f"line {k}: {fault}", 2
+        except Fault as fault:
+            return text_of(out), f"line {k}: {fault.kind}", 2
     return text_of(out), None, 0
 
 

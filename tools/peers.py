@@ -64,9 +64,13 @@ class Relay(Beside):
         self.front, self.ways, self.device = front or bound(), {}, ("127.0.0.1", device)
         self.port = self.front.getsockname()[1]
 
-    def step(self, seconds=0.05):
+    def pause(self):
+        """How long it waits for what comes."""
+        return 0.05
+
+    def step(self):
         controllers = {way: controller for controller, way in self.ways.items()}
-        for end in select.select([self.front, *controllers], [], [], seconds)[0]:
+        for end in select.select([self.front, *controllers], [], [], self.pause())[0]:
             with contextlib.suppress(OSError):
                 data, sender = end.recvfrom(65535)
                 if end is self.front:
@@ -88,9 +92,9 @@ class Relay(Beside):
 
 
 class Lossy(Relay):
-    """A way that loses a share of the datagrams each way, as the seed says, doubles another share of the others, and keeps each copy for up to `quick`
-    seconds, but a share for up to 0.7. `behind` is how many copies of commands it carried behind an answer to their command: only those may be too old,
-    since nobody waits for them."""
+    """A way that loses a share of the datagrams each way, as the seed says, doubles another share of the others, and keeps each copy for up to
+    `quick` seconds, but a share for up to 0.7. `behind` is how many copies of commands it carried behind an answer to their command: only those
+    may be too old, since nobody waits for them."""
 
     def __init__(self, device, seed=1, share=0.2, doubling=0.0, slow=0.0, quick=0.0):
         super().__init__(device)
@@ -135,10 +139,10 @@ class Lossy(Relay):
             with contextlib.suppress(OSError):
                 self.carry(inward, data, to)
 
-    def step(self):
-        """Takes what comes within 20 ms or until the next delivery is due, and delivers what is."""
-        super().step(min(0.02, max(0, self.due[0][0] - time.time())) if self.due else 0.02)
+    def pause(self):
+        """Delivers what is due, and waits for 20 ms or until the next delivery is."""
         self.deliver()
+        return min(0.02, max(0, self.due[0][0] - time.time())) if self.due else 0.02
 
 
 class Flood(Beside):
@@ -154,7 +158,8 @@ class Flood(Beside):
 
 
 class Served(Beside):
-    """The second implementation's device at 127.0.0.1, in a thread of its own; `heard` has each datagram with what was said of it."""
+    """The second implementation's device at 127.0.0.1, in a thread of its own; `heard` has each datagram with what was said of it. Others hear
+    or answer otherwise, by a `hears` or a `datagram` of their own."""
 
     def __init__(self, tree=None, window=32, peers=16):
         self.device, self.begun = oca.Device(tree, window, peers), time.monotonic()
@@ -163,11 +168,17 @@ class Served(Beside):
         self.socket.settimeout(0.05)
         self.port = self.socket.getsockname()[1]
 
+    def hears(self, *_):
+        return True
+
+    def datagram(self, peer, data, now):
+        return self.device.datagram(peer, data, now) if self.hears(peer, data) else ("", [])
+
     def step(self):
         with contextlib.suppress(TimeoutError):
             data, sender = self.socket.recvfrom(65535)
             peer = (*map(int, sender[0].split(".")), sender[1])
-            said, packets = self.device.datagram(peer, data, int(1000 * (time.monotonic() - self.begun)))
+            said, packets = self.datagram(peer, data, int(1000 * (time.monotonic() - self.begun)))
             self.heard.append((data, said))
             for packet in packets:
                 self.socket.sendto(packet, sender)
@@ -186,17 +197,3 @@ def messages_in(data, kind):
 
 def commands_in(data):
     return [(message[2], (message[2].level, message[2].index)) for message in oca.check(data) if message[0] == "command"]
-
-
-class Other(Served):
-    """The second implementation's device, which hears or answers otherwise, by a `hears` or a `datagram` of its own."""
-
-    def __init__(self, tree=None, window=32):
-        super().__init__(tree, window=window)
-        self.answers, self.device.datagram = self.device.datagram, self.datagram
-
-    def hears(self, *_):
-        return True
-
-    def datagram(self, peer, data, now):
-        return self.answers(peer, data, now) if self.hears(peer, data) else ("", [])

@@ -9,6 +9,7 @@ what it set and locked. Each command is executed once, and its socket keeps to t
 datagram, handles that rise by one, at most 20 unchanged copies, at most 16 in flight. `ocadev replay` must answer each
 row of worked bytes as it stands there. The last line is 'N passed, M failed'."""
 import contextlib
+import functools
 import io
 import re
 import struct
@@ -20,13 +21,13 @@ from pathlib import Path
 from types import ModuleType
 
 import oca_profile as oca
-from checks import Checks, Serving, at, free_port, waited
+from checks import Checks, Serving, at, ended, free_port, waited
 from lossy import bad_network
-from tables import TOP, table
+from scenes import Scene, scenes_of, verbs_of_run
+from tables import TOP, data
 
 EXAMPLE, TREE = TOP / "examples/python/controller.py", "examples/stagebox.tree"
-SPAN, TRIES, DATA = 16, 20, table("python_controller")
-MUTES, TRIMS = range(4098, 4138, 5), range(4100, 4138, 5)
+SPAN, TRIES, DATA = 16, 20, data("python_controller")
 ROW = r"\| [^|]+ \| `([0-9A-F ]+)` \| `([0-9A-F .]+)`[^|]* \|"
 
 
@@ -54,24 +55,30 @@ def what_is_due(its, link, now):
         sent.append("alive" if kind == "keep-alive" else message[1].handle)
 
 
+def what_is_heard(link, datagram):
+    """The handles that a datagram answers, or that it is refused."""
+    try:
+        return [it.handle for it in link.heard(datagram)]
+    except struct.error:
+        return "refused"
+
+
 def rules(checks, its):
-    """The link of the example, moment by moment, by the rows of links."""
-    for steps in DATA["links"]:
+    """The link of the example, moment by moment, by the scenes of links."""
+    for steps, _ in scenes_of("python_controller", "link"):
         link = its.Link(1, last_sent=0.0)
-        found = {"due": lambda moments: [what_is_due(its, link, now) for now in moments], "sends": lambda now: link.due(now).hex().upper(),
-                 "heard": lambda data: [it.handle for it in link.heard(bytes.fromhex(data))], "has room": link.has_room,
-                 "in flight": lambda: sorted(link.flights), "refuses": lambda data: refuses(link, bytes.fromhex(data))}
-        for kind, *given in steps:
-            if kind == "submit":
-                link.submit(its.Request(4097, 4, 1), *given)
-            else:
-                what, *asked, wanted = given
-                checks.same(what, found[kind](*asked), wanted)
+        Scene(checks, {
+            "submit": functools.partial(link.submit, its.Request(4097, 4, 1)),
+            "due": lambda moments: [what_is_due(its, link, now) for now in moments],
+            "sends": lambda now: link.due(now).hex().upper(),
+            "heard": lambda digits: what_is_heard(link, bytes.fromhex(digits)),
+            "has room": link.has_room,
+            "in flight": lambda: sorted(link.flights)}).play(steps)
 
 
 def wrong_ones(checks):
     """A link that breaks a rule is found."""
-    for old, new in DATA["wrong"]:
+    for old, new in DATA.wrong:
         tried = Checks()
         with contextlib.redirect_stdout(io.StringIO()):
             try:
@@ -79,14 +86,6 @@ def wrong_ones(checks):
             except Exception:    # whatever a wrong one comes to
                 tried.failed += 1
         checks.same(f"found: {new!r}", tried.failed > 0, True)
-
-
-def refuses(link, datagram):
-    try:
-        link.heard(datagram)
-    except struct.error:
-        return True
-    return False
 
 
 class Device(Serving):
@@ -108,43 +107,38 @@ class Device(Serving):
         return [sum(int(it[n] or 0) for it in counts if it) for n in (1, 2, 3)]
 
 
-def ran(*words, **settings):
-    done = subprocess.run(words, cwd=TOP, capture_output=True, text=True, timeout=120, **settings)
+def started(device, *words):
+    """A run of the example, whose input stays open."""
+    words = [sys.executable, EXAMPLE, device, *words]
+    return subprocess.Popen(words, cwd=TOP, stdin=subprocess.PIPE, stdout=subprocess.PIPE, stderr=subprocess.PIPE, text=True)
+
+
+def ran(*words, given=""):
+    done = subprocess.run(words, cwd=TOP, input=given, capture_output=True, text=True, timeout=120)
     return done.stdout.splitlines(), done.returncode
 
 
-def runs(checks, folder, device):
-    """The example's commands beside `ocactl`'s, over 127.0.0.1."""
-    python = lambda *words, **settings: ran(sys.executable, str(EXAMPLE), device.address, *words, **settings)
-    ocactl = lambda name, *words: ran(f"{folder}/ocactl", name, "--device", device.address, "--port", str(free_port()), *words)
-    listed, status = python("list")
-    wanted = [line.split(" ", 3) for line in ocactl("tree")[0]]
-    checks.same("list", [[ono, container, role] for ono, _, container, role in map(parts, listed)],
-                [[ono, container, role] for ono, _, container, role in wanted])
-    checks.same("its classes", {parts(line)[1] for line in listed}, {"block", "mute", "polarity", "int16", "switch", "boolean"})
-    checks.same("its labels", ({line.split(" ")[-1] for line in listed}, status), ({'""'}, 0))
-    for what, who, words, printed, status in DATA["in_turn"]:
-        checks.same(what, (python if who == "python" else ocactl)(*words.split()), ([*printed], status))
-    for words in map(str.split, DATA["nothing"]):
-        checks.same(f"nothing to do: {words}", python(*words), ([], 1))
-    lock(checks, device.address, python, ocactl)
+class Stage(Scene):
+    """A scene of the rows: the example's commands beside `ocactl`'s, over 127.0.0.1."""
 
+    def __init__(self, checks, folder, device):
+        self.at = device.address
+        ocactl = lambda name, *words: ran(f"{folder}/ocactl", name, "--device", self.at, "--port", str(free_port()), *words)
+        super().__init__(checks, {
+            **verbs_of_run(self),
+            "python": lambda words: ran(sys.executable, EXAMPLE, self.at, *words.split()),
+            "ocactl": lambda words: ocactl(*words.split()),
+            "begins": lambda words: setattr(self, "run", started(self.at, *words.split())),
+            "looks at the lists": self.lists})
 
-def parts(line):
-    return re.fullmatch(r'(\d+) (\S+) (\d+) "(.*)" "[^"]*"', line).groups()
-
-
-def lock(checks, address, python, ocactl):
-    """Locks that the example holds while its input is open."""
-    words = [sys.executable, str(EXAMPLE), address, "lock", "4098", "4096", "4103"]
-    holder = subprocess.Popen(words, cwd=TOP, stdin=subprocess.PIPE, stdout=subprocess.PIPE, text=True)
-    checks.same("lock", [holder.stdout.readline() for _ in range(3)], ["4098 locked\n", "4096 InvalidRequest\n", "4103 locked\n"])
-    for what, who, words, printed, status in DATA["while_locked"]:
-        checks.same(what, (python if who == "python" else ocactl)(*words.split()), ([*printed], status))
-    checks.same("of a refusal", python("lock", "4098", stdin=subprocess.DEVNULL), (["4098 Locked"], 4))
-    rest, _ = holder.communicate("\n", timeout=120)
-    checks.same("unlock", (rest, holder.returncode), ("4098 unlocked\n4103 unlocked\n", 4))
-    checks.same("an unlocked object", ocactl("set", "4103", "unmuted"), (["4103 unmuted"], 0))
+    def lists(self):
+        """The example lists the objects that `ocactl` lists, with their labels."""
+        (listed, status), (tree, _) = self.does["python"]("list"), self.does["ocactl"]("tree")
+        rows = [re.fullmatch(r'(\d+) (\S+) (\d+) "(.*)" ("[^"]*")', line).groups() for line in listed]
+        wanted = [line.split(" ", 3) for line in tree]
+        self.checks.same("list", [[ono, container, role] for ono, _, container, role, _ in rows], [[it[0], *it[2:]] for it in wanted])
+        self.checks.same("its classes", {kind for _, kind, *_ in rows}, {"block", "mute", "polarity", "int16", "switch", "boolean"})
+        self.checks.same("its labels", ({label for *_, label in rows}, status), ({'""'}, 0))
 
 
 class Watch:
@@ -179,37 +173,25 @@ class Watch:
             self.most = max(self.most, len(in_flight))
 
 
-def over_the_network(checks, device, seed, least, *words, keep_alives=0):
-    """The example over a bad network: what it prints, with its status. It must have had so many commands in flight."""
-    network = bad_network(device.port, seed)
-    watch = Watch(network)
-    with network:
-        process = subprocess.Popen([sys.executable, str(EXAMPLE), at(network.front), *words], cwd=TOP, stdin=subprocess.PIPE, stdout=subprocess.PIPE, text=True)
-        waited(lambda: watch.alive >= keep_alives or process.poll() is not None, 240)
-        process.stdin.close()
-        waited(lambda: process.poll() is not None, 240)
-        process.kill()
-        time.sleep(1)    # what is still on its way
-    name = words[0]
-    checks.same(f"{name}: one address and port", len(watch.ports), 1)
-    checks.same(f"{name}: the rules", watch.wrong, [])
-    checks.same(f"{name}: no command is sent more often than it may", max(watch.copies.values()) <= TRIES, True)
-    checks.same(f"{name}: in flight", watch.most, least)
-    print(f"{name}: {len(watch.sent)} commands, {watch.most} in flight; of {network.carried} datagrams {network.lost} were lost, "
-          f"{network.doubled} doubled and {network.overtaken} overtaken", flush=True)
-    return process.stdout.read().splitlines(), process.wait(), watch
-
-
 def at_a_loss(checks, device):
-    """The example over a bad network; what was executed of it is checked once the device has ended."""
-    sets = [(ono, "muted") for ono in MUTES] + [(ono, str(ono - 4100)) for ono in TRIMS]
-    tries = [(SPAN, 0, ["set", *(word for ono, value in sets for word in (str(ono), value))], [f"{ono} {value}" for ono, value in sets]),
-             (SPAN, 0, ["get", *map(str, [*MUTES, *TRIMS])], [f"{ono} {value}{' (-600 to 600)' if ono in TRIMS else ''}" for ono, value in sets]),
-             (SPAN, 0, ["list"], 42), (2, 2, ["lock", "4098", "4100"], ["4098 locked", "4100 locked", "4098 unlocked", "4100 unlocked"])]
+    """The example over bad networks; what was executed of it is checked once the device has ended."""
     watches = []
-    for seed, (least, alive, words, wanted) in enumerate(tries, 1):
-        printed, status, watch = over_the_network(checks, device, seed, least, *words, keep_alives=alive)
-        checks.same(f"{words[0]} at a loss", (len(printed) if words == ["list"] else printed, status), (wanted, 0))
+    for seed, (least, keep_alives, words, wanted) in enumerate(DATA.at_a_loss, 1):
+        watch, name = Watch(bad_network(device.port, seed)), words[0].split()[0]
+        network = watch.network
+        with network:
+            process = started(at(network.front), *" ".join(words).split())
+            waited(lambda: watch.alive >= keep_alives or process.poll() is not None, 240)
+            printed, _, status = ended(process, 240)
+            time.sleep(1)    # what is still on its way
+        lines = printed.splitlines()
+        checks.same(f"{name} at a loss", (lines if len(wanted) > 1 else [f"{len(lines)} objects"], status), ([*wanted], 0))
+        checks.same(f"{name}: one address and port", len(watch.ports), 1)
+        checks.same(f"{name}: the rules", watch.wrong, [])
+        checks.same(f"{name}: no command is sent more often than it may", max(watch.copies.values()) <= TRIES, True)
+        checks.same(f"{name}: in flight", watch.most, least)
+        print(f"{name}: {len(watch.sent)} commands, {watch.most} in flight; of {network.carried} datagrams {network.lost} were lost, "
+              f"{network.doubled} doubled and {network.overtaken} overtaken", flush=True)
         watches.append(watch)
     checks.same("locks are held by keep-alives", watches[-1].alive >= 2, True)
     carried = [sum(counts) for counts in zip(*((it.network.lost, it.network.doubled, it.network.overtaken) for it in watches))]
@@ -238,7 +220,7 @@ def script_of(rows):
 def worked(checks, folder):
     rows = worked_bytes()
     checks.same("rows", len(rows) > 30, True)
-    printed, status = ran(f"{folder}/ocadev", "replay", input=script_of(rows))
+    printed, status = ran(f"{folder}/ocadev", "replay", given=script_of(rows))
     checks.same("replayed", (printed[::2], status), (["served 1 0 0"] * len(rows), 0))
     for (asked, wanted), line in zip(rows, printed[1::2]):
         got, shown = line[2 + 20:], wanted.split("...")[0]
@@ -251,7 +233,8 @@ def main():
     wrong_ones(checks)
     worked(checks, folder)
     with Device(folder) as device:
-        runs(checks, folder, device)
+        for steps, _ in scenes_of("python_controller"):
+            Stage(checks, folder, device).play(steps)
         watches = at_a_loss(checks, device)
     executed_once(checks, device, watches)
     return checks.verdict()

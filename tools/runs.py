@@ -37,8 +37,6 @@ import time
 from checks import Checks, at, bound, ended, free_port, heard, next_command, write
 from tables import each, octets, table
 
-# Runs a program without any word, not even its own name: a system may make a word of nothing of that.
-WITHOUT_WORDS = "import ctypes, sys; none = (ctypes.c_char_p * 1)(); ctypes.CDLL(None).execve(sys.argv[1].encode(), none, none)"
 KEYS = set("words tree given exchange status prints fault note lines place longer largest pieces cut room sent ahead talk".split())
 
 
@@ -196,7 +194,8 @@ def tried(runs, row, path):
 
 
 def refuses_no_word(runs, program):
-    run = subprocess.run([sys.executable, "-c", WITHOUT_WORDS, f"{runs.folder}/{program}"], input=b"", capture_output=True, timeout=120, check=False)
+    """A run without any word, not even the program's own name: a system may make a word of nothing of that."""
+    run = subprocess.run([], executable=f"{runs.folder}/{program}", input=b"", env={}, capture_output=True, timeout=120, check=False)
     runs.check([program], (run.returncode, run.stdout) == (2, b"") and run.stderr.endswith(b"bad words\n"), run)
 
 

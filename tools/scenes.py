@@ -7,6 +7,7 @@ A tool gives the verbs. A step is a list:
     ["comes", WHAT, VERB, .., WANTED]     the same, once it is so
     ["keep", NAME, VERB, ..]              what the verb gives is known by this name from here on
     ["for", [NAME, ..], [[..], ..], [STEP, ..]]     the steps for each of these values, which are known by these names
+    ["until", [NAME, ..], [[..], ..], [STEP, ..], [WHAT, VERB, .., WANTED]]     the same, but no more once what is checked at the end is so
 
 `{NAME}` alone is what is known by this name, and in a longer text it stands for that; `{N*TEXT}` is a text so many
 times. Bytes that a verb gives are written in hexadecimal digits, and `nothing` where it gives nothing."""
@@ -100,7 +101,19 @@ def other_owner():
 class Scene:
     def __init__(self, checks, does, **names):
         self.checks, self.names = checks, names
-        self.does = {"sleep": time.sleep, "finds": lambda form, text: re.search(form, text) is not None} | does
+        self.does = {
+            "sleep": time.sleep,
+            "finds": lambda form, text: re.search(form, text) is not None,
+            "is": lambda it: it,
+            "of": lambda table, name: table[name],
+            "these of": lambda values, *places: [values[it] for it in places],
+            "all of": re.findall,
+            "number of": len,
+            "sorted": sorted,
+            "least": min,
+            "now": time.monotonic,
+            "since": lambda moment: time.monotonic() - moment,
+            "between": lambda least, number, most: least <= number <= most} | does
 
     def filled(self, value):
         if isinstance(value, list):
@@ -122,9 +135,13 @@ class Scene:
 
     def take(self, verb, *given):
         verb = self.filled(verb)
-        if verb == "for":
-            for values in self.filled(given[1]):
-                self.play(given[2], **dict(zip(given[0], values)))
+        if verb in ("for", "until"):
+            names, rows, steps, *last = given
+            for values in self.filled(rows):
+                self.play(steps, **dict(zip(names, values)))
+                if last and self.gives(*self.filled(last[0][1:-1])) == self.filled(last[0][-1]):
+                    break
+            self.play(last)
             return
         given = self.filled([*given])
         if verb == "keep":
@@ -137,3 +154,12 @@ class Scene:
             if verb == "comes":
                 waited(lambda: found[-1] == wanted or found.append(self.gives(*call)))
             self.checks.same(what, found[-1], wanted)
+
+
+def play_all(checks, stage_of, name, kind="scene"):
+    """Plays the scenes of this file of rows, each on a stage of its own, and ends what it started."""
+    for steps, names in scenes_of(name, kind):
+        stage = stage_of(checks)
+        with stage.open:
+            stage.play(steps, **names)
+            checks.end()  # before its folder goes, into which a run may write

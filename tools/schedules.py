@@ -40,10 +40,12 @@ class Schedule:
     def sent(self, way):
         return self.network.to_device if way == "to-device" else self.network.to_links
 
-    def deliver(self, way, numbers=None, holds=lambda k: True):
+    def deliver(self, way, numbers=None, holds=lambda k: True, before=lambda: None):
         for k in range(len(self.sent(way))) if numbers is None else numbers:
             if holds(k):
+                before()
                 self.timed(way, k)
+        return self
 
     def deliver_new(self, way, holds=lambda k: True):
         """What was sent this way since the last time."""
@@ -114,9 +116,11 @@ def some_datagram(r, count, delivered):
     return r.choice(left) if left else r.randrange(count)
 
 
-def submit(r, schedule, link):
-    *asked, params = usual(r)
-    return schedule.timed("submit", link, *asked, params if r.randrange(60) else bytes(r.choice([1445, 1446])))
+def submit(r, schedule, link, count=1):
+    """So many commands that a panel would send; without r the same one each time."""
+    for _ in range(count):
+        *asked, params = usual(r) if r else (4097, 4, 1, 0, b"")
+        schedule.timed("submit", link, *asked, params if not r or r.randrange(60) else bytes(r.choice([1445, 1446])))
 
 
 def renew(r, schedule, link):
@@ -151,25 +155,20 @@ def wander(r, window, span):
     while len(schedule.steps) < length:
         schedule.now = later(r, schedule.now, pace)
         kind, link = r.choices(kinds, weights)[0], r.randrange(links)
-        if kind == "submit":
-            submit(r, schedule, link)
-        elif kind in ("due", "beside"):
-            schedule.timed(kind, link)
-        elif kind == "renew":
-            renew(r, schedule, link)
+        if kind in heard:
+            count = len(schedule.sent(kind))
+            for k in [some_datagram(r, count, heard[kind])] if count else []:
+                heard[kind].add(k)
+                schedule.timed(kind, k)
         elif kind == "take":
             answered = [u[0].handle for u in network.links[link][1].untaken if u[3] is not None]
             schedule.add("take", link, r.choice(answered) if answered and r.randrange(8) else r.randrange(20))
-        elif kind == "tick":
-            schedule.timed("tick")
-        elif kind == "other":
-            schedule.timed("other", r.choice(strangers), others_bytes(r))
+        elif kind in ("submit", "renew"):
+            {"submit": submit, "renew": renew}[kind](r, schedule, link)
         elif kind == "set":
             schedule.add(*some_change(r))
-        elif schedule.sent(kind):
-            k = some_datagram(r, len(schedule.sent(kind)), heard[kind])
-            heard[kind].add(k)
-            schedule.timed(kind, k)
+        else:
+            schedule.timed(kind, *([r.choice(strangers), others_bytes(r)] if kind == "other" else [link] if kind != "tick" else []))
     return schedule
 
 
@@ -178,8 +177,8 @@ def some_change(r):
     ono = r.choice([*BENCH, 4097, 4097, 5000])
     kind = BENCH.get(ono, "block") if r.randrange(4) else "block"
     kind = kind if kind != "block" else r.choice([*oca.WORDS, "switch", *oca.WIDTHS])
-    return r.choice([("set", ono, kind, value(r, kind))] * 3 + [("label", ono, r.choice(["", "Vox", "B\u00fchne", "z" * 64, "z" * 65])),
-        ("enabled", ono, r.randrange(2)), ("unlock", ono, None), ("failing", ono, r.choice([0, 0, 1]))])
+    return "set", ono, *r.choice([(kind, value(r, kind))] * 3 + [("label", r.choice(["", "Vox", "B\u00fchne", "z" * 64, "z" * 65])),
+        ("enabled", r.randrange(2)), ("unlock", None), ("failing", r.choice([0, 0, 1]))])
 
 
 def fronts(r, window, span):
@@ -223,14 +222,10 @@ def crowd(r, window, span):
             for _ in range(r.choice([1, 2, 4])):
                 submit(r, schedule, i)
                 schedule.timed("due", i)
-        schedule.deliver("to-device", holds=lambda k: r.randrange(3))
-        schedule.deliver("to-link")
-        schedule.take_all()
+        schedule.deliver("to-device", holds=lambda k: r.randrange(3)).deliver("to-link").take_all()
         some_renewed(r, schedule)
         schedule.now += r.choice([119999, 120000, 120001, 200000])
-    schedule.deliver("to-device")
-    schedule.deliver("to-link")
-    return schedule
+    return schedule.deliver("to-device").deliver("to-link")
 
 
 def visitors(r, window, span):
@@ -240,8 +235,7 @@ def visitors(r, window, span):
     for n in range(min(schedule.peers + 3, 20)):
         schedule.timed("other", peer(16 + n), r.choice([oca.pdu(4, [oca.u16(1)]), others_bytes(r)]))
         for i in links:
-            for _ in range(r.choice([1, 1, 2])):
-                submit(r, schedule, i)
+            submit(r, schedule, i, r.choice([1, 1, 2]))
             schedule.timed("due", i)
         for way in ("to-device", "to-link") * 3:
             if schedule.sent(way):
@@ -263,8 +257,7 @@ def lossy(r, window, span):
     links, pace, loss = range(len(schedule.starts)), r.choice([[1, 20, 100], [100, 200, 250], [249, 250]]), r.choice([1, 2, 4, 30])
     for _ in range(r.choice([8, 12, 24, 60])):
         for i in links:
-            for _ in range(r.choice([0, 0, 1, 2])):
-                submit(r, schedule, i)
+            submit(r, schedule, i, r.choice([0, 0, 1, 2]))
             schedule.sends(i)
         for way in ("to-device", "to-link"):
             schedule.deliver_new(way, lambda k: r.randrange(loss + 1) == 0)
@@ -279,8 +272,7 @@ def slow(r, window, span):
     for _ in range(r.choice([2, 3, 4])):
         for i in range(len(schedule.starts)):
             first, begun = len(network.to_device), schedule.now
-            for _ in range(r.choice([1, 1, 2])):
-                submit(r, schedule, i)
+            submit(r, schedule, i, r.choice([1, 1, 2]))
             left |= dict.fromkeys(schedule.sends(i), schedule.now)
             schedule.deliver("to-device", range(first, len(network.to_device)), lambda k: r.randrange(4))
             schedule.now = begun + r.choice([250, 14999, 15000, 15000] + [15001] * (r.randrange(8) == 0))
@@ -288,8 +280,7 @@ def slow(r, window, span):
             schedule.now += r.choice([0, 99999, 100000, 100000] + [105001] * (r.randrange(8) == 0))
             schedule.deliver("to-device", range(first, len(network.to_device)), lambda k: schedule.now - left[k] <= 100000 or r.randrange(8) == 0)
         some_renewed(r, schedule)
-        schedule.deliver("to-link")
-        schedule.take_all()
+        schedule.deliver("to-link").take_all()
         schedule.now += r.choice([119999, 120000, 120001, 200000])
     return schedule
 
@@ -299,20 +290,11 @@ def marked_sent(schedule, count, r):
     numbers = []
     for _ in range(count):
         noise(r, schedule)
-        if r:
-            submit(r, schedule, 0)
-        else:
-            schedule.timed("submit", 0, 4097, 4, 1, 0, b"")
+        submit(r, schedule, 0)
     for _ in range(count):
         noise(r, schedule)
         numbers += schedule.due(0)
     return numbers
-
-
-def deliver(schedule, numbers, r):
-    for k in numbers:
-        noise(r, schedule)
-        schedule.timed("to-device", k)
 
 
 def take_others(schedule, pinned, order):
@@ -331,7 +313,7 @@ def directed(window, span, r=None, left=0, gap=0):
     """The last command of a span overtakes the others, and a copy of it comes behind as many more; and behind so many of a link before,
     which left them unanswered so long before."""
     schedule = Schedule(window, span, [(peer(0), r.choice([1, 1, 1000]) if r else 1)])
-    network, mixed = schedule.network, (lambda xs: r.sample(xs, len(xs))) if r else list
+    network, mixed, before = schedule.network, (lambda xs: r.sample(xs, len(xs))) if r else list, lambda: noise(r, schedule)
     late = marked_sent(schedule, left, r)
     if left:
         schedule.timed("renew", 0, network.links[0][1].next, span)
@@ -343,9 +325,9 @@ def directed(window, span, r=None, left=0, gap=0):
         last = first[-1]
         pinned = oca.check(network.to_device[last][1])[0]
         pinned = pinned[2].handle if pinned[0] == "command" else untaken[-1][0].handle
-        deliver(schedule, [last] + late + mixed(first[:-1]), r)
+        schedule.deliver("to-device", [last] + late + mixed(first[:-1]), before=before)
         take_others(schedule, pinned, mixed(range(len(network.to_links))))
-        deliver(schedule, mixed(marked_sent(schedule, span - 1, r)), r)
+        schedule.deliver("to-device", mixed(marked_sent(schedule, span - 1, r)), before=before)
         schedule.timed("to-device", last)
         if r:
             schedule.take_all()

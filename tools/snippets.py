@@ -23,27 +23,19 @@ import sys
 import tempfile
 from pathlib import Path
 
-from checks import NOTE, Checks
+from checks import NOTE, Checks, ended
 
 TOP = Path(__file__).resolve().parent.parent
 DOCUMENTS = ["README.md", "docs/EMBEDDING.md"]
-RULE = r"\|(?: *:?-+:? *\|)+"
+RULE = r"\| *:?-{3,}:? *\|"
 
 
 def blocks(text):
     """The blocks of a document: the number of the first line, the info string (none of an indented one), the lines."""
-    lines, at = text.split("\n"), 0
-    while at < len(lines):
-        if lines[at].startswith("```"):
-            end = next((n for n in range(at + 1, len(lines)) if lines[n].startswith("```")), len(lines))
-            yield at + 2, lines[at][3:].strip(), lines[at + 1:end]
-            at = end
-        elif lines[at].startswith("    ") and (at == 0 or not lines[at - 1].strip()):
-            inside = lambda line: not line.strip() or line.startswith("    ")
-            end = next((n for n in range(at, len(lines)) if not inside(lines[n])), len(lines))
-            yield at + 1, "", [line[4:] for line in "\n".join(lines[at:end]).rstrip().split("\n")]
-            at = end - 1
-        at += 1
+    fenced, indented = r"^```(.*)\n((?s:.*?))(?:^```|\Z)", r"(?:\A|^ *\n)(    .*\n(?:    .*\n| *\n)*)"
+    for it in re.finditer(f"(?m){fenced}|{indented}", text + "\n"):
+        lines = [line[4:] for line in it[3].rstrip().split("\n")] if it[3] else it[2].split("\n")[:-1]
+        yield text.count("\n", 0, it.start(3 if it[3] else 2)) + 1, (it[1] or "").strip(), lines
 
 
 def is_like(expected, printed):
@@ -57,14 +49,7 @@ def is_like(expected, printed):
 
 def rest(process):
     """The lines that a command prints from here on, until it ends; none if they were taken."""
-    if process.stdout.closed:
-        return []
-    try:
-        return process.communicate(timeout=120)[0].splitlines()
-    except subprocess.TimeoutExpired:
-        process.kill()
-        process.stdout.close()
-        return ["(it went on)"]
+    return [] if process.stdout.closed else ended(process, 120)[0].splitlines()
 
 
 def printed_by(commands, folder):
@@ -87,23 +72,16 @@ def printed_by(commands, folder):
 
 def commands_of(lines):
     """The commands of a session, each with the lines behind it; None where it is no session."""
-    found = []
-    for line in lines:
-        if line.startswith("$ "):
-            found.append((line[2:], []))
-        elif not found:
-            return None
-        else:
-            found[-1][1].append(line)
-    return found
+    starts = [at for at, line in enumerate(lines) if line.startswith("$ ")]
+    is_session = starts[:1] == [0]
+    return [(lines[at][2:], lines[at + 1:end]) for at, end in zip(starts, [*starts[1:], None])] if is_session else None
 
 
 def fault_of_session(lines, programs):
     commands, expected = commands_of(lines), [line for line in lines if not line.startswith("$ ")]
     with tempfile.TemporaryDirectory() as folder:
-        for name in os.listdir(TOP):
-            if name != "bin":
-                os.symlink(TOP / name, f"{folder}/{name}")
+        for name in {*os.listdir(TOP)} - {"bin"}:
+            os.symlink(TOP / name, f"{folder}/{name}")
         os.symlink(programs, f"{folder}/bin")
         printed = [line for line in printed_by(commands, folder) if not line.startswith(NOTE)]
     if is_like(expected, printed):
@@ -113,18 +91,10 @@ def fault_of_session(lines, programs):
 
 def is_in(code, text):
     """Whether the lines stand one after another in the text, but for their indentation."""
-    parts, lines = [[]], [line.strip() for line in text.split("\n")]
-    for line in (line.strip() for line in code):
-        if line.lstrip("/# ") == "...":
-            parts.append([])
-        else:
-            parts[-1].append(line)
-    at = 0
-    for part in ("\n".join(part).strip("\n").split("\n") for part in parts if any(part)):
-        at = next((n + len(part) for n in range(at, len(lines)) if lines[n:n + len(part)] == part), None)
-        if at is None:
-            return False
-    return True
+    stripped = lambda lines: "".join(f"{line.strip()}\n" for line in lines)
+    parts = [part.strip("\n") for part in re.split(r"(?m)^[/# ]*\.\.\.\n", stripped(code))]
+    pattern = r"(?:.*\n)*?".join(re.escape(f"{part}\n") for part in parts if part)
+    return re.search(f"(?m)^{pattern}", stripped(text.split("\n"))) is not None
 
 
 def checks_of(name, programs):
@@ -161,16 +131,14 @@ def cells(row):
 
 def fault_of_table(rows):
     """What is wrong with lines that begin with a bar, or None."""
-    if len(rows) < 2 or not re.fullmatch(RULE, rows[1]):
+    if len(rows) < 2 or not re.fullmatch(r"\|(?: *:?-+:? *\|)+", rows[1]):
         return "is no table: its second line is no rule"
-    for number, row in enumerate(rows):
-        if cells(row) != cells(rows[0]) or (number != 1 and re.search(r"\| *:?-{3,}:? *\|", row)):
-            return f"its line {number + 1} is no row like its head: {row}"
-    return None
+    is_row = lambda number: cells(rows[number]) == cells(rows[0]) and (number == 1 or not re.search(RULE, rows[number]))
+    return next((f"its line {number + 1} is no row like its head: {row}" for number, row in enumerate(rows) if not is_row(number)), None)
 
 
 def tables(text):
-    """Of each table of a document, of each rule within a line of text and of each item without a text: its line, and what is wrong with it or None."""
+    """Of each table of a document, each rule within a line of text, each item without a text: its line, and what is wrong with it or None."""
     lines = re.sub(r"(?ms)^```.*?^```$", lambda it: "\n" * it[0].count("\n"), text).split("\n")
     rows = []
     for number, line in enumerate(map(str.strip, [*lines, ""]), 1):
@@ -179,7 +147,7 @@ def tables(text):
             continue
         if rows:
             yield number - len(rows), fault_of_table(rows)
-        if re.search(r"\| *:?-{3,}:? *\|", line):
+        if re.search(RULE, line):
             yield number, "a rule of a table stands within a line of text"
         if re.fullmatch(r"[-*+]|[0-9]+\.", line):
             yield number, "an item of a list has no text"

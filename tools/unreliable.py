@@ -32,12 +32,6 @@ def device_scripts():
         yield "".join(f"{k} 127.0.0.1:9001 {sent.hex()}\n" for k, sent in enumerate(asked)).encode()
 
 
-def link_scripts():
-    """An idle link, and a command that is sent until the link is lost."""
-    yield b"2499 due\n2500 due\n"
-    yield ("0 submit 4097 4 1 0 -\n0 due\n249 due\n" + "".join(f"{t} due\n" for t in range(250, 5001, 250)) + "5000 submit 4097 4 1 0 -\n").encode()
-
-
 def in_memory(entries, failed, last, again):
     """The lines of a run in memory; before the entry of this number a receive fails, and its datagrams come `again`."""
     heard = [f"127.0.0.1:{of[0]} {MESSAGES[of[1]].hex()}" if of else "quiet" for _, *of in entries]
@@ -130,7 +124,6 @@ class Runs(Checks):
             self.same(f"{name}, {failure} failing", (report, rest), (expected, rests[0]))
             self.tried["in memory"] += 1
         self.same(f"the report of {name}", [reports[0][place] for place, _ in sums], [wanted for _, wanted in sums])
-        print(f"  {name} in memory: {receives} runs with a failed receive, {sends} with a failed send")
 
     def pieces_of(self, words, script):
         *wanted, _ = self.run(words, script)
@@ -166,18 +159,15 @@ def main():
         for words in DATA.without_input:
             runs.memory(words.split(), b"")
         runs.replays(["ocadev", "replay"], device_scripts(), oca.device_replay)
-        runs.replays(["ocactl", "replay", "--device", "127.0.0.1:65000", "--first-handle", "1"], link_scripts(),
+        runs.replays(["ocactl", "replay", "--device", "127.0.0.1:65000", "--first-handle", "1"], map(str.encode, DATA.link_scripts),
                      lambda s: oca.link_replay(s, (127, 0, 0, 1, 65000), 1))
         runs.calls()
         runs.over_sockets()
         for name, of in DATA.in_memory.items():
             runs.ends_in_memory(name, **of)
-        tried = runs.tried
-        runs.same("failed receives and sends in memory", tried["in memory"], 36)
-        runs.expect("enough refusals and failures were tried", tried["refused"] > 300 and tried["ends"] > 2000)
-        print(f"unreliable: {tried['refused']} requests for memory refused and answered, {tried['without']} done without; "
-              f"{tried['ends']} failed reads and writes, {tried['in memory']} failed receives and sends in memory, "
-              f"{tried['pieces']} runs in short pieces; {runs.failed} wrong")
+        runs.same("failed receives and sends in memory", runs.tried["in memory"], 36)
+        runs.expect("enough refusals and failures were tried", runs.tried["refused"] > 300 and runs.tried["ends"] > 2000)
+        print(f"requests for memory refused, and done without; failed reads and writes, in memory too; runs in short pieces: {dict(runs.tried)}")
     return runs.verdict()
 
 

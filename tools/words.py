@@ -16,24 +16,12 @@ import time
 from pathlib import Path
 
 import oca_profile as oca
-from checks import (
-    NOTE, Checks, are_few, at, bound, ended, free_port, next_command, next_line, write)
-from manual import commands_in_help, help_of, options_in_help
-from network import scenes
-from tables import TOP, data
+from checks import NOTE, Checks, are_few, bound, tries
+from manual import helps_of, listed
+from network import bytes_of, counts_in, scenes
+from tables import TOP, data, whole
 
 DATA = data("words")
-
-
-def controls(checks, device, command, *words, given=None, first=1):
-    return checks.start("ocactl", command, "--device", at(device), "--first-handle", first, "--port", free_port(), *words, given=given)
-
-
-def answers(device, handle, status=0, passed=()):
-    """Takes the next command that is none of these, and answers it under this handle: what came."""
-    data, sender = next_command(device, passed)
-    device.sendto(oca.response(handle, status), sender)
-    return data
 
 
 def while_it_waits(checks):
@@ -54,9 +42,8 @@ def faults(checks):
 def commands_of(checks):
     """Each command of each program, with its options that take a value: this value, and what its help says of each."""
     for program in ("ocadev", "ocactl", "ocapanel"):
-        path = f"{checks.folder}/{program}"
-        for words in commands_in_help(path).values():
-            yield program, "".join(words), {name: of for name, of in options_in_help(help_of(path, *words)).items() if of[0]}
+        for command, text in helps_of(f"{checks.folder}/{program}").items():
+            yield program, command.removeprefix(program), {name: of for name, of in listed(text, "Options").items() if of[0]}
 
 
 def words_of(program, name, options):
@@ -121,63 +108,33 @@ def notes_a_grant(checks):
     checks.same("serve: how many bytes the system grants", few, (NOTE, True) if are_few() else ("", ""))
 
 
-def typed(checks):
-    """`run` answers a typed line before the next; with `--ahead` too, sooner than a second copy."""
-    for more in ([], ["--ahead", 4]):
-        with bound() as device:
-            run, took = controls(checks, device, "run", *more), []
-            for handle in range(1, 9):
-                write(run, "1 2 3 0 -\n", ends=False)
-                checks.same(f"run {more}, typed: its bytes", answers(device, handle, handle), oca.command(handle, 1, 2, 3))
-                begun = time.monotonic()
-                line = next_line(run)
-                took.append(time.monotonic() - begun)
-                checks.same(f"run {more}, typed: its answer", line, f"answer {handle} 0 -\n")
-            checks.same(f"run {more}, typed: the fastest answer, {1000 * min(took):.0f} ms", min(took) < 0.2, True)
-            checks.same(f"run {more}, typed: its end", ended(run), ("", "", 0))
-
-
-def tells_stats(checks, *keep):
-    """`serve --stats 1`, also with `--keep`: reports of all datagrams, at most once a second."""
-    serve, begun, told = " ".join(["serve", *keep[:1], "--stats"]), time.monotonic(), []
-    run, port = checks.serve(*keep, "--stats", 1)
-    device = "127.0.0.1", port
-
-    def tells(what, **datagrams):
-        """Whether one of the next ten reports counts the datagrams so: some may have been told before the last datagram came."""
-        wanted = {**datagrams, "sessions": 2, "locks": 3}
-        for _ in range(10):
-            words = run.stderr.readline().split()[1:]
-            told.append(dict(zip(words[::2], map(int, words[1::2]))) if words[:1] == ["turns"] else {})
-            found = {name: told[-1].get(name) for name in wanted}
-            if found == wanted:
-                break
-        checks.same(f"{serve}: {what}", found, wanted)
-        checks.same(f"{serve}: {what}: turns", told[-1].get("turns", 0) - told[-1].get("quiet", 0), sum(datagrams.values()))
-
-    with bound() as first, bound() as second:
-        lock, put = (1, 3), (4, 2, 1, b"\1")
-        for peer, handle, target, *how in ((first, 1, 4097, *lock), (first, 2, 4098, *lock), (second, 1, 4099, *lock),
-                                           (first, 2, 4098, *lock), (first, 3, 4097, *put)):
-            peer.sendto(oca.command(handle, target, *how), device)
-            peer.recv(2000)
-        tells("four commands and a duplicate", executed=4, kept=1, malformed=0, oversize=0)
-        second.sendto(b"\x3b", device)
-        tells("a datagram that is malformed", executed=4, kept=1, malformed=1, oversize=0)
-        second.sendto(b"\0" * 1473, device)
-        tells("a datagram that is too long", executed=4, kept=1, malformed=1, oversize=1)
-    run.kill()
-    count, took = len(told) + run.stderr.read().count("note: turns "), time.monotonic() - begun
-    # the first comes a second behind the start at least, and each other one a second behind the one before, whenever this script reads it
-    checks.expect(f"{serve}: {count} reports in {took:.2f} seconds", 3 <= count <= took)
-    checks.expect(f"{serve}: {count} reports, not in {took:.2f} seconds", took < count + 2, is_time=True)
-
-
 def tells(checks):
-    """A device whose state is not kept, and one whose state is kept in a file, tell the same."""
-    with tempfile.TemporaryDirectory() as folder:
+    """`serve --stats 1`, of a device whose state is not kept, and of one whose state is kept: reports of all datagrams, at most once a second."""
+    with tempfile.TemporaryDirectory() as folder, bound() as first, bound() as second:
         for keep in ((), ("--keep", f"{folder}/state")):
-            tells_stats(checks, *keep)
+            serve, begun, told = " ".join(["serve", *keep[:1], "--stats"]), time.monotonic(), []
+            run, port = checks.serve(*keep, "--stats", 1)
+
+            def report():
+                """Of the next report what the row counts: some may have been told before the last datagram came."""
+                line = run.stderr.readline()
+                told.append(counts_in(line.removeprefix("note: ")) if line.startswith("note: turns ") else {})
+                return {name: told[-1].get(name) for name in row["counts"]}
+
+            for row in DATA.stats:
+                for peer, datagram in row["sends"]:
+                    end = {"first": first, "second": second}[peer]
+                    end.sendto(bytes_of(whole(datagram, {})), ("127.0.0.1", port))
+                    if isinstance(datagram, tuple):  # of commands
+                        end.recv(2000)
+                what, counts = f"{serve}: {row['what']}", row["counts"]
+                checks.same(what, tries(10, report, lambda it: it == counts)[-1], counts)
+                checks.same(f"{what}: turns", told[-1].get("turns", 0) - told[-1].get("quiet", 0), row["datagrams"])
+            run.kill()
+            count, took = len(told) + run.stderr.read().count("note: turns "), time.monotonic() - begun
+            # the first comes a second behind the start at least, and each other one a second behind the one before, whenever this script reads it
+            checks.expect(f"{serve}: {count} reports in {took:.2f} seconds", 3 <= count <= took)
+            checks.expect(f"{serve}: {count} reports, not in {took:.2f} seconds", took < count + 2, is_time=True)
 
 
 def listed_line(r, onos):
@@ -236,5 +193,5 @@ def trees(checks):
 
 if __name__ == "__main__":
     sys.exit(Checks(sys.argv[1]).tried(
-        while_it_waits, typed, at_own_ports, faults, bad_values, missing_options, versions,
+        while_it_waits, at_own_ports, faults, bad_values, missing_options, versions,
         notes_a_grant, tells, trees, alone=(at_own_ports,)))

@@ -49,36 +49,24 @@ from tables import data
 BATCH, DATA = 40, data("world")
 STILL = 100000  # the milliseconds for which what a link left behind may still come
 # ---- the laws, on a transcript
-# the get method of a class and its set method (AES70-2, the profile's numbers)
-READS = {"mute": (4, 1), "polarity": (4, 1), "switch": (4, 1), **dict.fromkeys(["boolean", *oca.WIDTHS], (5, 1))}
-SETS = {kind: (level, 2) for kind, (level, _) in READS.items()}
-
-
-def reading(o):
-    """What a get method gives of an object: ParamCount, and the setting, with the limits of a position or a number."""
-    if o.kind == "switch":
-        return 3, b"".join(n.to_bytes(2, "big") for n in (o.state, 0, len(o.names) - 1))
-    if o.kind in oca.WIDTHS:
-        size, signed = oca.WIDTHS[o.kind]
-        return 3, b"".join(n.to_bytes(size, "big", signed=signed) for n in (o.state, o.low, o.high))
-    return 1, bytes([min(int(o.state), 1) if o.kind == "boolean" else o.state])
+# GetEnabled, GetLabel and the get methods of the classes; the set method of each is the next one
+READS = {(2, 1), (2, 8), (4, 1), (5, 1)}
+SETS = {(level, index + 1) for level, index in READS}
 
 
 def held_by(o, method):
-    """What GetLabel, GetEnabled or the get method of its class gives of an object, None for another method."""
-    if method == READS.get(o.kind):
-        return reading(o)
-    return {(2, 8): (1, oca.text_bytes(o.label)), (2, 1): (1, bytes([o.enabled]))}.get(method)
+    """ParamCount and the parameters that one of these get methods gives of an object, None for another method."""
+    if method not in READS & oca.METHODS[o.kind].keys():
+        return None
+    items = oca.METHODS[o.kind][method][2](None, o)
+    return len(items), b"".join(items)
 
 
 def set_by(o, method, params):
-    """An object is set by SetLabel, SetEnabled or the set method of its class; another method changes nothing that is read here."""
-    if method == SETS.get(o.kind):
-        o.state = int.from_bytes(params, "big", signed=o.kind in oca.WIDTHS and oca.WIDTHS[o.kind][1])
-    elif method == (2, 9):
-        o.label = params[2:].decode()
-    elif method == (2, 2):
-        o.enabled = bool(params[0])
+    """An object is set by one of these set methods; another method changes nothing that is read here."""
+    if method in SETS & oca.METHODS[o.kind].keys():
+        _, letters, _, change = oca.METHODS[o.kind][method]
+        change(o, None, *oca.Reader(params).all(o, len(letters), letters))
 
 
 class Given:
@@ -90,6 +78,10 @@ class Given:
         self.command, self.step, self.since, self.asked = command, step, now, now
         self.ms, self.sent, self.met, self.owed = 0, [], (-1, None), None
         self.is_answered = self.is_owed = self.is_gone = False
+
+    @property
+    def is_left(self):
+        return not (self.is_answered or self.is_gone)
 
 
 class Link:
@@ -113,20 +105,20 @@ class Link:
         return sum(count for count, till in self.left_off if moment <= till + STILL)
 
     def renew(self, first, span, now):
-        self.left_off.append((sum(not (it.is_answered or it.is_gone) for it in self.commands.values()), self.clock))
+        self.left_off.append((sum(it.is_left for it in self.commands.values()), self.clock))
         for it in self.commands.values():
             it.is_gone = True
         self.next, self.span, self.clock, self.is_lost, self.times = first, span, now, False, self.times + 1
 
     def waiting(self):
-        return [it for it in self.commands.values() if not (it.is_answered or it.is_gone or self.is_lost)]
+        return [it for it in self.commands.values() if it.is_left and not self.is_lost]
 
     def under(self, handle):
         return [(command, reply) for command, reply in self.executions if command.handle == handle]
 
 
 class Laws:
-    """Holds each step against the laws, by datagrams, commands, answers and executions alone."""
+    """Holds each step against the laws, by datagrams, commands, answers and executions alone: a method for each kind of step."""
 
     def __init__(self, schedule, lines, fit):
         self.fit, self.span, self.window, self.most, self.steps = fit, schedule.span, schedule.window, schedule.peers, schedule.steps
@@ -144,7 +136,7 @@ class Laws:
         self.within, self.answers_sent = False, 0
         self.trips = {}  # by the number of a datagram to a link, the command that it answers, and how
         self.left = {}   # by the number of a datagram to the device, when it left
-        self.heard, self.latest = {"to-device": collections.Counter(), "to-link": collections.Counter()}, {}
+        self.heard, self.latest = {way: collections.Counter() for way in self.sent}, {}
         # how objects are set, by the law of what is said; nothing of an object that others' commands may have set
         self.settings = {o.ono: o for o in oca.bench()}
 
@@ -155,41 +147,52 @@ class Laws:
         if not holds:
             raise Break(law, self.number, what)
 
+    def tally(self, what, link, of):
+        """Counts what a law speaks of, and of what it is where that holds."""
+        self.count[what] += 1
+        for words, holds in ({"of a renewed link": link.is_renewed} | of).items():
+            self.count[f"{what}, {words}"] += bool(holds)
+
     def walk(self):
-        for self.number, (step, said) in enumerate(zip(self.steps, self.outcomes)):
-            getattr(self, step[0].replace("-", "_"))(step, said)
-            self.count[("front " if step[0] in oca.FRONT else "said ") + said.split(" ")[0]] += 1
+        for self.number, ((kind, *step), said) in enumerate(zip(self.steps, self.outcomes)):
+            getattr(self, kind.replace("-", "_"))(said, *step)
+            self.count[("front " if kind == "set" else "said ") + said.split(" ")[0]] += 1
             self.count["said too old"] += said == "served 0 0 1"
         self.expect(self.answers_sent == len(self.sent["to-link"]), "untaken", "datagrams were sent to links that answer nothing")
         self.count["steps"] = len(self.steps)
-        for way in self.heard:
-            self.count["losses"] += len(self.sent[way]) - len(self.heard[way])
-            self.count["doubles"] += sum(n - 1 for n in self.heard[way].values())
+        for way, heard in self.heard.items():
+            self.count["losses"] += len(self.sent[way]) - len(heard)
+            self.count["doubles"] += heard.total() - len(heard)
         self.within = not self.forgotten and self.refused.isdisjoint(self.of_peer)
         if self.fits(self.span, 0) and self.within:
             self.count["premises met"] = 1
-            self.count["premises met, with loss, double and overtaking"] = \
-                int(min(self.count["losses"], self.count["doubles"], self.count["overtakings"]) > 0)
+            self.count["premises met, with loss, double and overtaking"] = int(all(self.count[it] for it in ("losses", "doubles", "overtakings")))
         return self
 
-    def note_delivery(self, way, k):
-        """Counts; an overtaking is a datagram that comes for the first time after a later one that was sent the same way."""
+    def delivered(self, way, k):
+        """A datagram and its peer, counted; an overtaking is one that comes for the first time after a later one that was sent the same way."""
+        p, data = self.sent[way][k]
         self.count["deliveries"] += 1
-        key = (way, self.sent[way][k][0])
-        self.count["overtakings"] += self.heard[way][k] == 0 and self.latest.get(key, -1) > k
+        self.count["overtakings"] += self.heard[way][k] == 0 and self.latest.get((way, p), -1) > k
         self.heard[way][k] += 1
-        self.latest[key] = max(self.latest.get(key, -1), k)
+        self.latest[way, p] = max(self.latest.get((way, p), -1), k)
+        return p, data
 
     def came_from(self, p, now, data, said):
-        """Whether a datagram of p finds room: it is well-formed, and p is known, or fewer than have room are."""
+        """Whether a datagram of p finds room: it is well-formed, and p is known, or fewer than have room are. Where at most as many peers spoke
+        of late as have room, it does."""
         self.clock = max(self.clock, now)
         self.came.add(p)
         try:
             oca.check(data)
         except oca.Fault:
             return False
-        self.few_find_room(p, said)
-        known = [q for q, at in self.admitted.items() if self.clock - at <= 120000]
+        self.spoke[p] = self.clock
+        spoke, known = ([q for q, at in moments.items() if self.clock - at <= 120000] for moments in (self.spoke, self.admitted))
+        if len(spoke) <= self.most:
+            self.count["room"] += 1
+            self.count["room, of more peers ever"] += len(self.came) > self.most
+            self.expect(said != "no-room", "room", f"few spoke of late, and a datagram of {oca.peer_text(p)} finds no room")
         if p not in known and len(known) >= self.most:
             self.refused.add(p)
             return False
@@ -198,31 +201,23 @@ class Laws:
         self.admitted[p] = self.clock
         return True
 
-    def few_find_room(self, p, said):
-        """A well-formed datagram of p came. Where at most as many peers spoke of late as have room, it finds room."""
-        self.spoke[p] = self.clock
-        if sum(self.clock - at <= 120000 for at in self.spoke.values()) <= self.most:
-            self.count["room"] += 1
-            self.count["room, of more peers ever"] += len(self.came) > self.most
-            self.expect(said != "no-room", "room", f"few spoke of late, and a datagram of {oca.peer_text(p)} finds no room")
-
-    def submit(self, step, said):
+    def submit(self, said, now, number, *asked):
         if said.startswith("handle "):
-            link, handle = self.links[step[2]], int(said.split(" ")[1])
+            link, handle = self.links[number], int(said.split(" ")[1])
             self.expect(handle > max(link.commands, default=-1), "answers", f"handle {handle} is no higher than one before")
             self.expect(handle == link.next, "renewed" if link.is_renewed else "answers", f"handle {handle} comes where {link.next} is next")
             link.next = handle + 1
-            link.go_on(step[1])
-            link.commands[handle] = Given(oca.Command(handle, *step[3:]), self.number, link.clock)
+            link.go_on(now)
+            link.commands[handle] = Given(oca.Command(handle, *asked), self.number, link.clock)
             self.called(link)
 
-    def due(self, step, said):
-        link, number = self.links[step[2]], int(said.split(" ")[1]) if said.startswith("sent ") else None
-        link.go_on(step[1])
-        link.is_in_time &= all(link.clock - it.since <= 15000 for it in link.commands.values() if not (it.is_answered or it.is_gone))
+    def due(self, said, now, number):
+        link, sent = self.links[number], int(said.split(" ")[1]) if said.startswith("sent ") else None
+        link.go_on(now)
+        link.is_in_time &= all(link.clock - it.since <= 15000 for it in link.commands.values() if it.is_left)
         link.is_lost |= said == "lost"
-        self.left[number] = link.clock
-        p, data = self.sent["to-device"][number] if number is not None else (None, None)
+        self.left[sent] = link.clock
+        p, data = self.sent["to-device"][sent] if sent is not None else (None, None)
         message = oca.check(data)[0] if data else ("nothing",)
         if message[0] == "command":
             handle = message[2].handle
@@ -237,19 +232,18 @@ class Laws:
 
     def called(self, link):
         """After a call of the link: what waits is sent in time."""
-        now = link.clock
-        for it in link.waiting():
+        now, waiting = link.clock, link.waiting()
+        for it in waiting:
             it.ms = max(it.ms, now - it.asked)
             is_late = now >= it.sent[-1] + 250 + it.ms if it.sent else now > it.since + it.ms
             self.expect(not is_late and now <= it.since + it.ms + 20 * (250 + it.ms), "through",
                         f"handle {it.command.handle} waits, and was not sent in time")
-            self.count["waiting"] += 1
-            self.count["waiting, of a renewed link"] += link.is_renewed
             self.count["waiting, asked every 250 ms"] += it.ms <= 250
             self.count["waiting, asked so, and sent again"] += it.ms <= 250 and len(it.sent) > 1
+        self.count["waiting"] += len(waiting)
+        self.count["waiting, of a renewed link"] += len(waiting) * link.is_renewed
 
-    def renew(self, step, said):
-        _, now, number, first, span = step
+    def renew(self, said, now, number, first, span):
         link = self.links[number]
         self.expect((said == "renewed") == (first >= link.next), "renewed", f"{said} from {first} on, where {link.next} is next")
         self.places["renewed"].append(self.number)
@@ -257,38 +251,27 @@ class Laws:
             self.count["renewals of a renewed link"] += link.is_renewed
             link.renew(first, span, now)
 
-    def beside(self, step, said):
-        _, now, number = step
+    def beside(self, said, now, _):
         self.left[int(said.split(" ")[1])] = now
         self.count["keep-alives beside a link"] += 1
 
-    def tick(self, step, said):
-        self.clock = max(self.clock, step[1])
+    def tick(self, _, now):
+        self.clock = max(self.clock, now)
 
-    def set(self, step, said):
-        if said == "set" and step[1] in self.settings:
-            self.settings[step[1]].state = step[3]
+    def set(self, said, ono, kind, value):
+        """At the front; no answer that is held against a law tells of locks, or of hardware that refuses."""
+        if said in ("set", "changed") and ono in self.settings:
+            setattr(self.settings[ono], kind if kind in oca.CHANGES else "state", value)
 
-    def label(self, step, said):
-        if said == "changed" and step[1] in self.settings:
-            setattr(self.settings[step[1]], step[0], step[2])
-
-    def unlock(self, step, said):
-        """No answer that is held against a law tells of locks, or of hardware that refuses."""
-
-    enabled, failing = label, unlock
-
-    def other(self, step, said):
-        self.came_from(step[2], step[1], step[3], said)
+    def other(self, said, now, p, data):
+        self.came_from(p, now, data, said)
         if said.startswith("served"):
-            for message in oca.check(step[3]):
+            for message in oca.check(data):
                 if message[0] == "command" and message[2].level > 1:
                     self.settings.pop(message[2].target, None)
 
-    def to_device(self, step, said):
-        _, now, k = step
-        p, data = self.sent["to-device"][k]
-        self.note_delivery("to-device", k)
+    def to_device(self, said, now, k):
+        p, data = self.delivered("to-device", k)
         finds_room, link = self.came_from(p, now, data, said), self.of_peer[p]
         was_in_time = link.is_in_time
         link.is_in_time &= self.left[k] <= self.clock <= self.left[k] + 100000
@@ -315,12 +298,10 @@ class Laws:
         what = f"handle {command.handle} of {oca.peer_text(link.peer)} is executed twice"
         self.expect(is_forgotten or not is_again, "once", what)
         self.expect(not (link.is_in_time and is_again), "in time", what)
-        self.count["once"] += not is_forgotten
-        self.count["once, of a renewed link"] += link.is_renewed and not is_forgotten
-        self.count["once, of a link before"] += link.is_renewed and not is_forgotten and held.is_gone
-        self.count["in time"] += link.is_in_time
-        self.count["in time, of a renewed link"] += link.is_in_time and link.is_renewed
-        self.count["in time, of a forgotten peer"] += link.is_in_time and is_forgotten
+        if not is_forgotten:
+            self.tally("once", link, {"of a link before": link.is_renewed and held.is_gone})
+        if link.is_in_time:
+            self.tally("in time", link, {"of a forgotten peer": is_forgotten})
         link.executions.append((command, reply))
         o, method = self.settings.get(command.target), (command.level, command.index)
         held.met = self.number, o and held_by(o, method)
@@ -328,9 +309,9 @@ class Laws:
             set_by(o, method, command.params)
 
     def next_answer(self, p):
-        self.expect(self.sent["to-link"][self.answers_sent:] and self.sent["to-link"][self.answers_sent][0] == p, "untaken",
-                    "no datagram was sent to the link")
-        messages = oca.check(self.sent["to-link"][self.answers_sent][1])
+        sent = self.sent["to-link"][self.answers_sent:self.answers_sent + 1]
+        self.expect(sent and sent[0][0] == p, "untaken", "no datagram was sent to the link")
+        messages = oca.check(sent[0][1])
         self.answers_sent += 1
         return messages[0][1:] if len(messages) == 1 and messages[0][0] == "response" else None
 
@@ -341,12 +322,9 @@ class Laws:
         if not (is_in_time or (fits_all and not is_forgotten)):
             return
         handle = held.command.handle
-        self.count["untaken"] += 1
-        self.count["untaken, of a renewed link"] += link.is_renewed
-        self.count["untaken, of one whose links before left commands"] += link.left() > 0
-        self.count["untaken, in time, of a forgotten peer"] += is_in_time and is_forgotten
-        self.count["untaken, in time, behind links that left more long before"] += is_in_time and not fits_all
-        self.count["untaken, of more peers ever"] += len(self.came) > self.most
+        self.tally("untaken", link, {
+            "of one whose links before left commands": link.left() > 0, "in time, of a forgotten peer": is_in_time and is_forgotten,
+            "in time, behind links that left more long before": is_in_time and not fits_all, "of more peers ever": len(self.came) > self.most})
         if said == "served 0 1 0":
             self.places["untaken"].append(self.number)
             later = [command.handle for command, _ in link.executions[::-1]].index(handle)
@@ -357,12 +335,10 @@ class Laws:
                     f"a copy of handle {handle} gets a reply of no execution of it")
         self.trips[self.answers_sent - 1] = link, held, reply, link.times
 
-    def to_link(self, step, said):
-        _, now, k = step
-        self.note_delivery("to-link", k)
+    def to_link(self, said, now, k):
+        p, data = self.delivered("to-link", k)
         if k in self.trips:
             self.came_back(said, *self.trips[k])
-        p, data = self.sent["to-link"][k]
         message, link = oca.check(data)[0], self.of_peer[p]
         link.go_on(now)
         if message[0] == "response" and said == "answered 1":
@@ -375,9 +351,8 @@ class Laws:
         """The datagram came that the device sent when a copy came of a command that this link held untaken."""
         if link.times != times:
             return
-        self.count["round trips"] += 1
-        self.count["round trips, of a renewed link"] += link.is_renewed
-        self.count["round trips, of a forgotten peer"] += link.peer in self.forgotten
+        is_forgotten = link.peer in self.forgotten
+        self.tally("round trips", link, {"of a forgotten peer": is_forgotten})
         if held.is_gone:
             return
         self.count["round trips of a command that is still untaken"] += 1
@@ -385,11 +360,10 @@ class Laws:
             self.places["round trip"].append(self.number)
             self.expect(said == "answered 1", "round trip", f"the answer to handle {held.command.handle} came, and its link says: {said}")
         held.is_owed = True
-        if link.peer not in self.forgotten:
+        if not is_forgotten:
             held.owed = reply
 
-    def take(self, step, said):
-        _, number, handle = step
+    def take(self, said, number, handle):
         link = self.links[number]
         held = link.commands.get(handle)
         if said == "none":
@@ -398,29 +372,25 @@ class Laws:
             return
         _, status, count, params = said.split(" ")
         answer, under = (handle, int(status), int(count), oca.hex_of(params)), link.under(handle)
-        self.count["answers"] += 1
-        self.count["answers, of a renewed link"] += link.is_renewed
+        self.tally("answers", link, {})
         self.places["answers"].append(self.number)
         self.expect(held and any(command.asks() == held.command.asks() and reply == answer for command, reply in under), "answers",
                     f"the answer under {handle} is none of an execution of its command")
         self.expect(held.owed in (None, answer), "round trip", f"the answer to handle {handle} is another than the one that came")
         self.expect(not (link.is_renewed and held.is_gone), "renewed", f"the answer to handle {handle} of a link before is taken")
         if link.peer not in self.forgotten:
-            self.count["only"] += 1
-            self.count["only, of a peer that found no room before"] += link.peer in self.refused
+            self.tally("only", link, {"of a peer that found no room before": link.peer in self.refused})
             self.expect(len(under) == 1, "only", f"{len(under)} executions under {handle}")
         if link.is_in_time:
             self.expect(len(under) == 1, "in time", f"{len(under)} executions under {handle} of a link in time")
-            self.says(held, answer)
-            self.count["said, of a renewed link"] += link.is_renewed
+            self.says(link, held, answer)
         held.is_gone = True
 
-    def says(self, held, answer):
+    def says(self, link, held, answer):
         """An answer of a link in time: its execution lies behind the call, and a reading is what the object held."""
         (handle, status, count, params), (number, reading_then) = answer, held.met
         is_reading = bool(reading_then) and status == 0
-        self.count["said"] += 1
-        self.count["said, of readings"] += is_reading
+        self.tally("said", link, {"of readings": is_reading})
         self.expect(number > held.step, "said", f"handle {handle} was executed before it was submitted")
         self.expect(not is_reading or (count, params) == reading_then, "said",
                     f"the answer under {handle} is {oca.hex_text(params)}, and held was {reading_then}")
@@ -433,6 +403,11 @@ def transcripts(program, schedules):
 
 def fits(window, span, left=0):
     return 2 * span + left <= window + 1
+
+
+def laws(schedule, lines, fit=None):
+    """The laws' walk along a run; they hold as for these sizes, or as if they fitted."""
+    return Laws(schedule, lines, fit).walk()
 
 
 def hold(schedule, lines):
@@ -493,11 +468,6 @@ def count_of(schedule, _, walk):
     return total + walk.count if walk else total
 
 
-def laws(schedule, lines, fit=None):
-    """The laws' walk along a run; they hold as for these sizes, or as if they fitted."""
-    return Laws(schedule, lines, fit).walk()
-
-
 # ---- wrong devices and links
 RULES = wrong_rules("wrong_networks")
 
@@ -515,35 +485,31 @@ def refuses(job):
     return False, f"{name}: no break"
 
 
-def first_broken(program, schedules):
-    """The first of the schedules that breaks 'untaken' for sizes that do not fit, as text, and the break; or twice None."""
+def breaks(program, schedules):
+    """Those of the schedules that break 'untaken' for sizes that do not fit, each with its lines and the break."""
     for schedule, lines in zip(schedules, transcripts(program, schedules)):
         fault = broken(laws, schedule, lines, True)
         if fault and fault.law == "untaken" and lines == schedule.expected():
-            return shown(schedule, lines, fault), fault
-    return None, None
+            yield schedule, lines, fault
 
 
 def sizes(program, seed):
     """Whether each pair of W = 2 * S - 2 breaks 'untaken', and random schedules do at two pairs; prints what was found."""
-    found = [span for span in range(2, 33) if first_broken(program, [directed(2 * span - 2, span)])[1]]
-    print(f"windows of 2 * S - 2: {len(found)} of 31 directed schedules break 'untaken'")
-    behind = [[span for span in range(1, 22) if first_broken(program, [directed(window(span), span, left=span)])[1]]
-              for window in (lambda span: 3 * span - 2, lambda span: 3 * span - 1)]
-    print(f"behind S commands of a link before, windows of 3 * S - 2: {len(behind[0])} of 21 break it; of 3 * S - 1: {len(behind[1])}")
+    found = [sum(1 for _ in breaks(program, [directed(times * span - less, span, left=(times - 2) * span) for span in spans]))
+             for times, less, spans in ((2, 2, range(2, 33)), (3, 2, range(1, 22)), (3, 1, range(1, 22)))]
+    print(f"windows of 2 * S - 2: {found[0]} of 31 directed schedules break 'untaken'")
+    print(f"behind S commands of a link before, windows of 3 * S - 2: {found[1]} of 21 break it; of 3 * S - 1: {found[2]}")
     later = [directed(3 * span - 2, span, left=span, gap=100000) for span in range(1, 22)]
-    still = []
     for moments in (99999, 100000):
         with patch.object(sys.modules[__name__], "STILL", moments):
-            still.append(sum(broken(laws, *run) is not None for run in zip(later, transcripts(program, later))))
-    print(f"of a link lost 100,000 ms before, if such commands came for 99,999 ms: {still[0]} of 21 break it; for 100,000: {still[1]}")
-    random_found = 0
+            found.append(sum(broken(laws, *run) is not None for run in zip(later, transcripts(program, later))))
+    print(f"of a link lost 100,000 ms before, if such commands came for 99,999 ms: {found[3]} of 21 break it; for 100,000: {found[4]}")
     for window, span in ((2, 2), (4, 3)):
         r = random.Random(f"{seed} {window}")
-        _, fault = first_broken(program, [wander(r, window, span) if n % 2 else directed(window, span, r) for n in range(400)])
-        random_found += fault is not None
-        print(f"window {window}, span {span}: {f'a random schedule breaks at step {fault.at}' if fault else 'none breaks'}")
-    return (len(found), *map(len, behind), *still, random_found) == (31, 21, 0, 21, 0, 2)
+        first = next(breaks(program, [wander(r, window, span) if n % 2 else directed(window, span, r) for n in range(400)]), None)
+        found.append(bool(first))
+        print(f"window {window}, span {span}: {f'a random schedule breaks at step {first[2].at}' if first else 'none breaks'}")
+    return found == [31, 21, 0, 21, 0, True, True]
 
 
 # Each bad line with its word; the first one stands alone.
@@ -563,17 +529,10 @@ def lines_refused(program):
     return refused
 
 
-def summary(total):
-    print(", ".join(f"{total[name]} {name}" for name in DATA.shown))
-    print("held against the laws, without a break: " + ", ".join(f"{total[name]} {text}" for name, text in DATA.held))
-    print("also met: " + ", ".join(f"{total[name]} {text}" for name, text in DATA.met))
-
-
 def main():
     program = f"{sys.argv[1]}/trials"
     if sys.argv[2] == "broken":
-        text, _ = first_broken(program, [directed(*map(int, sys.argv[3:]))])
-        return print(text or "no break")
+        return print(next((shown(*it) for it in breaks(program, [directed(*map(int, sys.argv[3:]))])), "no break"))
     how = Comparison(made, transcripts, hold, shown, count_of, altered, laws)
     count, seed, total, wrong = in_processes(how, "schedules", BATCH, refuses, RULES)
     for _, said in wrong:
@@ -581,7 +540,9 @@ def main():
     good = sizes(program, seed)
     fit = sum(name.startswith("size ") for name in total)
     print(f"seed {seed}, {fit} of {len(PAIRS)} pairs of sizes that fit")
-    summary(total)
+    print(", ".join(f"{total[name]} {name}" for name in DATA.shown))
+    print("held against the laws, without a break: " + ", ".join(f"{total[name]} {text}" for name, text in DATA.held))
+    print("also met: " + ", ".join(f"{total[name]} {text}" for name, text in DATA.met))
     lines, altered_lines = lines_refused(program), (total["altered, refused"], total["altered"])
     print(f"bad lines refused: {lines} of {len(BAD_LINES)}")
     print("altered transcripts refused by the law that they break: {} of {}".format(*altered_lines))

@@ -168,7 +168,7 @@ const READS = {
   "paths": () => fake.bodies.map(body => body.path), "body sent": at => fake.bodies[at].orders,
   "sizes": () => fake.bodies.map(body => body.orders.length), "how many sent": () => sent().length, "times": () => times.length,
   "are bodies": (most, size) => fake.bodies.length <= most && fake.bodies.every(body => body.orders.length <= size),
-  "lives for": ms => Math.abs(fake.bodies[0].before - performance.now() - 700000 - ms) < 200,
+  "lives for": ms => Math.abs(fake.bodies[0].before - fake.bodies[0].posted - 700000 - ms) < 200,
   "waits for": ono => isOut(rows.get(ono), "set"), "unit": ono => rows.get(ono).unit.name,
   "children": what => the(what).children.length, "is short": (what, name) => the(what).getAttribute(name).length < 300,
   "acting": () => [...rows.values()].filter(row => row.view && row.view.main && row.view.main.tagName !== "OUTPUT").length

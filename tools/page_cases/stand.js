@@ -38,7 +38,7 @@ function fakeAnswer(path, how) {
   if (fake.refuses) return given(fake.refuses, {});
   const of = { run: fake.run, epoch: fake.epoch, walked: fake.walked, device: fake.device };
   if (how && how.method === "POST") {
-    fake.bodies.push({ path, ...JSON.parse(how.body) });
+    fake.bodies.push({ path, posted: performance.now(), ...JSON.parse(how.body) });
     const orders = JSON.parse(how.body).orders;
     const own = fake.answer && fake.answer(orders);
     return own ? given(...own) : given(202, { tickets: orders.map(() => ++fake.tickets) });
