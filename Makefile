@@ -1,8 +1,8 @@
 # make demo    builds without proving, runs the examples and compares what they print: about a minute
 # make build   proves and builds ocadev and ocactl into bin
 # make ocapanel   proves and builds the browser's panel, over the same crates
-# make test    the gate: every proof, from nothing but for what an earlier `rt ci` kept here of the same files, must-fail
-#              edits, tests, programs, and the steps of gate/steps
+# make test    the gate: every proof, from nothing but for what an earlier `rt ci` kept here of the same files, tests,
+#              programs, and the steps of gate/steps, with the wrong bodies that must be refused
 # make lossy   both programs over a network that loses, doubles, delays and reorders, one command at a time and 16 under
 #              way; and why the window must be 31 then: COMMANDS=200 SEED=1
 # make fuzz    both programs against a second implementation of the profile, on random scripts: SECONDS=60 SEED=1

@@ -534,7 +534,7 @@ class Group:
 def grouped(edits, crate, with_copies=False):
     """Puts the edits into groups that touch no function twice, but for copies of it; what touches no function, or must pass, is alone."""
     groups = []
-    for edit in edits:
+    for edit in sorted(edits, key=Edit.can_be_copied):
         if not any(group.take(edit, crate, with_copies) for group in groups):
             groups.append(Group(edit, with_copies and edit.is_of_law(crate)))
     return groups
