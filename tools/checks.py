@@ -72,11 +72,10 @@ def next_command(end, passed=()):
 
 
 def heard(end):
-    end.setblocking(False)
+    """The datagrams that are there at a socket."""
     found = []
-    with contextlib.suppress(BlockingIOError):
-        while True:
-            found.append(end.recv(2000))
+    while select.select([end], [], [], 0)[0]:
+        found.append(end.recv(2000))
     return found
 
 

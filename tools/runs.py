@@ -9,35 +9,34 @@ Usage: runs.py BIN     BIN is the folder with `ocadev` and `ocactl`
  exchange  in place of `given` and `prints`: the lines that are indented are printed, and the others given
  status, prints, fault   the status, what is printed, and the fault, which alone is told where the status is 0, else stands behind notes
  note      with what the only note begins, where END is the socket's address
- lines     it prints so many lines; place: what is printed is the line of this number; longer: it prints more bytes than so many, and reads nothing
+ like      in place of `prints`: a form of what is printed, as Python's `re` has it
+ tells     in place of `fault` and `note`: such a form of what is told
  largest   how many bytes the largest datagram has that is given, and the largest that is printed
  pieces    the input comes in pieces of each size up to so many bytes
- cut       behind the input a read fails, once what is to be printed is
- room      behind so many bytes a write fails; they begin with what is printed
+ cut       behind the input a read fails, once something is printed, where that is to be
+ room      behind so many bytes a write fails
  sent      so many datagrams come to END, which are copies of one
  talk      `+` a line that is given, `.` the input's end, `<` a datagram that comes to END from the port that the words say, copies and keep-alives aside,
            `>` one that is sent back, `=` the next line that is printed
  ahead     so many commands come to END, and no more, while the input stays open
 A list of words, of inputs or of trees is a run for each. Readers and writers that fail at each place, and writers that take a little at a time, are tried
 in `oca_program_tests`; here a read or a write of the system fails. The last line is 'N passed, M failed'."""
-import array
 import fcntl
 import os
 import re
 import resource
 import select
 import socket
-import struct
 import subprocess
 import sys
 import tempfile
 import termios
 import time
 
-from checks import Checks, at, bound, ended, free_port, heard, next_command, write
+from checks import Checks, at, bound, ended, free_port, heard, next_command, waited, write
 from tables import each, octets, table
 
-KEYS = set("words tree given exchange status prints fault note lines place longer largest pieces cut room sent ahead talk".split())
+KEYS = set("words tree given exchange status prints like fault note tells largest pieces cut room sent ahead talk".split())
 
 
 class Runs(Checks):
@@ -51,43 +50,38 @@ class Runs(Checks):
         is_open = "note" in row or status and "cut" not in row and "room" not in row
         notes = re.match(rb"(note: [^\n]*\n)*", told)[0] if is_open else b""
         is_noted = "note" not in row or notes.count(b"\n") == 1 and notes.startswith(octets(f"note: {row['note']}"))
-        is_so = (status, told[len(notes):]) == (row.get("status", 0), fault) and printed(row, out, prints)
-        self.check(words, is_so and is_noted, (given[:200], *said))
+        is_told = re.fullmatch(octets(row["tells"]), told) if "tells" in row else told[len(notes):] == fault and is_noted
+        is_so = status == row.get("status", 0) and is_told and (re.fullmatch(octets(row["like"]), out) if "like" in row else out == prints)
+        self.check(words, is_so, (given[:200], *said))
 
 
 def await_read(end, run):
-    left, until = array.array("i", [1]), time.monotonic() + 60
-    while left[0] and run.poll() is None and time.monotonic() < until:
-        fcntl.ioctl(end, termios.FIONREAD, left)
-        time.sleep(0.0002)
+    """Waits until a run has read all that is there, or is over."""
+    is_read = lambda: not any(fcntl.ioctl(end, termios.FIONREAD, bytes(4)))
+    waited(lambda: run.poll() is not None or is_read(), 60, 0.0002)
 
 
 def ran_in_pieces(runs, words, given, size):
     """A run that gets its input in pieces of this size, each once it has read the one before."""
-    reader, writer = os.pipe()
-    run = runs.start(*words, stdin=reader, text=False)
+    run = runs.start(*words, text=False)
     for begin in range(0, len(given), size):
-        os.write(writer, given[begin:begin + size])
-        await_read(reader, run)
-    for end in (reader, writer):
-        os.close(end)
+        write(run, given[begin:begin + size], ends=False)
+        await_read(run.stdin, run)
     return ended(run, 120)
 
 
 def ran_cut(runs, words, given, prints):
-    """A run whose reading fails behind this input."""
-    with socket.create_server(("127.0.0.1", 0)) as server:
-        writer = socket.create_connection(server.getsockname())
-        reader, _ = server.accept()
-    writer.setsockopt(socket.SOL_SOCKET, socket.SO_LINGER, struct.pack("ii", 1, 0))
-    writer.sendall(given)
-    select.select([reader], [], [], 60)
-    run = runs.start(*words, stdin=reader, text=False)
-    begin = os.read(run.stdout.fileno(), len(prints)) if prints else await_read(reader, run) or b""
-    writer.close()
-    rest, told, status = ended(run, 120)
-    reader.close()
-    return begin + rest, told, status
+    """A run whose reading fails behind this input, once something is printed, where that is to be."""
+    reader, writer = socket.socketpair()
+    with reader:
+        with writer:
+            reader.send(b"-")  # where an end is closed that has something unread, a read at the other end fails
+            writer.sendall(given)
+            run = runs.start(*words, stdin=reader, text=False)
+            if prints:
+                select.select([run.stdout], [], [], 60)
+            await_read(reader, run)
+        return ended(run, 120)
 
 
 def ran_in_room(runs, words, given, most):
@@ -95,30 +89,17 @@ def ran_in_room(runs, words, given, most):
         limit = lambda: resource.setrlimit(resource.RLIMIT_FSIZE, (most, most))
         _, told, status = runs.ran(*words, given=given, seconds=120, text=False, stdout=out, preexec_fn=limit, restore_signals=False)
         out.seek(0)
-        return out.read(), told, status
-
-
-def handles_heard(end, run, least):
-    """The handles of the commands that come, until there are so many and a second more, or the run is over."""
-    handles, until = set(), time.monotonic() + 60
-    while time.monotonic() < until:
-        if len(handles) >= least:
-            until, least = time.monotonic() + 1, 1 << 32
-        is_over = run.poll() is not None
-        if select.select([end], [], [], 0.05)[0]:
-            datagram = end.recv(2048)
-            if datagram[7] in (0, 1):
-                handles.add(datagram[14:18])
-        elif is_over:
-            break
-    return handles
+        return out.read(), told or b"", status
 
 
 def lets_ahead(runs, words, given, end, ahead):
-    """Whether so many commands are under way, of more than that."""
-    run = runs.start(*words, text=False)
+    """Whether so many commands are under way, of more than that: by their handles, until there are so many and a second more."""
+    run, handles = runs.start(*words, text=False), set()
     write(run, given, ends=False)
-    handles = handles_heard(end, run, ahead)
+    come = lambda: handles.update(datagram[14:18] for datagram in heard(end) if datagram[7] in (0, 1))
+    waited(lambda: come() or len(handles) >= ahead or run.poll() is not None)
+    time.sleep(1)
+    come()
     run.kill()
     runs.check(words, len(handles) == ahead, (sorted(handles), ended(run, 120)))
 
@@ -150,14 +131,6 @@ def of_row(row):
     return octets(row.get("given", given)), octets(row.get("prints", prints))
 
 
-def printed(row, out, prints):
-    if "place" in row:
-        return out.split(b"\n")[row["place"]:][:1] == [prints]
-    if "room" in row:
-        return len(out) == row["room"] and out.startswith(prints)
-    return out.count(b"\n") == row["lines"] if "lines" in row else len(out) > row["longer"] if "longer" in row else out == prints
-
-
 def tried(runs, row, path):
     if row.keys() - KEYS:
         raise ValueError(f"a row has no {', '.join(row.keys() - KEYS)}: {row}")
@@ -182,10 +155,7 @@ def tried(runs, row, path):
         elif "cut" in row or "room" in row:
             all_said = [ran_cut(runs, words, given, prints) if "cut" in row else ran_in_room(runs, words, given, row["room"])]
         else:
-            unread = {"stdin": os.open("/", os.O_RDONLY)} if "longer" in row else {}
-            all_said = [runs.ran(*words, given=given, seconds=120, text=False, **unread)]
-            for stream in unread.values():
-                os.close(stream)
+            all_said = [runs.ran(*words, given=given, seconds=120, text=False)]
         for said in all_said:
             runs.compare(words, row, said)
         if "sent" in row:
@@ -199,19 +169,10 @@ def refuses_no_word(runs, program):
     runs.check([program], (run.returncode, run.stdout) == (2, b"") and run.stderr.endswith(b"bad words\n"), run)
 
 
-def serves_nobody(runs):
-    """A device that nobody asks says where it listens, and counts its turns."""
-    words = ["ocadev", "serve", "--port", "0", "--turns", "2"]
-    counts = "turns 2 executed 0 kept 0 old 0 reused 0 malformed 0 no-room 0 oversize 0 quiet 2 failed-receives 0 failed-sends 0\n"
-    printed, told, status = runs.ran(*words)
-    is_told = told.startswith("listening 127.0.0.1:") and told.endswith("\n")
-    runs.check(words, status == 0 and printed == counts and is_told, (printed, told, status))
-
-
 def main(folder):
     runs = Runs(folder)
     most = "".join(f"{ono} 100 block lockable a\n" for ono in range(4096, 4096 + 4095))  # 4,096 objects with the root
-    rows = [{"words": "ocadev show", "tree": most, "lines": 4096},
+    rows = [{"words": "ocadev show", "tree": most, "prints": "100 1.1.3 0 root\n" + most.replace(" 100 block lockable", " 1.1.3 100")},
             {"words": "ocadev show", "tree": most + "9000 100 block lockable a", "status": 2, "fault": "line 4096: full"}]
     with tempfile.TemporaryDirectory() as room:
         for row in [*rows, *table("ocadev")["run"], *table("ocactl")["run"]]:
@@ -219,7 +180,6 @@ def main(folder):
                 tried(runs, one, f"{room}/objects.tree")
     for program in ("ocadev", "ocactl"):
         refuses_no_word(runs, program)
-    serves_nobody(runs)
     return runs.verdict()
 
 

@@ -18,16 +18,12 @@ import struct
 import time
 
 from checks import ended, waited, write
-from tables import NAME, as_it_stands, octets, whole
+from tables import NAME, as_it_stands, mapped, octets, whole
 
 
 def told(value):
     """What a verb gives, as a row writes it."""
-    if isinstance(value, (list, tuple)):
-        return [*map(told, value)]
-    if isinstance(value, dict):
-        return {name: told(it) for name, it in value.items()}
-    return value.hex() if isinstance(value, bytes) else "nothing" if value is None else value
+    return mapped(value, lambda it: it.hex() if isinstance(it, bytes) else "nothing" if it is None else it)
 
 
 def scenes_of(name, kind="scene"):
@@ -71,7 +67,7 @@ def verbs_of_files(at):
         "is there": lambda name: at(name).exists(),
         "is a link": lambda name: at(name).is_symlink(),
         "where it leads": lambda name: os.readlink(at(name)),
-        "attributes": lambda name: attributes(at(name)),
+        "attributes": lambda name: [oct((found := os.lstat(at(name))).st_mode), found.st_uid, found.st_gid],
         "file": lambda name: (at(name).stat().st_ino, at(name).stat().st_mtime_ns),
         "number of": lambda name: at(name).stat().st_ino,
         "has number": lambda name, number: at(name).stat().st_ino == number,
@@ -86,16 +82,7 @@ def verbs_of_files(at):
         "remove": lambda name: at(name).unlink(),
         "remove folder": lambda name: shutil.rmtree(at(name)),
         "mode": lambda name, mode: at(name).chmod(int(mode, 8)),
-        "give to another": lambda name: os.chown(at(name), other_owner(), -1)}
-
-
-def attributes(path):
-    found = os.lstat(path)
-    return oct(found.st_mode), found.st_uid, found.st_gid
-
-
-def other_owner():
-    return 65534 if os.geteuid() == 0 else os.geteuid()
+        "give to another": lambda name: os.chown(at(name), os.geteuid() or 65534, -1)}  # where it may: root
 
 
 class Scene:
@@ -116,14 +103,8 @@ class Scene:
             "between": lambda least, number, most: least <= number <= most} | does
 
     def filled(self, value):
-        if isinstance(value, list):
-            return [*map(self.filled, value)]
-        if isinstance(value, dict):
-            return {name: self.filled(it) for name, it in value.items()}
-        if not isinstance(value, str):
-            return value
-        alone = NAME.fullmatch(value)
-        return self.names[alone[1]] if alone else whole(value, {name: str(it) for name, it in self.names.items()})
+        alone = lambda it: isinstance(it, str) and NAME.fullmatch(it)
+        return mapped(value, lambda it: self.names[found[1]] if (found := alone(it)) else whole(it, self.names))
 
     def gives(self, verb, *given):
         return told(self.does[verb](*given))

@@ -13,16 +13,22 @@ ROWS = TOP / "tools/rows"
 TIMES, NAME = re.compile(r"\{(\d+)\*([^{}]*)\}"), re.compile(r"\{([a-z][a-z0-9_]*)\}")
 
 
+def mapped(value, of, kind=list):
+    """A value with what this gives of each part that is no table and no list; its lists are of this kind."""
+    if isinstance(value, dict):
+        return {key: mapped(it, of, kind) for key, it in value.items()}
+    return kind(mapped(it, of, kind) for it in value) if isinstance(value, (list, tuple)) else of(value)
+
+
 def whole(value, names):
     """A value with all texts in it written out."""
-    if isinstance(value, dict):
-        return {key: whole(it, names) for key, it in value.items()}
-    if isinstance(value, list):
-        return [whole(it, names) for it in value]
-    while isinstance(value, str) and (found := TIMES.search(value) or NAME.search(value)):
-        text = found[2] * int(found[1]) if found.re is TIMES else names[found[1]]
-        value = value[:found.start()] + text + value[found.end():]
-    return value
+    def written(text):
+        while isinstance(text, str) and (found := TIMES.search(text) or NAME.search(text)):
+            its = found[2] * int(found[1]) if found.re is TIMES else str(names[found[1]])
+            text = text[:found.start()] + its + text[found.end():]
+        return text
+
+    return mapped(value, written)
 
 
 def as_it_stands(name):
@@ -36,15 +42,9 @@ def table(name, **names):
     return whole(read, read.get("text", {}) | names)
 
 
-def frozen(value):
-    if isinstance(value, list):
-        return tuple(map(frozen, value))
-    return {key: frozen(it) for key, it in value.items()} if isinstance(value, dict) else value
-
-
 def data(name):
     """The tables of the file of this name, as they stand there, each an attribute: lists are tuples."""
-    return SimpleNamespace(**frozen(as_it_stands(name)))
+    return SimpleNamespace(**mapped(as_it_stands(name), lambda it: it, tuple))
 
 
 def each(row, *keys):
