@@ -24,7 +24,7 @@ DATA, PROGRAMS = data("words"), ("ocadev", "ocactl", "ocapanel")
 
 def faults(checks):
     for program in PROGRAMS:
-        said = checks.ran(program, "\udcff", given=b"", text=False)  # the byte 255
+        said = checks.ran(program, "\udcff", given=b"", seconds=30, text=False)  # the byte 255
         checks.same(f"{program}: words that are no UTF-8", said, (b"", b"note: an argument is not UTF-8\nbad words\n", 2))
 
 
