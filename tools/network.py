@@ -286,8 +286,8 @@ class Stage(Scene):
             "fills": self.fill,
             "lines that are read": self.lines,
             "rest": self.rest},
-            room=os.path.realpath(room), silent=at(self.silent), silent_port=self.silent.getsockname()[1], free=free_port(), own=by_turns()[0],
-            grant=grant)
+            room=os.path.realpath(room), grant=grant, silent=at(self.silent), silent_port=self.silent.getsockname()[1], free=free_port(),
+            own=by_turns()[0])
 
     def serves(self, settings, words=""):
         self.run, port = self.checks.serve(*words.split(), **settings)
