@@ -19,7 +19,7 @@ import time
 from pathlib import Path
 
 import oca_profile as oca
-from checks import Checks, at, bound, by_turns, ended, free_port, lines_in, read_until
+from checks import Checks, at, bound, by_itself, by_turns, free_port, read_until
 from manual import helps_of, told_by
 from peers import Served, commands_in
 from scenes import Scene, play_all, verbs_of_run
@@ -148,7 +148,7 @@ class Stage(Scene):
         self.device, self.run, self.terminal, self.said, self.other = None, None, None, b"", ()
         self.open = contextlib.ExitStack()
         place = f"{self.open.enter_context(tempfile.TemporaryDirectory())}/said"
-        in_a_file = lambda: "".join(f"{it}\n" for it in lines_in(place))
+        in_a_file = lambda: Path(place).read_text() if Path(place).exists() else ""
         behind = (sys.executable, "-c", DATA.in_the_background)
         super().__init__(checks, {
             **verbs_of_run(self),
@@ -165,6 +165,7 @@ class Stage(Scene):
             "is sent commands alone": lambda: all(message[0] == "command" for data, _ in self.device.heard for message in oca.check(data)),
             "what is heard": lambda: self.device.heard,
             "at once": lambda: self.device.kept,
+            "alone": lambda: self.open.enter_context(by_itself()),
             "takes": lambda port: self.open.enter_context(bound(port=port)),
             "swap": self.swap,
             "terminal": lambda *words: self.types_at((), *words),
@@ -177,10 +178,8 @@ class Stage(Scene):
             "says no more": lambda: setattr(self, "said", b""),
             "has said": lambda text: text in in_a_file() or self.says(text, 0.1),
             "in the file": in_a_file,
-            "lines in the file": lambda: in_a_file().count("\n"),
             "is stopped": lambda: Path(f"/proc/{self.pid()}/stat").read_text().rsplit(")", 1)[1].split()[0] == "T",
             "kill it": lambda: os.kill(self.pid(), 9),
-            "goes": lambda: ended(self.run)[2],
             "run": self.begins_run,
             "run into a full file": lambda words: self.begins_run(*words.split(), stdout=self.open.enter_context(open("/dev/full", "w")))},
             port=free_port(), free=free_port(), **dict(zip(("own", "other"), by_turns())))
@@ -241,9 +240,5 @@ def scenes(checks):
     play_all(checks, Stage, "hands")
 
 
-def at_own_ports(checks):
-    play_all(checks, Stage, "hands", "at_own_ports")
-
-
 if __name__ == "__main__":
-    sys.exit(Checks(sys.argv[1]).tried(helps, at_own_ports, scenes, alone=(at_own_ports,)))
+    sys.exit(Checks(sys.argv[1]).tried(helps, scenes))

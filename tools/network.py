@@ -11,7 +11,6 @@ meanwhile, and a part with wrong times alone is repeated, since a machine may be
 layer sets the clocks of both programs forward. Another controller changes the object meanwhile: earlier commands must
 not be done behind that, and are told as lost. The last line is 'N passed, M failed'."""
 import contextlib
-import errno
 import fcntl
 import os
 import resource
@@ -29,13 +28,12 @@ import checks
 import oca_profile as oca
 import peers
 from checks import (
-    Ahead, Beside, at, bound, by_turns, comes, ended, free_port, heard, lines_in, next_command, next_line, nulls_of, port_said, read_note,
-    read_until, tries, waited, write)
+    NOTE, Ahead, Beside, are_few, at, bound, by_itself, by_turns, comes, ended, free_port, heard, lines_in, next_command, next_line,
+    nulls_of, port_said, read_until, tries, waited, write)
 from scenes import Scene, answer_of, play_all, verbs_of_peer, verbs_of_run
-from tables import as_it_stands, data
+from tables import data
 
-GET, ASKS = (4097, 4, 1), ("--target", 4097, "--level", 4, "--index", 1, "--count", 0)
-WAIT_MS, DATA = 50, data("network")
+GET, WAIT_MS, DATA = (4097, 4, 1), 50, data("network")
 # Linux's option by which the system tells when a datagram came
 SO_TIMESTAMPNS = 35
 TRIES = 12
@@ -52,9 +50,9 @@ class Checks(checks.Checks):
 
         return super().start(*words, preexec_fn=prepare, **{"stdin": subprocess.DEVNULL, **how})
 
-    def in_time(self, what, take, is_well, count=TRIES):
+    def in_time(self, what, take, is_well):
         """A check that what this gives is well, at least once in so many times; and all that it gave."""
-        found = tries(count, take, is_well)
+        found = tries(TRIES, take, is_well)
         self.expect(what, is_well(found[-1]), f"{found}", is_time=True)
         return found
 
@@ -95,8 +93,7 @@ def turns_of(checks, turns, settings):
 def quiet_turns(checks):
     """A turn without a datagram waits 50 ms, with signals too; each failing receive waits as long and is counted."""
     turns = 20
-    for failing, settings in ((0, {}), (0, {"SIGNALS": 30}), (0, {"SIGNALS": 1000}), (0, {"INTERRUPT": 5}),
-                              (7, {"FAIL_RECEIVE": 7, "ERRNO": errno.ENETDOWN}), (20, {"FAIL_RECEIVE": 99, "ERRNO": errno.ENOBUFS, "SIGNALS": 1000})):
+    for failing, settings in DATA.quiet_turns:
         what = f"{settings}: a turn takes as long as a wait of 50 ms"
         found = checks.in_time(what, lambda: turns_of(checks, turns, settings), lambda it: it[0] < 1.2)
         counted = {(counts.get("quiet"), counts.get("failed-receives")) for *_, counts in found}
@@ -129,43 +126,26 @@ def is_a_program_there(checks):
     checks.expect("a host is asked for 200 ms at least", min(took for _, took, _ in found) > 180, f"{found}")
 
 
-def gets_lines(checks, what, pauses, delay=0):
-    """Of `ocactl run` with a line behind each of these pauses, whose command is answered so many seconds behind its coming: how many ms each
-    command took to come, and how often it had come by then."""
-    took, copies, given = [], [], []
-    with bound() as device:
-        words = ("--device", at(device), "--first-handle", 1, "--port", free_port())
-        run = checks.start("ocactl", "run", *words, stdin=subprocess.PIPE)
-        for handle, pause in enumerate(pauses, 1):
-            time.sleep(pause)
-            begun = time.monotonic()
-            write(run, "4097 4 1 0 -\n", ends=False)
-            data, sender = next_command(device)
-            took.append((time.monotonic() - begun) * 1000)
-            time.sleep(delay)
-            copies.append([data, *heard(device)].count(oca.command(handle, *GET)))
-            device.settimeout(10)
-            device.sendto(oca.response(handle, 0, 1, b"\1"), sender)
-            given.append((data, next_line(run)))
-        checks.same(f"{what}: its lines", given, [(oca.command(handle, *GET), "answer 0 1 01\n") for handle in range(1, len(pauses) + 1)])
-        checks.same(f"{what}: its end", ended(run), ("", "", 0))
-    return took, copies
-
-
 def lines_at_once(checks):
     """A line of `ocactl run` is sent at once where nothing is under way: the fourth of seven sooner than half a wait of 50 ms ends."""
     def take():
-        with Waits() as waits:
-            took, _ = gets_lines(checks, "`run`", [0, *7 * [1.2 * WAIT_MS / 1000]])
+        took, given = [], []
+        with bound() as device, Waits() as waits:
+            words = ("--device", at(device), "--first-handle", 1, "--port", free_port())
+            run = checks.start("ocactl", "run", *words, stdin=subprocess.PIPE)
+            for handle in range(1, 9):
+                time.sleep(1.2 * WAIT_MS / 1000)
+                begun = time.monotonic()
+                write(run, "4097 4 1 0 -\n", ends=False)
+                data, sender = next_command(device)
+                took.append((time.monotonic() - begun) * 1000)
+                device.sendto(oca.response(handle, 0, 1, b"\1"), sender)
+                given.append((data, next_line(run)))
+            checks.same("`run`: its lines", given, [(oca.command(handle, *GET), "answer 0 1 01\n") for handle in range(1, 9)])
+            checks.same("`run`: its end", ended(run), ("", "", 0))
         return sorted(took[1:])[3] / waits.one  # the first line waits for the program to begin
 
     checks.in_time("`run`: a line is sent sooner than half a wait of 50 ms ends", take, lambda it: it < 0.5)
-
-
-def a_line_behind_a_pause(checks):
-    """A command behind a pause is sent at its own moment: it is sent again 250 ms later, and not at once."""
-    take = lambda: gets_lines(checks, "`run` with a pause", (0, 1), WAIT_MS / 1000)[1]
-    checks.in_time("`run` with a pause: how often the second command is sent in 50 ms", take, lambda it: it[-1] == 1, 3)
 
 
 def a_stalled_neighbour(checks):
@@ -188,19 +168,6 @@ def a_stalled_neighbour(checks):
             return sorted(took)[10] / waits.one, took
 
         checks.in_time("behind five sends without room an answer comes as soon as a wait of 50 ms ends", take, lambda it: it[0] < 1.2)
-
-
-def a_failed_receive(checks):
-    """Behind a receive that failed the next one comes soon: an answer that is there is taken, and its command not sent again."""
-    def copies():
-        with bound() as device:
-            run = checks.start("ocactl", "send", "--device", at(device), "--first-handle", 1, *ASKS, FAIL_RECEIVE=1, ERRNO=errno.ENETDOWN)
-            data, sender = device.recvfrom(2000)
-            device.sendto(oca.response(1, 0, 1, b"\1"), sender)
-            checks.same("a receive that failed: the answer", ended(run), ("answer 0 1 01\n", "", 0))
-            return heard(device)
-
-    checks.in_time("a receive that failed: the command is not sent again", copies, lambda it: not it, 3)
 
 
 class Relay(peers.Relay):
@@ -234,10 +201,6 @@ class Relay(peers.Relay):
             self.answers += len(found)
             super().back(datagram, controller)
 
-    def give(self):
-        for datagram in list(self.kept):
-            self.front.sendto(datagram, *self.ways)
-
 
 def bytes_of(datagram):
     """The bytes of a datagram that a row gives in digits, or by its kind and its commands."""
@@ -253,14 +216,15 @@ class Stage(Scene):
     the time of both."""
 
     def __init__(self, checks):
-        self.run, self.port, self.peer, self.other, self.sender, self.came = None, 0, None, None, None, []
+        self.run, self.port, self.peer, self.other, self.sender = None, 0, None, None, None
         self.open, self.time, self.text, self.way = contextlib.ExitStack(), Ahead(), b"", None
         room, self.silent = self.open.enter_context(tempfile.TemporaryDirectory()), self.open.enter_context(bound())
         full, (reader, unread) = self.open.enter_context(open("/dev/full", "w")), os.pipe()
         os.close(reader)
         self.open.callback(os.close, unread)
         self.ends = defaultdict(lambda: self.open.enter_context(bound()))
-        come = lambda: self.came.extend(it.hex() for it in heard(self.silent)) or self.came
+        self.silent.setsockopt(socket.SOL_SOCKET, socket.SO_SNDBUF, 4_000_000)
+        grant = f"{NOTE}a send buffer of {self.silent.getsockopt(socket.SOL_SOCKET, socket.SO_SNDBUF)}" if are_few() else ""
         super().__init__(checks, {
             **verbs_of_run(self), **verbs_of_peer(self),
             "serve": self.serves,
@@ -274,60 +238,67 @@ class Stage(Scene):
             "whole answer": lambda *asked: self.other.ask(*asked) and oca.check(self.other.response),
             "answers of": lambda count: sum(self.other.ask(*GET) == (0, b"\1") for _ in range(count)),
             "sends": lambda digits, times=1: [self.peer.socket.send(bytes.fromhex(digits)) for _ in range(times)],
-            "sends command": lambda *command: self.peer.copy(*command),
-            "others send": self.others_send,
+            "another sends": self.another_sends,
+            "another is answered": lambda which: self.ends[which].recv(2000),
             "a stranger sends until it ends": self.stranger_sends,
             "how many it hears": lambda: len(heard(self.peer.socket)),
             "hears": lambda: self.peer.socket.recv(2000),
             "counts": self.counts,
-            "counts in a flood": self.counts_in_a_flood,
-            "listens": self.listens,
-            "reads the note of a grant": lambda: read_note(self.run),
+            "counts of": lambda counts, names: {name: counts.get(name) for name in names},
+            "turns in": lambda counts: counts.get("turns", 0) - counts.get("quiet", 0),
+            "flood": lambda: self.open.enter_context(peers.Flood(self.port)),
+            "report": self.report,
+            "reports": lambda: self.reports + self.run.stderr.read().count("note: turns "),
+            "listens": lambda: self.meets(port_said(self.run)),
+            "note of a grant": lambda: self.run.stderr.readline().partition(" bytes: ")[0] if are_few() else "",
             "tells": self.tells,
+            "alone": lambda: self.open.enter_context(by_itself()),
             "takes": lambda port: self.open.enter_context(bound(port=port)),
             "handle of": lambda digits: int(digits[28:36], 16),
             "is command": lambda digits, command: digits == oca.command(int(digits[28:36], 16), *command).hex(),
             "is heard from": lambda port: self.sender[1] == port,
             "is by the clock": lambda handle: (int(time.time() * 100000) - handle) % 2**31 < 60 * 100000,
-            "clock": time.monotonic,
             "less": lambda number, other: number - other,
-            "is at least": lambda number, least: number >= least,
             "is over": lambda: self.run.poll(),
-            "terminates": lambda: self.run.terminate(),
-            "how often was heard": lambda digits: come().count(digits),
-            "heard but": lambda digits: sorted({*come()} - {digits}),
+            "signal": lambda name: self.run.send_signal(signal.Signals[name]),
+            "heard": self.heard,
             "next": self.next,
-            "answers": lambda handle, status: self.silent.sendto(oca.response(handle, status), self.sender),
+            "answers": lambda handle, *how: self.silent.sendto(oca.response(handle, *how[:2], *map(bytes.fromhex, how[2:])), self.sender),
             "what comes until": self.heard_until,
             "kinds in": lambda came, *but: sorted({*came} - {*but}),
-            "at least": lambda count, came, digits: came.count(digits) >= count,
+            "how many of": lambda came, digits: came.count(digits),
             "lines of": lambda name: lines_in(f"{room}/{name}"),
             "serve by a way": self.serves_by_a_way,
             "control": self.control,
             "control read late": self.read_late,
             "time": self.time.set,
-            "stops": lambda: self.run.send_signal(signal.SIGSTOP),
-            "goes on": lambda: self.run.send_signal(signal.SIGCONT),
             "way": lambda name: getattr(self.way, name),
             "way has": lambda name, value: setattr(self.way, name, value),
-            "way gives": lambda: self.way.give(),
+            "way gives": lambda: [self.way.front.sendto(datagram, *self.way.ways) for datagram in [*self.way.kept]],
+            "with another": str.replace,
             "is sent": lambda handle: handle in self.way.handles,
             "how many are sent": lambda: len(self.way.handles),
             "has kept": lambda: len(self.way.kept) > 0,
             "awaits more": lambda name, count: waited(lambda: getattr(self.way, name) > count or self.run.poll() is not None, 2),
             "awaits a full pipe": lambda: waited(lambda: self.is_blocked() or self.run.poll() is not None, 2),
             "waits": self.is_blocked,
-            "looks": self.look,
+            "looks": lambda: setattr(self, "text", self.text + os.read(self.out, 4096)),
             "fills": self.fill,
             "lines that are read": self.lines,
-            "rest": self.rest,
-            "status": lambda: self.run.wait(timeout=60)},
-            room=os.path.realpath(room), silent=at(self.silent), silent_port=self.silent.getsockname()[1], free=free_port(), own=by_turns()[0])
+            "rest": self.rest},
+            room=os.path.realpath(room), grant=grant, silent=at(self.silent), silent_port=self.silent.getsockname()[1], free=free_port(),
+            own=by_turns()[0])
 
     def serves(self, settings, words=""):
-        self.run, self.port = self.checks.serve(*words.split(), **settings)
-        self.names["port"] = self.port
-        self.peer, self.other = peers.Peer(self.port, 10, 1), peers.Peer(self.port, copies=80)
+        self.run, port = self.checks.serve(*words.split(), **settings)
+        self.meets(port)
+
+    def meets(self, port):
+        """Peers of what listens at this port; whether something does."""
+        self.port = self.names["port"] = port
+        self.reports = 0
+        self.peer, self.other = peers.Peer(port, 10, 1), peers.Peer(port, copies=80)
+        return port > 0
 
     def begins(self, settings, words):
         self.run = self.checks.start(*words.split(), **{"stdin": subprocess.PIPE, **settings})
@@ -340,21 +311,19 @@ class Stage(Scene):
         os.close(reader)
         self.run.stdin = open(writer, "w")
 
-    def listens(self):
-        self.port = port_said(self.run)
-        return self.port > 0
+    def another_sends(self, which, datagram):
+        """This one of the device's other peers sends a datagram."""
+        self.ends[which].sendto(bytes_of(datagram), self.peer.socket.getpeername())
 
     def tells(self, which, datagram):
-        """The line that the device tells of a datagram of this one of its peers, whose address it calls PEER."""
-        end = self.ends[which]
-        end.sendto(bytes_of(datagram), ("127.0.0.1", self.port))
-        return self.run.stderr.readline().replace(at(end), "PEER")
+        """The line that the device tells of a datagram of this one, whose address it calls PEER."""
+        self.another_sends(which, datagram)
+        return self.run.stderr.readline().replace(at(self.ends[which]), "PEER")
 
-    def others_send(self, count, digits, times=1):
-        """So many other peers send this so often."""
-        for other in (self.open.enter_context(bound()) for _ in range(count)):
-            for _ in range(times):
-                other.sendto(bytes.fromhex(digits), self.peer.socket.getpeername())
+    def report(self):
+        """What the next line counts if it is a report of `--stats`, and nothing else."""
+        self.reports, line = self.reports + 1, self.run.stderr.readline()
+        return counts_in(line.removeprefix("note: ")) if line.startswith("note: turns ") else {}
 
     def stranger_sends(self, text, port):
         while self.run.poll() is None:
@@ -366,10 +335,11 @@ class Stage(Scene):
         out, told, status = ended(self.run)
         return counts_in(out), told, status
 
-    def counts_in_a_flood(self):
-        """The same of a run that comes to its end by datagrams, each of which is a turn."""
-        with peers.Flood(self.port):
-            return self.counts()
+    def heard(self):
+        """The datagrams that have come to the socket."""
+        found = heard(self.silent)
+        self.silent.settimeout(10)
+        return found
 
     def next(self, *passed):
         """The next command that comes to the socket and is none of these."""
@@ -413,9 +383,6 @@ class Stage(Scene):
             return call[0] in ("1", "64") and call[1] == "0x1"
         return False
 
-    def look(self):
-        self.text += os.read(self.out, 4096)
-
     def lines(self):
         """How many lines were read, with those that are there."""
         self.text += read_until(self.out, lambda _: False, 0)
@@ -430,30 +397,9 @@ class Stage(Scene):
         return self.text.replace(b"\0", b"").decode().split("\n")
 
 
-def scenes(checks, name="network", kind="scene"):
-    play_all(checks, Stage, name, kind)
-
-
-def stopped_between(checks):
-    """Stopped for 20 seconds in the first of three commands: the rest is left out. Again where the first comes late, and is lost too."""
-    rows = as_it_stands("network")
-    for name, words, printed in rows["several"]:
-        is_late, tries = True, 0
-        while is_late and tries < 20:
-            stage, tries = Stage(checks), tries + 1
-            with stage.open:
-                stage.play(rows["first_of_three"], name=name, words=words.split())
-                out, _, status = ended(stage.run)
-                is_late = out.startswith("4097 lost\n")
-                checks.same(f"{name} of three: what it printed, its status, and how many were sent", (out, status, len(stage.way.handles)),
-                            (f"{'4097 lost' if is_late else printed}\n4098 not sent\n4101 not sent\n", 3, 1))
-
-
-def at_own_ports(checks):
-    scenes(checks, kind="at_own_ports")
+def scenes(checks):
+    play_all(checks, Stage, "network")
 
 
 if __name__ == "__main__":
-    sys.exit(Checks(sys.argv[1]).tried(
-        at_own_ports, quiet_turns, is_a_program_there, lines_at_once, a_line_behind_a_pause,
-        a_stalled_neighbour, a_failed_receive, scenes, stopped_between, alone=(at_own_ports,)))
+    sys.exit(Checks(sys.argv[1]).tried(quiet_turns, is_a_program_there, lines_at_once, a_stalled_neighbour, scenes))

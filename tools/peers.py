@@ -102,9 +102,6 @@ class Lossy(Relay):
         self.answered, self.due, self.number, self.latest = set(), [], 0, {True: -1, False: -1}
         self.behind = self.lost = self.doubled = self.overtaken = self.carried = 0
 
-    def wait(self):
-        return self.random.uniform(0, 0.7 if self.random.random() < self.slow else self.quick)
-
     def accept(self, inward, data, to):
         """A datagram that was sent: it will be delivered not at all, once or twice, after a while."""
         self.carried += 1
@@ -114,7 +111,8 @@ class Lossy(Relay):
         copies = 2 if self.random.random() < self.doubling else 1
         self.doubled += copies - 1
         for _ in range(copies):
-            heapq.heappush(self.due, (time.time() + self.wait(), self.number, self.random.random(), inward, data, to))
+            wait = self.random.uniform(0, 0.7 if self.random.random() < self.slow else self.quick)
+            heapq.heappush(self.due, (time.time() + wait, self.number, self.random.random(), inward, data, to))
         self.number += 1
 
     def forth(self, data, way):

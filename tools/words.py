@@ -8,40 +8,29 @@ This script is the device that hears `ocactl`, and the controller that speaks to
 passed, M failed'."""
 import random
 import re
-import socket
-import subprocess
 import sys
 import tempfile
-import time
 from pathlib import Path
 
 import oca_profile as oca
-from checks import NOTE, Checks, are_few, bound, tries
+from checks import Checks
 from manual import helps_of, listed
-from network import bytes_of, counts_in, scenes
-from tables import TOP, data, whole
+from network import Stage
+from scenes import play_all
+from tables import TOP, data
 
-DATA = data("words")
-
-
-def while_it_waits(checks):
-    scenes(checks, "words")
-
-
-def at_own_ports(checks):
-    scenes(checks, "words", "at_own_ports")
+DATA, PROGRAMS = data("words"), ("ocadev", "ocactl", "ocapanel")
 
 
 def faults(checks):
-    for program in ("ocadev", "ocactl", "ocapanel"):
-        done = subprocess.run([f"{checks.folder}/{program}".encode(), b"\xff"], capture_output=True, timeout=30)
-        said = done.stdout, done.stderr, done.returncode
+    for program in PROGRAMS:
+        said = checks.ran(program, "\udcff", given=b"", seconds=30, text=False)  # the byte 255
         checks.same(f"{program}: words that are no UTF-8", said, (b"", b"note: an argument is not UTF-8\nbad words\n", 2))
 
 
 def commands_of(checks):
     """Each command of each program, with its options that take a value: this value, and what its help says of each."""
-    for program in ("ocadev", "ocactl", "ocapanel"):
+    for program in PROGRAMS:
         for command, text in helps_of(f"{checks.folder}/{program}").items():
             yield program, command.removeprefix(program), {name: of for name, of in listed(text, "Options").items() if of[0]}
 
@@ -90,51 +79,13 @@ def versions(checks):
     """`--version` prints the number of `include/oca.pc.in` and the toolchain's line of README."""
     number = re.search(r"^Version: (.*)$", (TOP / "include/oca.pc.in").read_text(), re.MULTILINE)[1]
     toolchain = re.search(r"checked with\s+`(rattle-kit-[^`]*)`", (TOP / "README.md").read_text())[1]
-    for program in ("ocadev", "ocactl", "ocapanel"):
+    for program in PROGRAMS:
         for word in ("--version", "-V"):
             checks.same(f"{program} {word}", checks.ran(program, word), (f"{program} {number}\nchecked with {toolchain}\n", "", 0))
 
 
-def notes_a_grant(checks):
-    """`serve`: where it listens, and how many bytes the system grants for what it sends, where these are few."""
-    run = checks.start("ocadev", "serve", "--port", 0, "--turns", 1, "--ip", "127.0.0.2")
-    said = re.fullmatch(r"listening 127\.0\.0\.2:(\d+)\n", run.stderr.readline())
-    checks.same("serve: where it listens", said is not None, True)
-    note = run.stderr.readline() if are_few() else ""
-    with bound() as asks:
-        asks.setsockopt(socket.SOL_SOCKET, socket.SO_SNDBUF, 4_000_000)
-        granted = asks.getsockopt(socket.SOL_SOCKET, socket.SO_SNDBUF)
-    few = (note[:len(NOTE)], f" {granted} bytes" in note or note)
-    checks.same("serve: how many bytes the system grants", few, (NOTE, True) if are_few() else ("", ""))
-
-
-def tells(checks):
-    """`serve --stats 1`, of a device whose state is not kept, and of one whose state is kept: reports of all datagrams, at most once a second."""
-    with tempfile.TemporaryDirectory() as folder, bound() as first, bound() as second:
-        for keep in ((), ("--keep", f"{folder}/state")):
-            serve, begun, told = " ".join(["serve", *keep[:1], "--stats"]), time.monotonic(), []
-            run, port = checks.serve(*keep, "--stats", 1)
-
-            def report():
-                """Of the next report what the row counts: some may have been told before the last datagram came."""
-                line = run.stderr.readline()
-                told.append(counts_in(line.removeprefix("note: ")) if line.startswith("note: turns ") else {})
-                return {name: told[-1].get(name) for name in row["counts"]}
-
-            for row in DATA.stats:
-                for peer, datagram in row["sends"]:
-                    end = {"first": first, "second": second}[peer]
-                    end.sendto(bytes_of(whole(datagram, {})), ("127.0.0.1", port))
-                    if isinstance(datagram, tuple):  # of commands
-                        end.recv(2000)
-                what, counts = f"{serve}: {row['what']}", row["counts"]
-                checks.same(what, tries(10, report, lambda it: it == counts)[-1], counts)
-                checks.same(f"{what}: turns", told[-1].get("turns", 0) - told[-1].get("quiet", 0), row["datagrams"])
-            run.kill()
-            count, took = len(told) + run.stderr.read().count("note: turns "), time.monotonic() - begun
-            # the first comes a second behind the start at least, and each other one a second behind the one before, whenever this script reads it
-            checks.expect(f"{serve}: {count} reports in {took:.2f} seconds", 3 <= count <= took)
-            checks.expect(f"{serve}: {count} reports, not in {took:.2f} seconds", took < count + 2, is_time=True)
+def scenes(checks):
+    play_all(checks, Stage, "words")
 
 
 def listed_line(r, onos):
@@ -192,6 +143,4 @@ def trees(checks):
 
 
 if __name__ == "__main__":
-    sys.exit(Checks(sys.argv[1]).tried(
-        while_it_waits, at_own_ports, faults, bad_values, missing_options, versions,
-        notes_a_grant, tells, trees, alone=(at_own_ports,)))
+    sys.exit(Checks(sys.argv[1]).tried(scenes, faults, bad_values, missing_options, versions, trees))
