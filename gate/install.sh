@@ -7,14 +7,11 @@ case $PREFIX in /*) ;; *) PREFIX=$PWD/$PREFIX ;; esac
 ROOT=${DESTDIR:-}$PREFIX
 TARGET=${3:-x86_64-unknown-linux-gnu}
 KIND=${TARGET%%-*}-linux-gnu
-if [ "$TARGET" = "$(uname -m)-unknown-linux-gnu" ]; then
-    LIB=lib
-    COMPILER=${CC:-cc}
-    ARCHIVER=${AR:-ar}
-else
+LIB=lib
+if [ "$TARGET" != "$(uname -m)-unknown-linux-gnu" ]; then
     LIB=lib/$KIND
-    COMPILER=$KIND-gcc
-    ARCHIVER=$KIND-ar
+    CC=$KIND-gcc
+    AR=$KIND-ar
 fi
 VERSION=$(sed -n 's/^Version: //p' include/oca.pc.in)
 MAJOR=${VERSION%%.*}
@@ -50,12 +47,12 @@ put_programs() {
 # the shared one, whose names all begin with `oca_`; and the manual pages.
 make_library() {
     parts="panel kept store socket serve"
-    for name in $parts malloc; do $COMPILER -O2 -fPIC -Wall -Wextra -Iinclude -c -o "$work/$name.o" "c/$name.c"; done
+    for name in $parts malloc; do ${CC:-cc} -O2 -fPIC -Wall -Wextra -Iinclude -c -o "$work/$name.o" "c/$name.c"; done
     cp "${LIBRARY:-crates/oca_c/out/$TARGET/liboca_c.a}" "$work/liboca_c.a"
-    for name in $parts; do $ARCHIVER rs "$work/liboca_c.a" "$work/$name.o" 2> /dev/null; done
+    for name in $parts; do ${AR:-ar} rs "$work/liboca_c.a" "$work/$name.o" 2> /dev/null; done
     cp "$work/liboca_c.a" "$work/liboca.a"
-    $ARCHIVER rs "$work/liboca.a" "$work/malloc.o" 2> /dev/null
-    $COMPILER -shared -o "$work/liboca.so.$VERSION" -Wl,-soname,liboca.so.$MAJOR -Wl,--version-script=include/oca.map \
+    ${AR:-ar} rs "$work/liboca.a" "$work/malloc.o" 2> /dev/null
+    ${CC:-cc} -shared -o "$work/liboca.so.$VERSION" -Wl,-soname,liboca.so.$MAJOR -Wl,--version-script=include/oca.map \
         -Wl,--whole-archive "$work/liboca.a" -Wl,--no-whole-archive -Wl,-z,defs
     python3 gate/reference.py "$work/man3" > "$work/pages"
 }

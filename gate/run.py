@@ -24,7 +24,7 @@ import tempfile
 import threading
 import time
 from collections import Counter
-from concurrent.futures import ThreadPoolExecutor, as_completed
+from concurrent.futures import ThreadPoolExecutor
 from pathlib import Path
 
 import kit
@@ -118,10 +118,11 @@ def watched(command, least, note=lambda _: None):
 
 
 def kept(step):
-    """Runs a step, and answers how many checks passed and failed, and what is shown of it at its end."""
+    """Runs a step, shows at its end what it printed, in one piece, and answers how many checks passed and failed."""
     count, text, told = ran(step.command, step.least, step.minutes, step.is_beside)
     shown = text if count[1] else "".join(text.splitlines(keepends=True)[-LAST_LINES:])
-    return count, f"gate: {step.command}\n{shown}{told}"
+    print(f"gate: {step.command}\n{shown}{told}\n", end="", flush=True)
+    return count
 
 
 def paragraphs(file):
@@ -161,13 +162,6 @@ def processor_minutes():
     return (used.ru_utime + used.ru_stime) / 60
 
 
-def show(run):
-    """Shows what a step that has ended printed, and answers its counts."""
-    count, text = run.result()
-    print(text, flush=True)
-    return count
-
-
 def of_ci(steps, others, room):
     """Runs `rt ci`, and beside it, in this pool, the steps that begin early. Answers its counts, and the steps that have begun.
     `rt ci` is asked first for the crate that most others wait for, which several processes prove; not if RT_JOBS says the
@@ -200,10 +194,10 @@ def run_steps(parts, others, early):
             begun, used = time.monotonic(), processor_minutes()
             beside += [early.get(step) or others.submit(kept, step) for step in steps if step.is_beside]
             here = [step for step in steps if not step.is_beside]
-            counts += map(show, as_completed([pool.submit(kept, step) for step in here]))
+            counts += pool.map(kept, here)
             minutes = (time.monotonic() - begun) / 60
             print(f"gate: {minutes:.1f} minutes, {processor_minutes() - used:.1f} processor minutes for {len(here)} steps", flush=True)
-    return [*counts, *map(show, as_completed(beside))]
+    return counts + [it.result() for it in beside]
 
 
 def writes():
