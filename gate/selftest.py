@@ -33,7 +33,7 @@ import peers
 import scenes
 import snippets
 import unreliable
-from tables import as_it_stands, data, frozen
+from tables import as_it_stands, data, mapped
 
 DATA = data("gate_of_tools")
 
@@ -471,7 +471,7 @@ ASKED = {
     "public": public,
 }
 each(DATA.of_files)(
-    lambda files, asked, wanted, folder: laid(folder, getattr(DATA, files)) or is_same(wanted, frozen(ASKED[asked](folder))))
+    lambda files, asked, wanted, folder: laid(folder, getattr(DATA, files)) or is_same(wanted, mapped(ASKED[asked](folder), lambda it: it, tuple)))
 
 
 @of_rows("`unreliable.py` fails each request, read and write of a run in turn, and finds the one that a run passes over.", DATA.slips)
