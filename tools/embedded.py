@@ -11,32 +11,23 @@ import sys
 import tempfile
 
 import oca_profile as oca
-import peers
 from checks import Checks, bound, ended, port_said, sockets
-from scenes import Scene, scenes_of, verbs_of_peer, verbs_of_run
-
-MUTES, GAINS = (4097, 5097), (4098, 5098)
-
-
-class Peer(peers.Peer):
-    def __init__(self, port):
-        super().__init__(port, 30, 1)
-
-    def levels(self):
-        states, settings = ([self.ask(ono, level, 1)[1] for ono in onos] for onos, level in ((MUTES, 4), (GAINS, 5)))
-        return shown([("muted" if state == b"\1" else "open", int.from_bytes(setting[:2], "big", signed=True)) for state, setting in zip(states, settings)])
+from peers import Peer
+from scenes import Scene, play_all, verbs_of_peer, verbs_of_run
 
 
-def shown(levels):
-    (first, low), (second, high) = levels
-    return f"1: {first} {low} dB/10, 2: {second} {high} dB/10\n"
+def levels(peer):
+    """What a peer reads of both channels, as the amplifier shows it."""
+    state = lambda mute: "muted" if peer.ask(mute, 4, 1)[1] == b"\1" else "open"
+    setting = lambda gain: int.from_bytes(peer.ask(gain, 5, 1)[1][:2], "big", signed=True)
+    return f"1: {state(4097)} {setting(4098)} dB/10, 2: {state(5097)} {setting(5098)} dB/10\n"
 
 
 class Stage(Scene):
-    """A scene of the rows: an amplifier, or `ocadev`, the panel at it, and a peer."""
+    """A scene of the rows: an amplifier, or `ocadev`, the panel at it, and a peer; and a socket that never answers."""
 
-    def __init__(self, checks, silent):
-        self.run, self.port, self.peer = None, 0, None
+    def __init__(self, checks):
+        self.run, self.port, self.peer, self.open = None, 0, None, bound()
         super().__init__(checks, {
             **verbs_of_run(self), **verbs_of_peer(self),
             "amplifier": self.begins,
@@ -44,20 +35,20 @@ class Stage(Scene):
             "amplifier's end": self.ends,
             "ocadev": self.serves,
             "asks all": lambda command: self.does["asks"](*command),
-            "levels": lambda: self.peer.levels(),
+            "levels": lambda: levels(self.peer),
             "panel": lambda *words: checks.ran("panel", self.port, *words)[0],
             "panel, closed": lambda number: checks.ran("panel", self.port, preexec_fn=lambda: os.close(number))[0],
             "panel at": lambda port, *words: checks.ran("panel", *str(port).split(), *words)[0],
             "panel at no port": lambda port: checks.ran("panel", port)[0].splitlines()[0][:7].strip(),
             "listens at": lambda: bound_at(self.port),
-            "where the panel is": lambda: checks.start("panel", self.names["silent"]) and bound_at(silent.recvfrom(2000)[1][1]),
-            "looks at the channels": lambda: channels(checks, self.peer, (4096, 5096), -800)}, silent=silent.getsockname()[1])
+            "where the panel is": lambda: checks.start("panel", self.names["silent"]) and bound_at(self.open.recvfrom(2000)[1][1]),
+            "looks at the channels": lambda: channels(checks, self.peer, (4096, 5096), -800)}, silent=self.open.getsockname()[1])
 
     def begins(self, **settings):
         """An amplifier, whose input stays open, and a peer of it."""
         self.run = self.checks.start("amplifier", 0, 100000, bufsize=1, **settings)
         self.port = port_said(self.run)
-        self.peer = Peer(self.port)
+        self.peer = Peer(self.port, 30, 1)
 
     def serves(self, *words):
         self.run, self.port = self.checks.serve(*words)
@@ -73,10 +64,7 @@ class Stage(Scene):
 
 
 def scenes(checks):
-    for steps, names in scenes_of("embedded"):
-        with bound() as silent:
-            Stage(checks, silent).play(steps, **names)
-        checks.end()
+    play_all(checks, Stage, "embedded")
 
 
 def channels(checks, peer, blocks, low):

@@ -4,7 +4,7 @@
 Usage: python_controller.py BIN     BIN is the folder with `ocadev` and `ocactl`
 
 Its link is asked at moments that are handed in, and must send and take what PROTOCOL says; wrong links must be found.
-Then it runs against `ocadev serve`, first alone, then over the network of lossy.py. `ocactl` must read and be refused
+Then it runs against `ocadev serve`, first alone, then over a bad network. `ocactl` must read and be refused
 what it set and locked. Each command is executed once, and its socket keeps to the rules: one address, one command a
 datagram, handles that rise by one, at most 20 unchanged copies, at most 16 in flight. `ocadev replay` must answer each
 row of worked bytes as it stands there. The last line is 'N passed, M failed'."""
@@ -17,42 +17,37 @@ import subprocess
 import sys
 import threading
 import time
-from pathlib import Path
 from types import ModuleType
 
 import oca_profile as oca
 from checks import Checks, Serving, at, ended, free_port, waited
-from lossy import bad_network
+from peers import Lossy
 from scenes import Scene, scenes_of, verbs_of_run
 from tables import TOP, data
 
 EXAMPLE, TREE = TOP / "examples/python/controller.py", "examples/stagebox.tree"
+PYTHON = sys.executable, EXAMPLE
 SPAN, TRIES, DATA = 16, 20, data("python_controller")
 ROW = r"\| [^|]+ \| `([0-9A-F ]+)` \| `([0-9A-F .]+)`[^|]* \|"
 
 
-def example(old="", new=""):
-    """The example as a module, or with another text in the place of one that stands once."""
-    text = EXAMPLE.read_text()
-    if old and text.count(old) != 1:
-        sys.exit(f"python_controller: {old!r} does not stand once in the example")
+def module_of(text):
+    """The example, or a wrong one of this text, as a module."""
     module = sys.modules["controller"] = ModuleType("controller")    # where its dataclasses look for their types
-    exec(compile(text.replace(old, new) if old else text, EXAMPLE, "exec"), module.__dict__)
+    exec(compile(text, EXAMPLE, "exec"), module.__dict__)
     return module
 
 
 def what_is_due(its, link, now):
     """What a link sends at a moment: handles, `alive` for a keep-alive, `lost`."""
     sent = []
-    while True:
-        try:
-            datagram = link.due(now)
-        except its.Lost:
-            return [*sent, "lost"]
-        if datagram is None:
-            return sent
-        (kind, *message), = oca.check(datagram)
-        sent.append("alive" if kind == "keep-alive" else message[1].handle)
+    try:
+        while (datagram := link.due(now)) is not None:
+            (kind, *message), = oca.check(datagram)
+            sent.append("alive" if kind == "keep-alive" else message[1].handle)
+    except its.Lost:
+        sent.append("lost")
+    return sent
 
 
 def what_is_heard(link, datagram):
@@ -76,16 +71,15 @@ def rules(checks, its):
             "in flight": lambda: sorted(link.flights)}).play(steps)
 
 
-def wrong_ones(checks):
-    """A link that breaks a rule is found."""
-    for old, new in DATA.wrong:
-        tried = Checks()
-        with contextlib.redirect_stdout(io.StringIO()):
-            try:
-                rules(tried, example(old, new))
-            except Exception:    # whatever a wrong one comes to
-                tried.failed += 1
-        checks.same(f"found: {new!r}", tried.failed > 0, True)
+def is_wrong(text):
+    """Whether the link of an example of this text is found to break a rule."""
+    tried = Checks()
+    with contextlib.redirect_stdout(io.StringIO()):
+        try:
+            rules(tried, module_of(text))
+        except Exception:    # whatever a wrong one comes to
+            return True
+    return tried.failed > 0
 
 
 class Device(Serving):
@@ -107,28 +101,27 @@ class Device(Serving):
         return [sum(int(it[n] or 0) for it in counts if it) for n in (1, 2, 3)]
 
 
-def started(device, *words):
-    """A run of the example, whose input stays open."""
-    words = [sys.executable, EXAMPLE, device, *words]
+def started(*words):
+    """A run of a program, whose input stays open."""
     return subprocess.Popen(words, cwd=TOP, stdin=subprocess.PIPE, stdout=subprocess.PIPE, stderr=subprocess.PIPE, text=True)
 
 
 def ran(*words, given=""):
-    done = subprocess.run(words, cwd=TOP, input=given, capture_output=True, text=True, timeout=120)
-    return done.stdout.splitlines(), done.returncode
+    printed, _, status = ended(started(*words), 120, given)
+    return printed.splitlines(), status
 
 
 class Stage(Scene):
     """A scene of the rows: the example's commands beside `ocactl`'s, over 127.0.0.1."""
 
-    def __init__(self, checks, folder, device):
+    def __init__(self, checks, device):
         self.at = device.address
-        ocactl = lambda name, *words: ran(f"{folder}/ocactl", name, "--device", self.at, "--port", str(free_port()), *words)
+        ocactl = lambda name, *words: ran(f"{checks.folder}/ocactl", name, "--device", self.at, "--port", str(free_port()), *words)
         super().__init__(checks, {
             **verbs_of_run(self),
-            "python": lambda words: ran(sys.executable, EXAMPLE, self.at, *words.split()),
+            "python": lambda words: ran(*PYTHON, self.at, *words.split()),
             "ocactl": lambda words: ocactl(*words.split()),
-            "begins": lambda words: setattr(self, "run", started(self.at, *words.split())),
+            "begins": lambda words: setattr(self, "run", started(*PYTHON, self.at, *words.split())),
             "looks at the lists": self.lists})
 
     def lists(self):
@@ -141,22 +134,16 @@ class Stage(Scene):
         self.checks.same("its labels", ({label for *_, label in rows}, status), ({'""'}, 0))
 
 
-class Watch:
-    """What a controller sends into a bad network, held against the rules, and how many of its commands were in flight."""
+class Watch(Lossy):
+    """A bad network that holds what a controller sends against the rules, and how many of its commands were in flight."""
 
-    def __init__(self, network):
-        self.network, self.accepts, network.accept = network, network.accept, self.accept
+    def __init__(self, device, seed):
+        super().__init__(device, seed, share=0.2, doubling=0.2, slow=0.15, quick=0.02)
         self.ports, self.sent, self.copies, self.wrong = set(), {}, {}, []
         self.most = self.alive = 0
 
-    def accept(self, inward, data, to):
-        if inward:
-            self.ports.add(to.getsockname()[1])
-            self.note(data)
-        self.accepts(inward, data, to)
-
-    def note(self, data):
-        """A datagram that the controller sent, held against the rules."""
+    def forth(self, data, way):
+        self.ports.add(way.getsockname()[1])
         (kind, *message), *more = oca.check(data)
         if more or kind == "response" or data[7] == 0:
             self.wrong.append("no command by itself that asks for a response, and no keep-alive")
@@ -168,19 +155,19 @@ class Watch:
         else:
             self.wrong += ["no next handle"] if self.sent and handle != max(self.sent) + 1 else []
             self.sent[handle], self.copies[handle] = data, 1
-            in_flight = self.sent.keys() - self.network.answered
+            in_flight = self.sent.keys() - self.answered
             self.wrong += ["beyond the span"] if handle >= min(in_flight) + SPAN else []
             self.most = max(self.most, len(in_flight))
+        super().forth(data, way)
 
 
 def at_a_loss(checks, device):
     """The example over bad networks; what was executed of it is checked once the device has ended."""
     watches = []
     for seed, (least, keep_alives, words, wanted) in enumerate(DATA.at_a_loss, 1):
-        watch, name = Watch(bad_network(device.port, seed)), words[0].split()[0]
-        network = watch.network
-        with network:
-            process = started(at(network.front), *" ".join(words).split())
+        watch, name = Watch(device.port, seed), words[0].split()[0]
+        with watch:
+            process = started(*PYTHON, at(watch.front), *" ".join(words).split())
             waited(lambda: watch.alive >= keep_alives or process.poll() is not None, 240)
             printed, _, status = ended(process, 240)
             time.sleep(1)    # what is still on its way
@@ -190,11 +177,11 @@ def at_a_loss(checks, device):
         checks.same(f"{name}: the rules", watch.wrong, [])
         checks.same(f"{name}: no command is sent more often than it may", max(watch.copies.values()) <= TRIES, True)
         checks.same(f"{name}: in flight", watch.most, least)
-        print(f"{name}: {len(watch.sent)} commands, {watch.most} in flight; of {network.carried} datagrams {network.lost} were lost, "
-              f"{network.doubled} doubled and {network.overtaken} overtaken", flush=True)
+        print(f"{name}: {len(watch.sent)} commands, {watch.most} in flight; of {watch.carried} datagrams {watch.lost} were lost, "
+              f"{watch.doubled} doubled and {watch.overtaken} overtaken", flush=True)
         watches.append(watch)
     checks.same("locks are held by keep-alives", watches[-1].alive >= 2, True)
-    carried = [sum(counts) for counts in zip(*((it.network.lost, it.network.doubled, it.network.overtaken) for it in watches))]
+    carried = [sum(counts) for counts in zip(*((it.lost, it.doubled, it.overtaken) for it in watches))]
     checks.same("datagrams were lost, doubled and overtaken", min(carried) > 20, True)
     return watches
 
@@ -204,7 +191,7 @@ def executed_once(checks, device, watches):
     for watch in watches:
         executed, old, reused = device.executed(*watch.ports)
         checks.same("executed once", (executed, reused), (len(watch.sent), 0))
-        checks.same("too old", old <= watch.network.behind, True)
+        checks.same("too old", old <= watch.behind, True)
 
 
 def worked_bytes():
@@ -217,10 +204,10 @@ def script_of(rows):
     return "".join(f"{at} 127.0.0.1:9001 {oca.pdu(1, [bytes.fromhex(asked)]).hex()}\n" for at, (asked, _) in enumerate(rows))
 
 
-def worked(checks, folder):
+def worked(checks):
     rows = worked_bytes()
     checks.same("rows", len(rows) > 30, True)
-    printed, status = ran(f"{folder}/ocadev", "replay", given=script_of(rows))
+    printed, status = ran(f"{checks.folder}/ocadev", "replay", given=script_of(rows))
     checks.same("replayed", (printed[::2], status), (["served 1 0 0"] * len(rows), 0))
     for (asked, wanted), line in zip(rows, printed[1::2]):
         got, shown = line[2 + 20:], wanted.split("...")[0]
@@ -228,13 +215,14 @@ def worked(checks, folder):
 
 
 def main():
-    checks, folder = Checks(), str(Path(sys.argv[1]).resolve())
-    rules(checks, example())
-    wrong_ones(checks)
-    worked(checks, folder)
-    with Device(folder) as device:
+    checks, text = Checks(sys.argv[1]), EXAMPLE.read_text()
+    rules(checks, module_of(text))
+    for old, new in DATA.wrong:
+        checks.finds(" in the example", text, old, new, is_wrong)
+    worked(checks)
+    with Device(checks.folder) as device:
         for steps, _ in scenes_of("python_controller"):
-            Stage(checks, folder, device).play(steps)
+            Stage(checks, device).play(steps)
         watches = at_a_loss(checks, device)
     executed_once(checks, device, watches)
     return checks.verdict()

@@ -21,11 +21,10 @@ import re
 import subprocess
 import sys
 import tempfile
-from pathlib import Path
 
 from checks import NOTE, Checks, ended
+from tables import TOP
 
-TOP = Path(__file__).resolve().parent.parent
 DOCUMENTS = ["README.md", "docs/EMBEDDING.md"]
 RULE = r"\| *:?-{3,}:? *\|"
 
@@ -139,19 +138,15 @@ def fault_of_table(rows):
 
 def tables(text):
     """Of each table of a document, each rule within a line of text, each item without a text: its line, and what is wrong with it or None."""
-    lines = re.sub(r"(?ms)^```.*?^```$", lambda it: "\n" * it[0].count("\n"), text).split("\n")
-    rows = []
-    for number, line in enumerate(map(str.strip, [*lines, ""]), 1):
-        if line.startswith("|"):
-            rows.append(line)
-            continue
-        if rows:
-            yield number - len(rows), fault_of_table(rows)
-        if re.search(RULE, line):
+    plain = re.sub(r"(?ms)^```.*?^```$", lambda it: "\n" * it[0].count("\n"), text)
+    for it in re.finditer(r"(?m)^[ \t]*\|.*(?:\n[ \t]*\|.*)*|^.+", plain):
+        number, rows = 1 + plain.count("\n", 0, it.start()), [*map(str.strip, it[0].split("\n"))]
+        if rows[0].startswith("|"):
+            yield number, fault_of_table(rows)
+        elif re.search(RULE, rows[0]):
             yield number, "a rule of a table stands within a line of text"
-        if re.fullmatch(r"[-*+]|[0-9]+\.", line):
+        elif re.fullmatch(r"[-*+]|[0-9]+\.", rows[0]):
             yield number, "an item of a list has no text"
-        rows = []
 
 
 def main():
