@@ -18,20 +18,21 @@ from pathlib import Path
 
 import oca_profile as oca
 from checks import Checks
-from python_controller import script_of, worked_bytes
+from samples import script_of, worked_bytes
 from tables import TOP
 
 FIELDS = ("type", "msgcount", "handle", "tono", "mlevel", "midx", "pcount", "status")  # the first two of a PDU, all others of a message
 
 
 def frames_of(program, script):
-    """The datagrams of a script that have no fault, and those that answer them."""
+    """The datagrams of a script that have no fault, and those that answer them: of each whether it is an answer."""
     heard = re.findall(r"^\d+ [\d.]+:\d+ ([0-9a-fA-F]+|-)$", script, re.MULTILINE)
     told = subprocess.run([program, "replay"], input=script, capture_output=True, text=True, timeout=60, check=True).stdout.splitlines()
     verdicts = [line.startswith("served ") for line in told if line.startswith(("served ", "malformed "))]
     if len(verdicts) != len(heard):
         sys.exit(f"dissected: {len(verdicts)} verdicts for {len(heard)} datagrams")
-    return [bytes.fromhex(it) for it in itertools.compress(heard, verdicts)], [bytes.fromhex(line[2:]) for line in told if line.startswith("> ")]
+    answers = [line[2:] for line in told if line.startswith("> ")]
+    return [(bytes.fromhex(it), False) for it in itertools.compress(heard, verdicts)] + [(bytes.fromhex(it), True) for it in answers]
 
 
 def read(frame):
@@ -76,8 +77,7 @@ def main(folder):
         sys.exit("dissected: there is no tshark")
     checks, frames = Checks(), []
     for script in [*map(Path.read_text, sorted((TOP / "examples").glob("*.script"))), script_of(worked_bytes())]:
-        heard, answered = frames_of(f"{folder}/ocadev", script)
-        frames += [(frame, False) for frame in heard] + [(frame, True) for frame in answered]
+        frames += frames_of(f"{folder}/ocadev", script)
     told = dissected(frames)
     if len(told) != len(frames):
         sys.exit(f"dissected: tshark read {len(told)} of {len(frames)} frames")

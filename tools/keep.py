@@ -16,7 +16,6 @@ import resource
 import shutil
 import signal
 import struct
-import subprocess
 import sys
 import tempfile
 import threading
@@ -51,12 +50,6 @@ class Peer(peers.Peer):
         return answer and struct.unpack(">h", answer[1][:2])[0]
 
 
-def limit_files(most):
-    """Files have so many bytes at most from now on: a further write is refused, and does not end the program."""
-    signal.signal(signal.SIGXFSZ, signal.SIG_IGN)
-    resource.setrlimit(resource.RLIMIT_FSIZE, (most, resource.RLIM_INFINITY))
-
-
 def layer_of(keep):
     """The settings of the layer for a device with this file: steps that are refused, and what is told of them."""
     return {"REFUSING": f"{keep}.refusing", "TOLD": f"{keep}.told"}
@@ -64,9 +57,10 @@ def layer_of(keep):
 
 class Checks(checks.Checks):
     def serve(self, keep, *words, most=None, **layer):
-        """A device with this file at a port of the system's, this port, and its peer."""
-        limit = None if most is None else lambda: limit_files(most)
-        run = self.start("ocadev", "serve", "--port", 0, "--keep", keep, *words, preexec_fn=limit, **layer)
+        """A device with this file at a port of the system's, this port, and its peer. Where its files have so many bytes at most, a further write is
+        refused, and does not end it: the signal is ignored, as by Python."""
+        limit = lambda: most is None or resource.setrlimit(resource.RLIMIT_FSIZE, (most, resource.RLIM_INFINITY))
+        run = self.start("ocadev", "serve", "--port", 0, "--keep", keep, *words, preexec_fn=limit, restore_signals=most is None, **layer)
         port = port_said(run)
         return run, port, Peer(port) if port else None
 
@@ -164,7 +158,6 @@ class Room(Scene):
         said = stop(self.run)
         return re.fullmatch(form, said) is not None or said
 
-
     def ends(self, keep, **layer):
         """What a device with this file prints and says, and its status, where it ends by itself."""
         return self.checks.ran("ocadev", "serve", "--port", 0, "--keep", keep, seconds=30, **layer)
@@ -217,12 +210,12 @@ def unknown(checks, folder):
     shutil.copy(f"{checks.folder}/ocadev", f"{folder}/ocadev")
     os.chmod(folder, 0o711)
     os.chmod(f"{folder}/closed", 0)
-    other = ["setpriv", "--reuid=65534", "--regid=65534", "--clear-groups"] if os.geteuid() == 0 else []
-    words = [*other, f"{folder}/ocadev", "serve", "--port", "0", "--turns", "1", "--keep", f"{folder}/closed/state"]
-    ran = subprocess.run(words, stdin=subprocess.DEVNULL, capture_output=True, text=True, timeout=30)
-    checks.same("a file of which nothing is known", (ran.returncode, ran.stdout, ran.stderr.splitlines()[-1:]), (1, "", ["read failed"]))
+    other = {"user": 65534, "group": 65534, "extra_groups": []} if os.geteuid() == 0 else {}
+    words = ["ocadev", "serve", "--port", 0, "--turns", 1, "--keep", f"{folder}/closed/state"]
+    out, told, status = Checks(folder).ran(*words, seconds=30, **other)
+    checks.same("a file of which nothing is known", (status, out, told.splitlines()[-1:]), (1, "", ["read failed"]))
     reason = os.strerror(errno.EACCES)
-    checks.same(f"a file of which nothing is known: {reason}", reason in ran.stderr.splitlines()[0], True)
+    checks.same(f"a file of which nothing is known: {reason}", reason in told.splitlines()[0], True)
     os.chmod(f"{folder}/closed", 0o700)
 
 

@@ -123,15 +123,11 @@ def examples():
             yield f"{file.relative_to(TOP)}:{number}", None if found else "stands in no test and no sample"
 
 
-def cells(row):
-    """How many cells a row of a table has, None where a bar is missing at its end. A bar in a cell is written `\\|`."""
-    return len(re.findall(r"(?<!\\)\|", row)) - 1 if re.fullmatch(r"\|.*(?<!\\)\|", row) else None
-
-
 def fault_of_table(rows):
-    """What is wrong with lines that begin with a bar, or None."""
+    """What is wrong with lines that begin with a bar, or None. A bar in a cell is written `\\|`."""
     if len(rows) < 2 or not re.fullmatch(r"\|(?: *:?-+:? *\|)+", rows[1]):
         return "is no table: its second line is no rule"
+    cells = lambda row: re.fullmatch(r"\|.*(?<!\\)\|", row) and len(re.findall(r"(?<!\\)\|", row)) - 1
     is_row = lambda number: cells(rows[number]) == cells(rows[0]) and (number == 1 or not re.search(RULE, rows[number]))
     return next((f"its line {number + 1} is no row like its head: {row}" for number, row in enumerate(rows) if not is_row(number)), None)
 

@@ -1,38 +1,110 @@
 #!/usr/bin/env python3
-"""The controller in Python in examples/python, and the worked bytes of docs/PROTOCOL.md.
+"""The sample programs over loopback, the controller in Python in examples/python, and the worked bytes of
+docs/PROTOCOL.md.
 
-Usage: python_controller.py BIN     BIN is the folder with `ocadev` and `ocactl`
+Usage: samples.py BIN     BIN is the folder with `amplifier`, `panel`, `ocadev` and `ocactl`
 
-Its link is asked at moments that are handed in, and must send and take what PROTOCOL says; wrong links must be found.
-Then it runs against `ocadev serve`, first alone, then over a bad network. `ocactl` must read and be refused
-what it set and locked. Each command is executed once, and its socket keeps to the rules: one address, one command a
-datagram, handles that rise by one, at most 20 unchanged copies, at most 16 in flight. `ocadev replay` must answer each
-row of worked bytes as it stands there. The last line is 'N passed, M failed'."""
+The panel sets and lists the amplifier, beside locks of another peer, and lists `ocadev`. The amplifier's knobs are read
+by a peer, a peer's settings are shown, and closed standard streams change nothing.
+
+The link of the controller in Python is asked at moments that are handed in, and must send and take what PROTOCOL says;
+wrong links must be found. Then it runs against `ocadev serve`, first alone, then over a bad network. `ocactl` must read
+and be refused what it set and locked. Each command is executed once, and its socket keeps to the rules: one address,
+one command a datagram, handles that rise by one, at most 20 unchanged copies, at most 16 in flight. `ocadev replay`
+must answer each row of worked bytes as it stands there. The last line is 'N passed, M failed'."""
 import contextlib
 import functools
 import io
+import os
 import re
 import struct
 import subprocess
 import sys
+import tempfile
 import threading
 import time
 from types import ModuleType
 
 import oca_profile as oca
-from checks import Checks, Serving, at, ended, free_port, waited
-from peers import Lossy
-from scenes import Scene, scenes_of, verbs_of_run
+from checks import Checks, Serving, at, bound, ended, free_port, port_said, sockets, waited
+from peers import Lossy, Peer
+from scenes import Scene, play_all, scenes_of, verbs_of_peer, verbs_of_run
 from tables import TOP, data
 
 EXAMPLE, TREE = TOP / "examples/python/controller.py", "examples/stagebox.tree"
 PYTHON = sys.executable, EXAMPLE
-SPAN, TRIES, DATA = 16, 20, data("python_controller")
+SPAN, TRIES, DATA = 16, 20, data("samples")
 ROW = r"\| [^|]+ \| `([0-9A-F ]+)` \| `([0-9A-F .]+)`[^|]* \|"
 
 
+def levels(peer):
+    """What a peer reads of both channels, as the amplifier shows it."""
+    state = lambda mute: "muted" if peer.ask(mute, 4, 1)[1] == b"\1" else "open"
+    setting = lambda gain: int.from_bytes(peer.ask(gain, 5, 1)[1][:2], "big", signed=True)
+    return f"1: {state(4097)} {setting(4098)} dB/10, 2: {state(5097)} {setting(5098)} dB/10\n"
+
+
+class Loopback(Scene):
+    """A scene of the rows: an amplifier, or `ocadev`, the panel at it, and a peer; and a socket that never answers."""
+
+    def __init__(self, checks):
+        self.run, self.port, self.peer, self.open = None, 0, None, bound()
+        super().__init__(checks, {
+            **verbs_of_run(self), **verbs_of_peer(self),
+            "amplifier": self.begins,
+            "amplifier, closed": lambda number: self.begins(preexec_fn=lambda: os.close(number)),
+            "amplifier's end": self.ends,
+            "ocadev": self.serves,
+            "asks all": lambda command: self.does["asks"](*command),
+            "levels": lambda: levels(self.peer),
+            "panel": lambda *words: checks.ran("panel", self.port, *words)[0],
+            "panel, closed": lambda number: checks.ran("panel", self.port, preexec_fn=lambda: os.close(number))[0],
+            "panel at": lambda port, *words: checks.ran("panel", *str(port).split(), *words)[0],
+            "panel at no port": lambda port: checks.ran("panel", port)[0].splitlines()[0][:7].strip(),
+            "listens at": lambda: bound_at(self.port),
+            "where the panel is": lambda: checks.start("panel", self.names["silent"]) and bound_at(self.open.recvfrom(2000)[1][1]),
+            "looks at the channels": lambda: channels(checks, self.peer, (4096, 5096), -800)}, silent=self.open.getsockname()[1])
+
+    def begins(self, **settings):
+        """An amplifier, whose input stays open, and a peer of it."""
+        self.run = self.checks.start("amplifier", 0, 100000, bufsize=1, **settings)
+        self.port = port_said(self.run)
+        self.peer = Peer(self.port, 30, 1)
+
+    def serves(self, *words):
+        self.run, self.port = self.checks.serve(*words)
+
+    def ends(self, words, lines, output=""):
+        """What an amplifier prints that ends by itself, with these lines as its input: behind where it listens, its notes, and its status."""
+        with tempfile.TemporaryFile("w+") as given, open(output or os.devnull, "w") as printed:
+            given.write(lines)
+            given.seek(0)
+            run = self.checks.start("amplifier", *words.split(), stdin=given, **{"stdout": printed} if output else {})
+            said, notes, status = ended(run)
+        return said, re.sub(r"^listening 127\.0\.0\.1:\d+\n", "", notes), status
+
+
+def amplifiers(checks):
+    play_all(checks, Loopback, "samples")
+
+
+def channels(checks, peer, blocks, low):
+    """What a peer reads of each object of an amplifier's channels: its class, its role, that it can be locked, and a gain's limits."""
+    for number, block in enumerate(blocks, 1):
+        for ono, kind, role in ((block, "block", f"channel {number}"), (block + 1, "mute", "mute"), (block + 2, "int16", "gain")):
+            checks.same(f"{ono}: its class", peer.ask(ono, 1, 1), (0, oca.class_bytes(oca.Object(ono, kind, 100, role))))
+            checks.same(f"{ono}: its role", peer.ask(ono, 1, 5), (0, oca.text_bytes(role)))
+            checks.same(f"{ono}: it can be locked", peer.ask(ono, 1, 2), (0, b"\1"))
+        checks.same(f"{block + 2}: its limits", peer.ask(block + 2, 5, 1), (0, struct.pack(">hhh", 0, low, 100)))
+
+
+def bound_at(port):
+    """The addresses of this machine at which somebody has this UDP port, of IPv4."""
+    return [ip for (ip, own), *_ in sockets("udp") if own == port]
+
+
 def module_of(text):
-    """The example, or a wrong one of this text, as a module."""
+    """The controller in Python, or a wrong one of this text, as a module."""
     module = sys.modules["controller"] = ModuleType("controller")    # where its dataclasses look for their types
     exec(compile(text, EXAMPLE, "exec"), module.__dict__)
     return module
@@ -60,7 +132,7 @@ def what_is_heard(link, datagram):
 
 def rules(checks, its):
     """The link of the example, moment by moment, by the scenes of links."""
-    for steps, _ in scenes_of("python_controller", "link"):
+    for steps, _ in scenes_of("samples", "link"):
         link = its.Link(1, last_sent=0.0)
         Scene(checks, {
             "submit": functools.partial(link.submit, its.Request(4097, 4, 1)),
@@ -112,7 +184,7 @@ def ran(*words, given=""):
 
 
 class Stage(Scene):
-    """A scene of the rows: the example's commands beside `ocactl`'s, over 127.0.0.1."""
+    """A scene of the rows: the commands of the controller in Python beside those of `ocactl`."""
 
     def __init__(self, checks, device):
         self.at = device.address
@@ -186,14 +258,6 @@ def at_a_loss(checks, device):
     return watches
 
 
-def executed_once(checks, device, watches):
-    """Each command that a network brought was executed once, and none was too old but behind its answer."""
-    for watch in watches:
-        executed, old, reused = device.executed(*watch.ports)
-        checks.same("executed once", (executed, reused), (len(watch.sent), 0))
-        checks.same("too old", old <= watch.behind, True)
-
-
 def worked_bytes():
     """The rows of worked bytes in PROTOCOL: a command and what answers it, in digits, where `...` stands for the rest."""
     return [[it.replace(" ", "").lower() for it in row] for row in re.findall(ROW, (TOP / "docs/PROTOCOL.md").read_text())]
@@ -216,15 +280,19 @@ def worked(checks):
 
 def main():
     checks, text = Checks(sys.argv[1]), EXAMPLE.read_text()
+    checks.parts(amplifiers)
     rules(checks, module_of(text))
     for old, new in DATA.wrong:
         checks.finds(" in the example", text, old, new, is_wrong)
     worked(checks)
     with Device(checks.folder) as device:
-        for steps, _ in scenes_of("python_controller"):
+        for steps, _ in scenes_of("samples", "controller"):
             Stage(checks, device).play(steps)
         watches = at_a_loss(checks, device)
-    executed_once(checks, device, watches)
+    for watch in watches:  # none was too old but behind its answer
+        executed, old, reused = device.executed(*watch.ports)
+        checks.same("executed once", (executed, reused), (len(watch.sent), 0))
+        checks.same("too old", old <= watch.behind, True)
     return checks.verdict()
 
 
