@@ -57,10 +57,11 @@ def layer_of(keep):
 
 class Checks(checks.Checks):
     def serve(self, keep, *words, most=None, **layer):
-        """A device with this file at a port of the system's, this port, and its peer. Where its files have so many bytes at most, a further write is
-        refused, and does not end it: the signal is ignored, as by Python."""
-        limit = lambda: most is None or resource.setrlimit(resource.RLIMIT_FSIZE, (most, resource.RLIM_INFINITY))
-        run = self.start("ocadev", "serve", "--port", 0, "--keep", keep, *words, preexec_fn=limit, restore_signals=most is None, **layer)
+        """A device with this file at a port of the system's, this port, and its peer. Where its files have so many bytes at most, a further
+        write is refused, and does not end it: the signal is ignored, as by Python."""
+        limit = lambda: resource.setrlimit(resource.RLIMIT_FSIZE, (most, resource.RLIM_INFINITY))
+        limited = {} if most is None else {"preexec_fn": limit, "restore_signals": False}
+        run = self.start("ocadev", "serve", "--port", 0, "--keep", keep, *words, **limited, **layer)
         port = port_said(run)
         return run, port, Peer(port) if port else None
 
@@ -219,27 +220,29 @@ def unknown(checks, folder):
     os.chmod(f"{folder}/closed", 0o700)
 
 
-# What may change a file or a folder, and what sends; and what is done before each answer: a new file is made, written and flushed, it takes the place
-# of the file, and the folder is flushed.
+# What may change a file or a folder, and what sends; and what is done before each answer: a new file is made, written and flushed, it takes
+# the place of the file, and the folder is flushed.
 CHANGING = "openat,open,creat,write,writev,pwrite64,truncate,ftruncate,fsync,rename,renameat,renameat2,link,linkat,unlink,unlinkat,sendto"
 STORE = ["openat cuts/state.new", "write cuts/state.new", "fsync cuts/state.new", "rename cuts/state.new cuts/state",
          "openat cuts", "fsync cuts", "sendto"]
 
 
 def changes_in(log, folder):
-    """The calls of the system in a log of strace that did not fail, with the names in this folder's `cuts`, each once where it is repeated at once:
-    those with a name, and those that send."""
+    """The calls of the system in a log of strace that did not fail, with the names in this folder's `cuts`: those with a name, of writes in a row
+    one, and those that send."""
     calls = re.findall(r"(\w+)\((.*)\) += \d+", log)
-    steps = [" ".join([name, *re.findall(rf'["<]{folder}/(cuts[^">]*)[">]', words)]) for name, words in calls]
-    return [step for step, _ in itertools.groupby(steps) if " " in step or step == "sendto"]
+    steps = [" ".join([name, *re.findall(rf'["<]{re.escape(folder)}/(cuts[^">]*)[">]', words)]) for name, words in calls]
+    rows = itertools.groupby(step for step in steps if " " in step or step == "sendto")
+    return [it for step, its in rows for it in ([step] if step.startswith("write ") else its)]
 
 
 def power_cuts(checks, folder):
-    """Wherever the power is cut, what was answered OK is on the disk: by each call of the system that may change the file or its folder, in their
-    order up to the end."""
+    """Wherever the power is cut, what was answered OK is on the disk: by each call of the system that may change the file or its folder, in
+    their order up to the end."""
     if shutil.which("strace") is None:
         print("no strace here: the order of the calls was not looked at")
         return
+    folder = os.path.realpath(folder)  # as strace names it
     keep, log = f"{folder}/cuts/state", f"{folder}/log"
     os.mkdir(f"{folder}/cuts")
     words = ["strace", "-f", "-y", "-o", log, "-e", f"trace={CHANGING}"]

@@ -261,7 +261,8 @@ int setsockopt(int file, int level, int name, const void *value, socklen_t lengt
 }
 
 int getsockopt(int file, int level, int name, void *value, socklen_t *length) {
-    if (!getenv("GRANTED") || level != SOL_SOCKET || name != SO_SNDBUF || file != asked) return REAL(getsockopt)(file, level, name, value, length);
+    if (!getenv("GRANTED") || level != SOL_SOCKET || name != SO_SNDBUF || file != asked)
+        return REAL(getsockopt)(file, level, name, value, length);
     if (fails(GRANTED < 0 ? ENOBUFS : 0)) return -1;
     *(int *)value = GRANTED;
     return 0;
