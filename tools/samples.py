@@ -163,12 +163,9 @@ class Device(Serving):
         self.reader = threading.Thread(target=lambda: self.lines.extend(self.process.stderr), daemon=True)
         self.reader.start()
 
-    def __exit__(self, *_):
-        super().__exit__()
-        self.reader.join()
-
     def executed(self, port):
         """How many commands from this port were executed, and how many were too old or reused; once the device ended."""
+        self.reader.join()
         counts = [re.match(rf"127\.0\.0\.1:{port} served (\d+) \d+ (\d+)(?: reused (\d+))?", line) for line in self.lines]
         return [sum(int(it[n] or 0) for it in counts if it) for n in (1, 2, 3)]
 
