@@ -32,7 +32,7 @@ import c_rows
 import oca_profile as oca
 from c_rows import LANGUAGES, SANITIZED, STRICT, compiled, ran
 from checks import Checks, bound, ended, free_port, lines_in, over_the_layer, port_said, read_until
-from embedded import bound_at, channels
+from samples import bound_at, channels
 from keep import Peer, over_kills
 from peers import Lossy
 from scenes import Scene, scenes_of, verbs_of_files, verbs_of_peer, verbs_of_run

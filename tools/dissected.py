@@ -14,25 +14,25 @@ import shutil
 import subprocess
 import sys
 import tempfile
-from collections import Counter
 from pathlib import Path
 
 import oca_profile as oca
-from checks import verdict
-from python_controller import script_of, worked_bytes
+from checks import Checks
+from samples import script_of, worked_bytes
 from tables import TOP
 
 FIELDS = ("type", "msgcount", "handle", "tono", "mlevel", "midx", "pcount", "status")  # the first two of a PDU, all others of a message
 
 
 def frames_of(program, script):
-    """The datagrams of a script that have no fault, and those that answer them."""
+    """The datagrams of a script that have no fault, and those that answer them: of each whether it is an answer."""
     heard = re.findall(r"^\d+ [\d.]+:\d+ ([0-9a-fA-F]+|-)$", script, re.MULTILINE)
     told = subprocess.run([program, "replay"], input=script, capture_output=True, text=True, timeout=60, check=True).stdout.splitlines()
     verdicts = [line.startswith("served ") for line in told if line.startswith(("served ", "malformed "))]
     if len(verdicts) != len(heard):
         sys.exit(f"dissected: {len(verdicts)} verdicts for {len(heard)} datagrams")
-    return [bytes.fromhex(it) for it in itertools.compress(heard, verdicts)], [bytes.fromhex(line[2:]) for line in told if line.startswith("> ")]
+    answers = [line[2:] for line in told if line.startswith("> ")]
+    return [(bytes.fromhex(it), False) for it in itertools.compress(heard, verdicts)] + [(bytes.fromhex(it), True) for it in answers]
 
 
 def read(frame):
@@ -75,20 +75,17 @@ def number(text):
 def main(folder):
     if not shutil.which("tshark"):
         sys.exit("dissected: there is no tshark")
-    failed, kinds, frames = 0, Counter(), []
+    checks, frames = Checks(), []
     for script in [*map(Path.read_text, sorted((TOP / "examples").glob("*.script"))), script_of(worked_bytes())]:
-        heard, answered = frames_of(f"{folder}/ocadev", script)
-        frames += [(frame, False) for frame in heard] + [(frame, True) for frame in answered]
+        frames += frames_of(f"{folder}/ocadev", script)
     told = dissected(frames)
     if len(told) != len(frames):
         sys.exit(f"dissected: tshark read {len(told)} of {len(frames)} frames")
-    for (frame, is_answer), (*fields, malformed) in zip(frames, told):
-        kinds["answers" if is_answer else "sent to the device"] += 1
-        if malformed or list(map(number, fields)) != read(frame):
-            failed += 1
-            print(f"FAILED: {frame.hex()}: {fields} {malformed}, and it is {read(frame)}")
-    print(", ".join(f"{count} {kind}" for kind, count in sorted(kinds.items())))
-    return verdict(len(frames) - failed, failed)
+    for (frame, _), (*fields, malformed) in zip(frames, told):
+        checks.same(frame.hex(), ([*map(number, fields)], malformed), (read(frame), ""))
+    answers = sum(is_answer for _, is_answer in frames)
+    print(f"{answers} answers, {len(frames) - answers} sent to the device")
+    return checks.verdict()
 
 
 if __name__ == "__main__":

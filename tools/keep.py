@@ -1,13 +1,14 @@
 #!/usr/bin/env python3
 """A device that keeps its state in a file (`ocadev serve --keep FILE`) is stopped and started again: by SIGTERM, by
-`kill -9`, with the power cut at each system call, without room, with each step of a store refused or slow
-(`unreliable.c`), and over broken files. Whatever was answered with OK is there.
+`kill -9`, without room, with each step of a store refused or slow (`unreliable.c`), and over broken files. Whatever was
+answered with OK is there, after a power cut too: the order of the calls of the system is looked at.
 
 Usage: keep.py BIN     BIN is the folder with `ocadev` and `ocactl`
 
 What is expected is built from docs/PROTOCOL.md, and not by the programs. The last line is 'N passed, M failed'."""
 import contextlib
 import errno
+import itertools
 import os
 import random
 import re
@@ -15,7 +16,6 @@ import resource
 import shutil
 import signal
 import struct
-import subprocess
 import sys
 import tempfile
 import threading
@@ -50,12 +50,6 @@ class Peer(peers.Peer):
         return answer and struct.unpack(">h", answer[1][:2])[0]
 
 
-def limit_files(most):
-    """Files have so many bytes at most from now on: a further write is refused, and does not end the program."""
-    signal.signal(signal.SIGXFSZ, signal.SIG_IGN)
-    resource.setrlimit(resource.RLIMIT_FSIZE, (most, resource.RLIM_INFINITY))
-
-
 def layer_of(keep):
     """The settings of the layer for a device with this file: steps that are refused, and what is told of them."""
     return {"REFUSING": f"{keep}.refusing", "TOLD": f"{keep}.told"}
@@ -63,9 +57,11 @@ def layer_of(keep):
 
 class Checks(checks.Checks):
     def serve(self, keep, *words, most=None, **layer):
-        """A device with this file at a port of the system's, this port, and its peer."""
-        limit = None if most is None else lambda: limit_files(most)
-        run = self.start("ocadev", "serve", "--port", 0, "--keep", keep, *words, preexec_fn=limit, **layer)
+        """A device with this file at a port of the system's, this port, and its peer. Where its files have so many bytes at most, a further
+        write is refused, and does not end it: the signal is ignored, as by Python."""
+        limit = lambda: resource.setrlimit(resource.RLIMIT_FSIZE, (most, resource.RLIM_INFINITY))
+        limited = {} if most is None else {"preexec_fn": limit, "restore_signals": False}
+        run = self.start("ocadev", "serve", "--port", 0, "--keep", keep, *words, **limited, **layer)
         port = port_said(run)
         return run, port, Peer(port) if port else None
 
@@ -163,7 +159,6 @@ class Room(Scene):
         said = stop(self.run)
         return re.fullmatch(form, said) is not None or said
 
-
     def ends(self, keep, **layer):
         """What a device with this file prints and says, and its status, where it ends by itself."""
         return self.checks.ran("ocadev", "serve", "--port", 0, "--keep", keep, seconds=30, **layer)
@@ -216,74 +211,50 @@ def unknown(checks, folder):
     shutil.copy(f"{checks.folder}/ocadev", f"{folder}/ocadev")
     os.chmod(folder, 0o711)
     os.chmod(f"{folder}/closed", 0)
-    other = ["setpriv", "--reuid=65534", "--regid=65534", "--clear-groups"] if os.geteuid() == 0 else []
-    words = [*other, f"{folder}/ocadev", "serve", "--port", "0", "--turns", "1", "--keep", f"{folder}/closed/state"]
-    ran = subprocess.run(words, stdin=subprocess.DEVNULL, capture_output=True, text=True, timeout=30)
-    checks.same("a file of which nothing is known", (ran.returncode, ran.stdout, ran.stderr.splitlines()[-1:]), (1, "", ["read failed"]))
+    other = {"user": 65534, "group": 65534, "extra_groups": []} if os.geteuid() == 0 else {}
+    words = ["ocadev", "serve", "--port", 0, "--turns", 1, "--keep", f"{folder}/closed/state"]
+    out, told, status = Checks(folder).ran(*words, seconds=30, **other)
+    checks.same("a file of which nothing is known", (status, out, told.splitlines()[-1:]), (1, "", ["read failed"]))
     reason = os.strerror(errno.EACCES)
-    checks.same(f"a file of which nothing is known: {reason}", reason in ran.stderr.splitlines()[0], True)
+    checks.same(f"a file of which nothing is known: {reason}", reason in told.splitlines()[0], True)
     os.chmod(f"{folder}/closed", 0o700)
 
 
-CALL = re.compile(r"(?:\[pid +\d+\] |\d+ +)?(\w+)\((.*)\) += (\d+)")  # one that did not fail
+# What may change a file or a folder, and what sends; and what is done before each answer: a new file is made, written and flushed, it takes
+# the place of the file, and the folder is flushed.
+CHANGING = "openat,open,creat,write,writev,pwrite64,truncate,ftruncate,fsync,rename,renameat,renameat2,link,linkat,unlink,unlinkat,sendto"
+STORE = ["openat cuts/state.new", "write cuts/state.new", "fsync cuts/state.new", "rename cuts/state.new cuts/state",
+         "openat cuts", "fsync cuts", "sendto"]
 
 
-def behind_calls(log, keep):
-    """Behind each call of the system in a log of strace with -xx: its line, whether it sends an answer, and what the file may hold after a power cut
-    then, None where it may not be there. Of the names and of the bytes of each file there is what is on the disk, and what is so behind each change
-    since, the last of which the system has; an fsync of a file puts its bytes on the disk, and one of the folder the names."""
-    names, files, handles = [{}], [], {}
-    for call in filter(None, map(CALL.match, log)):
-        name, words, result = call.groups()
-        texts = [bytes.fromhex(it.replace("\\x", "")) for it in re.findall(r'"((?:\\x[0-9a-f]{2})*)"', words)]
-        paths, first = [os.path.normpath(os.fsdecode(it)) for it in texts[:2]], words.split(",")[0]
-        file = handles.get(first)  # the number of a file, or the path of the folder
-        if name in ("openat", "open"):
-            if "O_CREAT" in words and paths[0] not in names[-1]:
-                names.append(names[-1] | {paths[0]: len(files)})
-                files.append([b""])
-            handles[result] = names[-1].get(paths[0], paths[0])
-        elif name == "write" and isinstance(file, int):
-            files[file].append(files[file][-1] + texts[0][:int(result)])
-        elif name in ("fsync", "fdatasync") and file is not None:
-            del (files[file] if isinstance(file, int) else names)[:-1]
-        elif name == "dup" or name == "fcntl" and "F_DUPFD" in words:
-            handles[result] = file
-        elif name == "close":
-            handles.pop(first, None)
-        elif name.startswith(("rename", "unlink")):
-            left = {path: it for path, it in names[-1].items() if path != paths[0]}
-            names.append(left | ({paths[1]: names[-1].get(paths[0])} if name.startswith("rename") else {}))
-        yield call[0], name == "sendto" and bool(texts) and len(texts[0]) == 20, [
-            state for those in names for state in (files[those[keep]] if keep in those else [None])]
+def changes_in(log, folder):
+    """The calls of the system in a log of strace that did not fail, with the names in this folder's `cuts`: those with a name, of writes in a row
+    one, and those that send."""
+    calls = re.findall(r"(\w+)\((.*)\) += \d+", log)
+    steps = [" ".join([name, *re.findall(rf'["<]{re.escape(folder)}/(cuts[^">]*)[">]', words)]) for name, words in calls]
+    rows = itertools.groupby(step for step in steps if " " in step or step == "sendto")
+    return [it for step, its in rows for it in ([step] if step.startswith("write ") else its)]
 
 
 def power_cuts(checks, folder):
-    """The power is cut behind each system call: what was answered OK is on any possible disk."""
+    """Wherever the power is cut, what was answered OK is on the disk: by each call of the system that may change the file or its folder, in
+    their order up to the end."""
     if shutil.which("strace") is None:
-        print("no strace here: the power was not cut")
+        print("no strace here: the order of the calls was not looked at")
         return
+    folder = os.path.realpath(folder)  # as strace names it
     keep, log = f"{folder}/cuts/state", f"{folder}/log"
     os.mkdir(f"{folder}/cuts")
-    calls = "openat,open,write,fsync,fdatasync,fcntl,dup,close,rename,renameat,renameat2,unlink,unlinkat,sendto"
-    words = ["strace", "-f", "-xx", "-s", "1000000", "-o", log, "-e", f"trace={calls}"]
+    words = ["strace", "-f", "-y", "-o", log, "-e", f"trace={CHANGING}"]
     with Serving(*words, f"{checks.folder}/ocadev", "serve", "--port", "0", "--keep", keep) as device:
-        peer, tracer = Peer(device.port), device.process.pid
+        peer, tracer = Peer(device.port, patience=30), device.process.pid
         for value in range(1, 6):
-            checks.same("a command before the power is cut", peer.trims(value), DONE)
+            checks.same("a command before the power is cut", (peer.trims(value), checks.kept(keep)), (DONE, value))
+            checks.is_whole("its file", keep)
         os.kill(int(Path(f"/proc/{tracer}/task/{tracer}/children").read_text().split()[0]), signal.SIGTERM)
         device.process.communicate(timeout=30)
-    answered, states, wrong = 0, 0, []
-    for line, is_answer, found in behind_calls(Path(log).read_text(encoding="ascii", errors="replace").splitlines(), keep):
-        answered += is_answer
-        for state in found:
-            states += 1
-            match = re.search(rb'\nobject 4100 .* int16 -600 600 (-?\d+) .*\n# end of \d+ objects\n\Z', state or b"", re.DOTALL)
-            got = int(match[1]) if match else -1 if state is None else 0
-            if not (answered <= got <= answered + 1 or answered == 0 and state is None):
-                wrong.append((answered, got, line[:60]))
-    checks.same("commands that were answered before the power is cut", answered, 5)
-    checks.same(f"disks on which what was answered is not there, of {states}", (wrong[:3], states > 100), ([], True))
+    done = changes_in(Path(log).read_text(encoding="ascii", errors="replace"), folder)
+    checks.same("the calls of the system by which it is stored", done, ["openat cuts/state.lock", *5 * STORE])
 
 
 def main():

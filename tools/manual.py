@@ -16,6 +16,7 @@ import shutil
 import subprocess
 import sys
 import tempfile
+from collections import defaultdict
 from pathlib import Path
 
 from checks import Checks
@@ -46,13 +47,9 @@ def helps_of(program):
     return {name: told_by(program, name, "--help") for name in names} or {Path(program).name: text}
 
 
-def section(text, name):
-    found = re.search(rf"^\.SH {name}\n(.*?)(?=^\.SH |\Z)", text, re.MULTILINE | re.DOTALL)
-    return found[1] if found else ""
-
-
-def parts_of(text, name):
-    return [part.split("\n", 1) for part in re.split(r"^\.SS ", section(text, name), flags=re.MULTILINE)[1:]]
+def parts_of(text, mark):
+    """The parts of a page, or of one of its parts: each with its heading."""
+    return re.findall(rf"(?ms)^\.{mark} (.*?)\n(.*?)(?=^\.{mark} |\Z)", text)
 
 
 def options_in(text):
@@ -61,10 +58,10 @@ def options_in(text):
     return {name.replace("\\", "").lstrip("-"): (value or None, default_of(told)) for name, value, told in blocks}
 
 
-def commands_in_page(text):
-    """The options of each command: for each its value or none, and its default or none."""
-    commands = {name: options_in(rest) for name, rest in parts_of(text, "COMMANDS")}
-    for heading, rest in parts_of(text, "COMMON OPTIONS"):
+def commands_in_page(own, common):
+    """The options of each command, its own and the common ones: for each its value or none, and its default or none."""
+    commands = {name: options_in(rest) for name, rest in parts_of(own, "SS")}
+    for heading, rest in parts_of(common, "SS"):
         for name, options in commands.items():
             if (name in re.findall(r"[a-z]+", heading)) != heading.startswith("All commands"):
                 twice = options.keys() & options_in(rest).keys()
@@ -80,18 +77,18 @@ def default_of(text):
 
 def faults_of(text, program):
     """What differs between the text of a page and the program, a line each, and how much was compared."""
-    documented, helps, wanted = commands_in_page(text), helps_of(program), DATA.ended[Path(program).name]
+    parts, helps, wanted = defaultdict(str, parts_of(text, "SH")), helps_of(program), DATA.ended[Path(program).name]
+    documented = commands_in_page(parts["COMMANDS"], parts["COMMON OPTIONS"])
     faults = [f"command {name} is in one of both alone" for name in documented.keys() ^ helps.keys()]
     count = len(helps) + len(wanted)
     for name in sorted(documented.keys() & helps.keys()):
-        options = {option: (value, default_of(told)) for option, (value, told) in listed(helps[name], "Options").items()}
-        said = {option: of for option, of in options.items() if option not in ("help", "version")}  # which every program has
+        page = documented[name]
+        said = {option: (value, default_of(told)) for option, (value, told) in listed(helps[name], "Options").items()
+                if option not in ("help", "version")}  # which every program has
         count += len(said) + sum(default is not None for _, default in said.values())
-        for option in sorted(documented[name].keys() | said.keys()):
-            page_has, help_has = documented[name].get(option), said.get(option)
-            if page_has != help_has:
-                faults.append(f"{name} --{option}: {page_has!r} in the page, {help_has!r} in the help")
-    told = re.findall(r"^\.TP\n(\d+)\n((?:(?!\.TP\n|\.PP\n).*\n)*)", section(text, "EXIT STATUS"), re.MULTILINE)
+        faults += [f"{name} --{it}: {page.get(it)!r} in the page, {said.get(it)!r} in the help"
+                   for it in sorted(page.keys() | said.keys()) if page.get(it) != said.get(it)]
+    told = re.findall(r"^\.TP\n(\d+)\n((?:(?!\.TP\n|\.PP\n).*\n)*)", parts["EXIT STATUS"], re.MULTILINE)
     faults += [f"exit status {status}: not {words!r}" for status, words in wanted.items() if words not in dict(told).get(status, "")]
     faults += [f"exit statuses: {[status for status, _ in told]}"] if len(told) != len(wanted) else []
     return faults, count

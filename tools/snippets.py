@@ -21,11 +21,10 @@ import re
 import subprocess
 import sys
 import tempfile
-from pathlib import Path
 
 from checks import NOTE, Checks, ended
+from tables import TOP
 
-TOP = Path(__file__).resolve().parent.parent
 DOCUMENTS = ["README.md", "docs/EMBEDDING.md"]
 RULE = r"\| *:?-{3,}:? *\|"
 
@@ -124,34 +123,26 @@ def examples():
             yield f"{file.relative_to(TOP)}:{number}", None if found else "stands in no test and no sample"
 
 
-def cells(row):
-    """How many cells a row of a table has, None where a bar is missing at its end. A bar in a cell is written `\\|`."""
-    return len(re.findall(r"(?<!\\)\|", row)) - 1 if re.fullmatch(r"\|.*(?<!\\)\|", row) else None
-
-
 def fault_of_table(rows):
-    """What is wrong with lines that begin with a bar, or None."""
+    """What is wrong with lines that begin with a bar, or None. A bar in a cell is written `\\|`."""
     if len(rows) < 2 or not re.fullmatch(r"\|(?: *:?-+:? *\|)+", rows[1]):
         return "is no table: its second line is no rule"
+    cells = lambda row: re.fullmatch(r"\|.*(?<!\\)\|", row) and len(re.findall(r"(?<!\\)\|", row)) - 1
     is_row = lambda number: cells(rows[number]) == cells(rows[0]) and (number == 1 or not re.search(RULE, rows[number]))
     return next((f"its line {number + 1} is no row like its head: {row}" for number, row in enumerate(rows) if not is_row(number)), None)
 
 
 def tables(text):
     """Of each table of a document, each rule within a line of text, each item without a text: its line, and what is wrong with it or None."""
-    lines = re.sub(r"(?ms)^```.*?^```$", lambda it: "\n" * it[0].count("\n"), text).split("\n")
-    rows = []
-    for number, line in enumerate(map(str.strip, [*lines, ""]), 1):
-        if line.startswith("|"):
-            rows.append(line)
-            continue
-        if rows:
-            yield number - len(rows), fault_of_table(rows)
-        if re.search(RULE, line):
+    plain = re.sub(r"(?ms)^```.*?^```$", lambda it: "\n" * it[0].count("\n"), text)
+    for it in re.finditer(r"(?m)^[ \t]*\|.*(?:\n[ \t]*\|.*)*|^.+", plain):
+        number, rows = 1 + plain.count("\n", 0, it.start()), [*map(str.strip, it[0].split("\n"))]
+        if rows[0].startswith("|"):
+            yield number, fault_of_table(rows)
+        elif re.search(RULE, rows[0]):
             yield number, "a rule of a table stands within a line of text"
-        if re.fullmatch(r"[-*+]|[0-9]+\.", line):
+        elif re.fullmatch(r"[-*+]|[0-9]+\.", rows[0]):
             yield number, "an item of a list has no text"
-        rows = []
 
 
 def main():

@@ -43,23 +43,18 @@
 #include <time.h>
 #include <unistd.h>
 
-/* The calls that this layer stands before, and what is set by a number. */
-#define CALLS(OF) OF(malloc) OF(realloc) OF(read) OF(write) OF(recvfrom) OF(sendto) OF(clock_gettime) OF(fsync) OF(renameat) \
-    OF(setsockopt) OF(getsockopt) OF(bind) OF(open) OF(fchmod) OF(flock)
+/* What is set by a number. */
 #define SETTINGS(OF) OF(REFUSE) OF(REFUSE_FROM) OF(FAIL_READ) OF(FAIL_WRITE) OF(PIECE) OF(SIGNALS) OF(INTERRUPT) OF(FAIL_RECEIVE) OF(FAIL_SEND) \
     OF(ERRNO) OF(STALL) OF(SLEPT) OF(UNBOOTED) OF(FAIL_SYNC) OF(GRANTED) OF(FULL) OF(GONE)
-#define DECLARE_CALL(name) static __typeof__(name) *real_##name;
-#define FIND_CALL(name) real_##name = dlsym(RTLD_NEXT, #name);
 #define DECLARE_SETTING(name) static long name;
 #define READ_SETTING(name) name = getenv(#name) ? atol(getenv(#name)) : 0;
+/* The call of this name that this layer stands before: it is looked for once. */
+#define REAL(name) ({ static __typeof__(name) *real; real ? real : (real = dlsym(RTLD_NEXT, #name)); })
 
-CALLS(DECLARE_CALL)
 SETTINGS(DECLARE_SETTING)
 static long requests, reads, writes, receives, sends, interrupted, syncs, kept_writes;
 static int started, has_sent, asked = -1; /* the socket for which a send buffer was asked last */
 static volatile int64_t *ahead;
-
-static void find(void) { CALLS(FIND_CALL) }
 
 static void on_signal(int number) { (void)number; }
 
@@ -118,7 +113,6 @@ static mode_t kind_of(int file) {
 }
 
 __attribute__((constructor)) static void start(void) {
-    find();
     SETTINGS(READ_SETTING)
     if (getenv("AHEAD")) ahead = mmap(NULL, sizeof *ahead, PROT_READ, MAP_SHARED, past("AHEAD", O_RDONLY), 0);
     if (ahead == MAP_FAILED) abort();
@@ -138,25 +132,21 @@ static int is_refused(void) {
 }
 
 void *malloc(size_t size) {
-    if (!real_malloc) find();
-    return is_refused() ? NULL : real_malloc(size);
+    return is_refused() ? NULL : REAL(malloc)(size);
 }
 
 void *realloc(void *old, size_t size) {
-    if (!real_realloc) find();
-    return is_refused() ? NULL : real_realloc(old, size);
+    return is_refused() ? NULL : REAL(realloc)(old, size);
 }
 
 static size_t at_most(size_t size, long most) { return most && size > (size_t)most ? (size_t)most : size; }
 
 ssize_t read(int file, void *bytes, size_t size) {
-    if (!real_read) find();
     if (file == 0 && fails(++reads == FAIL_READ ? EIO : 0)) return -1;
-    return real_read(file, bytes, file == 0 ? at_most(size, PIECE) : size);
+    return REAL(read)(file, bytes, file == 0 ? at_most(size, PIECE) : size);
 }
 
 ssize_t write(int file, const void *bytes, size_t size) {
-    if (!real_write) find();
     if (file == 1) {
         if (fails(++writes == FAIL_WRITE ? EIO : 0)) return -1;
         size = at_most(size, PIECE);
@@ -167,7 +157,7 @@ ssize_t write(int file, const void *bytes, size_t size) {
         if (step_fails("write")) return -1;
         size = at_most(size, said("short"));
     }
-    return real_write(file, bytes, size);
+    return REAL(write)(file, bytes, size);
 }
 
 ssize_t __write(int file, const void *bytes, size_t size) { return write(file, bytes, size); }
@@ -180,7 +170,7 @@ static int is_interrupted(void) {
 
 ssize_t recvfrom(int file, void *bytes, size_t size, int flags, struct sockaddr *from, socklen_t *length) {
     if (is_interrupted() || fails(++receives <= FAIL_RECEIVE ? ERRNO : 0)) return -1;
-    return real_recvfrom(file, bytes, size, flags, from, length);
+    return REAL(recvfrom)(file, bytes, size, flags, from, length);
 }
 
 /* What the system does with a send that finds no room. */
@@ -204,18 +194,17 @@ ssize_t sendto(int file, const void *bytes, size_t size, int flags, const struct
         memcpy(&handle, (const char *)bytes + 14, 4);
         tell("TOLD", "sent %d %u\n", port, ntohl(handle));
     }
-    ssize_t taken = real_sendto(file, bytes, size, flags, to, length);
+    ssize_t taken = REAL(sendto)(file, bytes, size, flags, to, length);
     has_sent = has_sent || taken >= 0;
     return taken;
 }
 
 int bind(int file, const struct sockaddr *to, socklen_t length) {
-    return fails(GONE && has_sent ? EADDRNOTAVAIL : 0) ? -1 : real_bind(file, to, length);
+    return fails(GONE && has_sent ? EADDRNOTAVAIL : 0) ? -1 : REAL(bind)(file, to, length);
 }
 
 int clock_gettime(clockid_t clock, struct timespec *time) {
-    if (!real_clock_gettime) find();
-    if (fails(clock == CLOCK_BOOTTIME && UNBOOTED ? EINVAL : 0) || real_clock_gettime(clock, time)) return -1;
+    if (fails(clock == CLOCK_BOOTTIME && UNBOOTED ? EINVAL : 0) || REAL(clock_gettime)(clock, time)) return -1;
     if (has_sent) time->tv_sec += clock == CLOCK_REALTIME ? UNBOOTED : clock == CLOCK_BOOTTIME ? SLEPT : 0;
     if (ahead) {
         time->tv_nsec += *ahead % 1000 * 1000000;
@@ -231,15 +220,14 @@ int open(const char *path, int flags, ...) {
     va_start(rest, flags);
     mode_t mode = flags & O_CREAT ? va_arg(rest, mode_t) : 0;
     va_end(rest);
-    if (!real_open) find();
     if (flags & O_EXCL && step_fails("create")) return -1;
     if (getenv("REFUSING") && stat(path, &found) == 0 && S_ISDIR(found.st_mode) && step_fails("folder")) return -1;
-    return real_open(path, flags, mode);
+    return REAL(open)(path, flags, mode);
 }
 
-int fchmod(int file, mode_t mode) { return step_fails("mode") ? -1 : real_fchmod(file, mode); }
+int fchmod(int file, mode_t mode) { return step_fails("mode") ? -1 : REAL(fchmod)(file, mode); }
 
-int flock(int file, int how) { return step_fails("lock") ? -1 : real_flock(file, how); }
+int flock(int file, int how) { return step_fails("lock") ? -1 : REAL(flock)(file, how); }
 
 /* Told with the file's name. */
 int fsync(int file) {
@@ -252,14 +240,14 @@ int fsync(int file) {
     struct timespec time = {more / 1000, more % 1000 * 1000000};
     if (more) nanosleep(&time, NULL);
     if (fails(++syncs == FAIL_SYNC ? EIO : 0) || step_fails(is_folder ? "sync-folder" : "sync")) return -1;
-    int status = real_fsync(file);
+    int status = REAL(fsync)(file);
     if (is_folder && status == 0) tell("TOLD", "stored\n");
     return status;
 }
 
 int renameat(int from_folder, const char *from, int to_folder, const char *to) {
     tell("CALLS", "rename %.4000s %.4000s\n", from, to);
-    return step_fails("rename") ? -1 : real_renameat(from_folder, from, to_folder, to);
+    return step_fails("rename") ? -1 : REAL(renameat)(from_folder, from, to_folder, to);
 }
 
 int rename(const char *from, const char *to) { return renameat(AT_FDCWD, from, AT_FDCWD, to); }
@@ -269,11 +257,12 @@ int setsockopt(int file, int level, int name, const void *value, socklen_t lengt
         tell("ASKED", "%d\n", *(const int *)value);
         asked = file;
     }
-    return real_setsockopt(file, level, name, value, length);
+    return REAL(setsockopt)(file, level, name, value, length);
 }
 
 int getsockopt(int file, int level, int name, void *value, socklen_t *length) {
-    if (!getenv("GRANTED") || level != SOL_SOCKET || name != SO_SNDBUF || file != asked) return real_getsockopt(file, level, name, value, length);
+    if (!getenv("GRANTED") || level != SOL_SOCKET || name != SO_SNDBUF || file != asked)
+        return REAL(getsockopt)(file, level, name, value, length);
     if (fails(GRANTED < 0 ? ENOBUFS : 0)) return -1;
     *(int *)value = GRANTED;
     return 0;

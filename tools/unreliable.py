@@ -70,24 +70,20 @@ class Runs(Checks):
         self.same(f"{words} with no memory after its start", [*self.run(words, script, REFUSE_FROM=requests + 1)[:3]], wanted)
 
     def serving(self, turns, commands, **settings):
-        """The status of `ocadev serve` with so many turns, how often it asked for memory, and what a controller is answered meanwhile: it sets and
-        reads a mute."""
+        """The status of `ocadev serve` with so many turns, and how often it asked for memory. A controller sets and reads a mute meanwhile."""
         run, port = self.serve("--turns", turns, COUNTS=self.counts, **settings)
-        peer, told = Peer(port), []
+        peer = Peer(port)
         for k in range(commands):
             state = bytes([1 + k % 2])
-            told += [(peer.ask(4097, 4, 2, state), peer.ask(4097, 4, 1), state)]
+            self.same("a mute that is set and read", (peer.ask(4097, 4, 2, state), peer.ask(4097, 4, 1)), ((0, b""), (0, state)))
         _, _, status = ended(run)
-        return status, int(self.counts.read_text().split()[0]), told
+        return status, int(self.counts.read_text().split()[0])
 
     def over_sockets(self):
         """Nothing is asked for by a device that is served, nor by a controller that sends, once it began."""
-        status, idle, _ = self.serving(1, 0)
+        status, idle = self.serving(1, 0)
         for settings in ({}, {"REFUSE_FROM": idle + 1}):
-            code, requests, told = self.serving(120, 50, **settings)
-            for its in told:
-                self.same("a mute that is set and read", its[:2], ((0, b""), (0, its[2])))
-            self.same(f"served {settings}", (requests, code, len(told)), (idle, status, 50))
+            self.same(f"served {settings}", self.serving(120, 50, **settings), (status, idle))
         with Served() as device:
             words = lambda: ["ocactl", "run", "--device", f"127.0.0.1:{device.port}", "--ahead", 16, "--port", free_port()]
             *_, (idle, *_) = self.run(words(), b"")
