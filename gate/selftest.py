@@ -125,12 +125,12 @@ def of_copies(folder):
 def copies_edits(folder):
     crate, of = of_copies(folder)
     groups = edits.grouped(of.values(), crate, True)
-    is_grouped = [(it.placed, it.copied) for it in groups] == [([of["a"], of["c"]], [of["b"]]), ([of["d"]], [])]
+    is_grouped = [(it.placed, it.copied) for it in groups] == [([of["c"], of["a"]], [of["b"]]), ([of["d"]], [])]
     alone = [it.edits() for it in edits.grouped(of.values(), crate)]
     texts = groups[0].texts(crate, groups[0].copies(crate))
     behind = DATA.source.replace("n + 1\n}\n", "n + 2\n}\n" + DATA.copies).replace("T(1)", "T(2)")
     proofs = {f"proofs/m/{it}/Answers.antt": DATA.of_f.replace("proofs.m.f.", f"proofs.m.{it}.") for it in ("f_as_it_stands", "f_edited_1")}
-    return is_grouped and alone == [[of["a"], of["c"]], [of["b"], of["d"]]] and texts == {"src/m.rt": behind, **proofs}
+    return is_grouped and alone == [[of["c"], of["a"]], [of["d"], of["b"]]] and texts == {"src/m.rt": behind, **proofs}
 
 
 @of_rows("Of two edits of a function those are refused of which the prover says so, if the copy as it stands is proved.", DATA.said_of_copies)

@@ -393,12 +393,11 @@ def programs_that_stand(name, second, folder):
 
 
 @of_rows("`.ci/run` calls `make test` in the repository's own folder, from wherever it is called, and ends as that does.",
-         [(status, (status, "calls make test\n")) for status in (0, 1, 7)])
+         [(status, (status, "here: make test\n")) for status in (0, 1, 7)])
 def run_by_ci(status, folder):
     stand_in(folder / ".ci/run", (run.TOP / ".ci/run").read_text().removeprefix("#!/bin/sh\n"))
-    make = f'[ "$PWD" != "{folder}" ] || echo "calls make $*"\nexit {status}'
-    ended = over_stand_ins(folder, {"make": make}, folder / ".ci/run", cwd="/")
-    return ended.returncode, ended.stdout
+    ended = over_stand_ins(folder, {"make": f'echo "$PWD: make $*"\nexit {status}'}, folder / ".ci/run", cwd="/")
+    return ended.returncode, ended.stdout.replace(str(folder), "here")
 
 
 @of_rows("`build.py` compiles the library for C for what is asked, if the crates below are built, and tells its end.", BUILDS.asked_of_library)
@@ -407,7 +406,7 @@ def run_by_ci(status, folder):
 def library_of(row, folder):
     """How `build.py --library` ends over what the gate left, low below high below the library for C, with files made anew at a second, or taken
     away at second 0; whether it builds those two; what it compiles for, and which archive is left: one of an earlier run was there."""
-    words, status, built, compiled = row.get("words", []), row.get("status", 0), [], []
+    words, status, built, compiled, locked = row.get("words", []), row.get("status", 0), [], [], []
     for file, second in (*BUILDS.of_the_gate, *row.get("changes", ())):
         made(folder / file, second) if second else (folder / file).rmdir()
     low, high = (FakeCrate(name, folder, rlib=str(folder / f"{name}/out/rlib/{name}.rlib"), is_built=lambda: False) for name in ("low", "high"))
@@ -419,7 +418,7 @@ def library_of(row, folder):
         compiled.append(" ".join(words[words.index(word) + 1] for word in ("--target", "--cpu")))
         if row.get("makes", True):
             Path(to).write_text("new")
-        return status if writes() == " in memory" else "not in memory"
+        return status if (writes(), locked) == (" in memory", [low, high, crate]) else "not in memory, or not locked"
 
     def build_all(_, crates):
         built.append({*crates} == {low, high} and writes() == " in memory" and all("/out/statements/" in it.rlib for it in (low, high)))
@@ -427,7 +426,7 @@ def library_of(row, folder):
 
     stamps = ["second" if row.get("is_changed") else "first", "first"]
     crate = FakeCrate("oca_c", folder, [low, high], stamp=stamps.pop, compile=compile_it)
-    tools = fake_tools(1, 99e9, [crate, low, high])
+    tools = fake_tools(1, 99e9, [crate, low, high], lock=locked.extend)
     with patch.object(edits, "rt", tools), patch.object(build, "build_all", build_all), memory_at(folder / "memory"):
         stand = all(map(edits.stands, (low, high)))
         status = main_of(build, "--library", *words, tools=tools)[0]
