@@ -259,11 +259,11 @@ def plays(checks, kind, made, before=(), **how):
 
 
 def mixers(checks, made, prefix, folder):
-    """The mixer as it is, over addresses and undefined behaviour, over threads, and under valgrind; as C++; and killed at random moments."""
+    """The mixer as it is, over addresses and undefined behaviour, over threads, and under valgrind; as C++; killed at random moments."""
     compiled(made / "mixer.o", f"-I{prefix}/include", "-c", TOP / "examples/c/mixer.c", language="c++17")
     (made / "held.c").write_text(DATA.held)
-    mixer, whole = [TOP / "examples/c/mixer.c"], [TOP / "examples/c/mixer.c", *(TOP / f"c/{name}.c" for name in PARTS)]
-    for name, more, of in (("plain", [], mixer), ("sanitized", SANITIZED, whole), ("threads", ["-O1", "-g", "-fsanitize=thread"], whole),
+    mixer, parts = [TOP / "examples/c/mixer.c"], [TOP / "examples/c/mixer.c", *(TOP / f"c/{name}.c" for name in PARTS)]
+    for name, more, of in (("plain", [], mixer), ("sanitized", SANITIZED, parts), ("threads", ["-O1", "-g", "-fsanitize=thread"], parts),
                            ("held", [f"-I{TOP}"], [made / "held.c"])):
         compiled(made / f"mixer-{name}", "-Wpedantic", *more, f"-I{prefix}/include", *of, f"{prefix}/lib/liboca.a", "-pthread")
         plays(checks, "mixer", made, name=name, short=2, long=6)

@@ -125,7 +125,7 @@ def compared(header):
     there, said = dict(re.findall(r'case (OCA_\w+): return "([^"]*)";', header)), texts()
     enums = {
         **{name: constants(of, re.findall(rf"{kind}::(\w+)(?:\(\w+\))? => \(?(\d+)", source(file))) for name, file, kind, of in DATA.arms},
-        **{name: constants(of, re.findall(r"^    (\w+) = (\d+),", variants_of(file, kind), re.M)) for name, file, kind, of in DATA.variants},
+        **{name: constants(of, re.findall(r"\n    (\w+) = (\d+),", variants_of(file, kind))) for name, file, kind, of in DATA.variants},
         "oca_method": methods(),
     }
     words = source("crates/oca_calls/src/words.rt")
@@ -146,7 +146,8 @@ def compared(header):
                          re.findall(r'Status::\w+ => "(\w+)"', source("crates/oca_types/src/status.rt"))),
         "result texts": ({word: there.get(word) for word in said} if there.keys() == results(header) else there, said),
         "most": (most, {of: number_in(source(file), rf"const {name}: usize = (\d+);") for of, file, name in DATA.most}),
-        "version": (number_in(header, r"#define OCA_VERSION (0x[0-9a-fA-F]+)u"), number_in(source("crates/oca_c/src/version.rt"), r"^    (0x[0-9A-Fa-f_]+)$")),
+        "version": (number_in(header, r"#define OCA_VERSION (0x[0-9a-fA-F]+)u"),
+                    number_in(source("crates/oca_c/src/version.rt"), r"^    (0x[0-9A-Fa-f_]+)$")),
     }
 
 
