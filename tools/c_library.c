@@ -94,23 +94,23 @@ static bool same_object(const struct oca_spec *told, const struct oca_spec *give
 struct watched { struct oca_server *server; int held, locks, calls, stores; uint32_t last; bool is_wrong; };
 static void holds(void *context) {
     struct watched *it = (struct watched *)context;
-    it->is_wrong |= it->held++ != 0;
+    it->is_wrong = it->is_wrong || it->held++ != 0;
     it->locks++;
 }
 static void lets_go(void *context) {
     struct watched *it = (struct watched *)context;
-    it->is_wrong |= it->held-- != 1;
+    it->is_wrong = it->is_wrong || it->held-- != 1;
 }
 static void writes(void *context, uint32_t ono) {
     struct watched *it = (struct watched *)context;
-    it->is_wrong |= it->held != 1 || oca_serve(it->server, 0) != OCA_NOTHING;
+    it->is_wrong = it->is_wrong || it->held != 1 || oca_serve(it->server, 0) != OCA_NOTHING;
     oca_serve_end(it->server);
     it->last = ono;
     it->calls++;
 }
 static void stores(void *context, enum oca_store_result stored) {
     struct watched *it = (struct watched *)context;
-    it->is_wrong |= it->held != 0 || (it->server->is_busy && oca_serve(it->server, 0) != OCA_NOTHING);
+    it->is_wrong = it->is_wrong || it->held != 0 || (it->server->is_busy && oca_serve(it->server, 0) != OCA_NOTHING);
     it->stores = it->stores * 10 + (int)stored + 1;
 }
 
