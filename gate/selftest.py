@@ -121,16 +121,17 @@ def of_copies(folder):
 
 
 @check("A further edit of a function is tried in a copy of it, beside a copy as it stands; one of a trait's method, or of two functions, "
-       "in another check. Edits that are left are tried without copies.")
+       "in another check, or in the same one if the others can be copied. Edits that are left are tried without copies.")
 def copies_edits(folder):
     crate, of = of_copies(folder)
-    groups = edits.grouped(of.values(), crate, True)
-    is_grouped = [(it.placed, it.copied) for it in groups] == [([of["c"], of["a"]], [of["b"]]), ([of["d"]], [])]
-    alone = [it.edits() for it in edits.grouped(of.values(), crate)]
+    in_groups = lambda names, *how: edits.grouped([of[it] for it in names], crate, *how)
+    told = lambda groups: ["".join(it.name for it in group.placed) + "".join(f" {it.name}" for it in group.copied) for group in groups]
+    groups = in_groups("abcd", True)
+    is_grouped = [told(groups), told(in_groups("abcd")), told(in_groups("abe", True))] == [["ca b", "d"], ["ca", "db"], ["e a b"]]
     texts = groups[0].texts(crate, groups[0].copies(crate))
     behind = DATA.source.replace("n + 1\n}\n", "n + 2\n}\n" + DATA.copies).replace("T(1)", "T(2)")
     proofs = {f"proofs/m/{it}/Answers.antt": DATA.of_f.replace("proofs.m.f.", f"proofs.m.{it}.") for it in ("f_as_it_stands", "f_edited_1")}
-    return is_grouped and alone == [[of["c"], of["a"]], [of["d"], of["b"]]] and texts == {"src/m.rt": behind, **proofs}
+    return is_grouped and texts == {"src/m.rt": behind, **proofs}
 
 
 @of_rows("Of two edits of a function those are refused of which the prover says so, if the copy as it stands is proved.", DATA.said_of_copies)

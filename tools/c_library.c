@@ -5,7 +5,6 @@
 
 #include <fcntl.h>
 #include <signal.h>
-#include <string.h>
 #include <sys/time.h>
 
 #include "c_checks.h"
@@ -16,24 +15,18 @@
 struct tried { bool ok; void *at; };
 static long blocks, requests, refused = -1; /* the request of this number is refused, counted from 0 */
 static size_t asked, held; /* bytes: in all, and of the blocks that were not given back; before each block its size stands */
-struct tried rattle_alloc(size_t size, size_t align) {
-    struct tried given = {requests++ != refused && align <= 16, NULL};
-    size_t *block = given.ok ? (size_t *)malloc(size + 16) : NULL;
-    if (!block) return given;
-    *block = size;
-    given.at = (char *)block + 16;
-    blocks++, asked += size, held += size;
-    return given;
-}
-struct tried rattle_realloc(void *old, size_t kept, size_t size, size_t align) {
-    struct tried given = {requests++ != refused && align <= 16 && kept <= size, NULL};
-    size_t *block = (size_t *)(void *)((char *)old - 16);
+static struct tried sized(bool may_be, size_t *block, size_t size) {
+    struct tried given = {requests++ != refused && may_be, NULL};
     if (!given.ok) return given;
-    held += size - *block, asked += size;
+    held += size - (block ? *block : 0), asked += size, blocks += !block;
     block = (size_t *)realloc(block, size + 16);
     *block = size;
     given.at = (char *)block + 16;
     return given;
+}
+struct tried rattle_alloc(size_t size, size_t align) { return sized(align <= 16, NULL, size); }
+struct tried rattle_realloc(void *old, size_t kept, size_t size, size_t align) {
+    return sized(align <= 16 && kept <= size, (size_t *)(void *)((char *)old - 16), size);
 }
 void rattle_dealloc(void *at) {
     size_t *block = (size_t *)(void *)((char *)at - 16);
@@ -75,13 +68,10 @@ static size_t command(uint8_t *out, uint32_t handle, uint16_t ono, uint8_t level
 }
 
 /* A response in a PDU of its own, with so many parameters, which begin with the handle and rise. */
-static size_t answer_of(uint8_t *out, uint32_t handle, uint32_t status, uint8_t count, size_t params) {
-    const uint32_t whole = (uint32_t)(19 + params), inner = (uint32_t)(10 + params);
-    const uint8_t front[] = {0x3b, 0, 1, 0, 0, (uint8_t)(whole >> 8), (uint8_t)whole, 3, 0, 1, 0, 0, (uint8_t)(inner >> 8), (uint8_t)inner,
-                             0, 0, 0, (uint8_t)handle, (uint8_t)status, count};
-    memcpy(out, front, sizeof front);
-    for (size_t i = 0; i < params; i++) out[sizeof front + i] = (uint8_t)(handle + i);
-    return sizeof front + params;
+static size_t answer_of(uint8_t *out, uint32_t handle, uint32_t status, uint8_t count, uint32_t params) {
+    uint8_t rising[OCA_MOST_ANSWER];
+    for (uint32_t i = 0; i < params; i++) rising[i] = (uint8_t)(handle + i);
+    return response(out, handle, (uint8_t)status, count, rising, params);
 }
 
 /* Opens a link of the full size, or a small one. */
@@ -113,16 +103,14 @@ static void lets_go(void *context) {
 }
 static void writes(void *context, uint32_t ono) {
     struct watched *it = (struct watched *)context;
-    it->is_wrong = it->is_wrong || it->held != 1;
-    it->is_wrong = it->is_wrong || oca_serve(it->server, 0) != OCA_NOTHING;
+    it->is_wrong = it->is_wrong || it->held != 1 || oca_serve(it->server, 0) != OCA_NOTHING;
     oca_serve_end(it->server);
     it->last = ono;
     it->calls++;
 }
 static void stores(void *context, enum oca_store_result stored) {
     struct watched *it = (struct watched *)context;
-    it->is_wrong = it->is_wrong || it->held != 0;
-    it->is_wrong = it->is_wrong || (it->server->is_busy && oca_serve(it->server, 0) != OCA_NOTHING);
+    it->is_wrong = it->is_wrong || it->held != 0 || (it->server->is_busy && oca_serve(it->server, 0) != OCA_NOTHING);
     it->stores = it->stores * 10 + (int)stored + 1;
 }
 

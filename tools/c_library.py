@@ -35,10 +35,9 @@ from checks import Checks, bound, ended, free_port, lines_in, over_the_layer, po
 from samples import bound_at, channels
 from keep import Peer, over_kills
 from peers import Lossy
-from scenes import Scene, scenes_of, verbs_of_files, verbs_of_peer, verbs_of_run
-from tables import TOP, data
+from scenes import Scene, play_all, verbs_of_files, verbs_of_peer, verbs_of_run
+from tables import TOP, data, whole
 
-AMPLIFIER = "1: open 0 dB/10, 2: muted 0 dB/10\n1: open -60 dB/10, 2: muted 0 dB/10\n"
 PANEL = "open channel 1: status 0\ngain to -6 dB: status 0\ngain: -60 dB/10\n"
 RESULTS = {name: int(number) for name, number in re.findall(r"(OCA_\w+) = (\d+)", (TOP / "include/oca.h").read_text())}
 DATA, VERSION = data("c_library"), reference.version_of(reference.HEADER.read_text())
@@ -94,21 +93,13 @@ def symbols(form, *words):
     return set(re.findall(form, ran(*words, check=True).stdout, re.MULTILINE))
 
 
-def device_and_panel(checks, made, device="c11", panel="c11", before=(), seconds=3):
-    """The device of the example, and the panel against it."""
-    run, port = serving([*before, made / f"device-{device}", 0, seconds])
-    checks.same(f"{before}: the panel ({panel})", said_by([*before, made / f"panel-{panel}", port]), (PANEL, 0))
-    checks.same(f"{before}: the device ({device})", ended(run, 120)[::2], (AMPLIFIER, 0))
-
-
 def both_ends(checks, made):
     """The device and the panel of the examples in each language; they, each call and the panel of the library under valgrind."""
-    for device, panel in itertools.product(LANGUAGES, repeat=2):
-        device_and_panel(checks, made, device, panel)
+    plays(checks, "ends", made, pairs=[*itertools.product(LANGUAGES, repeat=2)], seconds=3)
     if shutil.which("valgrind"):
         checks.same("each call under valgrind", said_by([*CAREFUL, made / "calls-c11"])[1], 0)
         checks.same("the panel of the library under valgrind", said_by([*CAREFUL, made / "network-c11"])[1], 0)
-        device_and_panel(checks, made, before=CAREFUL, seconds=8)
+        plays(checks, "ends", made, CAREFUL, pairs=[("c11", "c11")], seconds=8)
 
 
 def panels(checks, made, prefix, folder):
@@ -221,12 +212,11 @@ class Trial(Scene):
             "runs over": lambda settings, calls, *words: self.runs(*words, CALLS=calls, **settings),
             "says": lambda program, *words: said_by([made / program, *words]),
             "starts": self.starts,
-            "fails": self.fails,
             "ocactl": lambda *words: said_by([f"{names['folder']}/ocactl", words[0], "--device", f"127.0.0.1:{self.port}", "--port", free_port(),
                                               *" ".join(words[1:]).split()]),
             "finds objects": lambda told: told[0].startswith("100 1.1.3 0 root\n") and told[0].count("\n") > 5 and told[1] == 0,
-            "peer": lambda gain: self.begins_peer(self.port, gain),
-            "peer over losses": self.begins_losses,
+            "loses": self.loses,
+            "peer": self.begins_peer,
             "has lost": lambda: self.way.lost > 0,
             "notes": lambda: sorted({*stop(self.run).splitlines()}),
             "stops": lambda: stop(self.run),
@@ -237,7 +227,7 @@ class Trial(Scene):
             "calls of": lambda name: lines_in(made / name),
             "turned": lambda whole, at: f"{whole[:2 * at]}{int(whole[2 * at:2 * at + 2], 16) ^ 1:02x}{whole[2 * at + 2:]}",
             "cut": lambda whole: whole[:-2],
-            "locks": self.locks,
+            "locks": lambda name: fcntl.flock(self.open.enter_context(open(made / name)), fcntl.LOCK_EX),
             "make": lambda goal, prefix, settings: make(goal, prefix, names["archive"], **settings),
             "files below": lambda place: files_below(made / place),
             "looks at what was made": lambda place: installed_as_made(checks, made, names["archive"], made / place),
@@ -251,55 +241,39 @@ class Trial(Scene):
         self.names["port"] = self.port
 
     def starts(self, program, *words):
-        """What a run prints, the first word that it says of faults, and its status."""
-        run = ran(self.made / program, *words)
-        return run.stdout, run.stderr.split(" ")[0], run.returncode
-
-    def fails(self, program, *words):
-        """What a run says of faults, and its status."""
+        """What a run prints, what it says of faults, and its status."""
         run = ran(*self.before, self.made / program, *words)
-        return run.stderr, run.returncode
+        return run.stdout, run.stderr, run.returncode
 
-    def locks(self, name):
-        fcntl.flock(self.open.enter_context(open(self.made / name)), fcntl.LOCK_EX)
+    def begins_peer(self, gain, port=0):
+        self.peer = Peer(port or self.port, gain)
 
-    def begins_peer(self, port, gain):
-        self.peer = Peer(port, gain)
-
-    def begins_losses(self, gain):
+    def loses(self):
         self.way = self.open.enter_context(Lossy(self.port))
         self.names["way"] = self.way.port
-        self.begins_peer(self.way.port, gain)
 
 
 def plays(checks, kind, made, before=(), **how):
     """Plays the scenes of this kind of the rows."""
-    for steps, names in scenes_of("c_library", kind):
-        trial = Trial(checks, made, before, **how)
-        with trial.open:
-            trial.play(steps, **names)
+    play_all(checks, lambda checks: Trial(checks, made, before, **how), "c_library", kind)
 
 
-def killed(checks, made):
-    """The mixer, killed at random moments."""
+def mixers(checks, made, prefix, folder):
+    """The mixer as it is, over addresses and undefined behaviour, over threads, and under valgrind; as C++; killed at random moments."""
+    compiled(made / "mixer.o", f"-I{prefix}/include", "-c", TOP / "examples/c/mixer.c", language="c++17")
+    (made / "held.c").write_text(DATA.held)
+    mixer, parts = [TOP / "examples/c/mixer.c"], [TOP / "examples/c/mixer.c", *(TOP / f"c/{name}.c" for name in PARTS)]
+    for name, more, of in (("plain", [], mixer), ("sanitized", SANITIZED, parts), ("threads", ["-O1", "-g", "-fsanitize=thread"], parts),
+                           ("held", [f"-I{TOP}"], [made / "held.c"])):
+        compiled(made / f"mixer-{name}", "-Wpedantic", *more, f"-I{prefix}/include", *of, f"{prefix}/lib/liboca.a", "-pthread")
+        plays(checks, "mixer", made, name=name, short=2, long=6)
+    plays(checks, "scene", made, folder=folder, library=prefix / "lib/liboca.so")
+
     def serve():
         run, port = serving([made / "mixer-plain", made / "kept over kills", 0, 600])
         return run, port, Peer(port, 4114) if port else None
 
     over_kills(checks, serve)
-
-
-def mixers(checks, made, prefix, folder):
-    """The mixer as it is, over addresses and undefined behaviour, over threads, and under valgrind; and as C++."""
-    compiled(made / "mixer.o", f"-I{prefix}/include", "-c", TOP / "examples/c/mixer.c", language="c++17")
-    (made / "held.c").write_text(DATA.held)
-    mixer, whole = [TOP / "examples/c/mixer.c"], [TOP / "examples/c/mixer.c", *(TOP / f"c/{name}.c" for name in PARTS)]
-    for name, more, of in (("plain", [], mixer), ("sanitized", SANITIZED, whole), ("threads", ["-O1", "-g", "-fsanitize=thread"], whole),
-                           ("held", [f"-I{TOP}"], [made / "held.c"])):
-        compiled(made / f"mixer-{name}", "-Wpedantic", *more, f"-I{prefix}/include", *of, f"{prefix}/lib/liboca.a", "-pthread")
-        plays(checks, "mixer", made, name=name, short=2, long=6)
-    plays(checks, "scene", made, folder=folder, library=prefix / "lib/liboca.so")
-    killed(checks, made)
     if shutil.which("valgrind"):
         shutil.copy(made / "mixer-plain", made / "mixer-valgrind")
         plays(checks, "mixer", made, CAREFUL, name="valgrind", short=12, long=12)
@@ -330,9 +304,9 @@ def arenas(checks, made):
 PROGRAMS = ["ocadev", "ocactl", "ocapanel"]
 
 
-def make(goal, prefix, archive, folder=TOP, **more):
+def make(goal, prefix, archive, **more):
     words = [f"{name}={value}" for name, value in dict(PREFIX=prefix, LIBRARY=archive, **more).items()]
-    subprocess.run(["make", "-s", "-C", TOP, goal, *words], cwd=folder, check=True)
+    subprocess.run(["make", "-s", "-C", TOP, goal, *words], cwd=TOP, check=True)
 
 
 def files_below(room):
@@ -342,13 +316,12 @@ def files_below(room):
 
 
 def installed_as_made(checks, made, archive, place):
-    """What is installed is what was made: header, archives, pages; and what names a folder names the prefix's."""
+    """What is installed is what was made: archives, pages; and what names a folder names the prefix's."""
     texts = lambda folder: {it.name: it.read_text() for it in folder.glob("*.3") if it.stem != "another"}
     reference.write(made / "pages")
     pages, there = texts(made / "pages"), texts(place / "share/man/man3")
     checks.same("the manual pages", (len(pages) > 90, sorted(there)), (True, sorted(pages)))
     checks.same("their texts", there == pages, True)
-    checks.same("oca.h as it was made", (place / "include/oca.h").read_bytes() == (TOP / "include/oca.h").read_bytes(), True)
     members = lambda file: ran("ar", "t", file, check=True).stdout.split()
     for name, more in (("liboca_c.a", []), ("liboca.a", ["malloc.o"])):
         checks.same(f"what {name} has", members(place / "lib" / name), [*members(archive), *(f"{it}.o" for it in PARTS), *more])
@@ -375,11 +348,11 @@ def panel_below(made, place):
 def installs(checks, made, archive):
     """What is installed stays below DESTDIR; below odd prefixes the panel runs."""
     pages = [f"{name}.1" for name in PROGRAMS]
-    whole = [*INSTALLED, *(f"bin/{it}" for it in PROGRAMS), *(f"share/man/man1/{it}" for it in pages)]
+    every = [*INSTALLED, *(f"bin/{it}" for it in PROGRAMS), *(f"share/man/man1/{it}" for it in pages)]
     below = lambda files: sorted(f"opt/oca/{it}" for it in files)
     before = os.umask(0o077)  # of one who keeps files from others
     plays(checks, "place", made, archive=archive, relative=os.path.relpath(made / "rel", TOP), installed=INSTALLED, own=below(INSTALLED),
-          others=below(DATA.others), whole=below([*whole, *DATA.others]), programs=PROGRAMS, pages=pages)
+          others=below(DATA.others), whole=below([*every, *DATA.others]), programs=PROGRAMS, pages=pages)
     os.umask(before)
     if shutil.which("pkg-config"):
         told = said_by(["pkg-config", "--modversion", "oca"], env=os.environ | {"PKG_CONFIG_PATH": f"{made}/rel/lib/pkgconfig"})
@@ -460,50 +433,29 @@ def beside_another_kind(checks, made, archive):
     checks.same("what `make uninstall` leaves of AArch64", files_below(made / "arm-alone"), [])
 
 
-class Board:
-    """A device without an operating system, on an emulated board: what is said over its serial line."""
-
-    def __init__(self, program):
-        words = ["qemu-system-aarch64", "-M", "virt", "-cpu", "cortex-a53", "-nic", "none", "-display", "none", "-monitor", "none", "-serial", "stdio", "-kernel", program]
-        self.run = subprocess.Popen([str(it) for it in words], stdin=subprocess.PIPE, stdout=subprocess.PIPE, bufsize=0)
-        self.held = b""
-
-    def read(self, size, seconds=60):
-        """So many bytes; fewer where they do not come in time."""
-        self.held += read_until(self.run.stdout.fileno(), lambda said: len(self.held + said) >= size, seconds)
-        got, self.held = self.held[:size], self.held[size:]
-        return got
-
-    def say(self, data, ip=0x0a000001, port=65001):
-        self.run.stdin.write(struct.pack(">HIH", len(data), ip, port) + data)
-
-    def answer(self, ip=0x0a000001, port=65001, seconds=60):
-        head = self.read(8, seconds)
-        if len(head) < 8:
-            return None
-        data = self.read(struct.unpack(">H", head[:2])[0])
-        return data if head[2:] == struct.pack(">IH", ip, port) else (head, data)
+def on_the_line(digits, port):
+    """A datagram as the bare device's serial line has it: behind its size and the address and the port of its peer; nothing for none."""
+    data = bytes.fromhex(whole(digits, {}))
+    return data and struct.pack(">HIH", len(data), 0x0a000001, port) + data
 
 
 def without_a_system(checks, made, prefix):
-    """The bare device, over 24,576 bytes, answers one peer over its serial line, and no more."""
+    """The bare device, over 24,576 bytes, on an emulated board, answers one peer over its serial line, and no more."""
     if not shutil.which("qemu-system-aarch64"):
         return print("NOT TRIED: a board without an operating system, without qemu-system-aarch64")
     words = "-Wpedantic -ffreestanding -nostdlib -static -DARENA=24576 -Wl,-Ttext=0x40100000".split()
-    board = Board(compiled(made / "bare", *words, f"-I{prefix}/include", TOP / "examples/c/bare.c", TOP / "examples/c/heap.c",
-                           f"{prefix}/{OF_ARM}/liboca_c.a", "-lgcc", language="arm"))
-    checks.same("how the device without a system starts", board.read(2), b"\0\0")
-    for asked, wanted in DATA.bare:
-        board.say(bytes.fromhex(asked))
-        checks.same(f"what it answers to {asked[20:]}", board.answer(), bytes.fromhex(wanted))
-    for what, data, of in (("a peer without room", oca.command(1, 4097, 4, 1), {"port": 65002}), ("a malformed datagram", b"\x3b\0", {}),
-                           ("a datagram of 1,473 bytes", bytes(1473), {})):
-        board.say(data, **of)
-        checks.same(f"its answer to {what}", board.answer(seconds=1), None)
-    board.say(oca.command(7, 4097, 4, 1))
-    checks.same("its answer behind these", board.answer(), oca.response(7, 0, 1, b"\2"))
-    board.run.kill()
-    board.run.communicate()
+    program = compiled(made / "bare", *words, f"-I{prefix}/include", TOP / "examples/c/bare.c", TOP / "examples/c/heap.c",
+                       f"{prefix}/{OF_ARM}/liboca_c.a", "-lgcc", language="arm")
+    words = "qemu-system-aarch64 -M virt -cpu cortex-a53 -nic none -display none -monitor none -serial stdio -kernel".split()
+    board = subprocess.Popen([*words, str(program)], stdin=subprocess.PIPE, stdout=subprocess.PIPE, bufsize=0)
+    says = lambda wanted: read_until(board.stdout.fileno(), lambda said: len(said) >= max(1, len(wanted)), 60 if wanted else 1)
+    checks.same("how the device without a system starts", says(b"\0\0"), b"\0\0")
+    for what, port, asked, answer in DATA.bare:
+        board.stdin.write(on_the_line(asked, port))
+        wanted = on_the_line(answer, port)
+        checks.same(f"its answer to {what}", says(wanted), wanted)
+    board.kill()
+    board.communicate()
 
 
 def on_arm(checks, made):
@@ -515,7 +467,7 @@ def on_arm(checks, made):
     installs_for_arm(checks, made, prefix, library(ARM))
     compile_all(made, "arm", f"-I{prefix}/include", f"{prefix}/{OF_ARM}/liboca.a")
     emulated = ["qemu-aarch64", "-L", "/usr/aarch64-linux-gnu"]
-    device_and_panel(checks, made, "arm", "arm", emulated, 6)
+    plays(checks, "ends", made, emulated, pairs=[("arm", "arm")], seconds=6)
     for kind in ([], ["-cpu", "cortex-a53"]):
         checks.same(f"each call on AArch64 {kind}", said_by([*emulated, *kind, made / "calls-arm"])[1], 0)
     without_a_system(checks, made, prefix)
@@ -553,8 +505,8 @@ def stores(checks, made):
         compiled(made / "stored", *own, TOP / "examples/c/stored.c", TOP / "c/store.c", language=language)
         plays(checks, "stored", made, kept=f"{made}/state-{language}", language=language)
     if shutil.which("valgrind"):
-        run = ran("valgrind", "-q", "--error-exitcode=99", "--track-fds=no", made / "store-c11", cwd=made)
-        checks.same("the store under valgrind", run.returncode, 0)
+        told = said_by(["valgrind", "-q", "--error-exitcode=99", "--track-fds=no", made / "store-c11"], cwd=made)
+        checks.same("the store under valgrind", told[1], 0)
 
 
 def main():

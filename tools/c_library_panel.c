@@ -6,7 +6,6 @@
 #undef oca_link_datagram
 
 #include <stdlib.h>
-#include <string.h>
 
 #include "c_checks.h"
 
@@ -66,27 +65,10 @@ static void put(uint8_t *bytes, uint32_t number, size_t size) {
 static void under_way(struct network *network, const uint8_t *bytes, size_t len, uint32_t ip, uint16_t port) {
     if (happens(network, network->lost)) return;
     for (int copy = happens(network, network->doubled) ? 2 : 1; copy > 0 && network->queued < QUEUED; copy--) {
-        struct datagram *next = &network->queue[network->queued++];
-        next->at = network->now + 1 + (happens(network, network->delayed) ? network->random % 700 : 0);
-        next->len = len;
-        next->ip = ip;
-        next->port = port;
-        memcpy(next->bytes, bytes, len < sizeof next->bytes ? len : sizeof next->bytes);
+        struct datagram next = {network->now + 1 + (happens(network, network->delayed) ? network->random % 700 : 0), len, ip, port, {0}};
+        memcpy(next.bytes, bytes, len < sizeof next.bytes ? len : sizeof next.bytes);
+        network->queue[network->queued++] = next;
     }
-}
-
-/* A response in a datagram. */
-static size_t response(uint8_t *out, uint32_t handle, uint8_t status, uint8_t count, const uint8_t *params, uint32_t len) {
-    put(out, 0x3b0001, 3);
-    put(out + 3, 9 + 10 + len, 4);
-    put(out + 7, 3, 1);
-    put(out + 8, 1, 2);
-    put(out + 10, 10 + len, 4);
-    put(out + 14, handle, 4);
-    out[18] = status;
-    out[19] = count;
-    memcpy(out + 20, params, len);
-    return 20 + len;
 }
 
 static void to_device(struct network *network, const uint8_t *bytes, size_t len) {
@@ -160,39 +142,22 @@ static bool is_name(const struct oca_name *name, const char *text) {
     return name->size == strlen(text) && memcmp(name->text, text, name->size) == 0;
 }
 
-struct seen { uint32_t len, onos[4100], containers[4100], classes[4100], at_most; };
+struct seen { uint32_t len, at_most; struct oca_visit visits[4100]; };
 
 static bool visits(void *context, const struct oca_visit *visit) {
     struct seen *seen = (struct seen *)context;
-    if (seen->len < 4100) {
-        seen->onos[seen->len] = visit->ono;
-        seen->containers[seen->len] = visit->container;
-        seen->classes[seen->len++] = visit->described.asked == OCA_ASKED_DONE ? visit->id.class_number : 99;
-    }
+    if (seen->len < 4100) seen->visits[seen->len++] = *visit;
     return seen->len < seen->at_most;
 }
+
+/* The class of an object that was visited, or 99. */
+static uint32_t class_of(const struct oca_visit *visit) { return visit->described.asked == OCA_ASKED_DONE ? visit->id.class_number : 99; }
 
 static struct oca_walk walk;
 static struct seen seen;
 
-/* A visitor that asks the panel itself where nobody answers: it waits as long as the panel does, and then takes the answer to
- * what the link sends again. */
-struct asking { struct oca_panel *panel; struct network *network; uint32_t visits, waits, answers; };
-
-static bool asks_too(void *context, const struct oca_visit *visit) {
-    struct asking *asking = (struct asking *)context;
-    static struct oca_answer answer;
-    const uint64_t before = asking->network->now;
-    asking->visits++;
-    asking->network->silent = true;
-    struct oca_outcome outcome = oca_panel_read(asking->panel, visit->ono, OCA_GET_ROLE, &answer);
-    asking->waits += outcome.asked == OCA_ASKED_UNANSWERED && asking->network->now - before == 130;
-    asking->network->silent = false;
-    for (uint32_t k = 0; k < 10 && outcome.asked == OCA_ASKED_UNANSWERED; k++)
-        outcome = oca_panel_finish(asking->panel, outcome.result, &answer);
-    asking->answers += outcome.asked == OCA_ASKED_DONE;
-    return true;
-}
+/* What a visitor has that asks the panel itself. */
+struct asking { struct oca_panel *panel; struct network *network; uint32_t visits; };
 
 /* ---- a peer that answers as a test wants ---- */
 
@@ -221,11 +186,6 @@ static uint32_t answers_without_end(struct network *network, uint32_t ono, uint3
 }
 
 enum question { ASKS_CLASS, ASKS_ROLE, ASKS_NAMES, ASKS_MEMBERS, ASKS_GAIN, QUESTIONS };
-
-static bool keeps(void *context, const struct oca_visit *visit) {
-    *(struct oca_visit *)context = *visit;
-    return true;
-}
 
 /* The name of a position is asked for by both of its bytes, and the answer has them as letters. */
 static uint32_t answers_position(struct network *network, uint32_t ono, uint32_t method, const uint8_t *params,

@@ -6,7 +6,6 @@
 #include "c_checks.h"
 #include "c_library_random_calls.h" /* made by c_rows.py of rows/c_library_random_calls.toml */
 #include <stdlib.h>
-#include <string.h>
 
 static uint64_t state;
 

@@ -27,6 +27,10 @@ COMPILERS = LANGUAGES | {"arm": ["aarch64-linux-gnu-gcc", "-std=c11"]}
 STRICT = ["-O2", "-Wall", "-Wextra", "-Werror"]
 SANITIZED = ["-O1", "-g", "-fsanitize=address,undefined", "-fno-sanitize-recover=all"]
 WORD = re.compile(r'(?:"(?:\\.|[^"\\])*"|\((?:[^()]|\((?:[^()]|\([^()]*\))*\))*\)|[^\s"()])+')
+CALL = re.compile(r"^(?:static inline )?((?:const |enum |struct )*\w+ \*?)oca_(\w+)\(([^()]*)\)", re.MULTILINE)
+HEADER = re.sub(r"/\*.*?\*/", "", (HERE.parent / "include/oca.h").read_text(), flags=re.DOTALL)
+CALLS = {name: (answers, [re.sub(r"\w+$", "", it.strip()) for it in takes.split(",") if it != "void"])
+         for answers, name, takes in CALL.findall(HEADER)}  # what each gives and takes
 A_TEXT = r'"(?:\\.|[^"\\])*"'
 ALONE = re.compile(r"struct oca_(device|link|socket|server|store|panel|flight) \*")  # a pointer to one, whatever number stands behind it
 
@@ -39,15 +43,6 @@ def compiled(program, *words, language="c11"):
     """A program, strictly compiled."""
     subprocess.run([*COMPILERS[language], *STRICT, "-o", program, *words], check=True)
     return program
-
-
-def prototypes():
-    text = re.sub(r"/\*.*?\*/", "", (HERE.parent / "include/oca.h").read_text(), flags=re.DOTALL)
-    found = re.findall(r"^(?:static inline )?((?:const |enum |struct )*\w+ \*?)oca_(\w+)\(([^()]*)\)", text, re.MULTILINE)
-    return {name: (answers, [re.sub(r"\w+$", "", it.strip()) for it in takes.split(",") if it != "void"]) for answers, name, takes in found}
-
-
-CALLS = prototypes()
 
 
 def with_number(word, kind):

@@ -1,9 +1,7 @@
 /* The store of the library for C: what each call answers, and that the file is whole after each failure. Linked with -Wl,--wrap for each call that
  * is `wrapped` in rows/c_library.toml, so that one of them can be made to fail. Usage: c_store, in an empty folder. The last line is 'N passed, M
  * failed'. */
-#ifndef _GNU_SOURCE
-#define _GNU_SOURCE
-#endif
+#define _GNU_SOURCE 1
 #include <oca.h>
 
 #include <dirent.h>
@@ -12,7 +10,6 @@
 #include <signal.h>
 #include <stdarg.h>
 #include <stdlib.h>
-#include <string.h>
 #include <sys/file.h>
 #include <sys/resource.h>
 #include <sys/stat.h>

@@ -22,9 +22,9 @@ class Break(Exception):
 
 
 def wrong_rules(name):
-    """The wrong rules of the file of rows of this name: by its name each with the law that it breaks, its old texts, and what takes their places."""
+    """The wrong rules of a file of rows: of each its name, the law that it breaks, and its old texts with what takes their places."""
     listed = lambda texts: [texts] if isinstance(texts, str) else texts
-    return {rule["name"]: (rule["breaks"], [*zip(listed(rule["old"]), listed(rule["new"]), strict=True)]) for rule in data(name).wrong}
+    return [(rule["name"], rule["breaks"], [*zip(listed(rule["old"]), listed(rule["new"]), strict=True)]) for rule in data(name).wrong]
 
 
 def changed(edits):
@@ -57,16 +57,17 @@ def runs_of(program, kind, head, texts):
     return [lines[first:end] for first, end in zip(begins, begins[1:])]
 
 
-def events_of(lines):
-    """The lines that `trials events` prints of each event: the last two are the number of sessions and the objects."""
-    ends = [at + 1 for at, line in enumerate(lines) if line.startswith("objects")]
-    return [its for first, end in zip([0, *ends], [*ends, len(lines)]) if (its := lines[first:end])]
+def events_of(program, texts):
+    """The lines that `trials events` prints of each event of these texts: the last two are the number of sessions and the objects."""
+    for lines in runs_of(program, "events", "history", texts):
+        ends = [at + 1 for at, line in enumerate(lines) if line.startswith("objects")]
+        yield [its for first, end in zip([1, *ends], [*ends, len(lines)]) if (its := lines[first:end])]
 
 
-# How runs are held against laws: the cases of a number; what the program says of cases; the walk of the laws along what it said of one, or a Break;
-# that as a text; what is counted of it; some that are altered, each with the law that is to refuse it and, if it is to stand there, the place of the
-# break; and the laws alone.
-Comparison = collections.namedtuple("Comparison", "made told hold shown count altered laws")
+# How runs are held against laws: the cases of a number; what the program says of their texts; the walk of the laws along what it said of
+# one, or a Break; that as a text; what is counted of it; one that is altered, with the law that is to refuse it and, if it is to stand
+# there, the place of the break, or None; how many of those are tried; and the laws alone.
+Comparison = collections.namedtuple("Comparison", "made told hold shown count altered times laws")
 
 
 def work(how, job):
@@ -74,13 +75,13 @@ def work(how, job):
     program, seed, numbers = job
     cases, total = [case for n in numbers for case in how.made(seed, n)], collections.Counter()
     r = random.Random(f"{seed} {numbers[0]} altered")
-    for case, said in zip(cases, how.told(program, cases), strict=True):
+    for case, said in zip(cases, how.told(program, [case.text() for case in cases]), strict=True):
         try:
             walk = how.hold(case, said)
         except Break as fault:
             return total, how.shown(case, said, fault)
         total += how.count(case, said, walk)
-        for law, at, other in filter(None, how.altered(r, case, said, walk)):
+        for law, at, other in filter(None, [how.altered(r, case, said, walk) for _ in range(how.times)]):
             fault = broken(how.laws, case, other)
             is_refused = fault is not None and fault.law == law and at in (None, fault.at)
             total += collections.Counter({"altered": 1, "altered, refused": int(is_refused)})
@@ -90,8 +91,8 @@ def work(how, job):
 
 
 def in_processes(how, what, batch, refuses, rules, count=300, seed=1):
-    """Holds so many runs of the program in processes side by side, as the words FOLDER [COUNT [SEED]] say, and each wrong
-    rule: the number, the seed, the counts, and what is found of the rules. A break is printed and ends this process."""
+    """Holds so many runs of the program in processes side by side, as the words FOLDER [COUNT [SEED]] say, and each wrong rule of
+    the file of this name: the number, the seed, the counts, and what is found of the rules. A break is printed and ends this process."""
     folder, count, seed = [*sys.argv[1:], *("", count, seed)[len(sys.argv) - 1:]]
     count, seed, total = int(count), int(seed), collections.Counter()
     jobs = [(f"{folder}/trials", seed, range(count)[first:first + batch]) for first in range(0, count, batch)]
@@ -101,11 +102,10 @@ def in_processes(how, what, batch, refuses, rules, count=300, seed=1):
             if fault:
                 print(f"{fault}\nseed {seed}: a break after {total[what]} {what} without one")
                 sys.exit(verdict({what: False}))
-        return count, seed, total, pool.map(refuses, [(seed, name) for name in rules], chunksize=1)
+        return count, seed, total, pool.map(refuses, [(seed, *rule) for rule in wrong_rules(rules)], chunksize=1)
 
 
 def verdict(checks):
     its = Checks()
-    for name, passed in checks.items():
-        its.expect(name, passed)
+    its.all_but(len(checks), [name for name, passed in checks.items() if not passed])
     return its.verdict()

@@ -14,7 +14,8 @@ from collections import Counter
 
 import oca_profile as oca
 from checks import Checks
-from comparing import events_of, runs_of
+from comparing import events_of
+from oca_law import read
 from tables import data
 
 MESSAGES = [*map(bytes.fromhex, data("damaged").messages)]
@@ -36,14 +37,9 @@ def damaged(message):
         yield message + other
 
 
-def readings(first):
-    return oca.pdu(1, [oca.Command(first + k, *of, 0, b"").body() for k, of in enumerate(READINGS)])
-
-
 def events_of_one(folder, events):
     """What `trials events` says of each event of a history: its lines but the last two, and those."""
-    (lines,) = runs_of(f"{folder}/trials", "events", "history", [["history 32 16 0", *events]])
-    said = events_of(lines[1:])
+    (said,) = events_of(f"{folder}/trials", [["history 32 16 0", *events]])
     if len(said) != len(events):
         raise RuntimeError(f"{len(said)} of {len(events)} events")
     return ((its[:-2], its[-2:]) for its in said)
@@ -55,25 +51,24 @@ def event(peer, data):
 
 def found(data):
     """The line of what the checks and the writer make of a datagram, and whether it is refused."""
-    try:
-        messages = oca.check(data)
-    except oca.Fault as fault:
-        return f"malformed {fault.kind} at {fault.at}", True
-    return f"again {oca.hex_text(data if len(messages) == 1 and messages[0][0] != 'response' else b'')}", False
+    messages, fault = read(data)
+    is_again = not fault and len(messages) == 1 and messages[0][0] != "response"
+    return fault or f"again {oca.hex_text(data if is_again else b'')}", bool(fault)
 
 
 def main():
     checks, counts = Checks(sys.argv[1]), Counter()
     for message in MESSAGES:
         begin = [event(SENDER, MESSAGES[k]) for k in BEFORE]
-        tried, events, untouched, refused = [(data, *found(data)) for data in damaged(message)], list(begin), list(begin), 0
+        tried, events, untouched = [(data, *found(data)) for data in damaged(message)], list(begin), list(begin)
+        handles = itertools.count(1)
         for data, _, is_refused in tried:
             events.append("again " + oca.hex_text(data))
             if is_refused:
-                asked = [event(READER, readings(1 + refused * len(READINGS))), *(event(SENDER, MESSAGES[k]) for k in AGAIN)]
+                asked = [event(READER, oca.pdu(1, [oca.Command(handle, *of).body() for of, handle in zip(READINGS, handles)])),
+                         *(event(SENDER, MESSAGES[k]) for k in AGAIN)]
                 events += [event(SENDER, data), event(STRANGER, data), *asked]
                 untouched += asked
-                refused += 1
         touched, others = events_of_one(checks.folder, events), events_of_one(checks.folder, untouched)
         *_, (_, state) = alike(touched, others, len(BEFORE))
         for data, line, is_refused in tried:

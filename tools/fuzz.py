@@ -22,29 +22,19 @@ METHODS = [(1, i) for i in range(0, 8)] + [(2, i) for i in range(1, 14)] + [(3, 
     + [(4, i) for i in range(1, 11)] + [(5, 1), (5, 2), (5, 3), (0, 1), (6, 1)]
 # how many peers have room, and how many channel strips are added to the bench's own objects
 ROOMS, CHANNELS = [16, 1, 2, 15, 17, 64], [0, 0, 0, 1, 5, 30, 1022]
+STRIP = {4096: 0, 4097: 1, 4098: 2, 4100: 3}  # the object of a strip that is of the class of this one, from the strip's first
 ROWS, BENCH = table("fuzz"), {o.ono: o.kind for o in oca.bench()}
-
-
-def methods_of(rows):
-    """Each object of these rows with each of its methods."""
-    return [(int(ono), tuple(map(int, it.split(".")))) for ono, *its in map(str.split, rows) for it in its]
-
-
-USUAL, ASKED = methods_of(ROWS["usual"]), methods_of(ROWS["asked"])
+# Each object of these rows with each of its methods.
+USUAL, ASKED = ([(int(ono), tuple(method)) for ono, its in ROWS[name].items() for method in its] for name in ("usual", "asked"))
 
 
 def text(r):
     """An OcaString, mostly right: of other scripts, of 64 and 65 bytes, cut short, or no UTF-8."""
     s = r.choice(["", "a", "Bühne", "mute", "𝄞x", "日本", "a" * 64, "a" * 65, "ü" * 32, "ü" * 33, "\0"])
-    whole = oca.text_bytes(s)
-    kind = r.randrange(12)
-    if kind == 0:
-        return oca.u16(len(s) + 1) + s.encode()
+    whole, kind = oca.text_bytes(s), r.randrange(12)
     if kind == 1:
         return oca.u16(1) + r.choice([b"\xff", b"\xc3", b"\xed\xa0\x80", b"\xc0\x80", b"\xf4\x90\x80\x80"])
-    if kind == 2:
-        return whole[:-1]
-    return whole
+    return {0: oca.u16(len(s) + 1) + whole[2:], 2: whole[:-1]}.get(kind, whole)
 
 
 def value(r, kind):
@@ -55,7 +45,7 @@ def value(r, kind):
     return r.choice([n for n in (0, 600, 601, -600, -601, 100, 101, -1, low, high, *r.sample(range(-600, 601), 8)) if low <= n <= high])
 
 
-# A parameter, by the letter that says how it is read (`READERS` of oca_profile.py); `v` of a boolean.
+# A parameter, by the letter that says how it is read (`Reader.parameter` of oca_profile.py); `v` of a boolean.
 PARAMETERS = {"b": lambda r: bytes([r.randrange(3)]), "t": text, "1": lambda r: bytes([r.choice([1, 2, 2, 1, 3])]),
               "2": lambda r: oca.u16(r.randrange(4)), "v": lambda r: bytes([r.choice([0, 1, 2, 255])]),
               "B": lambda r: oca.u16(3) + bytes(r.randrange(2) for _ in range(3)), "T": lambda r: oca.u16(3) + text(r) + text(r) + text(r)}
@@ -79,20 +69,16 @@ class Panel:
     """What one peer sends: commands whose handles rise, with copies, gaps, overtaking and reuse; to objects of the bench and of channel strips."""
 
     def __init__(self, r, channels=0):
-        self.r, self.next, self.sent = r, r.choice([1, 1, 5, 1000, oca.U32 - 40]), []
-        self.channels = channels
+        self.r, self.next, self.sent, self.channels = r, r.choice([1, 1, 5, 1000, oca.U32 - 40]), [], channels
 
     def command(self):
-        r = self.r
-        kind = r.randrange(10)
+        r, kind = self.r, self.r.randrange(10)
         if self.sent and kind < 3:  # a copy, of late or of long ago, or another command under its handle
             old = r.choice(self.sent[-40:] if kind else self.sent)
             return old if r.randrange(4) else self.new(old.handle)
-        step = r.choice([1, 1, 1, 1, 2, 3, 40, -1, -2, -5, 0])
-        self.next = max(0, min(oca.U32, self.next + step))
-        c = self.new(self.next)
-        self.sent.append(c)
-        return c
+        self.next = max(0, min(oca.U32, self.next + r.choice([1, 1, 1, 1, 2, 3, 40, -1, -2, -5, 0])))
+        self.sent.append(self.new(self.next))
+        return self.sent[-1]
 
     def new(self, handle):
         r = self.r
@@ -106,29 +92,23 @@ class Panel:
         return oca.Command(handle, r.choice(ONOS), level, index, r.randrange(3), params)
 
 
-STRIP = {4096: 0, 4097: 1, 4098: 2, 4100: 3}
-
-
 def datagram(r, panel):
-    parts = []
+    data = b""
     for _ in range(r.choice([1, 1, 1, 2, 3])):
         kind = r.randrange(12)
         if kind == 0:
-            parts.append(oca.pdu(4, [oca.u16(r.choice([0, 1, 2, 10, 31, 65535]))]))
+            data += oca.pdu(4, [oca.u16(r.choice([0, 1, 2, 10, 31, 65535]))])
         elif kind == 1:
-            parts.append(oca.pdu(4, [r.choice([0, 100, 250, 251, 1500, 30000, 30001, 2**32 - 1]).to_bytes(4, "big")]))
+            data += oca.pdu(4, [r.choice([0, 100, 250, 251, 1500, 30000, 30001, 2**32 - 1]).to_bytes(4, "big")])
         elif kind == 2:
-            parts.append(oca.pdu(3, [oca.response_body(r.randrange(9), 0, 0, b"") for _ in range(r.choice([1, 2, 7]))]))
+            data += oca.pdu(3, [oca.response_body(r.randrange(9), 0, 0, b"") for _ in range(r.choice([1, 2, 7]))])
         else:
-            n = r.choice([1, 1, 1, 2, 3, 10, 60])
-            parts.append(oca.pdu(0 if kind == 3 else 1, [panel.command().body() for _ in range(n)]))
-    data = b"".join(parts)
+            data += oca.pdu(int(kind != 3), [panel.command().body() for _ in range(r.choice([1, 1, 1, 2, 3, 10, 60]))])
     return damaged(r, data) if r.randrange(8) == 0 else data
 
 
 def damaged(r, data):
-    kind = r.randrange(5)
-    at = r.randrange(len(data)) if data else 0
+    kind, at = r.randrange(5), r.randrange(len(data))
     if kind == 0:
         return data[:at]
     if kind == 1:
@@ -163,36 +143,30 @@ def device_script(r):
 
 
 def link_script(r):
-    span = r.choice([1, 2, 8, 16, 16, 31, 32])
-    first = r.choice([0, 1, 1, oca.U32 - 3, oca.U32])
-    device, here = (127, 0, 0, 1, 65000), (127, 0, 0, 1, 9001)
-    model, link, panel = oca.Device(), oca.Link(device, first, span), Panel(r)
-    now, lines, wire = 0, [], []
+    span, first = r.choice([1, 2, 8, 16, 16, 31, 32]), r.choice([0, 1, 1, oca.U32 - 3, oca.U32])
+    model, link, panel = oca.Device(), oca.Link(oca.DEVICE, first, span), Panel(r)
+    here, now, lines, wire = (127, 0, 0, 1, 9001), 0, [], []
     for _ in range(r.choice([5, 20, 80, 200])):
-        now = moment(r, now)
-        kind = r.randrange(6)
+        now, kind = moment(r, now), r.randrange(6)
         if kind == 0:
             _, *asked, params = panel.new(0)
             params = params if r.randrange(12) else bytes(r.choice([1444, 1445, 1446, 2000]))
-            lines.append(" ".join(map(str, [now, "submit", *asked, oca.hex_text(params)])))
-            link.submit(*asked, params, now)
+            line = " ".join(map(str, [now, "submit", *asked, oca.hex_text(params)]))
         elif kind in (1, 2):
-            lines.append(f"{now} due")
-            _, data = link.due(now)
-            for _ in range(r.choice([1, 1, 2, 0]) if data else 0):  # it comes to a device, perhaps twice
-                wire += model.datagram(here, data, now)[1]
+            line = f"{now} due"
         elif kind == 3:
             data = r.choice(wire) if wire and r.randrange(5) else datagram(r, panel)
             data += r.choice(wire) if len(wire) > 1 and r.randrange(4) == 0 else b""
-            sender = device if r.randrange(6) else r.choice([here, (127, 0, 0, 2, 65000), (127, 0, 0, 1, 65001)])
-            lines.append(f"{now} from {oca.peer_text(sender)} {oca.hex_text(data)}")
-            link.datagram(sender, data, now)
+            sender = oca.DEVICE if r.randrange(6) else r.choice([here, (127, 0, 0, 2, 65000), (127, 0, 0, 1, 65001)])
+            line = f"{now} from {oca.peer_text(sender)} {oca.hex_text(data)}"
         else:
-            handle = r.choice([u[0].handle for u in link.untaken]) if link.untaken and r.randrange(4) else r.randrange(40)
-            lines.append(f"take {handle}")
-            link.take(handle)
+            line = f"take {r.choice([u[0].handle for u in link.untaken]) if link.untaken and r.randrange(4) else r.randrange(40)}"
+        lines.append(line)
+        (said,) = oca.link_line(link, line.split(" "))
+        for _ in range(r.choice([1, 1, 2, 0]) if said.startswith(("send", "keep-alive")) else 0):  # it comes to a device, perhaps twice
+            wire += model.datagram(here, oca.hex_of(said.split(" ")[1]), now)[1]
     words = ["replay", "--device", "127.0.0.1:65000", "--first-handle", str(first), "--span", str(span)]
-    return words, finish(r, lines), lambda s: oca.link_replay(s, device, first, span)
+    return words, finish(r, lines), lambda s: oca.link_replay(s, oca.DEVICE, first, span)
 
 
 def run(program, words, script):

@@ -18,17 +18,20 @@ sys.path.insert(0, str(TOP / "gate"))
 import api
 import reference
 
-CALLS = TOP / "crates/oca_c/src"
 DATA = data("header")
 STRUCTS = {name: f"struct {of}" for name, of in DATA.structs.items()}
 NUMBERS = {"bool": "bool", "usize": "size_t", **{f"{sign}{bits}": f"{'u' if sign == 'u' else ''}int{bits}_t" for sign in "iu" for bits in (8, 16, 32, 64)}}
 
 
+def source(form):
+    """The texts of the files of this form, below the repository."""
+    return "\n".join(file.read_text() for file in sorted(TOP.glob(form)))
+
+
 def in_c(call, name, kind):
     """The header's parameters for one of the library's: a slice is a pointer and a length."""
     name = DATA.renamed.get(call, {}).get(name, name)
-    read = re.fullmatch(r"(&(?:mut )?)?(\[)?(\w+)\]?", kind)
-    lent, is_slice, inner = read.groups()
+    lent, is_slice, inner = re.fullmatch(r"(&(?:mut )?)?(\[)?(\w+)\]?", kind).groups()
     if inner in DATA.handles:
         return [(f"struct oca_{DATA.handles[inner]} *", DATA.handles[inner])]
     of = NUMBERS.get(inner) or STRUCTS[inner]
@@ -41,14 +44,11 @@ def in_c(call, name, kind):
 def exported():
     """The calls of Rattle and of c/, with the parameters and results that the header must have."""
     found = {}
-    for file in sorted(CALLS.glob("*.rt")):
-        for name, given, result in re.findall(r'pub extern "C" fn (\w+)\(([^)]*)\)\s*(?:-> (\w+))?', file.read_text()):
-            pairs = [re.fullmatch(r"(\w+): (.+)", it.strip()).groups() for it in given.split(",") if it.strip()]
-            answers = "uint32_t" if name in ("oca_version", "oca_class_with") else {"u32": "enum oca_result"}.get(result, "void")
-            found[name] = ([c for of, kind in pairs if kind != "Global" for c in in_c(name, of, kind)], answers)
-    for file in sorted((TOP / "c").glob("*.c")):
-        found.update(prototypes(re.sub(r"\) \{$", ");", file.read_text(), flags=re.M)))
-    return found
+    for name, given, result in re.findall(r'pub extern "C" fn (\w+)\(([^)]*)\)\s*(?:-> (\w+))?', source("crates/oca_c/src/*.rt")):
+        pairs = [re.fullmatch(r"(\w+): (.+)", it.strip()).groups() for it in given.split(",") if it.strip()]
+        answers = "uint32_t" if name in ("oca_version", "oca_class_with") else {"u32": "enum oca_result"}.get(result, "void")
+        found[name] = ([c for of, kind in pairs if kind != "Global" for c in in_c(name, of, kind)], answers)
+    return found | prototypes(re.sub(r"\) \{$", ");", source("c/*.c"), flags=re.M))
 
 
 def prototypes(header):
@@ -59,18 +59,20 @@ def prototypes(header):
     return found
 
 
+def body(text, what, end=r"\}"):
+    """What stands between the braces behind these words."""
+    return re.search(rf"{what} \{{(.*?){end}", text, re.S)[1]
+
+
 def numbered(header, name):
-    body = re.search(rf"enum {name} \{{([^}}]*)\}}", re.sub(r"/\*.*?\*/", "", header, flags=re.S))[1]
-    return {word: int(number, 0) for word, number in re.findall(r"(\w+) = (\w+)", body)}
+    said = body(re.sub(r"/\*.*?\*/", "", header, flags=re.S), f"enum {name}")
+    return {word: int(number, 0) for word, number in re.findall(r"(\w+) = (\w+)", said)}
 
 
 def fields(header, name):
-    body = re.search(rf"struct {name} \{{([^}}]*)\}}", header)[1]
-    found = []
-    for line in filter(None, (it.strip() for it in body.split(";"))):
-        of, names = re.fullmatch(r"((?:const )?(?:struct )?\w+) (.*)", line).groups()
-        found += [(it.strip(), of) for it in names.split(",")]
-    return found
+    lines = filter(None, map(str.strip, body(header, f"struct {name}").split(";")))
+    read = [re.fullmatch(r"((?:const )?(?:struct )?\w+) (.*)", line).groups() for line in lines]
+    return [(it.strip(), of) for of, names in read for it in names.split(",")]
 
 
 def results(header):
@@ -83,40 +85,25 @@ def constant(prefix, name):
     return DATA.constants.get(word, word)
 
 
-def source(name):
-    return (TOP / "crates" / name).read_text()
-
-
 def variants_of(file, kind):
-    return re.search(rf"pub enum {kind} \{{(.*?)\n\}}", source(file), re.S)[1]
+    return body(source(file), f"pub enum {kind}", r"\n\}")
 
 
-def variants(file, kind, prefix):
-    return {constant(prefix, of): int(number) for of, number in re.findall(r"^    (\w+) = (\d+),", variants_of(file, kind), re.M)}
-
-
-def arms(file, kind, prefix):
-    found = re.findall(rf"{kind}::(\w+)(?:\(\w+\))? => \(?(\d+)", source(file))
-    return {constant(prefix, name): int(number) for name, number in found}
+def constants(prefix, pairs):
+    return {constant(prefix, name): int(number) for name, number in pairs}
 
 
 def methods():
-    found = {}
-    rows = re.search(r"fn place_of\(.*?\n\}", source("oca_types/src/class.rt"), re.S)[0]
-    for names, level, index in re.findall(r"((?:Method::\w+[ |\n]*)+) => \((\d+), (\d+)\)", rows):
-        found.update({constant("OCA_", name): int(level) << 16 | int(index) for name in re.findall(r"Method::(\w+)", names)})
-    return found
+    rows = re.search(r"fn place_of\(.*?\n\}", source("crates/oca_types/src/class.rt"), re.S)[0]
+    read = re.findall(r"((?:Method::\w+[ |\n]*)+) => \((\d+), (\d+)\)", rows)
+    numbers = [(name, int(level) << 16 | int(index)) for names, level, index in read for name in re.findall(r"Method::(\w+)", names)]
+    return constants("OCA_", numbers)
 
 
 def struct(name):
-    sources = "\n".join(file.read_text() for file in (TOP / "crates/oca_calls/src").glob("*.rt"))
-    body = re.search(rf"pub struct {name} \{{(.*?)\n\}}", sources, re.S)[1]
-    found = []
-    for field, of in re.findall(r"pub (\w+): (.+),", body):
-        size = re.fullmatch(r"\[(\w+); (\d+)\]", of)
-        kind = size[1] if size else of
-        found.append((f"{field}[{size[2]}]" if size else field, NUMBERS.get(kind) or STRUCTS[kind]))
-    return found
+    said = body(source("crates/oca_calls/src/*.rt"), f"pub struct {name}", r"\n\}")
+    found = re.findall(r"pub (\w+): \[?(.+?)(?:; (\d+)\])?,", said)
+    return [(f"{field}[{size}]" if size else field, NUMBERS.get(kind) or STRUCTS[kind]) for field, kind, size in found]
 
 
 def texts():
@@ -136,8 +123,12 @@ def compared(header):
     """What is compared besides prototypes: by its name what the header has, and what it must have. Of results the texts are those that `texts` knows, or
     all where they are not those of the results that its enums have."""
     there, said = dict(re.findall(r'case (OCA_\w+): return "([^"]*)";', header)), texts()
-    enums = {name: arms(*of) for name, *of in DATA.arms} | {name: variants(*of) for name, *of in DATA.variants} | {"oca_method": methods()}
-    words = source("oca_calls/src/words.rt")
+    enums = {
+        **{name: constants(of, re.findall(rf"{kind}::(\w+)(?:\(\w+\))? => \(?(\d+)", source(file))) for name, file, kind, of in DATA.arms},
+        **{name: constants(of, re.findall(r"\n    (\w+) = (\d+),", variants_of(file, kind))) for name, file, kind, of in DATA.variants},
+        "oca_method": methods(),
+    }
+    words = source("crates/oca_calls/src/words.rt")
     verdict = re.search(r"\} => \[0, (.*?)\]", words)[1].split(", ")
     object_words = re.findall(r"^        (?:object\.|)(\w+)(?:\.0|\(object\.class\)|\.len\(\) as u32),", words, re.M)
     structs = {
@@ -150,12 +141,13 @@ def compared(header):
         **{f"enum {name}": (numbered(header, name), of) for name, of in enums.items()},
         **{f"struct {name}": (fields(header, name), of) for name, of in structs.items()},
         "size of oca_spec": (number_in(header, r"sizeof\(struct oca_spec\) == (\d+)"),
-                             number_in(source("oca_calls/src/spec_words.rt"), r"const SPEC_SIZE: u32 = (\d+);")),
+                             number_in(source("crates/oca_calls/src/spec_words.rt"), r"const SPEC_SIZE: u32 = (\d+);")),
         "status texts": (re.findall(r'"(\w+)"', re.search(r"oca_status_text.*?\};", header, re.S)[0]),
-                         re.findall(r'Status::\w+ => "(\w+)"', source("oca_types/src/status.rt"))),
+                         re.findall(r'Status::\w+ => "(\w+)"', source("crates/oca_types/src/status.rt"))),
         "result texts": ({word: there.get(word) for word in said} if there.keys() == results(header) else there, said),
         "most": (most, {of: number_in(source(file), rf"const {name}: usize = (\d+);") for of, file, name in DATA.most}),
-        "version": (number_in(header, r"#define OCA_VERSION (0x[0-9a-fA-F]+)u"), number_in(source("oca_c/src/version.rt"), r"^    (0x[0-9A-Fa-f_]+)$")),
+        "version": (number_in(header, r"#define OCA_VERSION (0x[0-9a-fA-F]+)u"),
+                    number_in(source("crates/oca_c/src/version.rt"), r"^    (0x[0-9A-Fa-f_]+)$")),
     }
 
 
@@ -169,16 +161,13 @@ def differences(header):
 
 
 def comments(header):
-    """The words of the comment before each call in its paragraph, line by line."""
-    found, said, is_inside = {}, [], False
-    for line in header[header.index("#define OCA_H"):].splitlines():
-        if is_inside or line.startswith("/*"):
-            said = (said if is_inside else []) + re.findall(r"\w+", line)
-            is_inside = "*/" not in line
-        elif not line.strip():
-            said = []
-        elif re.match(r"\w[\w ]*[ *]oca_\w+\(", line):
-            found[re.search(r"(oca_\w+)\(", line)[1]] = said
+    """The words of the comment before each call in its paragraph: an empty line ends it."""
+    found, said, body_of_it = {}, [], header[header.index("#define OCA_H"):]
+    for comment, name in re.findall(r"^/\*(.*?)\*/|^\w[\w ]*[ *](oca_\w+)\(|^[ \t]*$", body_of_it, re.M | re.S):
+        if name:
+            found[name] = said
+        else:
+            said = words(comment)
     return found
 
 
@@ -224,11 +213,6 @@ def pages_wrong(header, texts):
     return 8 * len(calls), wrong
 
 
-def is_page_found(header, texts, name, there, other):
-    changed = {**texts, name: re.sub(there, other, texts.get(name, ""), count=1)}
-    return changed != texts and len(pages_wrong(header, changed)[1]) > len(pages_wrong(header, texts)[1])
-
-
 def list_wrong(page, made):
     """How many lines the list of docs/API.md is to have, and what is wrong with it: the lines of one of both alone."""
     there, wanted = page.partition(api.MARK)[2].splitlines(), made.partition(api.MARK)[2].splitlines()
@@ -242,12 +226,15 @@ def main():
     with tempfile.TemporaryDirectory() as place:
         reference.write(Path(place))
         texts = {file.stem: file.read_text() for file in Path(place).glob("*.3")}
-    for compared, wrong in (differences(header), pages_wrong(header, texts), list_wrong(api.PAGE.read_text(), made)):
-        checks.all_but(compared, [f"include/oca.h: {line}" for line in wrong])
+    of_pages = pages_wrong(header, texts)
+    for count, wrong in (differences(header), of_pages, list_wrong(api.PAGE.read_text(), made)):
+        checks.all_but(count, [f"include/oca.h: {line}" for line in wrong])
     for there, other in DATA.wrong:
         checks.finds("", header, there, other, lambda wrong: differences(wrong)[1])
     for name, there, other in DATA.wrong_pages:
-        checks.expect(f"not found: {other!r} in place of {there!r} in the page of {name}", is_page_found(header, texts, name, there, other))
+        changed = texts | {name: re.sub(there, other, texts.get(name, ""), count=1)}
+        is_found = changed != texts and len(pages_wrong(header, changed)[1]) > len(of_pages[1])
+        checks.expect(f"not found: {other!r} in place of {there!r} in the page of {name}", is_found)
     for there, other in DATA.wrong_lists:
         checks.finds(" in the list", made, there, other, lambda wrong: list_wrong(wrong, made)[1])
     return checks.verdict()

@@ -2,14 +2,11 @@
  * lie within the arena's bytes, aligned, behind the block before; what is refused must not fit. C11 and C++11. */
 #define ARENA 4096u
 #include "../examples/c/heap.c"
+#include <assert.h>
 #include "c_checks.h"
 
 /* The arena says how it is aligned: that it lies so here anyway may be the compiler's doing. */
-#if defined(__GNUC__) && defined(__cplusplus)
 static_assert(__alignof__(arena) >= ALIGNMENT, "the arena is aligned");
-#elif defined(__GNUC__)
-_Static_assert(__alignof__(arena) >= ALIGNMENT, "the arena is aligned");
-#endif
 
 static void expect(bool good, size_t room, size_t size) {
     if (good) passed++;

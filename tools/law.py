@@ -13,9 +13,10 @@ import re
 import sys
 
 import oca_profile as oca
-from comparing import Comparison, broken, changed, events_of, in_processes, runs_of, verdict, wrong_rules
+from comparing import Comparison, broken, changed, events_of, in_processes, verdict
 from fuzz import Panel, datagram, moment
-from oca_law import Datagram, Passes, Sets, Told, objects_line, set_line, walk, written_line
+from oca_law import Datagram, Passes, Sets, objects_line, packets_in, set_line, walk, written_lines
+from oca_profile import command as ask
 from schedules import PEERS, peer, some_change
 
 # ---- histories
@@ -37,9 +38,6 @@ class History:
     def tick(self):
         self.events.append(Passes(self.now))
 
-    def sets(self, *change):
-        self.events.append(Sets(*change))
-
     def text(self):
         return [f"history {self.window} {self.peers} {self.channels}", *(LINES[type(event)](event) for event in self.events)]
 
@@ -48,20 +46,16 @@ LINES = {Sets: lambda event: oca.front_line(*event), Passes: lambda event: f"{ev
          Datagram: lambda event: f"{event.now} {oca.peer_text(event.sender)} {oca.hex_text(event.data)}"}
 
 
-def ask(handle, target, level, index, count=0, params=b"", respond=True):
-    return oca.pdu(int(respond), [oca.Command(handle, target, level, index, count, params).body()])
+def get(handle, kind=1):
+    return ask(handle, 4097, 4, 1, kind=kind)
 
 
-def get(handle, respond=True):
-    return ask(handle, 4097, 4, 1, respond=respond)
+def trim(handle, value, kind=1):
+    return ask(handle, 4100, 5, 2, 1, value.to_bytes(2, "big", signed=True), kind=kind)
 
 
-def trim(handle, value, respond=True):
-    return ask(handle, 4100, 5, 2, 1, value.to_bytes(2, "big", signed=True), respond)
-
-
-def lock(handle, target=4097, kind=3):
-    return ask(handle, target, 1, kind)
+def lock(handle, target=4097, method=3):
+    return ask(handle, target, 1, method)
 
 
 def beat(ms):
@@ -107,8 +101,7 @@ def forgetting(r):
 def crowds(r):
     """One peer more than there is room for, and peers that are forgotten as late ones come."""
     h = History(r.choice([1, 32]), r.choice(PEERS))
-    count = h.peers + r.choice([1, 1, 2])
-    order = list(range(count))
+    order = range(h.peers + r.choice([1, 1, 2]))
     for n in order:
         h.at(h.now + r.choice([0, 1, 1000])).says(n, *([lock(1, 4097)] if n == 0 else [get(1)]))
     for _ in range(6):
@@ -141,7 +134,7 @@ def windows(r):
             h.says(0, *r.sample(copies, r.choice([1, 3, 5])))
         if r.randrange(4) == 0:
             x = r.choice(handles[:k][-w - 1:])
-            h.says(0, r.choice([trim(x, 1), get(x, False), trim(x, x % 1300 - 650, False), ask(x, 4097, 1, 5), ask(x, 4097, 4, 1, 1)]))
+            h.says(0, r.choice([trim(x, 1), get(x, 0), trim(x, x % 1300 - 650, 0), ask(x, 4097, 1, 5), ask(x, 4097, 4, 1, 1)]))
         if r.randrange(6) == 0:
             h.says(0, get(max(0, min(handles[:k]) - 1)))
     return h.says(1, ask(1, 4100, 5, 1))
@@ -156,15 +149,13 @@ def packings(r):
     kinds = [(4099, 4, 5), (4097, 2, 8), (100, 3, 6), (4097, 1, 1), (4097, 4, 1)]
     at = 10
     for _ in range(4):
-        parts, size = [], 0
+        data = b""
         for _ in range(r.choice([2, 4, 20])):
             body = [oca.Command(at + i, *r.choice(kinds), 0, b"").body() for i in range(r.choice([1, 2, 7]))]
             at += len(body)
             part = r.choice([oca.pdu(1, body)] * 5 + [oca.pdu(0, body), beat(5000), oca.pdu(4, [oca.u16(3)]), oca.response(1), get(at - 1)])
-            if size + len(part) <= oca.LARGEST:
-                parts.append(part)
-                size += len(part)
-        h.says(0, *parts)
+            data += part if len(data + part) <= oca.LARGEST else b""
+        h.says(0, data)
     return h
 
 
@@ -184,7 +175,7 @@ def fronts(r):
     h.says(0, lock(1, 4100), lock(2, 4097, 6))
     for n in range(12):
         _, ono, *change = some_change(r)
-        h.sets(ono, *change)
+        h.events.append(Sets(ono, *change))
         if r.randrange(3) == 0:
             h.at(h.now + r.choice([0, 1, 5001, 15001, 120001])).says(r.randrange(2),
                 r.choice([get(n + 5), trim(n + 5, n), ask(n + 5, 4099, 4, 8, 2, oca.u16(1) + b"\0"), ask(n + 5, ono, 2, r.choice([1, 8])),
@@ -210,7 +201,7 @@ def wander(r):
             reading(h, 40, handle)
             handle += 9
         elif kind == 2:
-            h.sets(*some_change(r)[1:])
+            h.events.append(Sets(*some_change(r)[1:]))
         elif kind == 3:
             n = r.choice(numbers)
             h.says(n, ask(min(oca.U32, r.choice([panels[n].next + 1, 1])), r.choice([4097, 4098, 4100]), 1, r.choice([3, 3, 6, 4])))
@@ -230,72 +221,51 @@ def made(seed, number):
 
 
 # ---- tales: what was said of the events of a history
-def tale_of(history, device):
-    """What a device of the second implementation, or a wrong one, tells."""
-    tale = []
-    for event in history.events:
-        packets, written = [], ""
-        if isinstance(event, Datagram):
-            verdict, packets = device.datagram(event.sender, event.data, event.now)
-            written = written_line(device.written)
-        elif isinstance(event, Passes):
-            device.advance(event.now)
-            verdict = "quiet"
-        else:
-            verdict = set_line(device.set(*event))
-        tale.append(Told(verdict, tuple(packets), written, f"sessions {len(device.sessions)}", objects_line(device.tree)))
+def tale_of(history, wrong):
+    """What a device of a wrong second implementation tells."""
+    device, tale = wrong.Device(wrong.bench(history.channels), history.window, history.peers), []
+    for event, line in zip(history.events, history.text()[1:]):
+        said = [set_line(device.set(*event))] if isinstance(event, Sets) else wrong.device_line(device, line.split(" "))
+        written = written_lines(device.written) if isinstance(event, Datagram) else []
+        tale.append([*said, *written, f"sessions {len(device.sessions)}", objects_line(device.tree)])
     return tale
 
 
-def told_in(verdict, *others):
-    """What these lines tell of an event."""
-    *others, sessions, objects = others
-    packets = tuple(bytes.fromhex(line[2:]) for line in others if line.startswith("> "))
-    return Told(verdict, packets, "".join(line for line in others if line.startswith("written")), sessions, objects)
-
-
-def tales(program, histories):
-    runs = runs_of(program, "events", "history", [history.text() for history in histories])
-    return [[told_in(*its) for its in events_of(lines[1:])] for lines in runs]
-
-
 def shown(history, tale, fault):
-    lines = history.text()
-    out = lines[:1]
-    for line, told in list(zip(lines[1:], tale))[:fault.at + 1]:
-        out += [line, f"    {told.verdict}"] + [f"    > {packet.hex()}" for packet in told.packets]
-    return "\n".join(out + [f"BREAK of '{fault.law}' at event {fault.at}: {fault.what}"])
+    head, *lines = history.text()
+    told = [it for line, said in list(zip(lines, tale))[:fault.at + 1] for it in (line, *(f"    {its}" for its in said[:-2]))]
+    return "\n".join([head, *told, f"BREAK of '{fault.law}' at event {fault.at}: {fault.what}"])
 
 
 # ---- altered transcripts
-def altered(r, history, tale):
+def altered(r, history, tale, _):
     """(the sentence, the event, the tale with one line of it altered), or None."""
     at = r.randrange(len(tale))
-    told, kind, is_datagram = tale[at], r.randrange(10), isinstance(history.events[at], Datagram)
-    packets = told.packets
-    k = r.randrange(len(packets)) if packets else 0
-    if kind < 2 and told.verdict.startswith(("served", "malformed")):
-        number = r.choice([*re.finditer(r"\d+", told.verdict)])
-        new = "verdict_is", {"verdict": told.verdict[:number.start()] + str(int(number[0]) + 1) + told.verdict[number.end():]}
+    said, kind, is_datagram = list(tale[at]), r.randrange(10), isinstance(history.events[at], Datagram)
+    packets = packets_in(said)
+    k, end = 1 + (r.randrange(len(packets)) if packets else 0), 1 + len(packets)
+    if kind < 2 and said[0].startswith(("served", "malformed")):
+        number = r.choice([*re.finditer(r"\d+", said[0])])
+        law, said[0] = "verdict_is", said[0][:number.start()] + str(int(number[0]) + 1) + said[0][number.end():]
     elif kind == 2 and is_datagram:
-        new = "verdict_is", {"verdict": "served 0 0 0" if told.verdict == "no-room" else "no-room"}
+        law, said[0] = "verdict_is", "served 0 0 0" if said[0] == "no-room" else "no-room"
     elif kind == 3 and packets:
-        new = "answers_are", {"packets": packets[:k] + packets[k + 1:]}
+        law, said[k:k + 1] = "answers_are", []
     elif kind == 4 and packets:  # the last parameter, or a ParamCount; of a keep-alive its time
-        new = "answers_are", {"packets": (*packets[:k], packets[k][:-1] + bytes([packets[k][-1] ^ 1]), *packets[k + 1:])}
+        law, said[k] = "answers_are", f"{said[k][:-1]}{int(said[k][-1], 16) ^ 1:x}"
     elif kind == 5 and len(packets) > 1:
-        new = "packets_are", {"packets": (b"".join(packets[:2]), *packets[2:])}
+        law, said[1:3] = "packets_are", [said[1] + said[2][2:]]
     elif kind == 6 and any(p[7] == 3 and p[9] > 1 for p in packets):
-        new = "packets_are", {"packets": tuple(part for p in packets for part in parted(p))}
+        law, said[1:end] = "packets_are", [f"> {part.hex()}" for p in packets for part in parted(p)]
     elif kind == 7:
-        new = "objects_are", {"objects": other_object(r, told.objects.split(" "))}
+        law, said[-1] = "objects_are", other_object(r, said[-1].split(" "))
     elif kind == 8:
-        new = "sessions_are", {"sessions": f"sessions {int(told.sessions.split(' ')[1]) + r.choice([-1, 1])}"}
+        law, said[-2] = "sessions_are", f"sessions {int(said[-2].split(' ')[1]) + r.choice([-1, 1])}"
     elif kind == 9 and is_datagram:
-        new = "written_are", {"written": told.written.rpartition(" ")[0] if told.written else "written 4097"}
+        law, said[end:-2] = "written_are", [line.rpartition(" ")[0] for line in said[end:-2]] or ["written 4097"]
     else:
         return None
-    return new[0], at, tale[:at] + [told._replace(**new[1])] + tale[at + 1:]
+    return law, at, [*tale[:at], said, *tale[at + 1:]]
 
 
 def parted(packet):
@@ -319,40 +289,32 @@ def other_object(r, words):
 # ---- wrong devices
 def refuses(job):
     """Whether the law refuses a history of the wrong device of this name by its sentence, that sentence, and how."""
-    seed, name = job
-    sentence, edits = RULES[name]
+    seed, name, sentence, edits = job
     wrong, first = changed(edits), None
-    for number in range(WRONG_HISTORIES):
+    for number in range(400):
         (history,) = made(f"{seed} {name}", number)
-        fault = broken(walk, history, tale_of(history, wrong.Device(wrong.bench(history.channels), history.window, history.peers)))
+        fault = broken(walk, history, tale_of(history, wrong))
         if fault and fault.law == sentence:
             return True, sentence, f"{name}: '{sentence}' refuses history {number}, at event {fault.at}"
         first = first or fault and fault.law
     return False, sentence, f"{name}: no break of '{sentence}'" + (f", but of '{first}'" if first else "")
 
 
-RULES, WRONG_HISTORIES = wrong_rules("wrong_devices"), 400
-
-
 # ---- the whole
 def count_of(_, tale, __):
-    total = collections.Counter(histories=1, events=len(tale), packets=sum(len(told.packets) for told in tale))
-    for told in tale:
-        word, *rest = told.verdict.split(" ")
+    total = collections.Counter(histories=1, events=len(tale), packets=sum(len(packets_in(said)) for said in tale))
+    for said in tale:
+        word, *rest = said[0].split(" ")
         total["said " + word] += 1
-        total["writes"] += told.written.count(" ")
+        total["writes"] += sum(line.count(" ") for line in said if line.startswith("written"))
         if word == "served":
             total.update(dict(zip(("executed", "duplicates", "old", "reused"), (int(it) for it in rest if it.isdigit()))))
     return total
 
 
-def alterations(r, history, tale, _):
-    return [altered(r, history, tale) for _ in range(3)]
-
-
 def main():
-    how = Comparison(made, tales, walk, shown, count_of, alterations, walk)
-    count, seed, total, wrong = in_processes(how, "histories", 9, refuses, RULES)
+    how = Comparison(made, events_of, walk, shown, count_of, altered, 3, walk)
+    count, seed, total, wrong = in_processes(how, "histories", 9, refuses, "wrong_devices")
     for found, _, said in wrong:
         if not found:
             print(f"FAILED: {said}")

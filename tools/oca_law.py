@@ -221,19 +221,16 @@ class Law:
 
 
 # ---- a transcript held against the law
-
-
-# What `trials events` prints of an event: the verdict, or whether a change at the front was made; the packets, here as bytes; what a datagram wrote
-# to; the number of sessions and the objects after it.
-Told = namedtuple("Told", "verdict packets written sessions objects")
-
-
 def set_line(fault):
     return "set" if fault is None else f"refused {fault}"
 
 
-def written_line(onos):
-    return " ".join(["written", *map(str, onos)]) if onos else ""
+def packets_in(lines):
+    return [bytes.fromhex(line[2:]) for line in lines if line.startswith("> ")]
+
+
+def written_lines(onos):
+    return [" ".join(["written", *map(str, onos)])] if onos else []
 
 
 def objects_line(tree):
@@ -247,24 +244,29 @@ def objects_line(tree):
 
 
 def walk(history, tale):
-    """Holds the law of a device against what it said, event by event; a Break has the sentence that is broken first."""
+    """Holds the law of a device against the lines that `trials events` prints of each event: the verdict, or whether a change at the
+    front was made, the packets, what a datagram wrote to, the number of sessions, and the objects. A Break has the sentence that is
+    broken first."""
     law, H = Law(history.window, history.peers, tuple(oca.bench(history.channels))), None
-    for number, (event, told) in enumerate(zip(history.events, tale, strict=True)):
+    for number, (event, (verdict, *others, sessions, objects)) in enumerate(zip(history.events, tale, strict=True)):
         before, H = H, happened(event, H)
+        packets = packets_in(others)
 
         def same(sentence, said, wanted, number=number):
             if said != wanted:
                 raise Break(sentence, number, f"{said} in place of {wanted}")
 
         if isinstance(event, Datagram):
-            same("verdict_is", told.verdict, law.verdict(event.data, H))
-            groups = [read(packet)[0] or () for packet in told.packets]
-            are_pdus = [group and oca.frame_at(packet, 0)[2] == len(packet) for group, packet in zip(groups, told.packets)]
+            same("verdict_is", verdict, law.verdict(event.data, H))
+            groups = [read(packet)[0] or () for packet in packets]
+            are_pdus = [group and oca.frame_at(packet, 0)[2] == len(packet) for group, packet in zip(groups, packets)]
             same("packets_are", are_pdus, [True] * len(groups))
             same("answers_are", [m for group in groups for m in group], law.answers(H))
-            same("packets_are", all(map(is_full_before, told.packets, told.packets[1:])), True)
-            same("written_are", told.written, written_line(law.written(H)))
+            same("packets_are", all(map(is_full_before, packets, packets[1:])), True)
+            same("written_are", others[len(packets):], written_lines(law.written(H)))
         elif isinstance(event, Sets):
-            same("set_fault", told.verdict, set_line(oca.set_local(with_copies(law.objects(before), [event.ono]), *event)))
-        same("objects_are", told.objects, objects_line(law.objects(H)))
-        same("sessions_are", told.sessions, f"sessions {len(law.known(law.clock(H), law.admitted(H)))}")
+            same("set_fault", [verdict, *others], [set_line(oca.set_local(with_copies(law.objects(before), [event.ono]), *event))])
+        else:
+            same("verdict_is", [verdict, *others], ["quiet"])
+        same("objects_are", objects, objects_line(law.objects(H)))
+        same("sessions_are", sessions, f"sessions {len(law.known(law.clock(H), law.admitted(H)))}")

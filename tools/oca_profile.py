@@ -96,8 +96,8 @@ class Command(namedtuple("Command", "handle target level index count params", de
         return struct.pack(">IIIHHB", 17 + len(self.params), *self[:5]) + self.params
 
 
-def command(*fields):
-    return pdu(1, [Command(*fields).body()])
+def command(*fields, kind=1):
+    return pdu(kind, [Command(*fields).body()])
 
 
 def response(handle, status=0, count=0, params=b""):
@@ -327,9 +327,7 @@ def puts(name):
 
 
 def locks(value):
-    def lock(obj, peer):
-        obj.lock = value and (value, peer)
-    return lock
+    return lambda obj, peer: setattr(obj, "lock", value and (value, peer))
 
 
 def nothing(*_):
@@ -612,7 +610,7 @@ class Network:
     def __init__(self, window, span, starts, peers=16):
         self.device = Device(window=window, peers=peers)
         self.links = [(peer, Link(DEVICE, first, span)) for peer, first in starts]
-        self.to_device, self.to_links = [], []
+        self.sent = {"to-device": [], "to-link": []}
 
     def step(self, step):
         """The text of what the step led to, or None where it names what is not there."""
@@ -627,13 +625,13 @@ class Network:
         number, *rest = rest
         if kind == "other":
             return None if any(peer == number for peer, _ in self.links) else self.device.datagram(number, *rest, now)[0]
-        its = {"to-device": self.to_device, "to-link": self.to_links}.get(kind, self.links)
+        its = self.sent.get(kind, self.links)
         if number >= len(its):
             return None
         peer, link = its[number]
         if kind == "to-device":
             text, out = self.device.datagram(peer, link, now)
-            self.to_links += [(peer, packet) for packet in out]
+            self.sent["to-link"] += [(peer, packet) for packet in out]
             return text
         if kind == "to-link":
             return next(its for p, its in self.links if p == peer).datagram(DEVICE, link, now)
@@ -650,13 +648,12 @@ class Network:
         said, data = ("", pdu(4, [u16(5)])) if kind == "beside" else link.due(now)
         if data is None:
             return said
-        self.to_device.append((peer, data))
-        return f"sent {len(self.to_device) - 1}"
+        self.sent["to-device"].append((peer, data))
+        return f"sent {len(self.sent['to-device']) - 1}"
 
     def transcript(self, outcomes):
-        sent = [("to-device", d) for d in self.to_device] + [("to-link", d) for d in self.to_links]
-        return ["schedule"] + outcomes + [f"{way} {peer_text(peer)} {hex_text(data)}" for way, (peer, data) in sent] \
-            + [f"sessions {len(self.device.sessions)}"]
+        sent = [f"{way} {peer_text(peer)} {hex_text(data)}" for way, its in self.sent.items() for peer, data in its]
+        return ["schedule", *outcomes, *sent, f"sessions {len(self.device.sessions)}"]
 
 
 def front_line(ono, kind, value):
@@ -740,26 +737,20 @@ def link_line(link, fields):
 
 def replay(script, serve):
     """(standard output, the fault's line or None, the exit status) of a script's bytes; serve answers a line's fields."""
-    limit = 16777216
-    over = len(script) > limit
+    limit, out, end = 16777216, [], (None, 0)
     lines = script[:limit].split(b"\n")
-    partial = lines.pop()
-    out = []
-    for k, line in enumerate([*lines, partial], 1):
+    for k, line in enumerate(lines, 1):
         try:
             fails(len(line) > 4096, "too long")
-            if over and k > len(lines):
-                return text_of(out), "too much input", 1
-            if line and not line.startswith(b"#"):
+            if len(script) > limit and k == len(lines):
+                end = "too much input", 1
+            elif line and not line.startswith(b"#"):
                 fails(not line.isascii(), "form")
                 out += serve(line.decode("ascii").split(" "))
         except Fault as fault:
-            return text_of(out), f"line {k}: {fault.kind}", 2
-    return text_of(out), None, 0
-
-
-def text_of(lines):
-    return "".join(line + "\n" for line in lines).encode()
+            end = f"line {k}: {fault.kind}", 2
+            break
+    return "".join(line + "\n" for line in out).encode(), *end
 
 
 def device_replay(script, window=32, peers=16, channels=0):

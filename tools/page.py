@@ -54,7 +54,7 @@ def without_spaces(text):
 
 
 @functools.cache
-def short_names(folder=SOURCES):
+def short_names(folder):
     """For each name of the page's own a short one, the shortest for what stands most often."""
     counts = Counter(match.group(3) for match in TOKEN.finditer(sources(folder)) if match.group(3))
     own = sorted((name for name in counts if name not in KEPT and len(name) > 2), key=lambda name: (-counts[name] * len(name), name))
@@ -63,35 +63,27 @@ def short_names(folder=SOURCES):
     return dict(zip(own, free))
 
 
-def shorten(text, folder=None):
+def shorten(text, folder=SOURCES):
     """A script with the short names in place of the page's own; it may be one that is to run beside the page's."""
-    names = short_names(folder or SOURCES)
-    shorter = names | {"const": "let", "true": "!0", "false": "!1"}
+    shorter = short_names(folder) | {"const": "let", "true": "!0", "false": "!1"}
     return "".join(shorter.get(match.group(3), match.group(0)) for match in TOKEN.finditer(text))
 
 
 def joined(text):
     """The script with declarations that follow one another as one."""
-    tokens = [match.group(0) for match in TOKEN.finditer(text)]
-    out, levels, at = [], [""], 0
-    while at < len(tokens):
-        token = tokens[at]
-        if token == ";" and levels[-1] == "let" and tokens[at + 1:at + 2] == ["let"]:
-            out.append(",")
-            at += 3 if tokens[at + 2].isspace() else 2
-            continue
+    out, begins = [], [""]  # at each level the word with which the statement begins
+    for token in (match[0] for match in TOKEN.finditer(text)):
+        out.append("\0" if token == ";" and begins[-1] == "let" else token)  # the end of a declaration
         if token in "([{":
-            levels.append("")
+            begins.append("")
         elif token in ")]}":
-            levels.pop()
-            levels[-1] = levels[-1] if token != "}" or levels[-1] == "let" else ""
+            begins.pop()
+            begins[-1] = "" if token == "}" and begins[-1] != "let" else begins[-1]
         elif token == ";":
-            levels[-1] = ""
+            begins[-1] = ""
         elif not token.isspace():
-            levels[-1] = levels[-1] or token
-        out.append(token)
-        at += 1
-    return "".join(out)
+            begins[-1] = begins[-1] or token
+    return re.sub(r"\0let(?![\w$])\s*", ",", "".join(out)).replace("\0", ";")
 
 
 def as_arrow(found):
@@ -109,12 +101,9 @@ def script(folder):
     return '"use strict";' + joined(shorten(sources(folder), folder))
 
 
-def page(folder=None):
-    folder = folder or SOURCES
+def page(folder=SOURCES):
     css, js = style(folder), script(folder)
-    text = (folder / "page.html").read_text()
-    text = text.replace("\npage.css\n", css).replace("\npage.js\n", js)
-    return text, css, js
+    return (folder / "page.html").read_text().replace("\npage.css\n", css).replace("\npage.js\n", js), css, js
 
 
 def digest(text):

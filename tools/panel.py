@@ -24,8 +24,8 @@ from concurrent.futures import ThreadPoolExecutor
 from pathlib import Path
 
 import oca_profile as oca
-from checks import Ahead, Checks, Serving, bound, by_turns, free_port, sockets, waited
-from hands import OldSession, address, stagebox
+from checks import Ahead, Checks, Serving, bound, by_turns, free_port, heard, sockets, waited
+from hands import DEVICES, OldSession, address, stagebox
 from peers import Lossy, Peer, Served, commands_in
 from scenes import Scene, scenes_of
 from tables import TOP, as_it_stands, each, octets, whole
@@ -41,13 +41,18 @@ def check(is_so, what):
     return ITS.expect(what, is_so)
 
 
+def file_of(text):
+    """A file of this text, as long as it is open."""
+    file = tempfile.NamedTemporaryFile()
+    Path(file.name).write_bytes(octets(text))
+    return file
+
+
 class Device(Serving):
     """`ocadev serve` at a port, of the objects of a text, or of its own."""
 
     def __init__(self, port=0, tree=TREE):
-        with tempfile.NamedTemporaryFile("w") as file:
-            file.write(tree or "")
-            file.flush()
+        with file_of(tree or "") as file:
             super().__init__(f"{ITS.folder}/ocadev", "serve", "--port", port, "--peers", 64, *(["--tree", file.name] if tree else []))
 
 
@@ -140,9 +145,6 @@ class Panel(Serving):
         self.told |= {t["ticket"]: t["trouble"] for t in values["told"]}
         return values
 
-    def is_walked(self):
-        return waited(lambda: self.look()["walked"], 20) is not None
-
     def fare(self, path, ono, value=None, **more):
         status, ticket = self.order(path, ono, value, **more)
         return self.settled([ticket])[0] if status == 202 else f"status {status}"
@@ -151,63 +153,16 @@ class Panel(Serving):
         waited(lambda: self.look() and all(t in self.told for t in tickets), seconds)
         return [self.told.get(t, "not told") for t in tickets]
 
-    def value(self, ono):
-        return self.shown.get(ono, {}).get("value")
+    def known(self, ono, name="value"):
+        return self.shown.get(ono, {}).get(name)
 
     def in_tree(self):
         return {o["ono"]: o for o in self.get("/tree")["objects"]}
 
 
-@contextlib.contextmanager
-def walked(device):
-    """This device, and a panel that has found its objects."""
-    with device, Panel(device) as panel:
-        check(panel.is_walked(), "the objects are found")
-        yield device, panel
-
-
 def ocactl(device_port, *words):
     """What `ocactl` prints, from a port of this tool's own."""
     return ITS.ran("ocactl", words[0], "--device", f"127.0.0.1:{device_port}", "--port", OWN_PORT, *words[1:])[0]
-
-
-@contextlib.contextmanager
-def locked(device_port, ono):
-    """While this lasts a different controller holds the lock of an object."""
-    holder = ITS.start("ocactl", "lock", "--hold", "--device", f"127.0.0.1:{device_port}", "--port", free_port(), ono)
-    same("a different controller locks", holder.stdout.readline(), f"{ono} locked\n")
-    yield
-    holder.stdin.close()
-    holder.wait()
-
-
-def words():
-    """The words that only print, and those with which the panel ends at once, with a note and a fault."""
-    out, err, status = ITS.ran("ocapanel", "--help")
-    check((status, err) == (0, "") and "--listen" in out, "--help")
-    with socket.create_server(("127.0.0.1", 0)) as taken, tempfile.TemporaryDirectory() as room:
-        places = {"TAKEN": str(taken.getsockname()[1]), "FILE": f"{room}/file", "NONE": f"{room}/none", "FOLDER": room}
-        filled = lambda text: re.sub("|".join(places), lambda place: places[place[0]], text)
-        for row in (one for row in whole(ROWS["ended"], ROWS["text"]) for one in each(row, "words", "file")):
-            Path(room, "file").write_bytes(octets(row.get("file", "")))
-            out, err, status = ITS.ran("ocapanel", *filled(row["words"]).split())
-            begins, ends = f"note: {filled(row.get('begins', ''))}", f"{row.get('fault', 'bad words')}\n"
-            is_told = err.startswith(begins) and row.get("has", "") in err.splitlines()[0] and err.endswith(ends)
-            check((status, out) == (row.get("status", 2), "") and is_told, f"{row}: {status} {err!r}")
-
-
-def page():
-    """The page: its policy, with the hashes of its script and its style, and that it loads nothing from elsewhere."""
-    with Device() as device, Panel(device) as panel:
-        _, fields, body = panel.exchange(panel.asks("/"))
-    text, digests = body.decode(), {}
-    for tag in ("script", "style"):
-        inside = re.findall(rf"<{tag}>(.*?)</{tag}>", text, re.DOTALL)
-        same(f"parts that are a {tag}", len(inside), 1)
-        digests[tag] = base64.b64encode(hashlib.sha256(inside[0].encode()).digest()).decode()  # not by page.py, which made the policy
-    same("the policy", fields.get("content-security-policy"), whole(ROWS["policy"], digests))
-    elsewhere = r"src\s*=\s*[\"']|@import|https?://|innerHTML|outerHTML|insertAdjacentHTML|document\.write|eval\("
-    check(not re.search(elsewhere, text), "nothing from elsewhere, no HTML from texts")
 
 
 def open_ends(panel, connections):
@@ -270,31 +225,15 @@ def used_by(panel, seconds):
     return (ticks() - begun) / os.sysconf("SC_CLK_TCK") / seconds
 
 
-def classes():
-    """An object of each class: its class, its value and its limits are those of the device, to the last digit."""
-    tree = stagebox()
-    with walked(Served(tree)) as (_, panel):
-        is_read = lambda: panel.look() and all(panel.value(o.ono) is not None for o in tree if o.kind != "block")
-        check(waited(is_read, 20) is not None, "each class is read")
-        told = panel.in_tree()
-        for o in tree:
-            wanted = {"class": o.kind, "in": o.container, "role": o.role, "lockable": o.lockable, "names": o.names or []}
-            if o.kind == "switch":
-                wanted["limits"] = ["0", str(len(o.names) - 1)]
-            if o.kind in oca.WIDTHS:
-                wanted |= {"value": str(o.state), "limits": [str(o.low), str(o.high)]}
-            its = panel.shown[o.ono] | told[o.ono]
-            same(f"{o.ono}: what is told of it", {name: its[name] for name in wanted}, wanted)
-
-
 class Noting(Served):
-    """The second implementation's device, which notes what came when. It does what is given, and may change: of its answers about one
-    thing, a value of an object or what another method answers, it keeps back those that come while it `holds`, says DeviceError while it
-    `fails`, and needs so many seconds for each; the first that it keeps back it `returns` behind the answer to an order that sets the trim.
-    It sends so many datagrams that are too large before each answer, and `misses` the first copies of so many commands."""
+    """The second implementation's device, of the objects of a text or of a bench, which notes what came when. It does what is given, and
+    may change: of its answers about one thing, a value of an object or what another method answers, it keeps back those that come while it
+    `holds`, says DeviceError while it `fails`, and needs so many seconds for each; the first that it keeps back it `returns` behind the
+    answer to an order that sets the trim. It sends so many datagrams that are too large before each answer, and `misses` the first copies
+    of so many commands."""
 
-    def __init__(self, tree=None, ono=TRIM, method=(5, 1), **does):
-        super().__init__(tree)
+    def __init__(self, text=None, channels=0, ono=TRIM, method=(5, 1), **does):
+        super().__init__(oca.tree_of_text(text.encode()) if text else oca.bench(channels))
         self.what, self.came, self.asked, self.copies = (ono, *method), {}, {}, Counter()
         self.holds, self.fails, self.returns, self.needs, self.large, self.misses = False, False, False, 0.0, 0, 0
         self.held, self.answered = [], 0.0  # what is kept back, and when the last of the other answers was asked for
@@ -322,91 +261,10 @@ class Noting(Served):
         return said, packets and [*self.large * [bytes(1473)], *packets]
 
 
-def visible_first():
-    """What a page shows is read at most ten times a second, a block at most once, and all else once in five seconds. A page shows at most eight
-    ranges."""
-    tree = oca.bench(60)
-    with walked(Noting(tree)) as (device, panel):
-        places = {ono: at for at, ono in enumerate(panel.in_tree())}
-        *_, other, seen = (o for o in sorted(places, key=places.get) if next(t for t in tree if t.ono == o).kind == "int16")
-        block = next(t.container for t in tree if t.ono == other)
-        ranges = [*6 * ["0-0"], f"{places[block]}-1", f"{places[seen]}-1", f"{places[other]}-1"]
-        for seconds in (3, 12):  # what a page showed counts as shown for a while
-            device.asked.clear()
-            begun = time.monotonic()
-            while time.monotonic() < begun + seconds:
-                panel.look(f"&shown={','.join(ranges)}")
-                time.sleep(0.02)
-        took, counts = time.monotonic() - begun, Counter(ono for ono, *_ in [*device.asked.values()])
-        check(2 * counts[other] < counts[seen] <= 10 * took + 2, f"what is visible is read {counts[seen]} times in {took:.1f} s")
-        check(0 < counts[other] <= took / 5 + 1, f"what is not visible is read {counts[other]} times in {took:.1f} s")
-        check(took / 5 + 1 < counts[block] <= took + 2, f"a block that is visible is read {counts[block]} times in {took:.1f} s")
-        total = sum(counts.values())
-        check(total <= counts[seen] + counts[block] + (took / 5 + 1) * len(places), f"{total} commands in {took:.1f} s")
-
-
-def aged():
-    """How old a reading is is told where it is older than a second, and it is never told as younger than it is."""
-    with walked(Noting(oca.bench())) as (device, panel):
-        place, wrong = [*panel.in_tree()].index(TRIM), []
-
-        def age():
-            begun = time.monotonic()
-            told = {one["ono"]: one["age"] for one in panel.look(f"&shown={place}-1")["old"]}
-            since = 1000 * (begun - device.answered)
-            is_younger = panel.value(TRIM) is not None and since > told.get(TRIM, 1000) + 5
-            if is_younger or not set(told) <= {TRIM} or min(told.values(), default=1001) <= 1000:
-                wrong.append((since, told))
-            return told.get(TRIM)
-        for holds in (False, True, False, True, False):
-            device.holds = holds
-            waited(lambda: (age() is not None) == holds, 30, 0.02)
-            same(f"where answers are kept back ({holds}), whether the reading is told as old", age() is not None, holds)
-        same("readings that are told as younger than they are, or that are not old or not shown", wrong[:5], [])
-
-
-def right_behind():
-    """A page that asks right behind the answer to an order is told how the order ended, where the device needs 2 ms: for 4 ms the panel waits for it.
-    Of 40 tries three in a row must be told so; where the page itself took more than 1 ms it is no try."""
-    told = []
-    with walked(Noting(oca.bench(), 4097, (4, 2), needs=0.002)) as (_, panel), panel.connected() as s:
-        for _ in range(400):
-            s.sendall(panel.orders_by("/set", {"ono": 4097, "value": "muted"}))
-            (status, _, ticket), begun = s.answer(), time.monotonic()
-            s.sendall(panel.asks("/values?since=0&told=0"))
-            is_try, values = time.monotonic() < begun + 0.001, json.loads(s.answer()[2])
-            told += [status == 202 and int(ticket) in {one["ticket"] for one in values["told"]}] if is_try else []
-            if told[-3:] == 3 * [True] or len(told) == 40:
-                break
-            panel.settled([int(ticket or 0)], 2)  # else the next order would wait behind this one
-    check(told[-3:] == 3 * [True], f"whether a page is told how an order ended behind which it asks: {told}")
-
-
-def commands_at(silent, seconds):
-    """The handles of the commands that come to a socket in so many seconds."""
-    found, until = [], time.monotonic() + seconds
-    silent.settimeout(0.2)
-    while time.monotonic() < until:
-        with contextlib.suppress(TimeoutError):
-            found += [one.handle for one, _ in commands_in(silent.recv(2000))]
-    return found
-
-
-def bound_for():
-    """The socket is at the one address that reaches the device, or the given one, or nowhere."""
-    rows = [("127.0.0.1:9", ("--ip", "127.0.0.2"), "127.0.0.2"), ("127.0.0.1:9", ("--ip", "0.0.0.0"), "127.0.0.1")]
-    for host in ("127.0.0.1", "127.255.0.2", "10.255.255.254", "126.0.0.1", "192.0.2.1"):
-        with socket.socket(socket.AF_INET, socket.SOCK_DGRAM) as s:
-            rows.append((f"{host}:9", (), None if s.connect_ex((host, 9)) else s.getsockname()[0]))
-    same("the system reaches itself from 127.0.0.1", [wanted for _, _, wanted in rows[2:4]], ["127.0.0.1"] * 2)
-    for device, given, wanted in rows:
-        if not wanted:
-            _, err, status = ITS.ran("ocapanel", "--device", device, "--listen", "127.0.0.1:0")
-            same(f"no route to {device}", (status, err.splitlines()[1:]), (1, ["socket failed"]))
-            continue
-        with Panel(device, *given) as panel:
-            links = [os.readlink(it) for it in Path(f"/proc/{panel.process.pid}/fd").iterdir()]
-            same(f"where the socket for {device} {given} is", [ip for (ip, _), _, _, file in sockets("udp") if f"socket:[{file}]" in links], [wanted])
+def reached_from(host):
+    """The address of this machine from which it reaches that host; nothing where there is no way."""
+    with socket.socket(socket.AF_INET, socket.SOCK_DGRAM) as s:
+        return None if s.connect_ex((host, 9)) else s.getsockname()[0]
 
 
 def can_be_had(ip, port):
@@ -433,9 +291,9 @@ class Bench(Scene):
             "device ends": lambda: self.device.end(),
             "way": self.begins_way,
             "loses": lambda share: setattr(self.way, "share", share),
-            "locks": lambda ono: self.lock.enter_context(locked(self.device.port, ono)),
+            "locks": self.locks,
             "unlocks": self.lock.close,
-            "file of": self.file_of,
+            "file of": lambda text: self.open.enter_context(file_of(text)).name,
             "anew": self.open.close,
         } | does, tree=TREE, many=many_tree(), free=free_port(), **names)
 
@@ -446,11 +304,12 @@ class Bench(Scene):
     def begins_way(self, share=0, seed=1):
         self.way = self.open.enter_context(Lossy(self.device.port, seed, share))
 
-    def file_of(self, text):
-        file = self.open.enter_context(tempfile.NamedTemporaryFile("w"))
-        file.write(text)
-        file.flush()
-        return file.name
+    def locks(self, ono):
+        """From here on, until it `unlocks`, a different controller holds the lock of an object."""
+        holder = ITS.start("ocactl", "lock", "--hold", "--device", address(self.device), "--port", free_port(), ono)
+        same("a different controller locks", holder.stdout.readline(), f"{ono} locked\n")
+        self.lock.callback(holder.wait)
+        self.lock.callback(holder.stdin.close)  # which is done first
 
     def played(self, steps, **names):
         """Plays these steps, and ends what they began."""
@@ -462,13 +321,15 @@ class Desk(Bench):
     """A scene of the rows: a panel of a device, or two, and connections by their names."""
 
     def __init__(self):
-        self.panel, self.other, self.ahead, self.ends = None, None, Ahead(), {}
-        known = lambda ono, name: self.panel.shown.get(ono, {}).get(name)
+        self.panel, self.other, self.ahead, self.ends, self.wrong = None, None, Ahead(), {}, []
+        known = lambda ono, name="value": self.panel.known(ono, name)
         link = lambda name: self.panel.look()["link"][name]
         about_it = lambda: [handle for handle, what in list(self.device.asked.items()) if what == self.device.what]
         super().__init__({
-            "second device": self.begins_noting,
-            "device that only answers": lambda channels, more=0: self.begins(Served(oca.bench(channels) + mutes(more))),
+            "second device": lambda how: self.begins(Noting(**how)),
+            "device that only answers": lambda channels: self.begins(Served(oca.bench(channels))),
+            "device of a kind": lambda kind: self.begins(DEVICES[kind]()),
+            "device at": lambda place: setattr(self, "device", place),
             "device of an old session": lambda: self.begins(OldSession(stagebox(), [self.names["free"]])),
             "silent device": lambda: self.begins(bound()),
             "device stands still": lambda: self.device.process.send_signal(signal.SIGSTOP),
@@ -482,11 +343,14 @@ class Desk(Bench):
             "is asked about it": lambda times: self.panel.look() and len(about_it()) >= times,
             "copies about it": lambda: sum(self.device.copies[handle] for handle in about_it()),
             "holds answers": lambda: self.panel.look() and len(self.device.held) > 0,
-            "commands in two seconds": self.commands_in_two_seconds,
+            "copies": lambda: self.device.copies.total(),
             "seconds until heard": lambda count: waited(lambda: len(self.device.heard) >= count, 9) or 9,
             "keep-alives": lambda count: sum(data[7] == 4 for data, _ in list(self.device.heard)) >= count,
             "came all": lambda count: len(self.device.came) >= count,
             "are counted": self.are_counted,
+            "reached": lambda hosts: [[host, ip] for host in hosts if (ip := reached_from(host))],
+            "out of reach": lambda hosts: [[host] for host in hosts if not reached_from(host)],
+            "where its socket is": self.socket_at,
             "where it is asked from": lambda: "{}:{}".format(*self.device.recvfrom(2000)[1]),
             "panel": self.begins_panel,
             "panel over": lambda settings: self.begins_panel(**settings),
@@ -497,12 +361,14 @@ class Desk(Bench):
             "can be had": lambda places: [place for place in places if can_be_had(*place)],
             "by turns": by_turns,
             "first note": lambda: self.panel.notes[0],
-            "handles of two seconds": lambda: commands_at(self.device, 2),
+            "handles": lambda: [one.handle for data in heard(self.device) for one, _ in commands_in(data)],
             "how many of": lambda handles: len({*handles}),
             "is the first again": lambda handles: handles.count(min(handles)) > 1,
             "share of a processor": lambda seconds: used_by(self.panel, seconds),
             "troubles": lambda: [[ono, it["trouble"]] for ono, it in self.panel.shown.items() if it["trouble"] is not None],
             "swap": self.swap,
+            "ran": lambda words: ITS.ran("ocapanel", *words.split()),
+            "write": lambda file, text: Path(file).write_bytes(octets(text)),
             "another": lambda *asked: Peer(self.device.port).status(*asked[:3], *map(bytes.fromhex, asked[3:])),
             "ocactl": lambda words: ocactl(self.device.port, *words.split()),
             "fares": lambda path, ono, value=None, more={}: self.panel.fare(path, ono, value, **nulls(more)),
@@ -517,21 +383,28 @@ class Desk(Bench):
             "posts": lambda path, body: self.panel.post(path, body),
             "fare until": lambda now, *orders: self.panel.settled(self.panel.orders(*orders, before=now - 1)[1]["tickets"]),
             "how 150 fare": self.fares_at_once,
-            "is told by tickets": self.is_told_by_tickets,
             "settled": lambda tickets: self.panel.settled(tickets),
             "told from the first on": lambda: [[*it.values()] for it in self.panel.get("/values?since=0&told=1")["told"]],
             "tickets told": self.tickets_told,
             "told": lambda ticket: self.panel.settled([ticket], 0)[0],
             "known": known,
-            "is shown": lambda ono: self.panel.look() and self.panel.value(ono) is not None,
+            "is shown": lambda ono: self.panel.look() and known(ono) is not None,
             "shown": lambda ono, name: self.panel.look() and known(ono, name),
-            "values in twenty looks": lambda ono: sorted({known(ono, "value") for look in range(21) if not look or self.panel.look()} - {None}),
+            "values in twenty looks": lambda ono: sorted({known(ono) for look in range(21) if not look or self.panel.look()} - {None}),
             "look": lambda name: self.panel.look()[name],
             "look and count": lambda: self.panel.look() and len(self.panel.shown),
             "first look": self.first_look,
-            "seconds of a look": self.seconds_of_a_look,
-            "is read often": self.is_read_often,
-            "is found": lambda: self.panel.is_walked(),
+            "asks for": self.asks_for,
+            "commands": self.commands,
+            "wait until old": lambda is_old: waited(lambda: self.is_old() == is_old, 30, 0.02),
+            "is old": self.is_old,
+            "told wrong": lambda: self.wrong[:5],
+            "is told right behind": self.is_told_right_behind,
+            "classes": self.classes,
+            "page": self.page,
+            # not by page.py, which made the policy
+            "digest": lambda text: base64.b64encode(hashlib.sha256(text.encode()).digest()).decode(),
+            "is found": lambda: waited(lambda: self.panel.look()["walked"], 20) is not None,
             "earlier": lambda name: self.names.get(name, "none"),
             "differ": lambda one, other: one != other,
             "sum": lambda one, other: one + other,
@@ -549,8 +422,7 @@ class Desk(Bench):
             "lost for longer until lost again": self.is_lost_for_longer,
             "found anew": self.is_found_anew,
             "notes": self.notes,
-            "numbers found": lambda form, text: [*map(int, re.findall(form, text))],
-            "rises": lambda numbers: [0, *numbers] == sorted({0, *numbers}),
+            "rises": lambda numbers: [0, *map(int, numbers)] == sorted({0, *map(int, numbers)}),
             "asks": self.asks,
             "noise": self.noise,
             "status of": lambda text: self.panel.exchange(octets(text))[0],
@@ -569,10 +441,6 @@ class Desk(Bench):
             "are kept": self.are_kept,
             "seconds until closed": self.seconds_until_closed,
         }, other_tree=TREE.replace(f"{MUTE} 4097 mute muted lockable mute", f"{MUTE} 4097 int16 -5 5 0 lockable mute"))
-
-    def begins_noting(self, how):
-        text, channels = how.pop("text", None), how.pop("channels", 0)
-        self.begins(Noting(oca.tree_of_text(text.encode()) if text else oca.bench(channels), **how))
 
     def begins_panel(self, words="", **settings):
         panel = self.panel = self.open.enter_context(Panel(self.way or self.device, *words.split(), **settings))
@@ -600,11 +468,6 @@ class Desk(Bench):
         one.container = block
         self.device.tree.insert(at, one)
 
-    def commands_in_two_seconds(self):
-        before = self.device.copies.total()
-        time.sleep(2)
-        return self.device.copies.total() - before
-
     def are_counted(self):
         """Whether as many commands and copies of them are told as came."""
         link, came, copies = self.panel.look()["link"], len(self.device.came), self.device.copies.total()
@@ -619,16 +482,67 @@ class Desk(Bench):
         told = {name: (values | values["link"])[name] for name in ("walked", "epoch", "commands", "in_flight")}
         return told | {"is_heard": (values["link"]["heard"] or 0) <= since}
 
-    def seconds_of_a_look(self):
-        begun = time.monotonic()
-        self.panel.look()
-        return time.monotonic() - begun
+    def socket_at(self):
+        links = [os.readlink(it) for it in Path(f"/proc/{self.panel.process.pid}/fd").iterdir()]
+        return [ip for (ip, _), _, _, file in sockets("udp") if f"socket:[{file}]" in links]
 
-    def is_read_often(self):
-        """Whether what a page shows was read eight times in two seconds."""
-        self.panel.look()
-        came = [self.device.came[handle] for handle, what in list(self.device.asked.items()) if what == self.device.what]
-        return any(last - first <= 2 for first, last in zip(came, came[7:]))
+    def page(self):
+        """The page, and its policy."""
+        _, fields, text = self.panel.exchange(self.panel.asks("/"))
+        return text.decode(), fields.get("content-security-policy")
+
+    def classes(self):
+        """Of each object the class, the value, the limits and so on are told as the device has them, to the last digit."""
+        is_read = lambda: self.panel.look() and all(self.panel.known(o.ono) is not None for o in self.device.tree if o.kind != "block")
+        check(waited(is_read, 20) is not None, "each class is read")
+        told = self.panel.in_tree()
+        for o in self.device.tree:
+            wanted = {"class": o.kind, "in": o.container, "role": o.role, "lockable": o.lockable, "names": o.names or []}
+            if o.kind == "switch":
+                wanted["limits"] = ["0", str(len(o.names) - 1)]
+            if o.kind in oca.WIDTHS:
+                wanted |= {"value": str(o.state), "limits": [str(o.low), str(o.high)]}
+            its = self.panel.shown[o.ono] | told[o.ono]
+            same(f"{o.ono}: what is told of it", {name: its[name] for name in wanted}, wanted)
+
+    def asks_for(self, seconds, query):
+        """A page asks so, again and again for so many seconds; when it began."""
+        begun = time.monotonic()
+        while time.monotonic() < begun + seconds:
+            self.panel.look(query)
+            time.sleep(0.02)
+        return begun
+
+    def commands(self, begun, seconds, *kinds):
+        """How many commands came in so many seconds that begin with each of these: an object, or a method of one, or nothing."""
+        came = self.device.came
+        asked = [[*what] for handle, what in [*self.device.asked.items()] if begun <= came[handle] < begun + seconds]
+        return [sum(what[:len(kind)] == kind for what in asked) for kind in kinds]
+
+    def is_old(self):
+        """Whether the reading of the trim, at place 5, is told as old. What is told as younger than it is, or else wrong, is kept."""
+        begun = time.monotonic()
+        told = {one["ono"]: one["age"] for one in self.panel.look("&shown=5-1")["old"]}
+        since = 1000 * (begun - self.device.answered)
+        is_younger = self.panel.known(TRIM) is not None and since > told.get(TRIM, 1000) + 5
+        if is_younger or not set(told) <= {TRIM} or min(told.values(), default=1001) <= 1000:
+            self.wrong.append((since, told))
+        return told.get(TRIM) is not None
+
+    def is_told_right_behind(self, name):
+        """Whether a page that asks right behind the answer to an order is told how it ended: of 40 tries three in a row must be told so, else
+        what each was. Where the page itself took more than 1 ms it is no try."""
+        s, told = self.ends[name][0], []
+        for _ in range(400):
+            s.sendall(self.panel.orders_by("/set", {"ono": 4097, "value": "muted"}))
+            (status, _, ticket), begun = s.answer(), time.monotonic()
+            s.sendall(self.panel.asks("/values?since=0&told=0"))
+            is_try, values = time.monotonic() < begun + 0.001, json.loads(s.answer()[2])
+            told += [status == 202 and int(ticket) in {one["ticket"] for one in values["told"]}] if is_try else []
+            if told[-3:] == 3 * [True] or len(told) == 40:
+                break
+            self.panel.settled([int(ticket or 0)], 2)  # else the next order would wait behind this one
+        return told[-3:] == 3 * [True] or told
 
     def tickets_told(self, query):
         """The first and the last ticket that are told, if none between them is left out."""
@@ -645,10 +559,6 @@ class Desk(Bench):
         batches += [[{"ono": TRIM, "set": str(n)} for n in range(size)] for size in (64, 22)]
         tickets = [ticket for batch in batches for ticket in self.panel.orders(*batch)[1]["tickets"]]
         return sorted({*self.panel.settled(tickets)}, key=str)
-
-    def is_told_by_tickets(self):
-        order = [one["ticket"] for one in self.panel.get("/values?since=0&told=0")["told"]]
-        return order == sorted(order) and len(order) > 150
 
     def swap(self):
         self.panel, self.other = self.other, self.panel
@@ -748,20 +658,11 @@ class Desk(Bench):
         return [[name, closed.get(name, 0)] for name in names]
 
 
-def mutes(count):
-    return [oca.Object(6000 + n, "mute", 4096, "m", state=1) for n in range(count)]
-
-
-def scenes():
-    for steps, names in scenes_of("panel"):
-        Desk().played(steps, **names)
-
-
 def main():
     ITS.folder = os.path.abspath(sys.argv[1])
     beside = ThreadPoolExecutor(1).submit(steady)
-    for part in (words, bound_for, page, classes, visible_first, aged, right_behind, scenes):
-        part()
+    for steps, names in scenes_of("panel"):
+        Desk().played(steps, **names)
     answered, asked, closed = beside.result()
     check(answered == asked > 30 and "busy" not in closed, f"a connection with a request again and again: {answered} of {asked} are answered")
     check(30 <= closed.get("idle", 0) < 40, f"a connection on which nothing moves is closed after {closed.get('idle')} s, not after 30")

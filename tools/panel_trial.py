@@ -39,15 +39,14 @@ HOSTILE = "".join(f'{5000 + 2 * n} 100 block lockable "{role}"\n{5001 + 2 * n} {
                   for n, role in enumerate(DATA.hostile))
 
 
-def prepared(sources=None, place=None):
-    text, _, _ = page.page(sources)
-    Path(place, "page.html").write_text(text)
+def prepared(sources, place):
+    Path(place, "page.html").write_text(page.page(sources)[0])
     for name, before in (("stand", ""), ("cases", f"const ROWS={json.dumps(table('page_cases'))};")):
         Path(place, f"{name}.js").write_text(before + page.shorten((CASES / f"{name}.js").read_text(), sources))
     return [str(Path(place, name)) for name in ("page.html", "stand.js", "cases.js")]
 
 
-def in_node(sources=None, name=""):
+def in_node(sources=page.SOURCES, name=""):
     with tempfile.TemporaryDirectory() as place:
         done = subprocess.run(["node", str(CASES / "run.js"), *prepared(sources, place), name], capture_output=True, text=True, timeout=120)
     lines = [json.loads(line) for line in done.stdout.splitlines() if line.startswith("{")]
@@ -57,7 +56,6 @@ def in_node(sources=None, name=""):
 def note_cases(lines, where):
     for line in lines:
         check(line["ok"], f"{where}: {line['name']}: {line.get('got')} in place of {line['wanted']}")
-    return len(lines)
 
 
 def is_refused(wrong):
@@ -67,7 +65,7 @@ def is_refused(wrong):
         file, old, new = folder / wrong["file"], wrong["old"] + "\n", wrong["new"] + "\n"
         text = file.read_text()
         file.write_text(text.replace(old, new))
-        return text.count(old) == 1, not all(line["ok"] for line in in_node(folder, wrong["case"]))
+        return text.count(old) == 1, any(wrong["case"] in line["name"] and not line["ok"] for line in in_node(folder, wrong["case"]))
 
 
 def wrong_pages():
@@ -135,9 +133,6 @@ class Window:
         if before:
             self.call("Page.addScriptToEvaluateOnNewDocument", source=before)
         self.size(width, height)
-        self.go(address)
-
-    def go(self, address):
         self.call("Page.navigate", url=address)
 
     def call(self, method, **params):
@@ -145,9 +140,6 @@ class Window:
 
     def size(self, width, height, mobile=False):
         self.call("Emulation.setDeviceMetricsOverride", width=width, height=height, deviceScaleFactor=1, mobile=mobile)
-
-    def prefers(self, what, value):
-        self.call("Emulation.setEmulatedMedia", features=[{"name": f"prefers-{what}", "value": value}])
 
     def ask(self, script):
         return self.browser.send("Runtime.evaluate", self.session, expression=script, returnByValue=True, awaitPromise=True)
@@ -198,9 +190,6 @@ class Window:
         for kind, more in (("keyDown", {"text": text}) if text else ("rawKeyDown", {}), ("keyUp", {})):
             self.call("Input.dispatchKeyEvent", type=kind, key=key, code=key, windowsVirtualKeyCode=code, **more)
 
-    def type(self, text):
-        self.call("Input.insertText", text=text)
-
     def wheel(self, what):
         self.mouse("mouseWheel", *self.place(what), deltaX=0, deltaY=-100)
 
@@ -209,9 +198,6 @@ class Window:
         self.click(row(ono, ".strip.menu"))
         self.wait("$('dialog').open")
         self.click("$('dialog').children[2]" + "".join(f".children[{it}]" for it in children))
-
-    def picture(self):
-        return base64.b64decode(self.call("Page.captureScreenshot", format="png")["data"])
 
     def close(self):
         self.browser.call("Target.closeTarget", targetId=self.target)
@@ -228,7 +214,7 @@ def shows(ono, value):
 def cases_in_browser(browser):
     """The cases in Chromium, each in a page of its own that the program sent: several at once."""
     with tempfile.TemporaryDirectory() as place:
-        _, stand, cases = (Path(file).read_text() for file in prepared(None, place))
+        _, stand, cases = (Path(file).read_text() for file in prepared(page.SOURCES, place))
     lines = []
     with Device() as device, Panel(device) as panel:
         address = f"http://{panel.host}/"
@@ -239,7 +225,7 @@ def cases_in_browser(browser):
         for first in range(0, count, AT_ONCE):
             group = list(zip(range(first, count), windows))
             for _, window in group:
-                window.go(address)
+                window.call("Page.navigate", url=address)
             asked = []
             for at, window in group:
                 window.wait("document.readyState==='complete'&&typeof rows==='object'")
@@ -263,11 +249,11 @@ class Trial(Bench):
     def __init__(self, browser, place=None):
         self.browser, self.other, self.program, self.one, self.two = browser, None, None, None, None
         sends = lambda number: lambda whom: getattr(self, whom).process.send_signal(number)
-        in_one = lambda does: lambda *given: does(self.one, *given)
-        super().__init__({
-            "run": in_one(Window.run), "wait": in_one(Window.wait), "holds": in_one(Window.holds), "click": in_one(Window.click),
-            "wheel": in_one(Window.wheel), "key": in_one(Window.key), "type": in_one(Window.type), "drag": in_one(Window.drag),
-            "choose": in_one(Window.choose), "size": in_one(Window.size), "prefers": in_one(Window.prefers),
+        in_one = lambda verb: lambda *given: getattr(self.one, verb)(*given)
+        features = lambda what, value: [{"name": f"prefers-{what}", "value": value}]
+        super().__init__({verb: in_one(verb) for verb in ("run", "wait", "holds", "click", "wheel", "key", "drag", "choose", "size")} | {
+            "type": lambda text: self.one.call("Input.insertText", text=text),
+            "prefers": lambda what, value: self.one.call("Emulation.setEmulatedMedia", features=features(what, value)),
             "swap": self.swap,
             "program": self.begins_program,
             "program ends": lambda: self.program.end(),
@@ -289,7 +275,8 @@ class Trial(Bench):
             "agrees": lambda ono, what: same(what, self.said(ono), [self.one.run(row(ono, ".value"))]),
             "device has": lambda onos, values, what: same(what, self.said(*onos), values),
             "ages": self.ages,
-            "picture": lambda file: Path(place, file).write_bytes(self.one.picture()),
+            "picture": lambda file: Path(place, file).write_bytes(base64.b64decode(
+                self.one.call("Page.captureScreenshot", format="png")["data"])),
         }, strip=STRIP, hostile=HOSTILE, **whole(BY_HAND["text"], BY_HAND["text"]))
 
     def swap(self):
@@ -380,7 +367,7 @@ def in_chromium(chromium, place):
 
 def main():
     if sys.argv[1] == "--cases":
-        note_cases(in_node(None, *sys.argv[2:3]), "in node")
+        note_cases(in_node(page.SOURCES, *sys.argv[2:3]), "in node")
         return ITS.verdict()
     counted("sources", sources)
     if shutil.which("node"):

@@ -10,10 +10,11 @@ PAIRS = [(w, s) for s in range(1, 33) for w in range(2 * s - 1, 65)]
 class Schedule:
     """A schedule in the making. Each step is taken by the second implementation at once, so that the next can name what is there."""
 
-    def __init__(self, window, span, starts, peers=16):
-        self.window, self.span, self.starts, self.peers = window, span, starts, peers
-        self.steps, self.outcomes, self.now, self.refusal, self.renews = [], [], 0, None, False
+    def __init__(self, window, span, starts, peers=16, renews=False):
+        self.window, self.span, self.starts, self.peers, self.renews = window, span, starts, peers, renews
+        self.steps, self.outcomes, self.now, self.refusal = [], [], 0, None
         self.network, self.came = oca.Network(window, span, starts, peers), {"to-device": 0, "to-link": 0}
+        self.sent = self.network.sent
 
     def add(self, *step):
         said = self.network.step(step)
@@ -37,11 +38,8 @@ class Schedule:
             numbers += more
         return numbers
 
-    def sent(self, way):
-        return self.network.to_device if way == "to-device" else self.network.to_links
-
     def deliver(self, way, numbers=None, holds=lambda k: True, before=lambda: None):
-        for k in range(len(self.sent(way))) if numbers is None else numbers:
+        for k in range(len(self.sent[way])) if numbers is None else numbers:
             if holds(k):
                 before()
                 self.timed(way, k)
@@ -49,7 +47,7 @@ class Schedule:
 
     def deliver_new(self, way, holds=lambda k: True):
         """What was sent this way since the last time."""
-        first, self.came[way] = self.came[way], len(self.sent(way))
+        first, self.came[way] = self.came[way], len(self.sent[way])
         self.deliver(way, range(first, self.came[way]), holds)
 
     def take_all(self):
@@ -65,9 +63,9 @@ class Schedule:
 
     def refused(self, r):
         """With one more step that names what is not there, or two starts of one peer or one of the device's."""
-        sent, count, kind = self.network, len(self.starts), r.randrange(8)
-        step = [("to-device", self.now, len(sent.to_device)), ("to-link", self.now, len(sent.to_links)), ("take", count, 1), ("due", self.now, count),
-                ("renew", self.now, count, 1, 1), ("beside", self.now, count), ("other", self.now, self.starts[-1][0], b""), None][kind]
+        count, sent = len(self.starts), [(way, self.now, len(sent)) for way, sent in self.sent.items()]
+        step = [*sent, ("take", count, 1), ("due", self.now, count), ("renew", self.now, count, 1, 1), ("beside", self.now, count),
+                ("other", self.now, self.starts[-1][0], b""), None][r.randrange(8)]
         if step is None:
             self.starts, self.refusal = self.starts + [r.choice([(oca.DEVICE, 1), self.starts[0]])], "same peer"
         else:
@@ -92,9 +90,7 @@ def peer(number):
 def linked(r, window, span, count):
     """A schedule with so many links, and room for some number of peers; in some of them links are renewed."""
     starts = [(peer(n), r.choice([0, 1, 1, 5, 1000, 2**31, oca.U32 - 300, oca.U32 - 3])) for n in range(count)]
-    schedule = Schedule(window, span, starts, r.choice(PEERS))
-    schedule.renews = r.randrange(4) == 0
-    return schedule
+    return Schedule(window, span, starts, r.choice(PEERS), renews=r.randrange(4) == 0)
 
 
 CALM = [0] * 8 + [1, 1, 2, 5, 20, 100, 250, 300]
@@ -107,13 +103,14 @@ def later(r, now, steps):
     return min(oca.U64, max(0, now + r.choice(steps) - (r.choice([1, 40, 3000]) if r.randrange(12) == 0 else 0)))
 
 
-def some_datagram(r, count, delivered):
-    """The number of a datagram: one of the last, one that was not delivered yet, or any."""
-    kind = r.randrange(10)
-    if kind < 5:
-        return max(0, count - 1 - int(r.expovariate(0.4)))
-    left = [k for k in range(count) if k not in delivered] if kind < 8 else []
-    return r.choice(left) if left else r.randrange(count)
+def some_comes(r, schedule, way, heard):
+    """If datagrams were sent this way, one of the last comes, one of those that were not heard yet, or any; it is heard then."""
+    if numbers := range(len(schedule.sent[way])):
+        kind = r.randrange(10)
+        left = [k for k in numbers if k not in heard] if 5 <= kind < 8 else []
+        k = max(0, numbers[-1] - int(r.expovariate(0.4))) if kind < 5 else r.choice(left or numbers)
+        heard.add(k)
+        schedule.timed(way, k)
 
 
 def submit(r, schedule, link, count=1):
@@ -156,10 +153,7 @@ def wander(r, window, span):
         schedule.now = later(r, schedule.now, pace)
         kind, link = r.choices(kinds, weights)[0], r.randrange(links)
         if kind in heard:
-            count = len(schedule.sent(kind))
-            for k in [some_datagram(r, count, heard[kind])] if count else []:
-                heard[kind].add(k)
-                schedule.timed(kind, k)
+            some_comes(r, schedule, kind, heard[kind])
         elif kind == "take":
             answered = [u[0].handle for u in network.links[link][1].untaken if u[3] is not None]
             schedule.add("take", link, r.choice(answered) if answered and r.randrange(8) else r.randrange(20))
@@ -202,7 +196,7 @@ def noise(r, schedule):
     schedule.now = later(r, schedule.now, [0, 0, 0, 1, 7])
     if kind < 2:
         way = ("to-device", "to-link")[kind]
-        schedule.deliver(way, [r.randrange(len(schedule.sent(way)))] if schedule.sent(way) else [])
+        schedule.deliver(way, [r.randrange(len(schedule.sent[way]))] if schedule.sent[way] else [])
     elif kind == 2:
         schedule.timed("other", peer(20), others_bytes(r))
     elif kind == 3:
@@ -238,8 +232,7 @@ def visitors(r, window, span):
             submit(r, schedule, i, r.choice([1, 1, 2]))
             schedule.timed("due", i)
         for way in ("to-device", "to-link") * 3:
-            if schedule.sent(way):
-                schedule.timed(way, some_datagram(r, len(schedule.sent(way)), ()))
+            some_comes(r, schedule, way, set())
         goes_on(r, schedule, pace)
     return schedule
 
@@ -268,17 +261,15 @@ def lossy(r, window, span):
 def slow(r, window, span):
     """Links asked for 15,000 ms, datagrams held for 100,000 ms; some a little too late."""
     schedule = linked(r, window, span, r.choice([1, 1, 2]))
-    network, left = schedule.network, {}
     for _ in range(r.choice([2, 3, 4])):
         for i in range(len(schedule.starts)):
-            first, begun = len(network.to_device), schedule.now
             submit(r, schedule, i, r.choice([1, 1, 2]))
-            left |= dict.fromkeys(schedule.sends(i), schedule.now)
-            schedule.deliver("to-device", range(first, len(network.to_device)), lambda k: r.randrange(4))
-            schedule.now = begun + r.choice([250, 14999, 15000, 15000] + [15001] * (r.randrange(8) == 0))
+            left = dict.fromkeys(schedule.sends(i), schedule.now)
+            schedule.deliver("to-device", left, lambda k: r.randrange(4))
+            schedule.now += r.choice([250, 14999, 15000, 15000] + [15001] * (r.randrange(8) == 0))
             left |= dict.fromkeys(schedule.sends(i), schedule.now)
             schedule.now += r.choice([0, 99999, 100000, 100000] + [105001] * (r.randrange(8) == 0))
-            schedule.deliver("to-device", range(first, len(network.to_device)), lambda k: schedule.now - left[k] <= 100000 or r.randrange(8) == 0)
+            schedule.deliver("to-device", left, lambda k: schedule.now - left[k] <= 100000 or r.randrange(8) == 0)
         some_renewed(r, schedule)
         schedule.deliver("to-link").take_all()
         schedule.now += r.choice([119999, 120000, 120001, 200000])
@@ -299,7 +290,7 @@ def marked_sent(schedule, count, r):
 
 def take_others(schedule, pinned, order):
     """All answers come but the one to this handle, in this order, and are taken."""
-    (_, link), sent = schedule.network.links[0], schedule.network.to_links
+    (_, link), sent = schedule.network.links[0], schedule.sent["to-link"]
     for k in order:
         message = oca.check(sent[k][1])[0]
         if message[0] == "response" and message[1] != pinned and any(u[0].handle == message[1] and u[3] is None for u in link.untaken):
@@ -323,10 +314,10 @@ def directed(window, span, r=None, left=0, gap=0):
         if not first or not untaken:
             break
         last = first[-1]
-        pinned = oca.check(network.to_device[last][1])[0]
+        pinned = oca.check(schedule.sent["to-device"][last][1])[0]
         pinned = pinned[2].handle if pinned[0] == "command" else untaken[-1][0].handle
         schedule.deliver("to-device", [last] + late + mixed(first[:-1]), before=before)
-        take_others(schedule, pinned, mixed(range(len(network.to_links))))
+        take_others(schedule, pinned, mixed(range(len(schedule.sent["to-link"]))))
         schedule.deliver("to-device", mixed(marked_sent(schedule, span - 1, r)), before=before)
         schedule.timed("to-device", last)
         if r:

@@ -36,13 +36,14 @@ Schedules that name what is not there, or start two links of one peer, are refus
 is 'N passed, M failed' over these checks."""
 import collections
 import random
-import subprocess
 import sys
 from unittest.mock import patch
 
 import oca_profile as oca
 import schedules
-from comparing import Break, Comparison, broken, changed, in_processes, runs_of, verdict, wrong_rules
+from checks import Checks
+from comparing import Break, Comparison, broken, changed, in_processes, runs_of, verdict
+from oca_law import read
 from schedules import PAIRS, crowd, directed, fronts, lossy, slow, visitors, wander
 from tables import data
 
@@ -52,21 +53,6 @@ STILL = 100000  # the milliseconds for which what a link left behind may still c
 # GetEnabled, GetLabel and the get methods of the classes; the set method of each is the next one
 READS = {(2, 1), (2, 8), (4, 1), (5, 1)}
 SETS = {(level, index + 1) for level, index in READS}
-
-
-def held_by(o, method):
-    """ParamCount and the parameters that one of these get methods gives of an object, None for another method."""
-    if method not in READS & oca.METHODS[o.kind].keys():
-        return None
-    items = oca.METHODS[o.kind][method][2](None, o)
-    return len(items), b"".join(items)
-
-
-def set_by(o, method, params):
-    """An object is set by one of these set methods; another method changes nothing that is read here."""
-    if method in SETS & oca.METHODS[o.kind].keys():
-        _, letters, _, change = oca.METHODS[o.kind][method]
-        change(o, None, *oca.Reader(params).all(o, len(letters), letters))
 
 
 class Given:
@@ -91,11 +77,7 @@ class Link:
 
     def __init__(self, peer, first, span):
         self.peer, self.clock, self.commands, self.executions, self.next = peer, 0, {}, [], first
-        self.is_lost, self.is_in_time, self.span, self.times, self.left_off = False, True, span, 0, []
-
-    @property
-    def is_renewed(self):
-        return self.times > 0
+        self.is_lost, self.is_renewed, self.is_in_time, self.span, self.times, self.left_off = False, False, True, span, 0, []
 
     def go_on(self, now):
         self.clock = max(self.clock, now)
@@ -108,7 +90,7 @@ class Link:
         self.left_off.append((sum(it.is_left for it in self.commands.values()), self.clock))
         for it in self.commands.values():
             it.is_gone = True
-        self.next, self.span, self.clock, self.is_lost, self.times = first, span, now, False, self.times + 1
+        self.next, self.span, self.clock, self.is_lost, self.is_renewed, self.times = first, span, now, False, True, self.times + 1
 
     def waiting(self):
         return [it for it in self.commands.values() if it.is_left and not self.is_lost]
@@ -118,11 +100,13 @@ class Link:
 
 
 class Laws:
-    """Holds each step against the laws, by datagrams, commands, answers and executions alone: a method for each kind of step."""
+    """Holds each step of a run against the laws, by datagrams, commands, answers and executions alone: a method for each kind of step.
+    They hold as for its sizes, or as if these fitted."""
 
-    def __init__(self, schedule, lines, fit):
-        self.fit, self.span, self.window, self.most, self.steps = fit, schedule.span, schedule.window, schedule.peers, schedule.steps
-        self.count, self.number, self.clock = collections.Counter(), 0, 0
+    def __init__(self, schedule, lines, fit=False):
+        self.span, self.window, self.most, self.steps = schedule.span, schedule.window, schedule.peers, schedule.steps
+        self.fits = lambda span, left: fit or fits(schedule.window, span, left)
+        self.count, self.number, self.clock, self.answers_sent = collections.Counter(), 0, 0, 0
         self.places = collections.defaultdict(list)  # steps whose outcome a law speaks of
         self.expect(len(lines) >= len(self.steps) + 2 and lines[0] == "schedule", "second", f"no transcript: {lines[:2]}")
         self.outcomes, self.sent = lines[1:len(self.steps) + 1], {"to-device": [], "to-link": []}
@@ -133,15 +117,12 @@ class Laws:
         self.of_peer = {link.peer: link for link in self.links}
         self.came, self.admitted, self.refused, self.forgotten = set(), {}, set(), set()
         self.spoke = {}  # by peer, when its last well-formed datagram came
-        self.within, self.answers_sent = False, 0
         self.trips = {}  # by the number of a datagram to a link, the command that it answers, and how
         self.left = {}   # by the number of a datagram to the device, when it left
         self.heard, self.latest = {way: collections.Counter() for way in self.sent}, {}
         # how objects are set, by the law of what is said; nothing of an object that others' commands may have set
         self.settings = {o.ono: o for o in oca.bench()}
-
-    def fits(self, span, left):
-        return fits(self.window, span, left) if self.fit is None else self.fit
+        self.walk()
 
     def expect(self, holds, law, what):
         if not holds:
@@ -167,7 +148,6 @@ class Laws:
         if self.fits(self.span, 0) and self.within:
             self.count["premises met"] = 1
             self.count["premises met, with loss, double and overtaking"] = int(all(self.count[it] for it in ("losses", "doubles", "overtakings")))
-        return self
 
     def delivered(self, way, k):
         """A datagram and its peer, counted; an overtaking is one that comes for the first time after a later one that was sent the same way."""
@@ -183,9 +163,7 @@ class Laws:
         of late as have room, it does."""
         self.clock = max(self.clock, now)
         self.came.add(p)
-        try:
-            oca.check(data)
-        except oca.Fault:
+        if read(data)[0] is None:
             return False
         self.spoke[p] = self.clock
         spoke, known = ([q for q, at in moments.items() if self.clock - at <= 120000] for moments in (self.spoke, self.admitted))
@@ -293,7 +271,8 @@ class Laws:
             self.untaken_came(link, held, said, reply, was_in_time)
 
     def executes(self, link, held, command, reply):
-        """A command of a link is executed; noted is what its object gives to a get method, or None, and what it is set to."""
+        """A command of a link is executed; noted is what its object gives to one of these get methods, ParamCount and the parameters, or
+        None, and what it is set to."""
         is_again, is_forgotten = bool(link.under(command.handle)), link.peer in self.forgotten
         what = f"handle {command.handle} of {oca.peer_text(link.peer)} is executed twice"
         self.expect(is_forgotten or not is_again, "once", what)
@@ -304,9 +283,12 @@ class Laws:
             self.tally("in time", link, {"of a forgotten peer": is_forgotten})
         link.executions.append((command, reply))
         o, method = self.settings.get(command.target), (command.level, command.index)
-        held.met = self.number, o and held_by(o, method)
-        if o and reply and reply[1] == 0:
-            set_by(o, method, command.params)
+        methods = oca.METHODS[o.kind] if o else {}
+        items = methods[method][2](None, o) if method in READS & methods.keys() else None
+        held.met = self.number, items and (len(items), b"".join(items))
+        if reply and reply[1] == 0 and method in SETS & methods.keys():  # others change nothing that is read here
+            _, letters, _, change = methods[method]
+            change(o, None, *oca.Reader(command.params).all(o, len(letters), letters))
 
     def next_answer(self, p):
         sent = self.sent["to-link"][self.answers_sent:self.answers_sent + 1]
@@ -397,23 +379,18 @@ class Laws:
 
 
 # ---- runs
-def transcripts(program, schedules):
-    return runs_of(program, "world", "schedule", [schedule.text() for schedule in schedules])
+def transcripts(program, texts):
+    return runs_of(program, "world", "schedule", texts)
 
 
 def fits(window, span, left=0):
     return 2 * span + left <= window + 1
 
 
-def laws(schedule, lines, fit=None):
-    """The laws' walk along a run; they hold as for these sizes, or as if they fitted."""
-    return Laws(schedule, lines, fit).walk()
-
-
 def hold(schedule, lines):
     """The laws' walk along a run in which nothing breaks; None of a refusal."""
     expected = schedule.expected()
-    walk = None if schedule.refusal else laws(schedule, lines)
+    walk = None if schedule.refusal else Laws(schedule, lines)
     if lines != expected:
         at = next((i for i, (a, b) in enumerate(zip(lines, expected)) if a != b), min(len(lines), len(expected)))
         raise Break("second", min(max(at - 1, 0), len(schedule.steps) - 1),
@@ -449,7 +426,7 @@ def made(seed, number):
 def altered(r, _, lines, walk):
     """The same transcript with one line changed that a law speaks of, and the law, if there is such a line."""
     if not walk or not walk.within or not walk.places:
-        return []
+        return None
     law = r.choice(sorted(walk.places))
     at = 1 + r.choice(walk.places[law])
     if law == "answers":
@@ -458,7 +435,7 @@ def altered(r, _, lines, walk):
     else:
         new = {"untaken": "served 0 0 1", "once": "served 1 0 0", "round trip": "nothing new",
                "renewed": "not renewed" if lines[at] == "renewed" else "renewed"}[law]
-    return [(law, None, lines[:at] + [new] + lines[at + 1:])]
+    return law, None, lines[:at] + [new] + lines[at + 1:]
 
 
 def count_of(schedule, _, walk):
@@ -469,17 +446,13 @@ def count_of(schedule, _, walk):
 
 
 # ---- wrong devices and links
-RULES = wrong_rules("wrong_networks")
-
-
 def refuses(job):
     """Whether the laws alone refuse a run of the wrong rule of this name, and how."""
-    seed, name = job
-    law, edits = RULES[name]
+    seed, name, law, edits = job
     with patch.object(schedules, "oca", changed(edits)):
         for number in range(len(PAIRS), len(PAIRS) + 4000):
             for schedule in made(seed, number):
-                fault = None if schedule.refusal else broken(laws, schedule, schedule.expected())
+                fault = None if schedule.refusal else broken(Laws, schedule, schedule.expected())
                 if fault:
                     return fault.law == law, f"{name}: '{fault.law}' breaks at schedule {number}"
     return False, f"{name}: no break"
@@ -487,8 +460,8 @@ def refuses(job):
 
 def breaks(program, schedules):
     """Those of the schedules that break 'untaken' for sizes that do not fit, each with its lines and the break."""
-    for schedule, lines in zip(schedules, transcripts(program, schedules)):
-        fault = broken(laws, schedule, lines, True)
+    for schedule, lines in zip(schedules, transcripts(program, [it.text() for it in schedules])):
+        fault = broken(Laws, schedule, lines, True)
         if fault and fault.law == "untaken" and lines == schedule.expected():
             yield schedule, lines, fault
 
@@ -500,9 +473,10 @@ def sizes(program, seed):
     print(f"windows of 2 * S - 2: {found[0]} of 31 directed schedules break 'untaken'")
     print(f"behind S commands of a link before, windows of 3 * S - 2: {found[1]} of 21 break it; of 3 * S - 1: {found[2]}")
     later = [directed(3 * span - 2, span, left=span, gap=100000) for span in range(1, 22)]
+    said = transcripts(program, [it.text() for it in later])
     for moments in (99999, 100000):
         with patch.object(sys.modules[__name__], "STILL", moments):
-            found.append(sum(broken(laws, *run) is not None for run in zip(later, transcripts(program, later))))
+            found.append(sum(broken(Laws, *run) is not None for run in zip(later, said)))
     print(f"of a link lost 100,000 ms before, if such commands came for 99,999 ms: {found[3]} of 21 break it; for 100,000: {found[4]}")
     for window, span in ((2, 2), (4, 3)):
         r = random.Random(f"{seed} {window}")
@@ -512,43 +486,34 @@ def sizes(program, seed):
     return found == [31, 21, 0, 21, 0, True, True]
 
 
-# Each bad line with its word; the first one stands alone.
-BAD_LINES = [("0 tick", "form"), *((line, word) for word, lines in DATA.bad_lines.items() for line in lines)]
-
-
-def lines_refused(program):
-    """How many bad lines are refused with their number and their word, and status 2."""
-    refused = 0
-    for line, word in BAD_LINES:
+def lines_refused(folder):
+    """How many bad lines are refused with their number and their word, and status 2, and how many there are; the first one stands alone."""
+    checks, bad = Checks(folder), [("0 tick", "form"), *((line, word) for word, lines in DATA.bad_lines.items() for line in lines)]
+    for line, word in bad:
         before = [] if line == "0 tick" else ["# a comment", "", "schedule 1 1 127.0.0.1:1/1"]
-        done = subprocess.run([program, "world"], input="\n".join(before + [line]).encode(), capture_output=True, timeout=60)
-        if (done.stderr.decode(), done.returncode) == (f"line {len(before) + 1}: {word}\n", 2):
-            refused += 1
-        else:
-            print(f"WRONG: {line!r}: {done.stderr!r}, status {done.returncode}")
-    return refused
+        _, *said = checks.ran("trials", "world", given="\n".join([*before, line]).encode(), text=False)
+        checks.same(repr(line), said, [f"line {len(before) + 1}: {word}\n".encode(), 2])
+    return checks.passed, len(bad)
 
 
 def main():
     program = f"{sys.argv[1]}/trials"
     if sys.argv[2] == "broken":
         return print(next((shown(*it) for it in breaks(program, [directed(*map(int, sys.argv[3:]))])), "no break"))
-    how = Comparison(made, transcripts, hold, shown, count_of, altered, laws)
-    count, seed, total, wrong = in_processes(how, "schedules", BATCH, refuses, RULES)
+    how = Comparison(made, transcripts, hold, shown, count_of, altered, 1, Laws)
+    count, seed, total, wrong = in_processes(how, "schedules", BATCH, refuses, "wrong_networks")
     for _, said in wrong:
         print(said)
     good = sizes(program, seed)
-    fit = sum(name.startswith("size ") for name in total)
-    print(f"seed {seed}, {fit} of {len(PAIRS)} pairs of sizes that fit")
-    print(", ".join(f"{total[name]} {name}" for name in DATA.shown))
-    print("held against the laws, without a break: " + ", ".join(f"{total[name]} {text}" for name, text in DATA.held))
-    print("also met: " + ", ".join(f"{total[name]} {text}" for name, text in DATA.met))
-    lines, altered_lines = lines_refused(program), (total["altered, refused"], total["altered"])
-    print(f"bad lines refused: {lines} of {len(BAD_LINES)}")
+    print(f"seed {seed}, {sum(name.startswith('size ') for name in total)} of {len(PAIRS)} pairs of sizes that fit")
+    for head, told in DATA.told.items():
+        print(head + ", ".join(f"{total[name]} {text}" for name, text in told))
+    lines, altered_lines = lines_refused(sys.argv[1]), (total["altered, refused"], total["altered"])
+    print("bad lines refused: {} of {}".format(*lines))
     print("altered transcripts refused by the law that they break: {} of {}".format(*altered_lines))
     return verdict({
         **{law: all(total[name] for name in names) for law, names in DATA.needs.items()}, "second": total["schedules"] >= count and total["refused"],
-        "sizes": good, "lines": lines == len(BAD_LINES), "wrong": all(found for found, _ in wrong),
+        "sizes": good, "lines": lines[0] == lines[1], "wrong": all(found for found, _ in wrong),
         "altered": total["altered"] and altered_lines[0] == altered_lines[1]})
 
 
