@@ -272,17 +272,16 @@ class Checks:
             self.repeated.append(part.__name__)
             self.passed, self.failed = passed, failed
 
-    def parts(self, *parts, alone=()):
-        """Runs these parts, some of them alone at the ports that `ocactl` takes by turns; one that breaks off has failed."""
+    def parts(self, *parts):
+        """Runs these parts; one that breaks off has failed."""
         for part in parts:
             try:
-                with by_itself() if part in alone else contextlib.nullcontext():
-                    self.part(part)
+                self.part(part)
             except Exception as fault:  # nothing came, or something else than what was waited for
                 self.expect(part.__name__, False, repr(fault))
 
-    def tried(self, *parts, alone=()):
-        self.parts(*parts, alone=alone)
+    def tried(self, *parts):
+        self.parts(*parts)
         return self.verdict()
 
     def end(self):

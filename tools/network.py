@@ -139,6 +139,7 @@ def lines_at_once(checks):
                 write(run, "4097 4 1 0 -\n", ends=False)
                 data, sender = next_command(device)
                 took.append((time.monotonic() - begun) * 1000)
+                heard(device)  # copies, where this script was late
                 device.sendto(oca.response(handle, 0, 1, b"\1"), sender)
                 given.append((data, next_line(run)))
             checks.same("`run`: its lines", given, [(oca.command(handle, *GET), "answer 0 1 01\n") for handle in range(1, 9)])
@@ -261,7 +262,7 @@ class Stage(Scene):
             "less": lambda number, other: number - other,
             "is over": lambda: self.run.poll(),
             "signal": lambda name: self.run.send_signal(signal.Signals[name]),
-            "heard": self.heard,
+            "heard": lambda: heard(self.silent),
             "next": self.next,
             "answers": lambda handle, *how: self.silent.sendto(oca.response(handle, *how[:2], *map(bytes.fromhex, how[2:])), self.sender),
             "what comes until": self.heard_until,
@@ -334,12 +335,6 @@ class Stage(Scene):
         """What a run counts at its end, what else it tells, and its status."""
         out, told, status = ended(self.run)
         return counts_in(out), told, status
-
-    def heard(self):
-        """The datagrams that have come to the socket."""
-        found = heard(self.silent)
-        self.silent.settimeout(10)
-        return found
 
     def next(self, *passed):
         """The next command that comes to the socket and is none of these."""

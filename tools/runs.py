@@ -78,8 +78,8 @@ def ran_cut(runs, words, given, prints):
             reader.send(b"-")  # where an end is closed that has something unread, a read at the other end fails
             writer.sendall(given)
             run = runs.start(*words, stdin=reader, text=False)
-            if prints:
-                select.select([run.stdout], [], [], 60)
+            if prints and not select.select([run.stdout], [], [], 60)[0]:
+                run.kill()  # what it printed behind the failing read would come too late
             await_read(reader, run)
         return ended(run, 120)
 
