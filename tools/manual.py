@@ -77,9 +77,11 @@ def default_of(text):
 
 def faults_of(text, program):
     """What differs between the text of a page and the program, a line each, and how much was compared."""
-    parts, helps, wanted = defaultdict(str, parts_of(text, "SH")), helps_of(program), DATA.ended[Path(program).name]
+    sections, helps, wanted = parts_of(text, "SH"), helps_of(program), DATA.ended[Path(program).name]
+    parts = defaultdict(str, sections)
     documented = commands_in_page(parts["COMMANDS"], parts["COMMON OPTIONS"])
     faults = [f"command {name} is in one of both alone" for name in documented.keys() ^ helps.keys()]
+    faults += [f"section {name} differs from another one" for name, body in sections if parts[name] != body]
     count = len(helps) + len(wanted)
     for name in sorted(documented.keys() & helps.keys()):
         page = documented[name]
