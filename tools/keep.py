@@ -79,10 +79,8 @@ class Checks(checks.Checks):
         return found and int(found[1])
 
     def is_whole(self, what, keep):
-        """Looks at this file, and answers its bytes."""
-        objects, whole = self.shown(keep), Path(keep).read_bytes() if Path(keep).exists() else b""
-        self.same(what, whole, objects + f"# end of {objects.count(b'object ') + 1} objects\n".encode())
-        return whole
+        objects = self.shown(keep)
+        self.same(what, Path(keep).read_bytes(), objects + f"# end of {objects.count(b'object ') + 1} objects\n".encode())
 
 
 def stop(run, how=signal.SIGKILL):
@@ -224,13 +222,13 @@ def unknown(checks, folder):
 # What may change a file or a folder, and what sends; and what is done before each answer: a new file is made, written and flushed, it takes
 # the place of the file, and the folder is flushed.
 CHANGING = "openat,open,creat,write,writev,pwrite64,truncate,ftruncate,fsync,rename,renameat,renameat2,link,linkat,unlink,unlinkat,sendto"
-STORE = ["openat cuts/state.new", "write cuts/state.new {}", "fsync cuts/state.new", "rename cuts/state.new cuts/state",
+STORE = ["openat cuts/state.new", "write cuts/state.new", "fsync cuts/state.new", "rename cuts/state.new cuts/state",
          "openat cuts", "fsync cuts", "sendto"]
 
 
-def changes_in(log, folder, values):
-    """The calls of the system in a log of strace with -xx that did not fail, with the names in this folder's `cuts`: those with a name, and
-    those that send. Writes in a row are one, with what they write, or the value that a file of this text has."""
+def changes_in(log, folder):
+    """The calls of the system in a log of strace with -xx that did not fail, with the names in this folder's `cuts`: those with a name, of
+    writes in a row one, and those that send; and what such writes write."""
     steps = [["", ""]]
     for name, words, size in re.findall(r"(\w+)\((.*)\) += (\d+)", log):
         words = re.sub(r"\\x(..)", lambda it: chr(int(it[1], 16)), words)
@@ -240,29 +238,32 @@ def changes_in(log, folder, values):
             steps[-1][1] += text
         elif " " in step or step == "sendto":
             steps.append([step, text])
-    return [f"{step} {values.get(text, text)}".strip() for step, text in steps[1:]]
+    return [step for step, _ in steps[1:]], [text for _, text in steps if text]
 
 
 def power_cuts(checks, folder):
     """Wherever the power is cut, what was answered OK is on the disk: by each call of the system that may change the file or its folder, in
-    their order up to the end."""
+    their order up to the end, and by what is written. The commands come without a pause, as a device may flush less often then."""
     if shutil.which("strace") is None:
         print("no strace here: the order of the calls was not looked at")
         return
     folder = os.path.realpath(folder)  # as strace names it
-    keep, log, values = f"{folder}/cuts/state", f"{folder}/log", {}
+    keep, log = f"{folder}/cuts/state", f"{folder}/log"
     os.mkdir(f"{folder}/cuts")
     words = ["strace", "-f", "-y", "-xx", "-s", "1000000", "-o", log, "-e", f"trace={CHANGING}"]
     with Serving(*words, f"{checks.folder}/ocadev", "serve", "--port", "0", "--keep", keep) as device:
         peer, tracer = Peer(device.port, patience=10, copies=1), device.process.pid
         for value in range(1, 6):
-            checks.same("a command before the power is cut", (peer.trims(value), checks.kept(keep)), (DONE, value))
-            values[checks.is_whole("its file", keep).decode("latin-1")] = value
+            checks.same("a command before the power is cut", peer.trims(value), DONE)
+        checks.same("its file", checks.kept(keep), value)
         os.kill(int(Path(f"/proc/{tracer}/task/{tracer}/children").read_text().split()[0]), signal.SIGTERM)
         device.process.communicate(timeout=30)
-    done = changes_in(Path(log).read_text(encoding="ascii", errors="replace"), folder, values)
-    wanted = ["openat cuts/state.lock", *(step.format(value) for value in range(1, 6) for step in STORE)]
-    checks.same("the calls of the system by which it is stored", done, wanted)
+    done, texts = changes_in(Path(log).read_text(encoding="ascii", errors="replace"), folder)
+    checks.same("the calls of the system by which it is stored", done, ["openat cuts/state.lock", *5 * STORE])
+    for value, text in enumerate(texts, 1):
+        Path(keep).write_text(text, encoding="latin-1")
+        checks.same("what is written to it", checks.kept(keep), value)
+        checks.is_whole("what is written to it", keep)
 
 
 def main():
