@@ -24,7 +24,7 @@ from concurrent.futures import ThreadPoolExecutor
 from pathlib import Path
 
 import oca_profile as oca
-from checks import Ahead, Checks, Serving, bound, by_turns, free_port, heard, sockets, waited
+from checks import Ahead, Checks, Serving, bound, by_turns, comes, free_port, sockets, waited
 from hands import DEVICES, OldSession, address, stagebox
 from peers import Lossy, Peer, Served, commands_in
 from scenes import Scene, scenes_of
@@ -361,7 +361,7 @@ class Desk(Bench):
             "can be had": lambda places: [place for place in places if can_be_had(*place)],
             "by turns": by_turns,
             "first note": lambda: self.panel.notes[0],
-            "handles": lambda: [one.handle for data in heard(self.device) for one, _ in commands_in(data)],
+            "handles": self.handles,
             "how many of": lambda handles: len({*handles}),
             "is the first again": lambda handles: handles.count(min(handles)) > 1,
             "share of a processor": lambda seconds: used_by(self.panel, seconds),
@@ -461,6 +461,12 @@ class Desk(Bench):
         """Lets the panel go on, with its clocks set forward so far."""
         self.ahead.set(seconds)
         self.panel.process.send_signal(signal.SIGCONT)
+
+    def handles(self, seconds):
+        """The handles of the commands that come to a silent device in so many seconds."""
+        until = time.monotonic() + seconds
+        datagrams = itertools.takewhile(lambda _: time.monotonic() < until, comes(self.device))
+        return [one.handle for data, _ in datagrams for one, _ in commands_in(data)]
 
     def lists_too(self, ono, block, at):
         """From here on this block has the object as a member too, which stands at this place of the device's objects."""
