@@ -233,8 +233,8 @@ class Trial(Scene):
             "looks at what was made": lambda place: installed_as_made(checks, made, names["archive"], made / place),
             "unlike": lambda place, own, files: [*itertools.chain(*filecmp.cmpfiles(made / place, TOP / own, files, shallow=False)[1:])],
             "wrong modes": lambda place: modes_below(made / place),
-            "panel by flags": lambda place: panel_below(made, made / place)},
-            made=made, silent=silent.getsockname()[1], panel=PANEL, python=sys.executable, mute=TOP / "examples/c/mute.py", **names)
+            "panel by flags": lambda place: panel_below(made, made / place)}, made=made, before=before,
+            silent=silent.getsockname()[1], panel=PANEL, python=sys.executable, mute=TOP / "examples/c/mute.py", **names)
 
     def runs(self, program, *words, **how):
         self.run, self.port = serving([*self.before, self.made / program, *words], **how)
