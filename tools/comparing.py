@@ -52,8 +52,8 @@ def runs_of(program, kind, head, texts):
     done = subprocess.run([program, kind], input=given.encode(), capture_output=True, timeout=300)
     lines = done.stdout.decode().splitlines()
     begins = [at for at, line in enumerate(lines) if line == head] + [len(lines)]
-    if done.returncode != 0 or len(begins) != len(texts) + 1:
-        raise RuntimeError(f"status {done.returncode}, {len(begins) - 1} of {len(texts)} runs, {done.stderr.decode()!r}")
+    if done.returncode != 0 or done.stderr or begins[0] or len(begins) != len(texts) + 1:
+        raise RuntimeError(f"status {done.returncode}, {len(begins) - 1} of {len(texts)} runs, {lines[:1]} first, {done.stderr.decode()!r}")
     return [lines[first:end] for first, end in zip(begins, begins[1:])]
 
 

@@ -222,10 +222,10 @@ def made(seed, number):
 
 # ---- tales: what was said of the events of a history
 def tale_of(history, wrong):
-    """What a device of a wrong second implementation tells."""
+    """What a device of a wrong second implementation does, in the lines of the right one: a wrong line is no wrong device."""
     device, tale = wrong.Device(wrong.bench(history.channels), history.window, history.peers), []
     for event, line in zip(history.events, history.text()[1:]):
-        said = [set_line(device.set(*event))] if isinstance(event, Sets) else wrong.device_line(device, line.split(" "))
+        said = [set_line(device.set(*event))] if isinstance(event, Sets) else oca.device_line(device, line.split(" "))
         written = written_lines(device.written) if isinstance(event, Datagram) else []
         tale.append([*said, *written, f"sessions {len(device.sessions)}", objects_line(device.tree)])
     return tale

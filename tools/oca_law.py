@@ -263,7 +263,7 @@ def walk(history, tale):
             same("packets_are", are_pdus, [True] * len(groups))
             same("answers_are", [m for group in groups for m in group], law.answers(H))
             same("packets_are", all(map(is_full_before, packets, packets[1:])), True)
-            same("written_are", others[len(packets):], written_lines(law.written(H)))
+            same("written_are", others, [*(f"> {packet.hex()}" for packet in packets), *written_lines(law.written(H))])
         elif isinstance(event, Sets):
             same("set_fault", [verdict, *others], [set_line(oca.set_local(with_copies(law.objects(before), [event.ono]), *event))])
         else:
