@@ -137,9 +137,9 @@ class Scene:
             self.checks.same(what, found[-1], wanted)
 
 
-def play_all(checks, stage_of, name):
-    """Plays the scenes of this file of rows, each on a stage of its own, and ends what it started."""
-    for steps, names in scenes_of(name):
+def play_all(checks, stage_of, name, kind="scene"):
+    """Plays the scenes of this file of rows, or those of this kind, each on a stage of its own, and ends what it started."""
+    for steps, names in scenes_of(name, kind):
         stage = stage_of(checks)
         with stage.open:
             stage.play(steps, **names)
