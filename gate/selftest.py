@@ -120,14 +120,16 @@ def of_copies(folder):
     return edited(folder, {"src/m.rt": DATA.source, "proofs/m/f/Answers.antt": DATA.of_f}, DATA.changes["of_copies"])
 
 
-@check("A further edit of a function is tried in a copy of it, beside a copy as it stands; one of a trait's method, or of two functions, "
-       "in another check, or in the same one if the others can be copied. Edits that are left are tried without copies.")
+@check("A further edit of a function is tried in a copy of it, beside a copy as it stands, unless another check has a place for it; one of a "
+       "trait's method, or of two functions, in another check, or in the same one if the others can be copied. Edits that are left are tried "
+       "without copies.")
 def copies_edits(folder):
     crate, of = of_copies(folder)
     in_groups = lambda names, *how: edits.grouped([of[it] for it in names], crate, *how)
     told = lambda groups: ["".join(it.name for it in group.placed) + "".join(f" {it.name}" for it in group.copied) for group in groups]
-    groups = in_groups("abcd", True)
-    is_grouped = [told(groups), told(in_groups("abcd")), told(in_groups("abe", True))] == [["ca b", "d"], ["ca", "db"], ["e a b"]]
+    groups = in_groups("abc", True)
+    others = [told(in_groups(*how)) for how in (("abcd", True), ("abcd",), ("abe", True))]
+    is_grouped = told(groups) == ["ca b"] and others == [["ca", "db"], ["ca", "db"], ["e a b"]]
     texts = groups[0].texts(crate, groups[0].copies(crate))
     behind = DATA.source.replace("n + 1\n}\n", "n + 2\n}\n" + DATA.copies).replace("T(1)", "T(2)")
     proofs = {f"proofs/m/{it}/Answers.antt": DATA.of_f.replace("proofs.m.f.", f"proofs.m.{it}.") for it in ("f_as_it_stands", "f_edited_1")}

@@ -532,10 +532,11 @@ class Group:
 
 
 def grouped(edits, crate, with_copies=False):
-    """Puts the edits into groups that touch no function twice, but for copies of it; what touches no function, or must pass, is alone."""
-    groups = []
+    """Puts the edits into groups that touch no function twice, but for copies of it; what touches no function, or must pass, is alone.
+    An edit is only tried in a copy if it has no place in any group, since a copy as the function stands is one proof more."""
+    groups, ways = [], [False, True] if with_copies else [False]
     for edit in sorted(edits, key=Edit.can_be_copied):
-        if not any(group.take(edit, crate, with_copies) for group in groups):
+        if not any(group.take(edit, crate, copies) for copies in ways for group in groups):
             groups.append(Group(edit, with_copies and edit.is_of_law(crate)))
     return groups
 
