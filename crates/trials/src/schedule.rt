@@ -62,7 +62,7 @@ fn peers_and_starts(fields: &mut Fields<'_>, starts: &mut Vec<Start>) -> Peers {
             return peers;
         }
         let text = fields.next();
-        if place == 0 && !text.is_empty() && !text.contains(&b'/') && !text.contains(&b':') {
+        if place == 0 && is_count(text) {
             let count = fields.number_of(text, 3, 255) as u8;
             peers = fields.peers(count);
         } else {
@@ -71,6 +71,11 @@ fn peers_and_starts(fields: &mut Fields<'_>, starts: &mut Vec<Start>) -> Peers {
     }
     fields.refuse(LineFault::Form);
     peers
+}
+
+/// Whether a text is neither empty nor of a link or a peer.
+fn is_count(text: &[u8]) -> bool {
+    !text.is_empty() && !text.contains(&b'/') && !text.contains(&b':')
 }
 
 /// Adds a link: `P/H`.
