@@ -45,10 +45,9 @@ pub fn call<R: Net + Clock>(alloc: Global, rt: &R, name: &str) -> Answered {
 
 /// Whether it was made, or memory was refused.
 fn made<T: Drop, E: Drop>(what: Result<T, E>) -> Answered {
-    if what.is_ok() {
-        Answered::Done
-    } else {
-        Answered::NoMemory
+    match what {
+        Ok(_) => Answered::Done,
+        Err(_) => Answered::NoMemory,
     }
 }
 
