@@ -5,6 +5,7 @@ use oca_script::field::{first_field, moment, number, peer};
 use oca_tree::Value;
 use oca_types::{Class, MethodId, Ono, Peer, Peers, Span, Window};
 use std::alloc::Global;
+use std::str;
 
 /// Why a line is refused.
 #[derive(Clone, Copy)]
@@ -116,6 +117,11 @@ impl<'a> Fields<'a> {
     pub fn number(&mut self) -> u32 {
         let digits = self.next();
         self.number_of(digits, 10, LARGEST_32) as u32
+    }
+
+    /// The number of a link or of a datagram.
+    pub fn place(&mut self) -> usize {
+        self.number() as usize
     }
 
     /// A number of 16 bits.
@@ -275,6 +281,14 @@ pub fn bytes_of(alloc: Global, text: &[u8]) -> Option<Vec<u8>> {
     match hex::decode(alloc, digits) {
         Ok(bytes) => Some(bytes),
         Err(_) => None,
+    }
+}
+
+/// The text of these bytes, and the empty one where they are none.
+pub fn text_of(bytes: &[u8]) -> &str {
+    match str::from_utf8(bytes) {
+        Ok(text) => text,
+        Err(_) => "",
     }
 }
 

@@ -17,7 +17,7 @@
 //! setting or `-`, and behind `/t` or `/r` the holder of its total or its read-only lock.
 use crate::again::put_again;
 use crate::ends::{drive_script, serve_script};
-use crate::fields::{Fields, LineFault, bytes_of};
+use crate::fields::{Fields, LineFault, bytes_of, text_of};
 use crate::lines::{RunFault, Told};
 use oca_device::{Device, Outbox};
 use oca_net::Scripted;
@@ -149,12 +149,17 @@ fn begin<R: Print>(
 /// A device to which nothing happened.
 fn new_device(alloc: Global, sizes: Sizes, channels: u16) -> Result<Device, LineFault> {
     match bench_with_channels(alloc, channels) {
-        Ok(tree) => match Device::with_sizes(alloc, tree, sizes) {
-            Ok(device) => Ok(device),
-            Err(NoMemory) => Err(LineFault::NoMemory),
-        },
+        Ok(tree) => device_over(alloc, tree, sizes),
         Err(AddFault::NoMemory) => Err(LineFault::NoMemory),
         Err(_) => Err(LineFault::Number),
+    }
+}
+
+/// A device over these objects to which nothing happened.
+fn device_over(alloc: Global, tree: Tree, sizes: Sizes) -> Result<Device, LineFault> {
+    match Device::with_sizes(alloc, tree, sizes) {
+        Ok(device) => Ok(device),
+        Err(NoMemory) => Err(LineFault::NoMemory),
     }
 }
 
@@ -225,38 +230,21 @@ fn read_line<'a>(fields: &mut Fields<'a>) -> Line<'a> {
 
 /// The event of a line of which the first field was read.
 fn read_event<'a>(first: &[u8], fields: &mut Fields<'a>) -> Happens<'a> {
-    if first == b"set".as_slice() {
-        let (ono, value) = fields.local();
-        return Happens::Set(ono, value);
+    match text_of(first) {
+        "set" => {
+            let (ono, value) = fields.local();
+            Happens::Set(ono, value)
+        }
+        "label" => Happens::Label(Ono(fields.number()), fields.hex()),
+        "enabled" => Happens::Enabled(Ono(fields.number()), fields.truth()),
+        "unlock" => Happens::Unlock(Ono(fields.number())),
+        "failing" => Happens::Failing(Ono(fields.number()), fields.truth()),
+        "again" => Happens::Again(fields.hex()),
+        "then" => Happens::Then(entry(fields)),
+        "serve" => Happens::Serve(u64::from(fields.number())),
+        "drive" => Happens::Drive(u64::from(fields.number())),
+        _ => Happens::Timed(read_timed(first, fields)),
     }
-    if first == b"label".as_slice() {
-        let ono = Ono(fields.number());
-        return Happens::Label(ono, fields.hex());
-    }
-    if first == b"enabled".as_slice() {
-        let ono = Ono(fields.number());
-        return Happens::Enabled(ono, fields.truth());
-    }
-    if first == b"unlock".as_slice() {
-        return Happens::Unlock(Ono(fields.number()));
-    }
-    if first == b"failing".as_slice() {
-        let ono = Ono(fields.number());
-        return Happens::Failing(ono, fields.truth());
-    }
-    if first == b"again".as_slice() {
-        return Happens::Again(fields.hex());
-    }
-    if first == b"then".as_slice() {
-        return Happens::Then(entry(fields));
-    }
-    if first == b"serve".as_slice() {
-        return Happens::Serve(u64::from(fields.number()));
-    }
-    if first == b"drive".as_slice() {
-        return Happens::Drive(u64::from(fields.number()));
-    }
-    Happens::Timed(read_timed(first, fields))
 }
 
 /// An entry of the script, or a receive that fails.
@@ -406,14 +394,20 @@ fn put_object(out: &mut Told, ono: Ono, setting: Option<Setting>, lock: Option<L
 
 /// A setting, or `-`, behind `=`.
 fn put_setting(out: &mut Told, setting: Option<Setting>) {
-    let setting = match setting {
-        None => return out.put("=-"),
-        Some(Setting::State(state)) => i128::from(state),
-        Some(Setting::Position(position)) => i128::from(position),
-        Some(Setting::Truth(truth)) => i128::from(truth),
-        Some(Setting::Number { setting, .. }) => setting,
-    };
-    out.put_integer("=", setting);
+    match setting {
+        Some(setting) => out.put_integer("=", integer_of(setting)),
+        None => out.put("=-"),
+    }
+}
+
+/// A setting as an integer.
+fn integer_of(setting: Setting) -> i128 {
+    match setting {
+        Setting::State(state) => i128::from(state),
+        Setting::Position(position) => i128::from(position),
+        Setting::Truth(truth) => i128::from(truth),
+        Setting::Number { setting, .. } => setting,
+    }
 }
 
 /// A lock: its kind and its holder.

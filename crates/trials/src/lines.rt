@@ -105,7 +105,7 @@ impl Told {
                 kept,
                 old,
                 reused,
-            } => self.put_served([executed, kept, old], reused),
+            } => self.put_served(&[executed, kept, old], reused),
             Verdict::Malformed(fault) => self.put_malformed(fault),
             Verdict::NoRoom => self.put("no-room\n"),
         }
@@ -113,10 +113,10 @@ impl Told {
 
     /// How many commands a device executed, answered again and found too old, and how many asked something else under
     /// a kept handle, where there are any.
-    fn put_served(&mut self, counts: [u32; 3], reused: u32) {
+    fn put_served(&mut self, counts: &[u32], reused: u32) {
         self.put("served");
         for count in counts {
-            self.put_number(" ", u64::from(count));
+            self.put_number(" ", u64::from(*count));
         }
         if reused != 0 {
             self.put_number(" reused ", u64::from(reused));

@@ -60,11 +60,11 @@ fn of_one_word<R: Runtime + AllocGlobal>(rt: &R, verb: &str) -> ExitCode {
 
 /// Prints a line where it is no fault, and else on standard error.
 fn exit_with<R: Runtime>(rt: &R, text: &str, status: u8) -> ExitCode {
-    let _ = if status == 0 {
-        println!(rt; "{text}")
+    if status == 0 {
+        let _ = println!(rt; "{text}");
     } else {
-        eprintln!(rt; "{text}")
-    };
+        let _ = eprintln!(rt; "{text}");
+    }
     ExitCode::from(status)
 }
 

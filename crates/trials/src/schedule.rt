@@ -17,7 +17,7 @@
 //! `uint64`, and VALUE the number of a state, a position, 0 or 1, or an integer of the type. `label`, `enabled`, `unlock`
 //! and `failing` are the other changes there; HEX are the bytes of a text in UTF-8. `renew` puts a new link of first
 //! handle H and span S in the place of a link, and `beside` sends a keep-alive beside a link.
-use crate::fields::{Fields, LARGEST_32, LineFault};
+use crate::fields::{Fields, LARGEST_32, LineFault, text_of};
 use oca_pair::{Start, Step};
 use oca_script::field::split_at_byte;
 use oca_types::{Handle, Ono, Peers, Sizes, Span};
@@ -62,7 +62,7 @@ fn peers_and_starts(fields: &mut Fields<'_>, starts: &mut Vec<Start>) -> Peers {
             return peers;
         }
         let text = fields.next();
-        if place == 0 && !text.is_empty() && !text.contains(&b'/') && !text.contains(&b':') {
+        if place == 0 && is_count(text) {
             let count = fields.number_of(text, 3, 255) as u8;
             peers = fields.peers(count);
         } else {
@@ -73,51 +73,68 @@ fn peers_and_starts(fields: &mut Fields<'_>, starts: &mut Vec<Start>) -> Peers {
     peers
 }
 
+/// Whether a text is neither empty nor of a link or a peer.
+fn is_count(text: &[u8]) -> bool {
+    !text.is_empty() && !text.contains(&b'/') && !text.contains(&b':')
+}
+
 /// Adds a link: `P/H`.
 fn add_start(fields: &mut Fields<'_>, starts: &mut Vec<Start>, text: &[u8]) {
-    let Some((from, first)) = split_at_byte(text, b'/') else {
-        fields.refuse(LineFault::Form);
-        return;
-    };
+    match split_at_byte(text, b'/') {
+        Some((from, first)) => {
+            let start = start_of(fields, from, first);
+            push_start(fields, starts, start);
+        }
+        None => fields.refuse(LineFault::Form),
+    }
+}
+
+/// A link of the peer and the first handle with these texts.
+fn start_of(fields: &mut Fields<'_>, from: &[u8], first: &[u8]) -> Start {
     let peer = fields.peer(from);
     let first_handle = Handle(fields.number_of(first, 10, LARGEST_32) as u32);
-    if starts.push(Start { peer, first_handle }).is_err() {
-        fields.refuse(LineFault::NoMemory);
+    Start { peer, first_handle }
+}
+
+/// Puts a link behind the others.
+fn push_start(fields: &mut Fields<'_>, starts: &mut Vec<Start>, start: Start) {
+    match starts.push(start) {
+        Ok(()) => {}
+        Err(_) => fields.refuse(LineFault::NoMemory),
     }
 }
 
 /// A step of which the first field was read, and the text of its bytes.
 fn step<'a>(first: &[u8], fields: &mut Fields<'a>) -> (Step<'static>, &'a [u8]) {
-    if first == b"take".as_slice() {
-        return (taken(fields), NO_BYTES);
+    match text_of(first) {
+        "take" => (taken(fields), NO_BYTES),
+        "set" => {
+            let (ono, value) = fields.local();
+            (Step::Local { ono, value }, NO_BYTES)
+        }
+        "label" => labelled(fields),
+        "enabled" => (changed(Change::Enabled, fields), NO_BYTES),
+        "unlock" => (changed(Change::Unlocked, fields), NO_BYTES),
+        "failing" => (changed(Change::Failing, fields), NO_BYTES),
+        _ => timed(first, fields),
     }
-    if first == b"set".as_slice() {
-        let (ono, value) = fields.local();
-        return (Step::Local { ono, value }, NO_BYTES);
-    }
-    if first == b"label".as_slice() {
-        return labelled(fields);
-    }
-    if let Some(change) = change_with(first) {
-        return (changed(change, fields), NO_BYTES);
-    }
+}
+
+/// A step at the moment that this field tells, and the text of its bytes.
+fn timed<'a>(first: &[u8], fields: &mut Fields<'a>) -> (Step<'static>, &'a [u8]) {
     let word = fields.next();
     let now = fields.moment(first);
-    if word == b"submit".as_slice() {
-        return submitted(now, fields);
+    match text_of(word) {
+        "submit" => submitted(now, fields),
+        "other" => other(now, fields),
+        "renew" => (renewed(now, fields), NO_BYTES),
+        word => (placed(now, word, fields), NO_BYTES),
     }
-    if word == b"other".as_slice() {
-        return other(now, fields);
-    }
-    if word == b"renew".as_slice() {
-        return (renewed(now, fields), NO_BYTES);
-    }
-    (placed(now, word, fields), NO_BYTES)
 }
 
 /// An answer that is taken.
 fn taken(fields: &mut Fields<'_>) -> Step<'static> {
-    let link = fields.number() as usize;
+    let link = fields.place();
     let handle = Handle(fields.number());
     Step::Take { link, handle }
 }
@@ -137,20 +154,6 @@ enum Change {
     Failing,
 }
 
-/// The change that this word names.
-fn change_with(word: &[u8]) -> Option<Change> {
-    if word == b"enabled".as_slice() {
-        return Some(Change::Enabled);
-    }
-    if word == b"unlock".as_slice() {
-        return Some(Change::Unlocked);
-    }
-    if word == b"failing".as_slice() {
-        return Some(Change::Failing);
-    }
-    None
-}
-
 /// A change at the front.
 fn changed(change: Change, fields: &mut Fields<'_>) -> Step<'static> {
     let ono = Ono(fields.number());
@@ -168,31 +171,35 @@ fn changed(change: Change, fields: &mut Fields<'_>) -> Step<'static> {
 }
 
 /// A step that names a link or a datagram, or none, of which the word was read.
-fn placed(now: u64, word: &[u8], fields: &mut Fields<'_>) -> Step<'static> {
-    if word == b"tick".as_slice() {
-        return Step::Tick { now };
+fn placed(now: u64, word: &str, fields: &mut Fields<'_>) -> Step<'static> {
+    match word {
+        "tick" => Step::Tick { now },
+        "due" => Step::Due {
+            link: fields.place(),
+            now,
+        },
+        "beside" => Step::Beside {
+            link: fields.place(),
+            now,
+        },
+        "to-device" => Step::ToDevice {
+            k: fields.place(),
+            now,
+        },
+        "to-link" => Step::ToLink {
+            k: fields.place(),
+            now,
+        },
+        _ => {
+            fields.refuse(LineFault::Form);
+            Step::Tick { now }
+        }
     }
-    if word == b"due".as_slice() {
-        let link = fields.number() as usize;
-        return Step::Due { link, now };
-    }
-    if word == b"beside".as_slice() {
-        let link = fields.number() as usize;
-        return Step::Beside { link, now };
-    }
-    if word != b"to-device".as_slice() && word != b"to-link".as_slice() {
-        fields.refuse(LineFault::Form);
-    }
-    let k = fields.number() as usize;
-    if word == b"to-link".as_slice() {
-        return Step::ToLink { k, now };
-    }
-    Step::ToDevice { k, now }
 }
 
 /// A link that is renewed.
 fn renewed(now: u64, fields: &mut Fields<'_>) -> Step<'static> {
-    let link = fields.number() as usize;
+    let link = fields.place();
     let first = Handle(fields.number());
     let span = fields.span();
     Step::Renew {
@@ -214,7 +221,7 @@ fn other<'a>(now: u64, fields: &mut Fields<'a>) -> (Step<'static>, &'a [u8]) {
 
 /// A command that is submitted, and the text of its parameters.
 fn submitted<'a>(now: u64, fields: &mut Fields<'a>) -> (Step<'static>, &'a [u8]) {
-    let link = fields.number() as usize;
+    let link = fields.place();
     let target = Ono(fields.number());
     let method = fields.method();
     let count = fields.byte();

@@ -1,5 +1,5 @@
 //! Schedules over a device and links, read as lines and run one after another.
-use crate::fields::{Fields, LineFault, bytes_of};
+use crate::fields::{Fields, LineFault, bytes_of, text_of};
 use crate::lines::{RunFault, Told};
 use crate::schedule::{Line, read_line};
 use oca_control::{Answer, ControlFault, Reception};
@@ -58,14 +58,6 @@ impl HeldStep {
             Step::Label { .. } => str::from_utf8(self.bytes.as_slice()).is_ok(),
             _ => true,
         }
-    }
-}
-
-/// The text of these bytes, which are one.
-fn text_of(bytes: &[u8]) -> &str {
-    match str::from_utf8(bytes) {
-        Ok(text) => text,
-        Err(_) => "",
     }
 }
 
