@@ -13,7 +13,8 @@ ghost use Rattle.oca_calls.specs.Calls.{HandleBuilds, HandleRuns, HandleStarts, 
 ghost use Rattle.oca_calls.specs.Calls.{Opens, RefusesBuilding, RefusesClosed, RefusesRunning};
 ghost use Rattle.oca_calls.specs.LinkRooms.{Rooms, full_rooms, small_rooms};
 ghost use Rattle.oca_calls.specs.Outputs.{WritesNextLapse, WritesWords, put_words, verdict_words};
-ghost use Rattle.oca_calls.specs.Storings.{HasUnstored, KeepsUnstored, RunsUnstored, all_stored, unstored_behind};
+ghost use Rattle.oca_calls.specs.Storings.{HasUnstored, KeepsUnstored, RunsUnstored, all_stored};
+ghost use Rattle.oca_calls.specs.WaitingAnswers.{unstored_behind};
 ghost use Rattle.oca_calls.specs.declared.unstored.Unstored.{Unstored};
 
 use oca_calls::answer::Answer;

@@ -35,8 +35,9 @@ use Rattle.oca_tree.specs.Trees.{IsSoundValue, is_position_reading}
 use Rattle.oca_calls.specs.declared.value_words.ReadingWords.{ReadingWords}
 use Rattle.oca_calls.specs.declared.value_words.ValueWords.{ValueWords}
 use Rattle.oca_calls.specs.Calls.{IsSwitch, name_bytes}
-use Rattle.oca_calls.specs.CSpecs.{AreSettingWords, GivesKind, HasBits, IsKindOf, IsNumberWords, WrittenMakesAgain, flags_for, integer_reading, is_yes, of_class, position_flags, ranged, reading_of_values, texts_of}
+use Rattle.oca_calls.specs.CSpecs.{AreSettingWords, GivesKind, HasBits, IsKindOf, IsNumberWords, flags_for, integer_reading, is_yes, of_class, position_flags, ranged, reading_of_values, texts_of}
 use Rattle.oca_calls.specs.CValues.{AreWordsOf, bits_of_value}
+use Rattle.oca_calls.specs.WrittenAgain.{WrittenMakesAgain}
 use Rattle.oca_calls.specs.Outputs.{class_number}
 use Rattle.oca_calls.proofs.Integers.{IsInteger, integer, signed_narrow}
 

@@ -9,7 +9,7 @@ use Rattle.oca_device.specs.Answers.{verdict}
 use Rattle.oca_device.specs.Events as event
 use Rattle.oca_device.specs.Reports.{one_turn, verdict_turn}
 use Rattle.oca_device.specs.Written.{written}
-use Rattle.oca_calls.specs.Storings.{WaitsAsKept, duplicates_of}
+use Rattle.oca_calls.specs.WaitingAnswers.{WaitsAsKept, duplicates_of}
 
 kept_are : (v : Verdict) → (verdict_turn v).kept ≡ duplicates_of v
 kept_are (Served executed kept old reused) = refl

@@ -14,12 +14,11 @@ use Rattle.oca_tree.specs.declared.start.StartFault.{StartFault}
 use Rattle.oca_tree.specs.declared.tree.ObjectInfo.{ObjectInfo}
 use Rattle.oca_tree.specs.declared.tree.Setting.{Setting}
 use Rattle.oca_tree.specs.declared.tree.Setting.TheVariants as settings
-use Rattle.oca_tree.specs.Objects.{Store, object_of}
-use Rattle.oca_tree.specs.Building.{object_of_spec, value_of}
-use Rattle.oca_tree.specs.Trees.{IsSoundValue}
-use Rattle.oca_tree.specs.Starts.{AddsWith, BeginsWith, flags_of, restored}
-use Rattle.oca_tree.specs.Copies.{Stored, stored_at, names_of_ono, lockable_at, unlocked}
-use Rattle.oca_tree.specs.Readers.{info_of, setting_at}
+use Rattle.oca_tree.specs.Objects.{Store}
+use Rattle.oca_tree.specs.Building.{value_of}
+use Rattle.oca_tree.specs.Starts.{AddsWith, BeginsWith, flags_of}
+use Rattle.oca_tree.specs.Copies.{Stored, stored_at, names_of_ono, lockable_at}
+use Rattle.oca_tree.specs.Readers.{setting_at}
 use Rattle.oca_model.specs.declared.value.Value.{Value}
 use Rattle.oca_model.specs.declared.value.Value.TheVariants as values
 use Rattle.oca_model.specs.declared.reading.Ranged.{Ranged}
@@ -284,14 +283,3 @@ abbrev pub WritesSpec : List Object → Option ObjectInfo → SpecWords → Spec
 WritesSpec tree info old new number =
     ((old.size ≡ spec_size → ⊥) × (number ≡ 15) × (new ≡ old))
     ⊎ ((old.size ≡ spec_size) × WritesFound tree info old new number)
-
--- ---- an addition of what was written
-
--- AN ADDITION OF WHAT WAS WRITTEN of an object of a tree makes the same object again, but not locked and with hardware
--- that does not refuse: so say the Spec and the Start that the struct gives, into the same container and under the same
--- number.
-abbrev pub WrittenMakesAgain : Type 0
-WrittenMakesAgain = (tree : List Object) (o : Object) (w : SpecWords) (spec : Spec) (start : Start) →
-    object_of tree o.ono.0 ≡ Some o → IsSoundValue o.value → IsSpecOf tree (info_of o) w →
-    GivesSpec w spec → GivesStart w spec.kind start →
-    restored start (object_of_spec o.container.0 o.ono.0 spec) ≡ unlocked o

@@ -7,8 +7,10 @@ pub mod LinkRooms
 pub mod DeviceRooms
 pub mod LinkCalls
 pub mod Storings
+pub mod WaitingAnswers
 pub mod CValues
 pub mod CSpecs
+pub mod WrittenAgain
 pub mod FrontCalls
 pub mod AnswerCalls
 pub mod Restoring

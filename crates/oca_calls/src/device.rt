@@ -1,5 +1,6 @@
 //! What is behind an open handle of a device.
-ghost use Rattle.std.specs.Prelude.{◌≡◌, ◌⊎◌, ◌≤◌, ◌∷◌, [], List, Some, None, IfErr, IfOk, IfSome, IfNone, IsSome, length};
+ghost use Rattle.std.specs.Prelude.{◌≡◌, ◌⊎◌, ◌≤◌, ◌∷◌, [], List, Some, None, IfErr, IfOk, IfSome, IfNone, IsSome, IsTrue};
+ghost use Rattle.std.specs.Prelude.{◌↔◌, length};
 ghost use Rattle.oca_types.specs.Sizes.{DeviceSizes, peer_count, window_size};
 ghost use Rattle.oca_tree.specs.declared.object.Object.{Object};
 ghost use Rattle.oca_tree.specs.Objects.{Store};
@@ -10,7 +11,8 @@ ghost use Rattle.oca_calls.specs.declared.answer.Answer.TheVariants.{Done, NotSt
 ghost use Rattle.oca_calls.specs.Calls.{AddedBy, AddsSo, Builds, IsPacketRoom, IsSize, RunsBehind, Starts, SwitchAddedBy};
 ghost use Rattle.oca_calls.specs.CSpecs.{SpecAddedBy};
 ghost use Rattle.oca_calls.specs.Outputs.{put_words, verdict_words};
-ghost use Rattle.oca_calls.specs.Storings.{all_stored, unstored_behind};
+ghost use Rattle.oca_calls.specs.Storings.{all_stored};
+ghost use Rattle.oca_calls.specs.WaitingAnswers.{unstored_behind};
 ghost use Rattle.oca_calls.specs.LinkRooms.{Rooms, rooms_of};
 
 use crate::answer::Answer;
@@ -212,14 +214,21 @@ impl DeviceBehind {
         ensures refused { IfErr device (λ _. (result ≡ AnswerNoMemory) × (self.new.device ≡ self.old.device)) }
     {
         match device {
-            Ok(device) => {
-                self.device = Some(device);
-                self.outbox = outbox;
-                self.unstored = Unstored::none();
-                Answer::Done
-            }
+            Ok(device) => self.begin(outbox, device),
             Err(_) => Answer::NoMemory,
         }
+    }
+
+    /// Has this device and its place for packets: nothing waits to be stored.
+    fn begin(&mut self, outbox: BoundedOutbox, device: AnyDevice) -> Answer
+        ensures builder { self.new.builder ≡ self.old.builder }
+        ensures done { (result ≡ Done) × (self.new.device ≡ Some device)
+            × (self.new.outbox ≡ outbox) × (self.new.unstored ≡ all_stored) }
+    {
+        self.device = Some(device);
+        self.outbox = outbox;
+        self.unstored = Unstored::none();
+        Answer::Done
     }
 
     /// Handles a datagram that came from a peer at the moment `now`, in milliseconds of the caller's clock, as
@@ -298,12 +307,19 @@ fn sizes_for(window: u8, peers: u8, packets: usize) -> Option<Sizes>
         × (window_size s.window ≡ window) × (peer_count s.peers ≡ peers)) }
     ensures none { IfNone result (IsSize window → IsSize peers → IsPacketRoom packets → ⊥) }
 {
-    if packets < 1 || packets > MOST_PACKETS {
+    if !is_packet_room(packets) {
         return None;
     }
     let window = Window::new(window)?;
     let peers = Peers::new(peers)?;
     Some(Sizes { window, peers })
+}
+
+/// Whether there can be room for so many packets: 1 to 122.
+fn is_packet_room(packets: usize) -> bool
+    ensures { IsTrue result ↔ IsPacketRoom packets }
+{
+    packets >= 1 && packets <= MOST_PACKETS
 }
 
 /// Makes an empty outbox with room for `packets` packets, some 1,480 bytes each, and takes the memory for them. `None`

@@ -1,7 +1,7 @@
 //! What the definitions of this crate say of one another.
-ghost use Rattle.oca_calls.specs.CSpecs.{WrittenMakesAgain};
+ghost use Rattle.oca_calls.specs.WrittenAgain.{WrittenMakesAgain};
 ghost use Rattle.oca_calls.specs.CWords.{WordsAreReadBack};
-ghost use Rattle.oca_calls.specs.Storings.{WaitsAsKept};
+ghost use Rattle.oca_calls.specs.WaitingAnswers.{WaitsAsKept};
 
 use oca_tree::law_of_copies;
 

@@ -13,11 +13,13 @@ ghost use Rattle.oca_control.specs.Untaken.{answer_under, first_answered, waits}
 ghost use Rattle.std.specs.List.{list_any};
 ghost use Rattle.oca_calls.specs.LinkCalls.{LiesIn, WritesNextDue, WritesNumber, WritesAnswer, WritesSubmission};
 ghost use Rattle.oca_calls.specs.LinkCalls.{answered_count, due_handle, due_kind, reception_kind};
-ghost use Rattle.oca_calls.specs.LinkRooms.{full_rooms, small_rooms};
+ghost use Rattle.oca_calls.specs.LinkRooms.{full_rooms, roomed_link, small_rooms};
 
 use crate::answer::Answer;
 use crate::words::put_front;
-use oca_control::{Due, Link, Reception, SmallLink, is_late};
+use oca_control::{
+    Answer as CommandAnswer, ControlFault, Due, Link, Reception, SmallLink, is_late,
+};
 use oca_types::{Handle, MOST_BYTES, MOST_PARAMETER_BYTES, MethodId, Ono, Packet, Peer, Span};
 use std::alloc::Global;
 use std::marker::Model;
@@ -27,6 +29,54 @@ use std::marker::Model;
 enum AnyLink {
     Full(Box<Link>),
     Small(Box<SmallLink>),
+}
+
+impl AnyLink {
+    /// Submits a command, as [`LinkBehind::submit`] says: its handle, or why it is refused.
+    fn submit(
+        &mut self,
+        target: Ono,
+        method: MethodId,
+        count: u8,
+        params: &[u8],
+        now: u64,
+    ) -> Result<Handle, ControlFault>
+        ensures link { let request : RequestFields = record {
+          target = target.0;
+          level = method.level;
+          index = method.index;
+          count = count;
+          params = params.now;
+        } in
+            roomed_link self.new ≡ record (roomed_link self.old) {
+              link = submitted_within (roomed_link self.old).rooms.command request now (roomed_link self.old).link;
+            } }
+        ensures answer { let request : RequestFields = record {
+          target = target.0;
+          level = method.level;
+          index = method.index;
+          count = count;
+          params = params.now;
+        } in
+            result ≡ submission_within (roomed_link self.old).rooms.command request (roomed_link self.old).link }
+    {
+        match self {
+            AnyLink::Full(link) => link.submit(target, method, count, params, now),
+            AnyLink::Small(link) => link.submit(target, method, count, params, now),
+        }
+    }
+
+    /// Takes the answer under a handle, and removes its command; nothing where no answer is there.
+    fn take(&mut self, handle: u32) -> Option<CommandAnswer>
+        ensures link { roomed_link self.new
+            ≡ record (roomed_link self.old) { link = taken handle (roomed_link self.old).link } }
+        ensures answer { option_map answer_fields result ≡ answer_under handle (roomed_link self.old).link.untaken }
+    {
+        match self {
+            AnyLink::Full(link) => link.take(Handle(handle)),
+            AnyLink::Small(link) => link.take(Handle(handle)),
+        }
+    }
 }
 
 /// A link as the calls for C have it. It has room for each command and each answer of a datagram ([`Link`]), or it is
@@ -131,11 +181,7 @@ impl LinkBehind {
             WritesSubmission result handle.new (submission_within self.old.rooms.command request self.old.link) }
         ensures unwritten { (result ≡ 0) ⊎ (handle.new ≡ handle.old) }
     {
-        let submitted = match &mut self.link {
-            AnyLink::Full(link) => link.submit(target, method, count, params, now),
-            AnyLink::Small(link) => link.submit(target, method, count, params, now),
-        };
-        match submitted {
+        match self.link.submit(target, method, count, params, now) {
             Ok(given) => {
                 *handle = given.0;
                 Answer::Done.number()
@@ -239,11 +285,7 @@ impl LinkBehind {
         if out.len() < MOST_PARAMETER_BYTES {
             return Answer::TooSmall.number();
         }
-        let taken = match &mut self.link {
-            AnyLink::Full(link) => link.take(Handle(handle)),
-            AnyLink::Small(link) => link.take(Handle(handle)),
-        };
-        match taken {
+        match self.link.take(handle) {
             Some(answer) => {
                 *status = u32::from(answer.status);
                 *count = u32::from(answer.count);

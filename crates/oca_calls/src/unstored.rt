@@ -1,6 +1,7 @@
 //! What a device of C notes of the objects that are not stored.
 ghost use Rattle.std.specs.Prelude.{◌≡◌, ◌==◌, not, length};
-ghost use Rattle.oca_calls.specs.Storings.{all_stored, duplicates_of, unstored_after};
+ghost use Rattle.oca_calls.specs.Storings.{all_stored};
+ghost use Rattle.oca_calls.specs.WaitingAnswers.{duplicates_of, unstored_after};
 
 use crate::any_device::AnyDevice;
 use oca_device::Verdict;

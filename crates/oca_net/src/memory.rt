@@ -3,7 +3,8 @@ ghost use Rattle.std.specs.Prelude.{◌≡◌, ◌+◌, ◌<◌, ◌≤◌, [], 
 ghost use Rattle.std.specs.Prelude.{vec_capacity};
 ghost use Rattle.oca_net.specs.Ends.{largest_datagram};
 ghost use Rattle.oca_net.specs.Memory.{delivery_of, deliveries_of, heard_of, bytes_of, sent_packets, new_memory};
-ghost use Rattle.oca_net.specs.Memory.{next_heard, next_bytes, after_receive, takes, after_send, state_of_memory};
+ghost use Rattle.oca_net.specs.Memory.{next_heard, next_bytes, after_receive, takes, after_send, is_number};
+ghost use Rattle.oca_net.specs.Memory.{state_of_memory};
 
 use crate::count::step;
 use crate::end::{End, Heard};
@@ -171,7 +172,7 @@ impl End for MemoryEnd {
     {
         let number = self.send_number;
         step(&mut self.send_number);
-        if self.taken.len() < self.room && self.fail_send != Some(number) {
+        if self.taken.len() < self.room && !is_number(self.fail_send, number) {
             put(&mut self.taken, to, bytes);
             true
         } else {
@@ -179,6 +180,13 @@ impl End for MemoryEnd {
             false
         }
     }
+}
+
+/// Whether the send with this number, counted from 0, is the one that fails.
+fn is_number(fail_send: Option<u64>, number: u64) -> bool
+    ensures { result ≡ is_number fail_send number }
+{
+    fail_send == Some(number)
 }
 
 /// Puts an entry's datagram in the packet.

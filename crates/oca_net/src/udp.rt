@@ -351,6 +351,25 @@ impl<'a, C: Clock> UdpEnd<'a, C> {
             }
         }
     }
+
+    /// Hands the datagram to the system: whether it took the whole of it. If not, notes a failure and the reason.
+    fn hand_over(&mut self, to: Peer, bytes: &[u8]) -> bool
+        requires { length bytes.now ≤ largest_datagram }
+        ensures end { self.new
+            ≡ record (after_sent result self.new.system self.new.fault self.old) { sends = self.old.sends } }
+        ensures taken { result ≡ is_taken (length bytes.now) self.new.system.taken }
+        ensures again { IsBegunAgain self.new.system.refused self.old.system.calls self.new.system.calls
+            self.old.system.signals self.new.system.signals }
+    {
+        match send_datagram(&mut self.socket, to, bytes) {
+            Ok(()) => true,
+            Err(reason) => {
+                step(&mut self.failures);
+                self.failed_send = Some(reason);
+                false
+            }
+        }
+    }
 }
 
 impl<'a, C: Clock> End for UdpEnd<'a, C> {
@@ -404,14 +423,7 @@ impl<'a, C: Clock> End for UdpEnd<'a, C> {
             self.old.system.signals self.new.system.signals }
     {
         step(&mut self.sends);
-        match send_datagram(&mut self.socket, to, bytes) {
-            Ok(()) => true,
-            Err(reason) => {
-                step(&mut self.failures);
-                self.failed_send = Some(reason);
-                false
-            }
-        }
+        self.hand_over(to, bytes)
     }
 }
 

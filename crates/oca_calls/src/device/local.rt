@@ -127,11 +127,25 @@ impl DeviceBehind {
         ensures unstored { self.new.unstored ≡ self.old.unstored }
         ensures building { self.old.device ≡ None → (result ≡ NotStarted) × (self.new ≡ self.old) }
     {
+        if self.device.is_none() {
+            return Answer::NotStarted;
+        }
+        match str::from_utf8(label) {
+            Ok(label) => self.set_text(ono, label),
+            Err(_) => Answer::BadText,
+        }
+    }
+
+    /// Gives an object this label, once the device is started.
+    fn set_text(&mut self, ono: u32, label: &str) -> Answer
+        ensures labels { (r : Rooms) (w : DeviceSizes) (T : List Object) (E : List Event) →
+            RunsBehind r w self.old T E →
+            ChangesFront r w result self.new T E ono (ToLabel label.now) (asked.SetLabel label.now) }
+        ensures packets { self.new.outbox ≡ self.old.outbox }
+        ensures unstored { self.new.unstored ≡ self.old.unstored }
+    {
         let Some(device) = &mut self.device else {
             return Answer::NotStarted;
-        };
-        let Ok(label) = str::from_utf8(label) else {
-            return Answer::BadText;
         };
         match device.set_label(Ono(ono), label) {
             Ok(()) => Answer::Done,

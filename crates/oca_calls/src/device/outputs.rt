@@ -19,7 +19,7 @@ use crate::answer::Answer;
 use crate::reading::Reading;
 use crate::spec_reading::{read_spec, read_spec_of};
 use crate::spec_words::SpecWords;
-use crate::words::{lock_number, object_words, put_numbers, put_words};
+use crate::words::{lock_number, object_words, put_front, put_numbers, put_words};
 use oca_types::Ono;
 
 impl DeviceBehind {
@@ -95,14 +95,7 @@ impl DeviceBehind {
         let Some(packet) = self.outbox.get(i) else {
             return Answer::Nothing;
         };
-        let bytes = packet.as_slice();
-        *len = bytes.len();
-        if out.len() < bytes.len() {
-            return Answer::TooSmall;
-        }
-        let (front, _) = out.split_at_mut(bytes.len());
-        front.copy_from_slice(bytes);
-        Answer::Done
+        put_packet(packet.as_slice(), out, len)
     }
 
     /// Copies the numbers of the objects that the last datagram wrote to to the front of `out`, in order, each as often
@@ -324,4 +317,21 @@ impl DeviceBehind {
         *reading = out;
         Answer::Done
     }
+}
+
+/// Copies the bytes of a packet to the front of `out`, and writes to `len` how many they are. Returns `Done`.
+/// `TooSmall` if `out` has fewer bytes: then only `len` is written.
+fn put_packet(bytes: &[u8], out: &mut [u8], len: &mut usize) -> Answer
+    ensures len { len.new ≡ length bytes.now }
+    ensures packet { length bytes.now ≤ length out.old →
+        (result ≡ Done) × (take (length bytes.now) out.new ≡ bytes.now) }
+    ensures small { length out.old < length bytes.now → (result ≡ TooSmall) × (out.new ≡ out.old) }
+    ensures unwritten { (result ≡ Done) ⊎ ((result ≡ TooSmall) × (out.new ≡ out.old)) }
+{
+    *len = bytes.len();
+    if out.len() < bytes.len() {
+        return Answer::TooSmall;
+    }
+    put_front(bytes, out);
+    Answer::Done
 }
