@@ -81,11 +81,11 @@ impl View {
     ghost use Rattle.oca_web.specs.Orders.{AddsAll, AddsTicket, SettlesOrders, SubmitsOrders, has_orders, has_room_for, no_orders};
     ghost use Rattle.oca_web.specs.Bodies.{IsForWord};
     ghost use Rattle.oca_web.specs.Learning.{LearnsSettled};
-    ghost use Rattle.oca_web.specs.Readings.{ConfirmsAsked};
+    ghost use Rattle.oca_web.specs.Readings.{ConfirmsAsked, KeepsAsked};
     ghost use Rattle.oca_web.specs.Views.{AsksQuestions, Continues, RenewsLost, RestsBehind, SubmitsAndAsks, TakesAnswers, TurnsAndSettles};
     ghost use Rattle.oca_web.specs.Views.{AsksAtPlace, LeavesAsked, TakesAnswer, TurnsHearing};
     ghost use Rattle.std.specs.Bool.{OnTrue};
-    ghost use Rattle.oca_web.specs.Views.{half_spent, moment_noted, next_with, orders_after, stood_still};
+    ghost use Rattle.oca_web.specs.Views.{half_spent, moment_noted, next_behind, next_with, orders_after, stood_still};
     ghost use Rattle.oca_web.specs.Polling.{OpensPage, page_asked};
     ghost use Rattle.oca_web.specs.Walking.{BeginsAnew, WalkGoesOn, KeepsWalk, StaysOver};
 
@@ -574,12 +574,24 @@ impl View {
         let may = self.may_ask();
         match ask_one(panel, ono, class, question.ask, may) {
             Some(handle) => {
-                self.next_handle = self.next_handle.max(handle.0.saturating_add(1));
-                self.inventory.note_asked(handle, question, self.news.now);
+                self.note_asked(handle, question);
                 true
             }
             None => false,
         }
+    }
+
+    /// A question is in flight under this handle, which was submitted at the present moment. Another link begins behind
+    /// the handle.
+    fn note_asked(&mut self, handle: Handle, question: Question)
+        ensures kept { KeepsAsked handle question self.old.news.now self.old.inventory.asked.items
+            self.new.inventory.asked.items }
+        ensures inventory { self.new.inventory ≡ record self.old.inventory { asked = self.new.inventory.asked } }
+        ensures next { self.new.next_handle ≡ next_behind self.old.next_handle handle.0 }
+        ensures rest { self.new ≡ record self.old { inventory = self.new.inventory; next_handle = self.new.next_handle } }
+    {
+        self.next_handle = self.next_handle.max(handle.0.saturating_add(1));
+        self.inventory.note_asked(handle, question, self.news.now);
     }
 
     /// Whether a question may be asked now.
