@@ -17,7 +17,7 @@ use Rattle.oca_web.specs.declared.inventory.Inventory.{Inventory}
 use Rattle.oca_web.specs.declared.view.View.{View}
 use Rattle.oca_web.specs.Asking.{AsksOne}
 use Rattle.oca_web.specs.Readings.{KeepsAsked}
-use Rattle.oca_web.specs.Views.{AsksAtPlace, AsksQuestions, NoneAsked, OneAsked, next_behind, target_of, TakesAnswer, TakesAnswers, NoneTaken, OneTaken}
+use Rattle.oca_web.specs.Views.{AsksAtPlace, AsksQuestions, LeavesAsked, NoneAsked, OneAsked, next_behind, target_of, TakesAnswer, TakesAnswers, NoneTaken, OneTaken}
 use Rattle.oca_web.specs.declared.order.Sent.{Sent}
 use Rattle.oca_web.specs.Orders.{OrdersState, Steps, NoStep, OneMore, SubmitsOrder, SubmitsFirst, SettlesOne, SettlesAt, NoneIsLeft}
 use Rattle.oca_web.specs.Orders.{SettlesEach, NoneSettled, OneSettled, SettlesInto}
@@ -146,18 +146,18 @@ pub takes_nothing : (at : ℕ) (o : Option Asked) (asked : Asked) (outcome : Opt
     → o ≡ slice_get old.asked.items at → o ≡ Some asked → MaySettle outcome asked.handle.0 p q → outcome ≡ None → new ≡ old → TakesAnswer at old p new q
 takes_nothing at o asked outcome old new p q e s h n same = rw (sym e, s) (None, rw n at h, same)
 
-pub takes_this : (at : ℕ) (o : Option Asked) (asked : Asked) (outcome : Option Outcome) (x : Outcome) (old settled new : Inventory) (p q : PanelState)
-    → o ≡ slice_get old.asked.items at → o ≡ Some asked → MaySettle outcome asked.handle.0 p q → outcome ≡ Some x
+-- a question that was answered is in flight no longer
+pub leaves_this : (at : ℕ) (asked : Asked) (old settled new : Inventory) → slice_get old.asked.items at ≡ Some asked
     → OnSome (slice_get old.asked.items at) (settled.asked.items ≡ remove old.asked.items at) → settled ≡ record old { asked = settled.asked }
-    → (asked.question.epoch ≢ settled.epoch → new ≡ settled) → new.asked ≡ settled.asked → TakesAnswer at old p new q
-takes_this at o asked outcome x old settled new p q e s h n r rest earlier same =
-    let there : slice_get old.asked.items at ≡ Some asked = sym e ∙ s in
+    → (asked.question.epoch ≢ settled.epoch → new ≡ settled) → new.asked ≡ settled.asked → LeavesAsked at asked old new
+leaves_this at asked old settled new there r rest earlier same =
     let removed : settled.asked.items ≡ remove old.asked.items at = rw there at r in
-    rw there (
-      Some x,
-      rw n at h,
-      record { settled = settled; asked_left = removed; rest = rest; alone = rw (sym same) at removed; earlier = earlier },
-    )
+    record { settled = settled; asked_left = removed; rest = rest; alone = rw (sym same) at removed; earlier = earlier }
+
+pub takes_this : (at : ℕ) (o : Option Asked) (asked : Asked) (outcome : Option Outcome) (x : Outcome) (old new : Inventory) (p q : PanelState)
+    → o ≡ slice_get old.asked.items at → o ≡ Some asked → MaySettle outcome asked.handle.0 p q → outcome ≡ Some x
+    → LeavesAsked at asked old new → TakesAnswer at old p new q
+takes_this at o asked outcome x old new p q e s h n leaves = rw (sym e ∙ s) (Some x, rw n at h, leaves)
 
 pub ruleset take_rules = (takes_nowhere, takes_nothing, takes_this)
 

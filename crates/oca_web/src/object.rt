@@ -120,16 +120,7 @@ fn same_trouble(a: Option<Trouble>, b: Option<Trouble>) -> bool
 fn is_trouble(a: Trouble, b: Trouble) -> bool
     ensures { IsTrue result → a ≡ b }
 {
-    match (a, b) {
-        (Trouble::Refused(status), Trouble::Refused(other)) => status == other,
-        (Trouble::NotSubmitted(fault), Trouble::NotSubmitted(other)) => fault == other,
-        (Trouble::Unreadable, Trouble::Unreadable)
-        | (Trouble::NoValue, Trouble::NoValue)
-        | (Trouble::NoSuchWord, Trouble::NoSuchWord)
-        | (Trouble::Lost, Trouble::Lost)
-        | (Trouble::Unanswered, Trouble::Unanswered) => true,
-        _ => false,
-    }
+    a == b
 }
 
 /// An object of the device, as far as it is known.

@@ -654,22 +654,45 @@ fn put_page(response: &mut Response) -> Result<(), AllocError>
     response.body.push(Bytes::from_static(PAGE.as_bytes()))
 }
 
+/// Puts a header field behind those before it.
+fn put_field(
+    response: &mut Response,
+    name: HeaderName,
+    value: HeaderValue,
+) -> Result<(), AllocError>
+    ensures status { response.new.status ≡ response.old.status }
+    ensures body { response.new.body ≡ response.old.body }
+{
+    response.add_header(name, value)
+}
+
 /// What every answer asks of the browser: not to cache it, not to guess its type, and to give it to no other page.
 fn put_protection(response: &mut Response) -> Result<(), AllocError>
     ensures status { response.new.status ≡ response.old.status }
     ensures body { response.new.body ≡ response.old.body }
 {
-    response.add_header(header::CACHE_CONTROL, HeaderValue::from_static("no-store"))?;
-    response.add_header(
+    put_field(
+        response,
+        header::CACHE_CONTROL,
+        HeaderValue::from_static("no-store"),
+    )?;
+    put_field(
+        response,
         header::X_CONTENT_TYPE_OPTIONS,
         HeaderValue::from_static("nosniff"),
     )?;
-    response.add_header(header::X_FRAME_OPTIONS, HeaderValue::from_static("DENY"))?;
-    response.add_header(
+    put_field(
+        response,
+        header::X_FRAME_OPTIONS,
+        HeaderValue::from_static("DENY"),
+    )?;
+    put_field(
+        response,
         header::REFERRER_POLICY,
         HeaderValue::from_static("no-referrer"),
     )?;
-    response.add_header(
+    put_field(
+        response,
         HeaderName::from_static("cross-origin-resource-policy"),
         HeaderValue::from_static("same-origin"),
     )

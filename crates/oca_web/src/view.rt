@@ -4,12 +4,13 @@ ghost use Rattle.std.specs.Option.{option_map};
 ghost use Rattle.oca_web.specs.Bodies.{IsForWord};
 ghost use Rattle.oca_web.specs.Views.{begins_behind};
 
-use crate::ask::Question;
+use crate::ask::{Asked, Question};
 use crate::asking::{ask_one, leaves_half};
 use crate::inventory::Inventory;
 use crate::order::{Action, Wanted};
 use crate::orders::{Orders, lower};
 use crate::turns::{lose_orders, settle_orders, submit_orders};
+use oca_control::Outcome;
 use oca_model::{Value, value_from_word};
 use oca_net::End;
 use oca_panel::{Panel, answer_of};
@@ -75,16 +76,16 @@ pub struct View {
 }
 
 impl View {
-    ghost use Rattle.std.specs.Prelude.{◌≡◌, ◌<◌, ◌-◌, ◌==◌, ◌&&◌, false, IfOk, IfSome, None, length, slice_get};
+    ghost use Rattle.std.specs.Prelude.{◌≡◌, ◌<◌, ◌-◌, ◌==◌, ◌&&◌, false, IfOk, IfSome, None, Some, length, slice_get};
     ghost use Rattle.oca_net.specs.Ends.{one_more};
     ghost use Rattle.oca_web.specs.Orders.{AddsAll, AddsTicket, SettlesOrders, SubmitsOrders, has_orders, has_room_for, no_orders};
     ghost use Rattle.oca_web.specs.Bodies.{IsForWord};
     ghost use Rattle.oca_web.specs.Learning.{LearnsSettled};
-    ghost use Rattle.oca_web.specs.Readings.{ConfirmsAsked};
+    ghost use Rattle.oca_web.specs.Readings.{ConfirmsAsked, KeepsAsked};
     ghost use Rattle.oca_web.specs.Views.{AsksQuestions, Continues, RenewsLost, RestsBehind, SubmitsAndAsks, TakesAnswers, TurnsAndSettles};
-    ghost use Rattle.oca_web.specs.Views.{AsksAtPlace, TakesAnswer, TurnsHearing};
+    ghost use Rattle.oca_web.specs.Views.{AsksAtPlace, LeavesAsked, TakesAnswer, TurnsHearing};
     ghost use Rattle.std.specs.Bool.{OnTrue};
-    ghost use Rattle.oca_web.specs.Views.{half_spent, moment_noted, next_with, orders_after, stood_still};
+    ghost use Rattle.oca_web.specs.Views.{half_spent, moment_noted, next_behind, next_with, orders_after, stood_still};
     ghost use Rattle.oca_web.specs.Polling.{OpensPage, page_asked};
     ghost use Rattle.oca_web.specs.Walking.{BeginsAnew, WalkGoesOn, KeepsWalk, StaysOver};
 
@@ -495,11 +496,25 @@ impl View {
         let Some(outcome) = panel.try_finish(asked.handle) else {
             return Ok(false);
         };
+        match self.learn_outcome(at, asked, &outcome) {
+            Ok(()) => Ok(true),
+            Err(refused) => Err(refused),
+        }
+    }
+
+    /// Learns what came of the question in flight at this place, which is in flight no longer.
+    #[tactic(auto, using(crate::proofs::WalkLemmas::answer_goes))]
+    fn learn_outcome(&mut self, at: usize, asked: Asked, outcome: &Outcome) -> Result<(), NoMemory>
+        requires { slice_get self.old.inventory.asked.items at ≡ Some asked }
+        ensures leaves { LeavesAsked at asked self.old.inventory self.new.inventory }
+        ensures walk { WalkGoesOn self.old.inventory self.new.inventory }
+        ensures moment { ConfirmsAsked asked self.old.inventory self.new.inventory }
+        ensures rest { self.new ≡ record self.old { inventory = self.new.inventory } }
+    {
         let class = self.inventory.class_at(asked.question);
-        let answer = answer_of(class, asked.question.ask.method(), &outcome);
+        let answer = answer_of(class, asked.question.ask.method(), outcome);
         self.inventory.settle(at);
-        self.inventory.learn(asked.question, asked.moment, answer)?;
-        Ok(true)
+        self.inventory.learn(asked.question, asked.moment, answer)
     }
 
     /// Where the link is lost or late, all orders are noted as lost, and another link and another walk begin.
@@ -559,12 +574,24 @@ impl View {
         let may = self.may_ask();
         match ask_one(panel, ono, class, question.ask, may) {
             Some(handle) => {
-                self.next_handle = self.next_handle.max(handle.0.saturating_add(1));
-                self.inventory.note_asked(handle, question, self.news.now);
+                self.note_asked(handle, question);
                 true
             }
             None => false,
         }
+    }
+
+    /// A question is in flight under this handle, which was submitted at the present moment. Another link begins behind
+    /// the handle.
+    fn note_asked(&mut self, handle: Handle, question: Question)
+        ensures kept { KeepsAsked handle question self.old.news.now self.old.inventory.asked.items
+            self.new.inventory.asked.items }
+        ensures inventory { self.new.inventory ≡ record self.old.inventory { asked = self.new.inventory.asked } }
+        ensures next { self.new.next_handle ≡ next_behind self.old.next_handle handle.0 }
+        ensures rest { self.new ≡ record self.old { inventory = self.new.inventory; next_handle = self.new.next_handle } }
+    {
+        self.next_handle = self.next_handle.max(handle.0.saturating_add(1));
+        self.inventory.note_asked(handle, question, self.news.now);
     }
 
     /// Whether a question may be asked now.
