@@ -34,27 +34,47 @@ reach_rows =
 abbrev pub objects_rows : List OptionFields
 objects_rows = reach_rows ++ turns_row ∷ port_row ∷ []
 
+abbrev pub tree_command : CommandRows
+tree_command = record { name = codes "tree"; options = objects_rows }
+
+abbrev pub get_command : CommandRows
+get_command = record { name = codes "get"; options = objects_rows ++ words_row ∷ [] }
+
+abbrev pub set_command : CommandRows
+set_command = record { name = codes "set"; options = objects_rows ++ ahead_row ∷ words_row ∷ [] }
+
 -- `--hold` keeps locks; it takes no value
-abbrev pub own_commands : List CommandRows
-own_commands =
-    record { name = codes "tree"; options = objects_rows }
-    ∷ record { name = codes "get"; options = objects_rows ++ words_row ∷ [] }
-    ∷ record { name = codes "set"; options = objects_rows ++ ahead_row ∷ words_row ∷ [] }
-    ∷ record { name = codes "lock"; options = objects_rows ++ a_flag (codes "hold") ∷ words_row ∷ [] }
-    ∷ record { name = codes "unlock"; options = objects_rows ++ words_row ∷ [] }
-    ∷ record {
+abbrev pub lock_command : CommandRows
+lock_command = record { name = codes "lock"; options = objects_rows ++ a_flag (codes "hold") ∷ words_row ∷ [] }
+
+abbrev pub unlock_command : CommandRows
+unlock_command = record { name = codes "unlock"; options = objects_rows ++ words_row ∷ [] }
+
+abbrev pub replay_command : CommandRows
+replay_command =
+    record {
       name = codes "replay";
       options =
           needed (codes "device") AnyPeer ∷ span_row ∷ needed (codes "first-handle") (Number 10 0 4294967295) ∷ [];
     }
-    ∷ record {
+
+abbrev pub send_command : CommandRows
+send_command =
+    record {
       name = codes "send";
       options =
           reach_rows ++ needed (codes "target") (Number 10 0 4294967295) ∷ needed (codes "level") (Number 5 0 65535)
           ∷ needed (codes "index") (Number 5 0 65535) ∷ needed (codes "count") (Number 3 0 255)
           ∷ with_form (codes "params") Bytes ∷ turns_row ∷ port_row ∷ [];
     }
-    ∷ record { name = codes "run"; options = reach_rows ++ ahead_row ∷ port_row ∷ [] } ∷ []
+
+abbrev pub run_command : CommandRows
+run_command = record { name = codes "run"; options = reach_rows ++ ahead_row ∷ port_row ∷ [] }
+
+abbrev pub own_commands : List CommandRows
+own_commands =
+    tree_command ∷ get_command ∷ set_command ∷ lock_command ∷ unlock_command ∷ replay_command ∷ send_command
+    ∷ run_command ∷ []
 
 -- THE COMMAND LINE OF THE PROGRAM.
 unfoldable pub own_app : App

@@ -4,7 +4,7 @@ use Rattle.oca_net.specs.Sockets.{SocketState}
 use Rattle.oca_panel.specs.declared.own_port.OwnPort.{OwnPort}
 use Rattle.oca_program.specs.declared.fault.Failure.{Failure}
 use Rattle.oca_panel.specs.Watching.{WatchState}
-use Rattle.ocactl_cli.specs.Sockets.{IsLinkedOver, asks_first}
+use Rattle.ocactl_cli.specs.Sockets.{IsLinkedAtOnce, IsLinkedFurther, IsLinkedOver, asks_first, unheard}
 use Rattle.ocactl_cli.specs.declared.reaching.LinkStart.{LinkStart}
 use Rattle.ocactl_cli.specs.declared.words.Reach.{Reach}
 
@@ -29,3 +29,11 @@ IsLinkedIfBound reach own (Ok (end_there, is_own)) result =
     IsOkAnd result (λ linked.
     IsLinkedOver (asks_first is_own reach.first_handle) reach own end_there.local linked.0 linked.1)
 IsLinkedIfBound reach own (Err failure) result = result ≡ Err failure
+
+-- how a link begins over the other of the program's ports, where it was bound; or further over the end from before
+abbrev pub IsLinkedElsewhereIf : Reach → OwnPort → (before : WatchState) → Result SocketState Failure → LinkStart
+    → WatchState → Type 0
+IsLinkedElsewhereIf reach own before (Ok other) start end_there =
+    IsLinkedAtOnce reach own.first_handle.0 other.local start end_there
+IsLinkedElsewhereIf reach own before (Err failure) start end_there =
+    IsLinkedFurther own.first_handle.0 (unheard before) start end_there

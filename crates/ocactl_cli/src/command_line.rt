@@ -1,7 +1,8 @@
 //! The commands of the program and their options, as `clap` has them.
 ghost use Rattle.std.specs.Prelude.{◌≡◌, IfOk, map};
 ghost use Rattle.oca_program.specs.Commands.{TakesApp, command_fields};
-ghost use Rattle.ocactl_cli.specs.CommandLine.{own_app, own_commands};
+ghost use Rattle.ocactl_cli.specs.CommandLine.{get_command, lock_command, own_app, own_commands, replay_command};
+ghost use Rattle.ocactl_cli.specs.CommandLine.{run_command, send_command, set_command, tree_command, unlock_command};
 
 use clap::Command;
 use oca_program::form::{NUMBER_8, NUMBER_16, NUMBER_32};
@@ -268,65 +269,121 @@ fn rows() -> [CommandRow; 8]
     ensures { map command_fields result ≡ own_commands }
 {
     [
-        CommandRow {
-            name: "tree",
-            about: "Prints the objects of a device",
-            example: TREE_EXAMPLE,
-            options: &[DEVICE, SPAN, FIRST_HANDLE, IP, TURNS, PORT],
-        },
-        CommandRow {
-            name: "get",
-            about: "Prints the values of objects of a device",
-            example: GET_EXAMPLE,
-            options: &[DEVICE, SPAN, FIRST_HANDLE, IP, TURNS, PORT, OBJECTS],
-        },
-        CommandRow {
-            name: "set",
-            about: "Sets objects of a device",
-            example: SET_EXAMPLE,
-            options: &[DEVICE, SPAN, FIRST_HANDLE, IP, TURNS, PORT, AHEAD, VALUES],
-        },
-        CommandRow {
-            name: "lock",
-            about: "Locks objects of a device",
-            example: LOCK_EXAMPLE,
-            options: &[DEVICE, SPAN, FIRST_HANDLE, IP, TURNS, PORT, HOLD, OBJECTS],
-        },
-        CommandRow {
-            name: "unlock",
-            about: "Releases the locks of objects of a device",
-            example: UNLOCK_EXAMPLE,
-            options: &[DEVICE, SPAN, FIRST_HANDLE, IP, TURNS, PORT, OBJECTS],
-        },
-        CommandRow {
-            name: "replay",
-            about: "Runs a controller's link over a script on standard input, without a network",
-            example: REPLAY_EXAMPLE,
-            options: &[REPLAY_DEVICE, SPAN, OWN_FIRST_HANDLE],
-        },
-        CommandRow {
-            name: "send",
-            about: "Sends a command to a device and prints its answer: status, ParamCount, parameters",
-            example: SEND_EXAMPLE,
-            options: &[
-                DEVICE,
-                SPAN,
-                FIRST_HANDLE,
-                IP,
-                TARGET,
-                LEVEL,
-                INDEX,
-                COUNT,
-                PARAMS,
-                SEND_TURNS,
-                SEND_PORT,
-            ],
-        },
-        CommandRow {
-            name: "run",
-            about: "Sends the commands on standard input, and prints the answer to each in the order of their lines",
-            example: RUN_EXAMPLE,
-            options: &[DEVICE, SPAN, FIRST_HANDLE, IP, AHEAD, RUN_PORT],
-        },
+        tree_row(),
+        get_row(),
+        set_row(),
+        lock_row(),
+        unlock_row(),
+        replay_row(),
+        send_row(),
+        run_row(),
     ]
+}
+
+/// The command `tree` and its options.
+fn tree_row() -> CommandRow
+    ensures { command_fields result ≡ tree_command }
+{
+    CommandRow {
+        name: "tree",
+        about: "Prints the objects of a device",
+        example: TREE_EXAMPLE,
+        options: &[DEVICE, SPAN, FIRST_HANDLE, IP, TURNS, PORT],
+    }
+}
+
+/// The command `get` and its options.
+fn get_row() -> CommandRow
+    ensures { command_fields result ≡ get_command }
+{
+    CommandRow {
+        name: "get",
+        about: "Prints the values of objects of a device",
+        example: GET_EXAMPLE,
+        options: &[DEVICE, SPAN, FIRST_HANDLE, IP, TURNS, PORT, OBJECTS],
+    }
+}
+
+/// The command `set` and its options.
+fn set_row() -> CommandRow
+    ensures { command_fields result ≡ set_command }
+{
+    CommandRow {
+        name: "set",
+        about: "Sets objects of a device",
+        example: SET_EXAMPLE,
+        options: &[DEVICE, SPAN, FIRST_HANDLE, IP, TURNS, PORT, AHEAD, VALUES],
+    }
+}
+
+/// The command `lock` and its options.
+fn lock_row() -> CommandRow
+    ensures { command_fields result ≡ lock_command }
+{
+    CommandRow {
+        name: "lock",
+        about: "Locks objects of a device",
+        example: LOCK_EXAMPLE,
+        options: &[DEVICE, SPAN, FIRST_HANDLE, IP, TURNS, PORT, HOLD, OBJECTS],
+    }
+}
+
+/// The command `unlock` and its options.
+fn unlock_row() -> CommandRow
+    ensures { command_fields result ≡ unlock_command }
+{
+    CommandRow {
+        name: "unlock",
+        about: "Releases the locks of objects of a device",
+        example: UNLOCK_EXAMPLE,
+        options: &[DEVICE, SPAN, FIRST_HANDLE, IP, TURNS, PORT, OBJECTS],
+    }
+}
+
+/// The command `replay` and its options.
+fn replay_row() -> CommandRow
+    ensures { command_fields result ≡ replay_command }
+{
+    CommandRow {
+        name: "replay",
+        about: "Runs a controller's link over a script on standard input, without a network",
+        example: REPLAY_EXAMPLE,
+        options: &[REPLAY_DEVICE, SPAN, OWN_FIRST_HANDLE],
+    }
+}
+
+/// The command `send` and its options.
+fn send_row() -> CommandRow
+    ensures { command_fields result ≡ send_command }
+{
+    CommandRow {
+        name: "send",
+        about: "Sends a command to a device and prints its answer: status, ParamCount, parameters",
+        example: SEND_EXAMPLE,
+        options: &[
+            DEVICE,
+            SPAN,
+            FIRST_HANDLE,
+            IP,
+            TARGET,
+            LEVEL,
+            INDEX,
+            COUNT,
+            PARAMS,
+            SEND_TURNS,
+            SEND_PORT,
+        ],
+    }
+}
+
+/// The command `run` and its options.
+fn run_row() -> CommandRow
+    ensures { command_fields result ≡ run_command }
+{
+    CommandRow {
+        name: "run",
+        about: "Sends the commands on standard input, and prints the answer to each in the order of their lines",
+        example: RUN_EXAMPLE,
+        options: &[DEVICE, SPAN, FIRST_HANDLE, IP, AHEAD, RUN_PORT],
+    }
 }

@@ -1,10 +1,11 @@
 //! How a device is reached: the socket's port, and how a link to it begins.
-ghost use Rattle.std.specs.Prelude.{◌≡◌, ◌<◌, IfErr, IfOk};
+ghost use Rattle.std.specs.Prelude.{◌≡◌, ◌+◌, ◌<◌, IfErr, IfOk};
+ghost use Rattle.oca_net.specs.EndStates.{IsPresent};
 ghost use Rattle.oca_net.specs.Sockets.{IsBoundFrom, new_socket};
 ghost use Rattle.oca_panel.specs.declared.answering.Probed.TheVariants.{NotAnswering};
-ghost use Rattle.ocactl_cli.specs.PrivateSockets.{IsLinkedIfBound, IsMarked, IsSameButNoted};
-ghost use Rattle.ocactl_cli.specs.Sockets.{IsBoundByChoice, IsLinkedBehind, IsLinkedBy, IsLinkedFurther, IsLinkedOver};
-ghost use Rattle.ocactl_cli.specs.Sockets.{IsReached, IsSocketFor, IsUnreached, asks_first};
+ghost use Rattle.ocactl_cli.specs.PrivateSockets.{IsLinkedElsewhereIf, IsLinkedIfBound, IsMarked, IsSameButNoted, is_at};
+ghost use Rattle.ocactl_cli.specs.Sockets.{IsBoundByChoice, IsLinkedAtOnce, IsLinkedBehind, IsLinkedBy, IsLinkedFurther};
+ghost use Rattle.ocactl_cli.specs.Sockets.{IsLinkedOver, IsReached, IsSocketFor, IsUnreached, asks_first, unheard};
 
 use super::words::Reach;
 use oca_net::{End, UdpEnd};
@@ -86,11 +87,18 @@ fn marked<'a, N: Net + Clock>(
 {
     match bound {
         Ok(end) => {
-            let is_own = own == Some(end.local().port);
+            let is_own = is_at(own, end.local().port);
             Ok((end, is_own))
         }
         Err(failure) => Err(failure),
     }
+}
+
+/// Whether there is a port of the program's own, and it is this one.
+fn is_at(own: Option<u16>, port: u16) -> bool
+    ensures { result ≡ is_at own port }
+{
+    own == Some(port)
 }
 
 /// A socket at the program's own port. Where that is in use, at one of the system's choice, unless no other may be
@@ -166,10 +174,37 @@ fn linked<'a, N: Net + Clock, F: Sink>(
     requires new { end ≡ new_socket end.local }
     ensures { IsLinkedOver (asks_first is_own reach.first_handle) reach own end.entry.local result.0 result.1 }
 {
-    let end = Watched::new(end, reach.device);
-    if is_own && reach.first_handle.is_none() {
-        return answering(alloc, system, reach, own, end, faults);
+    if asks_first(is_own, reach.first_handle) {
+        return answering(
+            alloc,
+            system,
+            reach,
+            own,
+            Watched::new(end, reach.device),
+            faults,
+        );
     }
+    linked_at_once(reach, own, end)
+}
+
+/// Whether the device is first asked if it answers commands: at the program's own port, where the words give no first
+/// handle.
+fn asks_first(is_own: bool, first_handle: Option<u32>) -> bool
+    ensures { result ≡ asks_first is_own first_handle }
+{
+    is_own && first_handle.is_none()
+}
+
+/// A link over a socket that was not used.
+fn linked_at_once<'a, N: Net + Clock>(
+    reach: Reach,
+    own: OwnPort,
+    end: UdpEnd<'a, N>,
+) -> (LinkStart, DeviceEnd<'a, N>)
+    requires { end ≡ new_socket end.local }
+    ensures { IsLinkedAtOnce reach own.first_handle.0 end.entry.local result.0 result.1 }
+{
+    let end = Watched::new(end, reach.device);
     (at_once(own), end)
 }
 
@@ -208,23 +243,60 @@ fn elsewhere<'a, N: Net + Clock, F: Sink>(
     system: &'a N,
     reach: Reach,
     own: OwnPort,
-    mut end: DeviceEnd<'a, N>,
+    end: DeviceEnd<'a, N>,
     faults: &mut Printer<F>,
 ) -> (LinkStart, DeviceEnd<'a, N>)
     requires { own.first_handle.0 < 2147483648 }
     ensures { IsLinkedBy NotAnswering reach own end.entry result.0 result.1 }
 {
     let bound = bind_at(alloc, system, reach, own.other);
+    elsewhere_if(alloc, reach, own, end, bound, faults)
+}
+
+/// A link over the other of the program's ports, where that was bound; else further over this end.
+fn elsewhere_if<'a, N: Net + Clock, F: Sink>(
+    alloc: Global,
+    reach: Reach,
+    own: OwnPort,
+    end: DeviceEnd<'a, N>,
+    bound: Result<UdpEnd<'a, N>, Failure>,
+    faults: &mut Printer<F>,
+) -> (LinkStart, DeviceEnd<'a, N>)
+    requires below { own.first_handle.0 < 2147483648 }
+    requires new { IfOk bound (λ other. other ≡ new_socket other.local) }
+    ensures { IsLinkedElsewhereIf reach own end.entry bound.entry result.0 result.1 }
+{
     match bound {
-        Ok(other) => {
-            note_other_port(alloc, reach.device, own.port, own.other, faults);
-            (at_once(own), Watched::new(other, reach.device))
-        }
-        Err(_) => {
-            end.forget();
-            further(own, end)
-        }
+        Ok(other) => over_other(alloc, reach, own, other, faults),
+        Err(_) => further_unheard(own, end),
     }
+}
+
+/// A link over the other of the program's ports, of which a note is printed.
+fn over_other<'a, N: Net + Clock, F: Sink>(
+    alloc: Global,
+    reach: Reach,
+    own: OwnPort,
+    other: UdpEnd<'a, N>,
+    faults: &mut Printer<F>,
+) -> (LinkStart, DeviceEnd<'a, N>)
+    requires { other ≡ new_socket other.local }
+    ensures { IsLinkedAtOnce reach own.first_handle.0 other.entry.local result.0 result.1 }
+{
+    note_other_port(alloc, reach.device, own.port, own.other, faults);
+    linked_at_once(reach, own, other)
+}
+
+/// A link over this end, as if the device was not heard from it.
+fn further_unheard<'a, N: Net + Clock>(
+    own: OwnPort,
+    mut end: DeviceEnd<'a, N>,
+) -> (LinkStart, DeviceEnd<'a, N>)
+    requires { own.first_handle.0 < 2147483648 }
+    ensures { IsLinkedFurther own.first_handle.0 (unheard end.entry) result.0 result.1 }
+{
+    end.forget();
+    further(own, end)
 }
 
 /// A link over a socket by which a command was sent before.
@@ -232,11 +304,19 @@ fn further<'a, N: Net + Clock>(own: OwnPort, end: DeviceEnd<'a, N>) -> (LinkStar
     requires { own.first_handle.0 < 2147483648 }
     ensures { IsLinkedFurther own.first_handle.0 end.entry result.0 result.1 }
 {
-    let start = LinkStart {
+    (start_behind(own, &end), end)
+}
+
+/// How a link begins now over an end by which the first handle was used.
+fn start_behind<N: Net + Clock>(own: OwnPort, end: &DeviceEnd<'_, N>) -> LinkStart
+    requires { own.first_handle.0 < 2147483648 }
+    ensures handle { result.first.0 ≡ own.first_handle.0 + 1 }
+    ensures present { IsPresent result.now end.now.end_state }
+{
+    LinkStart {
         first: Handle(own.first_handle.0 + 1),
         now: end.now(),
-    };
-    (start, end)
+    }
 }
 
 /// A socket at a port, and at the address of these words: where they give none, or 0.0.0.0, at the one from which the
