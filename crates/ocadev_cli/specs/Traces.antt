@@ -50,14 +50,17 @@ abbrev pub written_text : List Ono → List ℕ
 written_text [] = []
 written_text (o ∷ os) = (codes " wrote " ++ decimal o.0) ++ flat_map (λ n. codes " " ++ decimal n.0) os
 
+-- what stands behind the outcome in that line
+abbrev pub behind_outcome : Report → List Effect → List Ono → List ℕ
+behind_outcome turn effects written =
+    written_text written
+    ++ (some_text (codes " failed-sends ") turn.failed_sends ++ (effects_text effects ++ codes "\n"))
+
 -- THE LINE OF A DATAGRAM: its sender, what became of it, the objects that it wrote to, how many answers could not be
 -- sent, and what its commands did.
 abbrev pub datagram_line : Peer → Report → List ℕ → List Effect → List Ono → List ℕ
 datagram_line from turn bytes effects written =
-    peer_text from
-    ++ (outcome_text turn bytes
-    ++ (written_text written
-    ++ (some_text (codes " failed-sends ") turn.failed_sends ++ (effects_text effects ++ codes "\n"))))
+    peer_text from ++ (outcome_text turn bytes ++ behind_outcome turn effects written)
 
 -- what is printed of what was heard in a turn: a line where that is a datagram, as far as the writes went; else nothing
 abbrev pub PrintsTurn : Heard → Report → List ℕ → List Effect → List Ono → Result Unit WriteFailed → Output → Output

@@ -180,7 +180,7 @@ fn put_peer<W: Sink>(peer: Peer, printer: &mut Printer<W>)
 }
 
 /// Holds a word and a number.
-fn put_count<W: Sink>(word: &[u8], count: u64, printer: &mut Printer<W>)
+pub(super) fn put_count<W: Sink>(word: &[u8], count: u64, printer: &mut Printer<W>)
     requires { length printer.old.held + length word.now + 20 ≤ 8192 }
     ensures value { printer.new ≡ output printer.old.contents (printer.old.held ++ word.now ++ decimal count)
         printer.old.failed }

@@ -5,6 +5,7 @@ ghost use Rattle.oca_script.specs.Printing.{Prints, WritesOut};
 ghost use Rattle.oca_textree.specs.Written.{text_of};
 ghost use Rattle.ocadev_cli.specs.Printing.{dotted, fields_text, info_text, tree_text};
 
+use super::report::put_count;
 use oca_script::{Printer, Sink, WriteFailed};
 use oca_textree::print_tree;
 use oca_tree::{ObjectInfo, Tree};
@@ -96,7 +97,6 @@ fn put_dotted<W: Sink>(fields: &[u16], printer: &mut Printer<W>)
     ensures len { length printer.new.held ≤ length printer.old.held + 21 * length fields.now }
 {
     for field in fields {
-        printer.put(b".");
-        printer.put_number(u64::from(*field));
+        put_count(b".", u64::from(*field), printer);
     }
 }

@@ -4,7 +4,7 @@ ghost use Rattle.std.specs.List.{flat_map};
 ghost use Rattle.oca_script.specs.Printing.{Prints, WritesOut};
 ghost use Rattle.ocadev_cli.specs.Effects.{effects_text};
 ghost use Rattle.ocadev_cli.specs.Printing.{some_text};
-ghost use Rattle.ocadev_cli.specs.Traces.{PrintsTurn, datagram_line, malformed_text, outcome_text, served_text, written_text};
+ghost use Rattle.ocadev_cli.specs.Traces.{PrintsTurn, behind_outcome, datagram_line, malformed_text, outcome_text, served_text, written_text};
 ghost use Rattle.oca_pdu.specs.Reading.{read_datagram};
 
 use super::effects::print_effects;
@@ -131,8 +131,29 @@ fn print_line<F: Sink>(
 {
     print_peer(from, faults)?;
     print_outcome(turn, bytes, faults)?;
+    print_behind(turn, effects, written, faults)
+}
+
+/// Prints what stands behind the outcome in the line of a datagram, and hands it on.
+#[tactic(auto, using(oca_script::proofs::PrintLemmas::writing))]
+fn print_behind<F: Sink>(
+    turn: &Report,
+    effects: &[Effect],
+    written: &[Ono],
+    faults: &mut Printer<F>,
+) -> Result<(), WriteFailed>
+    ensures { WritesOut result faults.old faults.new (behind_outcome turn.now effects.now written.now) }
+{
     print_written(written, faults)?;
     print_some(b" failed-sends ", turn.failed_sends, faults)?;
+    print_last(effects, faults)
+}
+
+/// Prints what the commands of a datagram did and the end of the line, and hands it on.
+#[tactic(auto, using(oca_script::proofs::PrintLemmas::writing))]
+fn print_last<F: Sink>(effects: &[Effect], faults: &mut Printer<F>) -> Result<(), WriteFailed>
+    ensures { WritesOut result faults.old faults.new (effects_text effects.now ++ codes "\n") }
+{
     print_effects(effects, faults)?;
     print_end(b"\n", faults)
 }
