@@ -34,32 +34,32 @@ reach_rows =
 abbrev pub objects_rows : List OptionFields
 objects_rows = reach_rows ++ turns_row ∷ port_row ∷ []
 
-abbrev pub tree_command : CommandRows
-tree_command = record { name = codes "tree"; options = objects_rows }
+abbrev pub own_tree : CommandRows
+own_tree = record { name = codes "tree"; options = objects_rows }
 
-abbrev pub get_command : CommandRows
-get_command = record { name = codes "get"; options = objects_rows ++ words_row ∷ [] }
+abbrev pub own_get : CommandRows
+own_get = record { name = codes "get"; options = objects_rows ++ words_row ∷ [] }
 
-abbrev pub set_command : CommandRows
-set_command = record { name = codes "set"; options = objects_rows ++ ahead_row ∷ words_row ∷ [] }
+abbrev pub own_set : CommandRows
+own_set = record { name = codes "set"; options = objects_rows ++ ahead_row ∷ words_row ∷ [] }
 
 -- `--hold` keeps locks; it takes no value
-abbrev pub lock_command : CommandRows
-lock_command = record { name = codes "lock"; options = objects_rows ++ a_flag (codes "hold") ∷ words_row ∷ [] }
+abbrev pub own_lock : CommandRows
+own_lock = record { name = codes "lock"; options = objects_rows ++ a_flag (codes "hold") ∷ words_row ∷ [] }
 
-abbrev pub unlock_command : CommandRows
-unlock_command = record { name = codes "unlock"; options = objects_rows ++ words_row ∷ [] }
+abbrev pub own_unlock : CommandRows
+own_unlock = record { name = codes "unlock"; options = objects_rows ++ words_row ∷ [] }
 
-abbrev pub replay_command : CommandRows
-replay_command =
+abbrev pub own_replay : CommandRows
+own_replay =
     record {
       name = codes "replay";
       options =
           needed (codes "device") AnyPeer ∷ span_row ∷ needed (codes "first-handle") (Number 10 0 4294967295) ∷ [];
     }
 
-abbrev pub send_command : CommandRows
-send_command =
+abbrev pub own_send : CommandRows
+own_send =
     record {
       name = codes "send";
       options =
@@ -68,13 +68,12 @@ send_command =
           ∷ with_form (codes "params") Bytes ∷ turns_row ∷ port_row ∷ [];
     }
 
-abbrev pub run_command : CommandRows
-run_command = record { name = codes "run"; options = reach_rows ++ ahead_row ∷ port_row ∷ [] }
+abbrev pub own_run : CommandRows
+own_run = record { name = codes "run"; options = reach_rows ++ ahead_row ∷ port_row ∷ [] }
 
 abbrev pub own_commands : List CommandRows
 own_commands =
-    tree_command ∷ get_command ∷ set_command ∷ lock_command ∷ unlock_command ∷ replay_command ∷ send_command
-    ∷ run_command ∷ []
+    own_tree ∷ own_get ∷ own_set ∷ own_lock ∷ own_unlock ∷ own_replay ∷ own_send ∷ own_run ∷ []
 
 -- THE COMMAND LINE OF THE PROGRAM.
 unfoldable pub own_app : App

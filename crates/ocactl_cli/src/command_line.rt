@@ -1,8 +1,8 @@
 //! The commands of the program and their options, as `clap` has them.
 ghost use Rattle.std.specs.Prelude.{◌≡◌, IfOk, map};
 ghost use Rattle.oca_program.specs.Commands.{TakesApp, command_fields};
-ghost use Rattle.ocactl_cli.specs.CommandLine.{get_command, lock_command, own_app, own_commands, replay_command};
-ghost use Rattle.ocactl_cli.specs.CommandLine.{run_command, send_command, set_command, tree_command, unlock_command};
+ghost use Rattle.ocactl_cli.specs.CommandLine.{own_app, own_commands, own_get, own_lock, own_replay};
+ghost use Rattle.ocactl_cli.specs.CommandLine.{own_run, own_send, own_set, own_tree, own_unlock};
 
 use clap::Command;
 use oca_program::form::{NUMBER_8, NUMBER_16, NUMBER_32};
@@ -282,7 +282,7 @@ fn rows() -> [CommandRow; 8]
 
 /// The command `tree` and its options.
 fn tree_row() -> CommandRow
-    ensures { command_fields result ≡ tree_command }
+    ensures { command_fields result ≡ own_tree }
 {
     CommandRow {
         name: "tree",
@@ -294,7 +294,7 @@ fn tree_row() -> CommandRow
 
 /// The command `get` and its options.
 fn get_row() -> CommandRow
-    ensures { command_fields result ≡ get_command }
+    ensures { command_fields result ≡ own_get }
 {
     CommandRow {
         name: "get",
@@ -306,7 +306,7 @@ fn get_row() -> CommandRow
 
 /// The command `set` and its options.
 fn set_row() -> CommandRow
-    ensures { command_fields result ≡ set_command }
+    ensures { command_fields result ≡ own_set }
 {
     CommandRow {
         name: "set",
@@ -318,7 +318,7 @@ fn set_row() -> CommandRow
 
 /// The command `lock` and its options.
 fn lock_row() -> CommandRow
-    ensures { command_fields result ≡ lock_command }
+    ensures { command_fields result ≡ own_lock }
 {
     CommandRow {
         name: "lock",
@@ -330,7 +330,7 @@ fn lock_row() -> CommandRow
 
 /// The command `unlock` and its options.
 fn unlock_row() -> CommandRow
-    ensures { command_fields result ≡ unlock_command }
+    ensures { command_fields result ≡ own_unlock }
 {
     CommandRow {
         name: "unlock",
@@ -342,7 +342,7 @@ fn unlock_row() -> CommandRow
 
 /// The command `replay` and its options.
 fn replay_row() -> CommandRow
-    ensures { command_fields result ≡ replay_command }
+    ensures { command_fields result ≡ own_replay }
 {
     CommandRow {
         name: "replay",
@@ -354,7 +354,7 @@ fn replay_row() -> CommandRow
 
 /// The command `send` and its options.
 fn send_row() -> CommandRow
-    ensures { command_fields result ≡ send_command }
+    ensures { command_fields result ≡ own_send }
 {
     CommandRow {
         name: "send",
@@ -378,7 +378,7 @@ fn send_row() -> CommandRow
 
 /// The command `run` and its options.
 fn run_row() -> CommandRow
-    ensures { command_fields result ≡ run_command }
+    ensures { command_fields result ≡ own_run }
 {
     CommandRow {
         name: "run",
