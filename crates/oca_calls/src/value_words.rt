@@ -3,7 +3,7 @@ ghost use Rattle.std.specs.Prelude.{◌≡◌, ◌≤ℤ◌, ◌<ℤ◌, ◌^◌
 ghost use Rattle.std.specs.Int.{w64, cast_signed, cast_unsigned};
 ghost use Rattle.oca_calls.specs.CValues.{AreWordsOf, HasClass, HasRequestWords};
 
-use crate::words::{class_number, class_of_number, put_front};
+use crate::words::{class_number, put_front};
 use oca_model::{MuteState, PolarityState, Reading, Value, ValueRequest, with_integers};
 use oca_types::Class;
 
@@ -178,5 +178,18 @@ impl RequestWords {
 pub fn class_with(number: u32) -> Option<Class>
     ensures { HasClass number result }
 {
-    class_of_number(number)
+    macro_rules! class {
+        ($($integer:ident $type:ty),*) => {
+            match number {
+                1 => Some(Class::Block),
+                2 => Some(Class::Mute),
+                3 => Some(Class::Polarity),
+                4 => Some(Class::Switch),
+                5 => Some(Class::Boolean),
+                $(_ if number == class_number(Class::$integer) => Some(Class::$integer),)*
+                _ => None,
+            }
+        };
+    }
+    with_integers!(class)
 }

@@ -1,7 +1,6 @@
 //! What C reads of a verdict and of an object: words, so that a later version can tell more to those who ask for it.
 ghost use Rattle.std.specs.Prelude.{◌≡◌, ◌≤◌, ◌<◌, length};
 ghost use Rattle.oca_device.specs.Written.{numbers_of};
-ghost use Rattle.oca_calls.specs.CValues.{HasClass};
 ghost use Rattle.oca_calls.specs.LinkCalls.{LiesIn};
 ghost use Rattle.oca_calls.specs.Numbers.{answer_number};
 ghost use Rattle.oca_calls.specs.Outputs.{WritesToBuffer, class_number, lock_number, object_words, put_words};
@@ -78,28 +77,6 @@ pub fn class_number(class: Class) -> u32
         Class::Uint16 => 11,
         Class::Uint32 => 12,
         Class::Uint64 => 13,
-    }
-}
-
-/// The class with this number in C ([`class_number`]): nothing for a number that is not 1 to 13.
-pub(crate) fn class_of_number(number: u32) -> Option<Class>
-    ensures { HasClass number result }
-{
-    match number {
-        1 => Some(Class::Block),
-        2 => Some(Class::Mute),
-        3 => Some(Class::Polarity),
-        4 => Some(Class::Switch),
-        5 => Some(Class::Boolean),
-        6 => Some(Class::Int8),
-        7 => Some(Class::Int16),
-        8 => Some(Class::Int32),
-        9 => Some(Class::Int64),
-        10 => Some(Class::Uint8),
-        11 => Some(Class::Uint16),
-        12 => Some(Class::Uint32),
-        13 => Some(Class::Uint64),
-        _ => None,
     }
 }
 
