@@ -229,7 +229,7 @@ def main(words):
     with writes(), tempfile.TemporaryDirectory() as room, ThreadPoolExecutor() as others:
         early = {}
         if not words:
-            print(f"gate: every proof, then {len(steps)} steps: from nothing 40 to 65 minutes on four processors. "
+            print(f"gate: every proof, then {len(steps)} steps: from nothing 40 to 80 minutes on four processors. "
                   "Each crate and each step is shown as it ends.", flush=True)
             count, early = of_ci(sum(parts, []), others, room)
             counts.append(count)

@@ -5,11 +5,11 @@
 
 An edit is a line 'file: src/lib.rt' and pairs of lines 'old: TEXT' and 'new: TEXT'; each old text stands once in that
 file. One check tries a group of edits in a copy of the crate: of the functions that they touch, and what these call.
-The first edit of a function stands in its place; a further one in a copy of the function, and a copy without an edit
-must be proved. Other functions have no body (but methods of traits, constants, calls from C and cycles); if anything
-else fails, all have theirs in one more check. A line 'clause: NAME' says which clause of the contract refuses the edit:
-only that one is then ensured, which saves searches that fail; not if other code relies on the function, or if its proof
-is by hand.
+The first edit of a function stands in its place; a further one too, if another check of the crate has a place for it,
+or else in a copy of the function, and a copy without an edit must be proved. Other functions have no body (but methods
+of traits, constants, calls from C and cycles); if anything else fails, all have theirs in one more check. A line
+'clause: NAME' says which clause of the contract refuses the edit: only that one is then ensured, which saves searches
+that fail; not if other code relies on the function, or if its proof is by hand.
 
 An edit is refused if a goal of a function that it touches fails by itself, and not only since a proof file names what
 is gone. What is not refused is tried in smaller groups without copies and with all bodies, and at last alone. An edit
