@@ -457,6 +457,27 @@ def listed_as_edits(top):
     return [(it.name, edits.Edit(it, SimpleNamespace(folder=top)).why == "it is no edit") for it in edits.listed(top)]
 
 
+def public_functions(crates):
+    """Of these crates' public functions those without a contract; and those that have one, and of which no edit touches one, nor a function
+    that it calls, by its name. Of these the ones are left out that only read or hand out a field; of both laws, for which edits of definitions are."""
+    touched, calls, bare, public = set(), {}, [], []
+    for crate in crates:
+        its = [edits.Edit(it, crate) for it, _ in edits.files_of_edits(crate)]
+        touched |= {function.name for it in its for function in it.functions}
+        for path, text in edits.sources_of(crate).items() if its else ():
+            lines = text.split("\n")
+            for it in edits.functions_in(crate, path, text):
+                body = "\n".join(lines[it.last if it.opens is None else it.opens + 1:it.last]).strip()
+                calls.setdefault(it.name, set()).update(re.findall(r"\b(\w+)(?:::<[^(]*>)?\(", body))
+                if lines[it.first].strip().startswith("pub ") and not it.name.startswith("law_"):
+                    its_name = f"{crate.name} {it.path()}"
+                    bare += [] if edits.clauses_of(lines, it) else [its_name]
+                    public += [(its_name, it.name)] if not re.fullmatch(r"(&(mut )?)?self(\.\w+)+", body) and its_name not in bare else []
+    while more := {name for name, those in calls.items() if those & touched} - touched:
+        touched |= more
+    return [bare, [its_name for its_name, name in public if name not in touched]]
+
+
 def public(top):
     with patch.object(api, "TOP", top):
         return [*api.listed("a"), api.about("a")]
@@ -472,6 +493,8 @@ ASKED = {
     "defined twice in these": defined_twice,
     "defined twice": lambda _: defined_twice(run.TOP),
     "public": public,
+    "public functions of these": lambda top: public_functions([FakeCrate("a", top)]),
+    "public functions": lambda _: public_functions(edits.rt.crates_below(str(run.TOP))),
 }
 each(DATA.of_files)(
     lambda files, asked, wanted, folder: laid(folder, getattr(DATA, files)) or is_same(wanted, mapped(ASKED[asked](folder), lambda it: it, tuple)))

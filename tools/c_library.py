@@ -512,6 +512,8 @@ def stores(checks, made):
 def main():
     archive = library("x86_64-unknown-linux-gnu") if sys.argv[1:] else None
     checks = Checks()
+    if not shutil.which(CAREFUL[0]):
+        print("NOT TRIED: the library, the mixer and the store under valgrind, which is not installed")
     with tempfile.TemporaryDirectory() as place:
         made = Path(place)
         made.chmod(0o755)  # for the part of the store's test that is nobody's

@@ -249,6 +249,9 @@ def altered(r, history, tale, _):
         law, said[0] = "verdict_is", said[0][:number.start()] + str(int(number[0]) + 1) + said[0][number.end():]
     elif kind == 2 and is_datagram:
         law, said[0] = "verdict_is", "served 0 0 0" if said[0] == "no-room" else "no-room"
+    elif kind < 4 and not is_datagram:  # another line, or a packet behind it
+        law = "set_fault" if isinstance(history.events[at], Sets) else "verdict_is"
+        said[:1] = [said[0], "> 3b"] if kind == 3 else ["no-room"]
     elif kind == 3 and packets:
         law, said[k:k + 1] = "answers_are", []
     elif kind == 4 and packets:  # the last parameter, or a ParamCount; of a keep-alive its time

@@ -1,6 +1,6 @@
 //! What C calls of a device.
-ghost use Rattle.std.specs.Prelude.{◌≡◌, ◌⊎◌, ◌≤◌, ◌<◌, ◌∷◌, ℕ, List, None, IfSome, IfNone, IsSome};
-ghost use Rattle.std.specs.Prelude.{slice_get, length, take};
+ghost use Rattle.std.specs.Prelude.{◌≡◌, ◌⊎◌, ◌∷◌, ℕ, List, None, IfSome, IfNone, IsSome};
+ghost use Rattle.std.specs.Prelude.{slice_get, length};
 ghost use Rattle.oca_types.specs.Sizes.{DeviceSizes};
 ghost use Rattle.oca_tree.specs.declared.object.Object.{Object};
 ghost use Rattle.oca_tree.specs.Objects.{Store};
@@ -12,7 +12,7 @@ ghost use Rattle.oca_device.specs.Written.{written};
 ghost use Rattle.oca_calls.specs.Calls.{HandleBuilds, HandleRuns, HandleStarts, AnsweredWith, KeepsFirst, KeepsPackets};
 ghost use Rattle.oca_calls.specs.Calls.{Opens, RefusesBuilding, RefusesClosed, RefusesRunning};
 ghost use Rattle.oca_calls.specs.LinkRooms.{Rooms, full_rooms, small_rooms};
-ghost use Rattle.oca_calls.specs.Outputs.{WritesNextLapse, WritesWords, put_words, verdict_words};
+ghost use Rattle.oca_calls.specs.Outputs.{WritesNextLapse, WritesToBuffer, WritesWords, put_words, verdict_words};
 ghost use Rattle.oca_calls.specs.Storings.{HasUnstored, KeepsUnstored, RunsUnstored, all_stored};
 ghost use Rattle.oca_calls.specs.WaitingAnswers.{unstored_behind};
 ghost use Rattle.oca_calls.specs.declared.unstored.Unstored.{Unstored};
@@ -310,11 +310,7 @@ pub extern "C" fn oca_device_packet(
     ensures nothing { (K : KeptPackets) → AnsweredWith handle.old.slot.inner K →
         IfNone (slice_get K.packets i) (result ≡ 13) }
     ensures packet { (K : KeptPackets) → AnsweredWith handle.old.slot.inner K →
-        IfSome (slice_get K.packets i) (λ p. length p ≤ length out.old →
-        (result ≡ 0) × (len.new ≡ length p) × (take (length p) out.new ≡ p)) }
-    ensures small { (K : KeptPackets) → AnsweredWith handle.old.slot.inner K →
-        IfSome (slice_get K.packets i) (λ p. length out.old < length p →
-        (result ≡ 14) × (len.new ≡ length p) × (out.new ≡ out.old)) }
+        IfSome (slice_get K.packets i) (λ p. WritesToBuffer p out.old out.new len.new result) }
     ensures unwritten { (result ≡ 0) ⊎ (out.new ≡ out.old) }
     ensures untold { (result ≡ 0) ⊎ ((result ≡ 14) ⊎ (len.new ≡ len.old)) }
 {

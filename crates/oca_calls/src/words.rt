@@ -1,7 +1,8 @@
 //! What C reads of a verdict and of an object: words, so that a later version can tell more to those who ask for it.
-ghost use Rattle.std.specs.Prelude.{◌≡◌, ◌≤◌, ◌<◌, length};
+ghost use Rattle.std.specs.Prelude.{◌≡◌, ◌≤◌, ◌<◌, ◌⊎◌, length};
 ghost use Rattle.oca_device.specs.Written.{numbers_of};
 ghost use Rattle.oca_calls.specs.LinkCalls.{LiesIn};
+ghost use Rattle.oca_calls.specs.declared.answer.Answer.TheVariants.{Done, TooSmall};
 ghost use Rattle.oca_calls.specs.Numbers.{answer_number};
 ghost use Rattle.oca_calls.specs.Outputs.{WritesToBuffer, class_number, lock_number, object_words, put_words};
 ghost use Rattle.oca_calls.specs.Outputs.{verdict_words};
@@ -126,7 +127,8 @@ pub fn put_front(bytes: &[u8], place: &mut [u8]) -> usize
 /// Copies bytes to the front of `place`, and writes to `len` how many they are. Returns `Done`. `TooSmall` if `place`
 /// has fewer bytes: then only `len` is written.
 pub fn put_bytes(bytes: &[u8], place: &mut [u8], len: &mut usize) -> Answer
-    ensures { WritesToBuffer bytes.now place.old place.new len.new (answer_number result) }
+    ensures writes { WritesToBuffer bytes.now place.old place.new len.new (answer_number result) }
+    ensures refused { (result ≡ Done) ⊎ ((result ≡ TooSmall) × (place.new ≡ place.old)) }
 {
     *len = bytes.len();
     if place.len() < bytes.len() {

@@ -1,7 +1,9 @@
 -- Why a run of a program fails: its exit status, and the lines that are printed (*profile*).
-use Rattle.std.specs.Prelude.{◌≡◌, ℕ, Bool, true, false, List, [], ◌++◌, codes, decimal, length, nat_le, string_bytes}
-use Rattle.std.specs.Prelude.{if◌then◌else◌, Option, None, Some, Result, Ok, Err}
+use Rattle.std.specs.Prelude.{◌≡◌, ◌⊎◌, ℕ, Bool, true, false, List, [], ◌++◌, codes, decimal, length, nat_le}
+use Rattle.std.specs.Prelude.{if◌then◌else◌, string_bytes, IfSome, Option, None, Some, Result, Ok, Err}
 use Rattle.std.specs.Option.{option_map}
+use Rattle.std.specs.declared.io.ErrorKind.{ErrorKind as SystemError}
+use Rattle.std.specs.declared.io.ErrorKind.TheVariants as system
 use Rattle.clap.specs.declared.error.kind.ErrorKind.{ErrorKind}
 use Rattle.clap.specs.declared.error.kind.ErrorKind.TheVariants as kinds
 use Rattle.oca_net.specs.declared.udp.BindFault.{BindFault}
@@ -50,6 +52,19 @@ words_fault kinds.DisplayHelp = NoMemory
 words_fault kinds.DisplayVersion = NoMemory
 words_fault kinds.OutOfMemory = NoMemory
 words_fault other = BadWords
+
+-- THE WORDS OF A COMMAND LINE WERE NOT READ: there was no memory for them, and there is no note; or one of them is not
+-- UTF-8, as the note says, where there was memory for it.
+abbrev pub IsUnreadWords : Failure → Type 0
+IsUnreadWords failure =
+    ((failure.fault ≡ NoMemory) × (failure.note ≡ None))
+    ⊎ ((failure.fault ≡ BadWords)
+    × IfSome failure.note (λ told. string_bytes told ≡ codes "an argument is not UTF-8"))
+
+-- the fault of the run, where the system gave the words with this error
+abbrev pub unread_fault : SystemError → RunFault
+unread_fault system.OutOfMemory = NoMemory
+unread_fault _ = BadWords
 
 -- what a function gave, or the fault of its failure
 abbrev pub fault_in : {A : Type 0} → Result A Failure → Result A RunFault

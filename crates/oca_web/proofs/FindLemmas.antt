@@ -1,10 +1,19 @@
 -- What a walk finds, place by place.
-use Rattle.std.proofs.Common.{◌≡◌, ℕ, Bool, true, false, List, [], ◌∷◌, ◌++◌, length, sym, ap, ◌∙◌, append_assoc, append-nil, Option, Some, None}
+use Rattle.std.proofs.Common.{◌≡◌, ◌≤◌, ℕ, Bool, true, false, cond, List, [], ◌∷◌, ◌++◌, length, length-append}
+use Rattle.std.proofs.Common.{arith, inl, inr, refl, sym, ap, ◌∙◌, append_assoc, append-nil, Option, Some, None}
+use Rattle.std.specs.Prelude.{◌⊎◌, IfOk, Result, Ok, Err, nat_lt, slice_get}
+use Rattle.std.specs.List.{find, position, position_or_len}
+use Rattle.std.specs.Option.{option_and_then}
+use Rattle.std.proofs.lemmas.List.Folds.{find_at}
+use Rattle.std.proofs.lemmas.Option.{slice_get_past}
+use Rattle.oca_net.specs.Ends.{one_more}
+use Rattle.oca_types.specs.declared.class.Class.TheVariants as class
 use Rattle.oca_types.specs.declared.class.Class.{Class}
+use Rattle.oca_types.specs.declared.words.NoMemory.{NoMemory}
 use Rattle.oca_types.specs.declared.words.Ono.{Ono}
 use Rattle.oca_model.specs.declared.member.Member.{Member}
 use Rattle.oca_panel.specs.declared.walk.Place.{Place}
-use Rattle.oca_panel.specs.Walks.{WalkState, places_of}
+use Rattle.oca_panel.specs.Walks.{WalkState, begun_walk, most_places, places_of, root_place}
 use Rattle.oca_panel.specs.WalksApart.{TakesPlace}
 use Rattle.oca_web.specs.declared.ask.Ask.{Ask}
 use Rattle.oca_web.specs.declared.ask.Question.{Question}
@@ -12,7 +21,8 @@ use Rattle.oca_web.specs.declared.inventory.Inventory.{Inventory}
 use Rattle.oca_web.specs.declared.object.Object.{Object}
 use Rattle.oca_web.specs.Finding.{FindsAt, FindsEach, FindsNext, FindsOne, Visits, asks_of, member_numbers, questions_of}
 use Rattle.oca_web.specs.Listing.{KeepsList}
-use Rattle.oca_web.specs.Objects.{AddsObject, object_found}
+use Rattle.oca_web.specs.Objects.{AddsObject, ObjectsState, object_found}
+use Rattle.oca_web.specs.Walking.{IsAtRoot}
 
 -- ---- questions
 
@@ -59,6 +69,97 @@ pub each_first : (ms : List Member) (m : Member) (rest : List Member) (old betwe
 each_first ms m rest old between new e f more = rw e (between, f, more)
 
 pub ruleset each_rules = (each_none, each_first)
+
+-- ---- the root
+
+-- the only place that waits is the one that is taken
+only-place : (p q : Place) (left : List Place) → p ∷ [] ≡ left ++ q ∷ [] → (left ≡ []) × (q ≡ p)
+only-place p q [] e = (refl, cc)
+only-place p q (x ∷ xs) e = absurd (omega (arith, ap length e, length-append xs (q ∷ [])))
+
+abbrev walk-of : List Place → List Ono → WalkState
+walk-of left visited = record { waiting = left; visited = visited }
+
+at-end : (left : List Place) (visited : List Ono) (q : Place) → left ≡ [] → q ≡ root_place → visited ≡ q.ono ∷ []
+    → walk-of left visited ≡ walk-of [] (root_place.ono ∷ [])
+at-end left visited q e p v = rw (e, v, p) refl
+
+root-taken : (taken : Option (Place × Bool)) (old new : WalkState) → old ≡ begun_walk → TakesPlace old taken new
+    → (taken ≡ Some (root_place, false)) × (new ≡ record { waiting = []; visited = root_place.ono ∷ [] })
+root-taken (Some (at, again)) old new e t =
+    let o = only-place root_place at new.waiting (rw e at t.next) in
+    let v : new.visited ≡ at.ono ∷ [] = rw e at t.visited in
+    let b : again ≡ false = rw e at t.before in
+    let p = o.1 in
+    (cc, at-end new.waiting new.visited at o.0 p v)
+root-taken None old new e t = absurd (none t.left)
+  where
+    none : (old.waiting ≡ []) ⊎ (most_places ≤ length old.visited) → ⊥
+    none (inl l) = let m = rw e at l in cc
+    none (inr l) = let m = rw e at l in omega (arith, m)
+
+abbrev root-found : Object
+root-found = object_found root_place.ono root_place.container (Some class.Block)
+
+abbrev objects-of : List Object → ℕ → ObjectsState
+objects-of list changes = record { list = list; changes = changes }
+
+one-object : (list : List Object) (n changes : ℕ) (o : Object) → list ≡ record o { changed = changes } ∷ []
+    → n ≡ changes → objects-of list n ≡ objects-of (record o { changed = changes } ∷ []) changes
+one-object list n changes o e f = rw (e, f) refl
+
+at-root : (epoch changes : ℕ) (between new : Inventory) → between.walk ≡ begun_walk
+    → between.objects ≡ objects-of [] changes → between.waiting.items ≡ [] → between.lists.items ≡ []
+    → between.epoch ≡ epoch → between.walked ≡ false → between.is_stale ≡ false
+    → FindsNext (Some class.Block) between new
+    → new ≡ record between { objects = new.objects; walk = new.walk; waiting = new.waiting }
+    → IsAtRoot epoch (one_more changes) new
+at-root epoch changes between new w o q l n d s f rest =
+    let taken = root-taken f.taken between.walk new.walk w f.takes in
+    let found : FindsOne root_place (Some class.Block) between new = rw taken.0 at f.finds in
+    let made : AddsObject root-found (objects-of [] changes) new.objects = rw o at found.object in
+    let n' = one_more changes in
+    record {
+      objects = one-object new.objects.list new.objects.changes n' root-found made.list made.counted;
+      walk = taken.1;
+      waiting = rw (q, o, n) at found.asked;
+      lists = ap (λ i. i.lists.items) rest ∙ l;
+      epoch = ap (λ i. i.epoch) rest ∙ n;
+      walked = ap (λ i. i.walked) rest ∙ d;
+      fresh = ap (λ i. i.is_stale) rest ∙ s;
+    }
+
+pub at_root : (result : Result Unit NoMemory) (epoch changes : ℕ) (between new : Inventory) → between.walk ≡ begun_walk
+    → between.objects ≡ objects-of [] changes → between.waiting.items ≡ [] → between.lists.items ≡ []
+    → between.epoch ≡ epoch → between.walked ≡ false → between.is_stale ≡ false
+    → IfOk result (λ u. FindsNext (Some class.Block) between new)
+    → new ≡ record between { objects = new.objects; walk = new.walk; waiting = new.waiting }
+    → IfOk result (λ u. IsAtRoot epoch (one_more changes) new)
+at_root (Ok u) epoch changes between new w o q l n d s f rest = at-root epoch changes between new w o q l n d s f rest
+at_root (Err e) epoch changes between new w o q l n d s f rest = tt
+
+-- ---- an object by its number
+
+module _ {X : Type 0} (p : X → Bool) where
+  find-position : (xs : List X) → find p xs ≡ option_and_then (slice_get xs) (position p xs)
+  find-position xs = find_at p xs ∙ by (nat_lt (position_or_len p xs) (length xs)) refl
+    where
+      n : ℕ
+      n = position_or_len p xs
+
+      by : (b : Bool) → nat_lt n (length xs) ≡ b
+          → slice_get xs n ≡ option_and_then (slice_get xs) (cond b (Some n) None)
+      by true e = refl
+      by false e = slice_get_past xs n (grind (arith, e))
+
+pub numbered_none : (p : Object → Bool) (xs : List Object) → position p xs ≡ None → find p xs ≡ None
+numbered_none p xs e = find-position p xs ∙ ap (option_and_then (slice_get xs)) e
+
+pub numbered_there : (p : Object → Bool) (xs : List Object) (i : ℕ) → position p xs ≡ Some i
+    → find p xs ≡ slice_get xs i
+numbered_there p xs i e = find-position p xs ∙ ap (option_and_then (slice_get xs)) e
+
+pub ruleset numbered_rules = (numbered_none, numbered_there)
 
 -- ---- the numbers of members
 

@@ -10,6 +10,7 @@ pub mod Readings
 pub mod Orders
 pub mod Bodies
 pub mod Sites
+pub mod Lending
 pub mod Results
 pub mod Views
 pub mod Walking

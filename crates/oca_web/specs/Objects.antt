@@ -1,6 +1,7 @@
 -- The objects of a device in the order in which they were found, and their changes (*profile*).
 use Rattle.std.specs.Prelude.{◌≡◌, ◌≢◌, ◌⊎◌, ℕ, ◌+◌, nat_lt, if◌then◌else◌, List, [], ◌∷◌, ◌++◌, length, slice_get}
-use Rattle.std.specs.Prelude.{IfSome}
+use Rattle.std.specs.Prelude.{IfSome, ◌==◌}
+use Rattle.std.specs.List.{find}
 use Rattle.std.specs.Option.{option_map}
 use Rattle.oca_net.specs.Ends.{one_more}
 use Rattle.std.specs.Prelude.{Option, None, true, false}
@@ -31,6 +32,10 @@ pub record IsSo (place : ℕ) (made : Object → Object) (old new : ObjectsState
 -- THE OBJECT AT THE PLACE IS WHAT IS MADE OF IT, which is counted as a change; or it was so before.
 abbrev pub Changes : (place : ℕ) → (Object → Object) → ObjectsState → ObjectsState → Type 0
 Changes place made old new = IsSo place made old new ⊎ ChangesOne place made old new
+
+-- the first object with this number, where one was found
+abbrev pub object_numbered : ℕ → List Object → Option Object
+object_numbered ono objects = find (λ o. o.ono.0 == ono) objects
 
 -- the object with another moment
 abbrev pub with_moment : ℕ → Object → Object

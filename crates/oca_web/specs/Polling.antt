@@ -6,6 +6,7 @@ use Rattle.oca_net.specs.Ends.{last_u64}
 use Rattle.oca_web.specs.declared.ask.Ask.{Ask}
 use Rattle.oca_web.specs.declared.object.Object.{Object}
 use Rattle.oca_web.specs.declared.poll.Page.{Page}
+use Rattle.oca_web.specs.declared.poll.Poll.{Poll}
 
 -- a page counts as open for a while after it asked for values
 abbrev pub is_live : ℕ → Page → Bool
@@ -52,6 +53,30 @@ KeepsPageAt None page old new =
 -- A PAGE ASKED FOR VALUES, and is kept.
 abbrev pub OpensPage : ℕ → Page → List Page → List Page → Type 0
 OpensPage now page old new = KeepsPageAt (place_for now page old) page old new
+
+-- ---- rounds
+
+-- A POLL THAT BEGINS AT THIS MOMENT: no page is open, and no round was begun.
+abbrev pub poll_begun : ℕ → Poll
+poll_begun now = record {
+  pages = record { items = [] };
+  begun = now;
+  at = 0;
+  front = 0;
+  end = 0;
+  hidden = 0;
+}
+
+-- the poll with its round ended: the round stands at its end, and all else is as it was
+abbrev pub without_round : Poll → Poll
+without_round p = record p { at = p.end }
+
+-- WHEN THE NEXT ROUND MAY BEGIN: 25 ms after the last one began, where a page is open and that one has ended.
+abbrev pub next_round : ℕ → Poll → Option ℕ
+next_round now p =
+    if has_open_page now p.pages.items && nat_le p.end p.at then Some (min (p.begun + 25) last_u64) else None
+
+-- ---- objects
 
 -- at most ten times a second where a page shows it, and once in five seconds where none does
 abbrev pub pause_of : Bool → ℕ

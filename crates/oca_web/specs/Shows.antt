@@ -1,12 +1,18 @@
 -- What an object shows behind an answer (*profile*).
 use Rattle.std.specs.Prelude.{ℕ, ◌-◌, ◌==◌, ◌||◌, Bool, true, false, if◌then◌else◌, List, codes, Option, Some, None, Result, Ok, Err, is_some}
+use Rattle.std.specs.List.{list_any}
 use Rattle.std.specs.Option.{option_map}
+use Rattle.std.specs.Str.{bytes_eq}
 use Rattle.oca_types.specs.declared.class.Class.{Class}
 use Rattle.oca_types.specs.declared.status.Status.TheVariants as status
 use Rattle.oca_types.specs.Status.{status_number}
 use Rattle.oca_model.specs.declared.reading.Reading.{Reading}
 use Rattle.oca_model.specs.declared.value.Value.{Value}
 use Rattle.oca_model.specs.Settings.{reading_set_to}
+use Rattle.oca_model.specs.Readings.{by_range}
+use Rattle.oca_model.specs.declared.reading.Reading.TheVariants as readings
+use Rattle.oca_model.specs.declared.value.Value.TheVariants as values
+use Rattle.oca_model.specs.Values.{classes}
 use Rattle.oca_model.specs.Words.{class_word}
 use Rattle.oca_panel.specs.declared.trouble.Trouble.{Trouble}
 use Rattle.oca_panel.specs.declared.trouble.Trouble.TheVariants as trouble
@@ -78,3 +84,20 @@ tells_of_another_device _ = false
 abbrev pub name_of_class : Option Class → List ℕ
 name_of_class None = codes "unknown"
 name_of_class (Some c) = class_word c
+
+-- whether a text is the word of a class of this profile
+abbrev pub names_class : List ℕ → Bool
+names_class text = list_any (λ c. bytes_eq (class_word c) text) classes
+
+-- THE WORD FOR WHOSE LOCK is on an object, as pages are told it
+abbrev pub name_of_lock : Lock → List ℕ
+name_of_lock locks.Free = codes "free"
+name_of_lock locks.Own = codes "own"
+name_of_lock locks.Other = codes "other"
+
+-- THE LEAST AND THE GREATEST VALUE of a reading: a position and an integer have these limits, and all else has none
+-- (AES70-2).
+abbrev pub reading_limits : Reading → Option (Value × Value)
+reading_limits (readings.Switch r) = Some (values.Switch r.least, values.Switch r.greatest)
+reading_limits reading = by_range (λ _ value _ r. Some (value r.least, value r.greatest))
+    (λ _ value _ r. Some (value r.least, value r.greatest)) None reading

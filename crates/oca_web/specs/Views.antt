@@ -7,6 +7,7 @@ use Rattle.oca_types.specs.declared.words.Handle.{Handle}
 use Rattle.oca_types.specs.declared.words.Ono.{Ono}
 use Rattle.oca_types.specs.declared.class.Class.{Class}
 use Rattle.oca_types.specs.Sizes.{span_size}
+use Rattle.oca_net.specs.Ends.{last_u64}
 use Rattle.oca_control.specs.declared.report.DriveReport.{DriveReport}
 use Rattle.oca_control.specs.declared.outcome.Outcome.{Outcome}
 use Rattle.oca_panel.specs.Panels.{MaySettle, PanelState, SettlesIn}
@@ -29,6 +30,11 @@ moment_noted ahead moment before = max before (min (ahead + moment) 184467440737
 -- HALF OF THE HANDLES above the first one of an end are used: a link over another one is to follow.
 abbrev pub half_spent : (first next : ℕ) → Bool
 half_spent first next = nat_le (4294967295 - first) (2 * (next - first))
+
+-- HOW MANY COMMANDS WERE SUBMITTED since the view was made: so many over the ends before, and over this one as many as
+-- handles are used. A number that is too great for 64 bits counts as the greatest.
+abbrev pub commands_submitted : View → ℕ
+commands_submitted v = min (v.submitted_before + (v.next_handle - v.first_handle)) last_u64
 
 -- THE PROGRAM STOOD STILL where more than 2,000 ms passed since it looked at its clock before: nobody knows how long what
 -- waits has done so.

@@ -1,7 +1,12 @@
 -- The walk through a device's objects: when it is over, and what blocks listed in it (*profile*).
-use Rattle.std.specs.Prelude.{◌≡◌, ◌⊎◌, ◌+◌, ◌≤◌, true, false, []}
+use Rattle.std.specs.Prelude.{◌≡◌, ◌⊎◌, ℕ, ◌+◌, ◌≤◌, true, false, if◌then◌else◌, [], ◌∷◌, Option, Some, None}
+use Rattle.oca_types.specs.declared.class.Class.TheVariants as class
+use Rattle.oca_panel.specs.Walks.{root_place}
 use Rattle.oca_web.specs.declared.inventory.Inventory.{Inventory}
+use Rattle.oca_web.specs.Finding.{asks_of, questions_of}
 use Rattle.oca_web.specs.Listing.{KeepsListed}
+use Rattle.oca_web.specs.Objects.{object_found}
+use Rattle.oca_web.specs.Polling.{next_round}
 
 -- it is the same walk, and is over or not as it was; what blocks listed in it is kept, and no more
 pub record KeepsWalk (old new : Inventory) : Type 0 where
@@ -32,3 +37,22 @@ pub record StaysOver (old new : Inventory) : Type 0 where
   pub rises : old.epoch ≤ new.epoch
   pub over : new.epoch ≡ old.epoch → old.walked ≡ true → new.walked ≡ true
   pub lists : new.epoch ≡ old.epoch → old.walked ≡ true → new.lists ≡ old.lists
+
+-- THE WALK WITH THIS NUMBER IS AT THE ROOT: the root is the only object that was found, by the change with this number.
+-- What is asked to know it waits, and nothing else. No further place waits, and no block listed anything. The walk is
+-- not over, and nothing shows that the device changed since.
+pub record IsAtRoot (number change : ℕ) (i : Inventory) : Type 0 where
+  pub objects : i.objects ≡ record {
+    list = record (object_found root_place.ono root_place.container (Some class.Block)) { changed = change } ∷ [];
+    changes = change;
+  }
+  pub walk : i.walk ≡ record { waiting = []; visited = root_place.ono ∷ [] }
+  pub waiting : i.waiting.items ≡ questions_of 0 number (asks_of (Some class.Block))
+  pub lists : i.lists.items ≡ []
+  pub epoch : i.epoch ≡ number
+  pub walked : i.walked ≡ false
+  pub fresh : i.is_stale ≡ false
+
+-- WHEN THERE IS SOMETHING TO ASK, besides what waits: where the walk is over, at the next round.
+abbrev pub moment_to_ask : ℕ → Inventory → Option ℕ
+moment_to_ask now i = if i.walked then next_round now i.poll else None

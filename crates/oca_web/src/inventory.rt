@@ -54,7 +54,7 @@ pub struct Inventory {
 }
 
 impl Inventory {
-    ghost use Rattle.std.specs.Prelude.{◌≡◌, ◌≢◌, ◌==◌, ◌≤◌, true, length, IfOk, OnSome, remove};
+    ghost use Rattle.std.specs.Prelude.{◌≡◌, ◌≢◌, ◌==◌, ◌≤◌, ◌+◌, [], true, length, IfOk, OnSome, remove};
     ghost use Rattle.std.specs.Option.{option_map};
     ghost use Rattle.oca_web.specs.Views.{target_of};
     ghost use Rattle.oca_web.specs.Learning.{LearnsOrder, LearnsSome, LearnsTrouble, BecomesShown};
@@ -63,16 +63,22 @@ impl Inventory {
     ghost use Rattle.oca_web.specs.Listing.{Compares, ComparesAt, KeepsList, KeepsListed};
     ghost use Rattle.std.specs.Prelude.{◌∷◌, ◌++◌};
     ghost use Rattle.oca_web.specs.Finding.{FindsAt, FindsEach, FindsNext, FindsOne, Visits, questions_of};
-    ghost use Rattle.oca_web.specs.Polling.{OpensPage, page_asked};
+    ghost use Rattle.oca_web.specs.Polling.{OpensPage, page_asked, poll_begun, without_round};
     ghost use Rattle.oca_web.specs.Readings.{AsksAgain, ConfirmsBy, IsOfMoment, KeepsAsked, KeepsMoment};
     ghost use Rattle.oca_web.specs.declared.ask.Ask.TheVariants as asks;
     ghost use Rattle.std.specs.Prelude.{slice_get};
-    ghost use Rattle.oca_web.specs.Walking.{BeginsAnew, WalkGoesOn, KeepsWalk};
+    ghost use Rattle.oca_web.specs.Walking.{BeginsAnew, IsAtRoot, WalkGoesOn, KeepsWalk, moment_to_ask};
+    ghost use Rattle.oca_web.specs.Objects.{object_numbered};
+    ghost use Rattle.oca_net.specs.Ends.{one_more};
 
     /// Returns an inventory of a device of which nothing is known, with a walk that begins at the root (*profile*).
     /// `now` is the present moment of the program's clock, in milliseconds. The call asks nothing of the device. It
     /// takes memory from `alloc`, and later calls take more. The only refusal is `NoMemory`, if memory was refused.
-    pub fn new(alloc: Global, now: u64) -> Result<Inventory, NoMemory> {
+    pub fn new(alloc: Global, now: u64) -> Result<Inventory, NoMemory>
+        ensures root { IfOk result (λ inventory. IsAtRoot 1 2 inventory) }
+        ensures asked { IfOk result (λ inventory. inventory.asked.items ≡ []) }
+        ensures poll { IfOk result (λ inventory. inventory.poll ≡ poll_begun now) }
+    {
         let mut inventory = Inventory {
             alloc,
             objects: Objects::new(alloc),
@@ -93,8 +99,13 @@ impl Inventory {
     /// their answers are then not used. The call sends nothing. Refusals, the first that applies: `NoMemory` if the
     /// present walk has the number 2^64 - 1; nothing is then changed. `NoMemory` if memory was refused; the objects are
     /// then forgotten all the same.
+    #[tactic(auto, using(crate::proofs::FindLemmas::at_root))]
     pub fn begin_anew(&mut self) -> Result<(), NoMemory>
-        ensures { BeginsAnew self.old self.new }
+        ensures anew { BeginsAnew self.old self.new }
+        ensures root { IfOk result (λ u. IsAtRoot (self.old.epoch + 1) (one_more (one_more self.old.objects.changes))
+            self.new) }
+        ensures asked { self.new.asked ≡ self.old.asked }
+        ensures poll { IfOk result (λ u. self.new.poll ≡ without_round self.old.poll) }
     {
         if self.epoch == u64::MAX {
             return Err(NoMemory);
@@ -186,14 +197,18 @@ impl Inventory {
     /// Returns the objects that were found so far, in the order in which they were found, a block before its members
     /// (*profile*). At first this is the root alone, which has the number 100. The call refuses nothing and takes no
     /// memory.
-    pub fn objects(&self) -> &Objects {
+    pub fn objects(&self) -> &Objects
+        ensures { result.now ≡ self.now.objects }
+    {
         &self.objects
     }
 
     /// Returns the number of the present walk: 1 for the first, and one more for each walk that begins (*profile*). The
     /// call refuses nothing.
-    pub fn epoch(&self) -> u64 {
-        self.epoch
+    pub fn epoch(&self) -> u64
+        ensures { result ≡ self.now.epoch }
+    {
+        self.epoch // of the present walk
     }
 
     /// Returns whether the walk ended: all its questions were answered (*profile*). The result is `false` at first, and
@@ -201,7 +216,7 @@ impl Inventory {
     pub fn is_walked(&self) -> bool
         ensures { result ≡ self.now.walked }
     {
-        self.walked
+        self.walked // all of it
     }
 
     /// Returns whether an answer showed that the device changed since the walk, so that another walk must begin
@@ -211,13 +226,14 @@ impl Inventory {
     pub fn is_stale(&self) -> bool
         ensures { result ≡ self.now.is_stale }
     {
-        self.is_stale
+        self.is_stale // since the walk
     }
 
     /// Returns the number of questions in flight: they were submitted, and their answers were not taken yet
     /// (*profile*). The result is from 0, as at first, to 32.
     pub fn in_flight(&self) -> usize
-        ensures { result ≡ length self.now.asked.items }
+        ensures value { result ≡ length self.now.asked.items }
+        ensures most { result ≤ 32 }
     {
         self.asked.len()
     }
@@ -240,7 +256,9 @@ impl Inventory {
     }
 
     /// When there is something to be asked, but for what waits.
-    pub(crate) fn next_moment(&self, now: u64) -> Option<u64> {
+    pub(crate) fn next_moment(&self, now: u64) -> Option<u64>
+        ensures { result ≡ moment_to_ask now self.now }
+    {
         if self.walked {
             self.poll.next_moment(now)
         } else {
@@ -259,7 +277,10 @@ impl Inventory {
     }
 
     /// The class of the object with this number; nothing where there is none, or its class is not known here.
-    pub(crate) fn class_of(&self, ono: Ono) -> Option<Option<Class>> {
+    #[tactic(auto, using(crate::proofs::FindLemmas::numbered_rules))]
+    pub(crate) fn class_of(&self, ono: Ono) -> Option<Option<Class>>
+        ensures { result ≡ option_map (λ o. o.class) (object_numbered ono.0 self.now.objects.list) }
+    {
         match self.target_of(self.objects.place_of(ono)?) {
             Some((_, class)) => Some(class),
             None => None,

@@ -2,7 +2,9 @@
 ghost use Rattle.std.specs.Prelude.{◌≡◌, IsTrue};
 ghost use Rattle.oca_model.specs.Settings.{reading_set_to};
 ghost use Rattle.oca_web.specs.Objects.{object_found, unread};
-ghost use Rattle.oca_web.specs.Shows.{name_of_class};
+ghost use Rattle.oca_web.specs.Shows.{name_of_class, names_class, reading_limits};
+ghost use Rattle.oca_model.specs.Readings.{value_without_limits};
+ghost use Rattle.oca_model.specs.Words.{word_of};
 
 use oca_model::{Flags, Names, Reading, Value, class_word, with_integers, word_of};
 use oca_panel::Trouble;
@@ -20,9 +22,14 @@ pub enum Lock {
 }
 
 impl Lock {
+    ghost use Rattle.std.specs.Prelude.{◌≡◌};
+    ghost use Rattle.oca_web.specs.Shows.{name_of_lock};
+
     /// Returns the name of this state in the answers to the page: `free`, `own` or `other` (*profile*). The call
     /// refuses nothing.
-    pub fn name(self) -> &'static str {
+    pub fn name(self) -> &'static str
+        ensures { result.now ≡ name_of_lock self }
+    {
         match self {
             Lock::Free => "free",
             Lock::Own => "own",
@@ -179,7 +186,9 @@ impl Object {
 
 /// Returns the least and the greatest value of a reading (AES70-2). The result is `None` for a mute, a polarity and a
 /// Boolean, which have no limits. The call takes no memory.
-pub fn limits_of(reading: Reading) -> Option<(Value, Value)> {
+pub fn limits_of(reading: Reading) -> Option<(Value, Value)>
+    ensures { result ≡ reading_limits reading }
+{
     macro_rules! limits {
         ($($integer:ident $type:ty),*) => {
             match reading {
@@ -206,7 +215,9 @@ pub fn reading_with(reading: Reading, value: Value) -> Reading
 
 /// Returns the word for the value of a reading, without its limits (*profile*): from 1 to 20 bytes, such as `muted`,
 /// `on` or `-60`. The call refuses nothing and takes no memory.
-pub fn word_in(reading: Reading) -> Text {
+pub fn word_in(reading: Reading) -> Text
+    ensures { result ≡ word_of (value_without_limits reading) }
+{
     word_of(reading.value())
 }
 
@@ -224,7 +235,9 @@ pub fn class_name(class: Option<Class>) -> &'static str
 
 /// Returns whether a text is the name of a class of this profile in the answers to the page (*profile*): the word of a
 /// class ([`class_word`]). The result is `false` for any other text, also for `unknown`.
-pub fn is_class_name(name: &str) -> bool {
+pub fn is_class_name(name: &str) -> bool
+    ensures { result ≡ names_class name.now }
+{
     macro_rules! is_word {
         ($($integer:ident $type:ty),*) => {
             [Class::Block, Class::Mute, Class::Polarity, Class::Switch, Class::Boolean, $(Class::$integer),*]

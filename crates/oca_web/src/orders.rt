@@ -189,7 +189,8 @@ impl Orders {
     /// Returns the number of orders in flight: their commands were submitted, and the outcomes are not known yet
     /// (*profile*). The result is from 0, as at first, to 32.
     pub fn in_flight(&self) -> usize
-        ensures { result ≡ length self.now.in_flight }
+        ensures value { result ≡ length self.now.in_flight }
+        ensures most { result ≤ 32 }
     {
         self.in_flight.len()
     }

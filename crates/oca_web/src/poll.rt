@@ -103,12 +103,15 @@ pub struct Poll {
 impl Poll {
     ghost use Rattle.std.specs.Prelude.{◌≡◌, ◌-◌, ◌&&◌, nat_le};
     ghost use Rattle.std.specs.Option.{option_map};
-    ghost use Rattle.oca_web.specs.Polling.{OpensPage, ReadsAgain, has_open_page, page_asked, pause_of, shows};
+    ghost use Rattle.oca_web.specs.Polling.{OpensPage, ReadsAgain, has_open_page, next_round, page_asked, pause_of};
+    ghost use Rattle.oca_web.specs.Polling.{poll_begun, shows, without_round};
 
     /// Returns a poll without a round and without an open page (*profile*). `now` is the present moment, in
     /// milliseconds of the program's clock. The first round begins 25 ms after it at the earliest. The call takes no
     /// memory from the heap.
-    pub fn new(now: u64) -> Poll {
+    pub fn new(now: u64) -> Poll
+        ensures { result ≡ poll_begun now }
+    {
         Poll {
             pages: ArrayVec::new(),
             begun: now,
@@ -157,14 +160,18 @@ impl Poll {
 
     /// Ends the present round, if there is one. The next round begins 25 ms after the beginning of the ended round at
     /// the earliest (*profile*). The call sends nothing.
-    pub fn end_round(&mut self) {
+    pub fn end_round(&mut self)
+        ensures { self.new ≡ without_round self.old }
+    {
         self.at = self.end;
     }
 
     /// Returns the moment from which the next round may begin, in milliseconds of the program's clock (*profile*). The
     /// moment can already be past. `now` is the present moment of the same clock. The result is `None` if no page is
     /// open at `now`, or a round has not ended; that round goes on when an answer comes. The call changes nothing.
-    pub fn next_moment(&self, now: u64) -> Option<u64> {
+    pub fn next_moment(&self, now: u64) -> Option<u64>
+        ensures { result ≡ next_round now self.now }
+    {
         if self.is_open(now) && self.at >= self.end {
             Some(self.begun.saturating_add(ROUND_MS))
         } else {
@@ -210,7 +217,7 @@ impl Poll {
             let place = self.place(now);
             let ask = self.ask_at(now, place, objects);
             if ask.is_none() && self.waits_at(now, place, objects) {
-                self.end_here();
+                self.end_round();
                 return None;
             }
             self.go_on(objects.len());
@@ -219,13 +226,6 @@ impl Poll {
             }
         }
         None
-    }
-
-    /// Ends the round.
-    fn end_here(&mut self)
-        ensures { self.new.pages ≡ self.old.pages }
-    {
-        self.at = self.end;
     }
 
     /// Where the object stands that this step of a round is about: first those that pages show, then some of all.

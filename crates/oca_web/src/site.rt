@@ -44,6 +44,8 @@ impl Site {
     ghost use Rattle.oca_web.specs.Admission.{lets_request_in, request_opens};
     ghost use Rattle.oca_web.specs.Sites.{AnswersOrFails, IsActionFor, IsSetting, IsTurnedAway, KeepsOrders, PostsMany, PostsOne};
     ghost use Rattle.oca_web.specs.Sites.{PostsOrder, TakesOrder, TakesOrders};
+    ghost use Rattle.std.specs.Borrow.{sem};
+    ghost use Rattle.oca_web.specs.Lending.{LendsView};
 
     /// Returns a service that answers HTTP requests from this view, by the rules `terms` (*profile*). No request was
     /// answered so far. The service takes memory from `alloc` for its answers; this call takes none. It opens no
@@ -64,7 +66,10 @@ impl Site {
 
     /// Returns the view of the service, so that the program can change it (*profile*). The call refuses nothing and
     /// changes nothing.
-    pub fn view(&mut self) -> &mut View {
+    pub fn view(&mut self) -> &mut View
+        ensures* writes_back { sem 𝓛 (LendsView self.entry result) }
+        ensures value { result.now ≡ self.old.view }
+    {
         &mut self.view
     }
 
@@ -81,16 +86,20 @@ impl Site {
 
     /// Returns the number of HTTP requests that were answered since the service was made (*profile*). The result is 0
     /// at first, and at most 2^64 - 1. Refused requests count too.
-    pub fn calls(&self) -> u64 {
-        self.calls
+    pub fn calls(&self) -> u64
+        ensures { result ≡ self.now.calls }
+    {
+        self.calls // refused ones too
     }
 
     /// Returns the number of HTTP requests that were let in since the service was made (*profile*). A request is let in
     /// if its host is one of the panel's names, and it brings the token, if the panel has one. A POST must also have
     /// the right origin and Content-Type. The result is 0 at first, at most 2^64 - 1. A request that was let in can
     /// still be answered with an error.
-    pub fn admitted(&self) -> u64 {
-        self.admitted
+    pub fn admitted(&self) -> u64
+        ensures { result ≡ self.now.admitted }
+    {
+        self.admitted // failed ones too
     }
 
     /// Whether a request brings the token, where the panel has one.

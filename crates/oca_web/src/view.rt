@@ -76,7 +76,8 @@ pub struct View {
 }
 
 impl View {
-    ghost use Rattle.std.specs.Prelude.{◌≡◌, ◌<◌, ◌-◌, ◌==◌, ◌&&◌, false, IfOk, IfSome, None, Some, length, slice_get};
+    ghost use Rattle.std.specs.Prelude.{◌≡◌, ◌<◌, ◌+◌, ◌-◌, ◌==◌, ◌&&◌, false, IfOk, IfSome, None, Some, length};
+    ghost use Rattle.std.specs.Prelude.{is_some, slice_get};
     ghost use Rattle.oca_net.specs.Ends.{one_more};
     ghost use Rattle.oca_web.specs.Orders.{AddsAll, AddsTicket, SettlesOrders, SubmitsOrders, has_orders, has_room_for, no_orders};
     ghost use Rattle.oca_web.specs.Bodies.{IsForWord};
@@ -85,9 +86,11 @@ impl View {
     ghost use Rattle.oca_web.specs.Views.{AsksQuestions, Continues, RenewsLost, RestsBehind, SubmitsAndAsks, TakesAnswers, TurnsAndSettles};
     ghost use Rattle.oca_web.specs.Views.{AsksAtPlace, LeavesAsked, TakesAnswer, TurnsHearing};
     ghost use Rattle.std.specs.Bool.{OnTrue};
-    ghost use Rattle.oca_web.specs.Views.{half_spent, moment_noted, next_behind, next_with, orders_after, stood_still};
+    ghost use Rattle.oca_web.specs.Views.{commands_submitted, half_spent, moment_noted, next_behind, next_with};
+    ghost use Rattle.oca_web.specs.Views.{orders_after, stood_still};
     ghost use Rattle.oca_web.specs.Polling.{OpensPage, page_asked};
-    ghost use Rattle.oca_web.specs.Walking.{BeginsAnew, WalkGoesOn, KeepsWalk, StaysOver};
+    ghost use Rattle.oca_web.specs.Walking.{BeginsAnew, WalkGoesOn, KeepsWalk, StaysOver, moment_to_ask};
+    ghost use Rattle.oca_web.specs.Objects.{object_numbered};
 
     /// Returns a view of the device at this address, of which nothing is known (*profile*). `span` and `first` are the
     /// span and the first handle of the panel's link. `now` is the present moment of the panel's end, in milliseconds;
@@ -138,7 +141,9 @@ impl View {
 
     /// Returns what is known of the device, and which questions are asked of it (*profile*). At first only the walk has
     /// begun, at the root. The call changes nothing.
-    pub fn inventory(&self) -> &Inventory {
+    pub fn inventory(&self) -> &Inventory
+        ensures { result.now ≡ self.now.inventory }
+    {
         &self.inventory
     }
 
@@ -156,7 +161,7 @@ impl View {
     pub fn news(&self) -> LinkNews
         ensures { result ≡ self.now.news }
     {
-        self.news
+        self.news // at the present moment
     }
 
     /// Returns the present moment of the program's clock, in milliseconds (*profile*). It is the latest moment that
@@ -170,7 +175,9 @@ impl View {
 
     /// Returns the number of commands in flight, of orders and of questions: from 0, as at first, to 64 (*profile*). A
     /// command is in flight from its submission until its answer is taken.
-    pub fn in_flight(&self) -> usize {
+    pub fn in_flight(&self) -> usize
+        ensures { result ≡ length self.now.orders.in_flight + length self.now.inventory.asked.items }
+    {
         self.orders
             .in_flight()
             .saturating_add(self.inventory.in_flight())
@@ -185,12 +192,16 @@ impl View {
 
     /// Returns the number of commands that were submitted since the view was made, over all ends: 0 at first
     /// (*profile*). The call refuses nothing.
-    pub fn submitted(&self) -> u64 {
+    pub fn submitted(&self) -> u64
+        ensures { result ≡ commands_submitted self.now }
+    {
         self.submitted_before.saturating_add(self.submitted_here())
     }
 
     /// How many commands were submitted over this end.
-    fn submitted_here(&self) -> u64 {
+    fn submitted_here(&self) -> u64
+        ensures { result ≡ self.now.next_handle - self.now.first_handle }
+    {
         u64::from(self.next_handle.saturating_sub(self.first_handle))
     }
 
@@ -244,7 +255,7 @@ impl View {
     pub fn ahead(&self) -> u64
         ensures { result ≡ self.now.ahead }
     {
-        self.ahead
+        self.ahead // of the present end
     }
 
     /// Notes that a page asked for values at the present moment, and which objects it shows (*profile*). It shows
@@ -289,7 +300,9 @@ impl View {
 
     /// Returns whether an object with this number was found on the device so far (*profile*). At first only the root is
     /// known, which has the number 100. The call sends nothing.
-    pub fn knows(&self, ono: Ono) -> bool {
+    pub fn knows(&self, ono: Ono) -> bool
+        ensures { result ≡ is_some (object_numbered ono.0 self.now.inventory.objects.list) }
+    {
         self.inventory.class_of(ono).is_some()
     }
 
@@ -574,7 +587,7 @@ impl View {
         let may = self.may_ask();
         match ask_one(panel, ono, class, question.ask, may) {
             Some(handle) => {
-                self.note_asked(handle, question);
+                self.note_question(handle, question);
                 true
             }
             None => false,
@@ -583,7 +596,7 @@ impl View {
 
     /// A question is in flight under this handle, which was submitted at the present moment. Another link begins behind
     /// the handle.
-    fn note_asked(&mut self, handle: Handle, question: Question)
+    fn note_question(&mut self, handle: Handle, question: Question)
         ensures kept { KeepsAsked handle question self.old.news.now self.old.inventory.asked.items
             self.new.inventory.asked.items }
         ensures inventory { self.new.inventory ≡ record self.old.inventory { asked = self.new.inventory.asked } }
@@ -613,7 +626,9 @@ impl View {
     /// The moment can already be past. What the link has to send is not counted. The result is `None` if no page is
     /// open, or a walk or a round has not ended; a walk or a round goes on when an answer comes. The call changes
     /// nothing.
-    pub fn next_moment(&self) -> Option<u64> {
+    pub fn next_moment(&self) -> Option<u64>
+        ensures { result ≡ moment_to_ask self.now.news.now self.now.inventory }
+    {
         self.inventory.next_moment(self.news.now)
     }
 }

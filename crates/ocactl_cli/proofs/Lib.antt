@@ -5,4 +5,6 @@ mod ObjectLemmas
 mod TreeLemmas
 mod HoldLemmas
 mod MatchLemmas
+mod RowLemmas
+mod ReasonLemmas
 mod BesideLemmas

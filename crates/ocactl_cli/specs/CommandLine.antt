@@ -1,5 +1,6 @@
 -- What the program's command line takes (*profile*).
-use Rattle.std.specs.Prelude.{List, [], ◌∷◌, ◌++◌, codes}
+use Rattle.std.specs.Prelude.{ℕ, List, [], ◌∷◌, ◌++◌, codes, if◌then◌else◌}
+use Rattle.std.specs.Str.{bytes_eq}
 use Rattle.clap.specs.Simple.{App}
 use Rattle.oca_program.specs.Commands.{CommandRows, OptionFields, a_flag, needed, program_app, with_form}
 use Rattle.oca_program.specs.declared.form.Form.TheVariants.{AnyPeer, Bytes, Host, Number, Own, Text}
@@ -74,6 +75,11 @@ own_run = record { name = codes "run"; options = reach_rows ++ ahead_row ∷ por
 abbrev pub own_commands : List CommandRows
 own_commands =
     own_tree ∷ own_get ∷ own_set ∷ own_lock ∷ own_unlock ∷ own_replay ∷ own_send ∷ own_run ∷ []
+
+-- the options of the first of these commands that has this name; none where none of them has it
+abbrev pub options_among : List ℕ → List CommandRows → List OptionFields
+options_among name [] = []
+options_among name (row ∷ rows) = if bytes_eq row.name name then row.options else options_among name rows
 
 -- THE COMMAND LINE OF THE PROGRAM.
 unfoldable pub own_app : App

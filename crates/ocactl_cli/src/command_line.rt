@@ -1,7 +1,7 @@
 //! The commands of the program and their options, as `clap` has them.
 ghost use Rattle.std.specs.Prelude.{◌≡◌, IfOk, map};
-ghost use Rattle.oca_program.specs.Commands.{TakesApp, command_fields};
-ghost use Rattle.ocactl_cli.specs.CommandLine.{own_app, own_commands, own_get, own_lock, own_replay};
+ghost use Rattle.oca_program.specs.Commands.{TakesApp, command_fields, row_fields};
+ghost use Rattle.ocactl_cli.specs.CommandLine.{options_among, own_app, own_commands, own_get, own_lock, own_replay};
 ghost use Rattle.ocactl_cli.specs.CommandLine.{own_run, own_send, own_set, own_tree, own_unlock};
 
 use clap::Command;
@@ -257,7 +257,9 @@ pub fn program<'a>(alloc: Global) -> Result<Command<'a>, AllocError>
 }
 
 /// The options of the command with this name. Empty if there is no such command.
-pub fn options_of(name: &str) -> &'static [OptionRow] {
+pub fn options_of(name: &str) -> &'static [OptionRow]
+    ensures { map row_fields result.now ≡ options_among name.now own_commands }
+{
     match rows().iter().find(|row| row.name == name) {
         Some(row) => row.options,
         None => &[],

@@ -1,7 +1,8 @@
 //! Why no answer came, as far as it is known.
-ghost use Rattle.std.specs.Prelude.{◌≡◌, false};
+ghost use Rattle.std.specs.Prelude.{◌≡◌, IfOk, false, string_bytes, true};
+ghost use Rattle.oca_program.specs.Notes.{PrintsANote};
 ghost use Rattle.ocactl_cli.specs.Beside.{AsksIfThere, IsSameBeside, TakesKeepAlives};
-ghost use Rattle.ocactl_cli.specs.Reasons.{reason_by};
+ghost use Rattle.ocactl_cli.specs.Reasons.{NotesReason, reason_by, reason_text};
 
 use super::bound_end::BoundEnd;
 use super::probe::is_there_where;
@@ -104,7 +105,10 @@ pub fn note_unanswered<N: Net, E: BoundEnd, F: Sink>(
     device: Peer,
     silent: bool,
     faults: &mut Printer<F>,
-) {
+)
+    ensures silent { silent ≡ true → NotesReason end.now device faults.old faults.new }
+    ensures answered { silent ≡ false → faults.new ≡ faults.old }
+{
     if !silent {
         return;
     }
@@ -116,19 +120,18 @@ pub fn note_unanswered<N: Net, E: BoundEnd, F: Sink>(
 }
 
 /// Prints why a send failed, where one has and there is memory for the line.
-fn note_failed_send<F: Sink>(alloc: Global, reason: Option<io::Error>, faults: &mut Printer<F>) {
+fn note_failed_send<F: Sink>(alloc: Global, reason: Option<io::Error>, faults: &mut Printer<F>)
+    ensures { PrintsANote faults.old faults.new }
+{
     if let Some(reason) = reason {
         print_made_note(format!(in alloc; "a send failed: {reason}"), faults);
     }
 }
 
 /// The text of a reason, by the device and where the socket is.
-fn reason_text(
-    alloc: Global,
-    device: Peer,
-    own: Peer,
-    reason: Reason,
-) -> Result<String, AllocError> {
+fn reason_text(alloc: Global, device: Peer, own: Peer, reason: Reason) -> Result<String, AllocError>
+    ensures { IfOk result (λ text. string_bytes text ≡ reason_text device own reason) }
+{
     match reason {
         Reason::AddressGone => {
             format!(in alloc; "the address {} is gone", Ipv4Addr::from(own.ip))

@@ -1,5 +1,5 @@
 //! The replay of a script on a link.
-ghost use Rattle.std.specs.Prelude.{◌≡◌, IfSome};
+ghost use Rattle.std.specs.Prelude.{◌≡◌, [], IfSome, replicate};
 ghost use Rattle.oca_types.specs.Peers.{request_of};
 ghost use Rattle.oca_script.specs.Ends.{input};
 ghost use Rattle.oca_script.specs.Replaying.{NeverIdles, Outcome, Replays};
@@ -28,7 +28,10 @@ pub struct LinkRoom {
 impl LinkRoom {
     /// Returns memory for one packet (1,472 bytes) and for the bytes of one field (2,048 bytes), in which there are no
     /// bytes of a script yet (*profile*). The call takes no memory from the heap.
-    pub fn new() -> LinkRoom {
+    pub fn new() -> LinkRoom
+        ensures packet { result.packet.items ≡ [] }
+        ensures bytes { result.bytes ≡ replicate 2048 0 }
+    {
         LinkRoom {
             packet: Packet::new(),
             bytes: [0; PARAMS_ROOM],

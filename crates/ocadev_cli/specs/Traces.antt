@@ -50,7 +50,7 @@ abbrev pub written_text : List Ono → List ℕ
 written_text [] = []
 written_text (o ∷ os) = (codes " wrote " ++ decimal o.0) ++ flat_map (λ n. codes " " ++ decimal n.0) os
 
--- what stands behind the outcome in that line
+-- what stands behind the outcome in the line of a datagram
 abbrev pub behind_outcome : Report → List Effect → List Ono → List ℕ
 behind_outcome turn effects written =
     written_text written

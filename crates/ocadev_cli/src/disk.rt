@@ -1,6 +1,8 @@
 //! How the objects of a device are written over a file: a new file takes the place of the old one.
-ghost use Rattle.std.specs.Prelude.{◌≡◌, ◌++◌, IfSome, codes, decimal, is_ok, string_bytes};
-ghost use Rattle.ocadev_cli.specs.Storing.{DiskState, Replaces, StoresBy, SyncsFolder, SyncsNew, Tries, WritesNew};
+ghost use Rattle.std.specs.Prelude.{◌≡◌, ◌++◌, IfSome, None, codes, decimal, is_ok, string_bytes};
+ghost use Rattle.std.specs.Fs.{metadata_mode};
+ghost use Rattle.ocadev_cli.specs.Storing.{ArePlain, DiskState, Replaces, StoresBy, SyncsFolder, SyncsNew, Tries};
+ghost use Rattle.ocadev_cli.specs.Storing.{WritesNew};
 
 use super::show::show_text;
 use oca_script::{Printer, Sink, ToWriter};
@@ -64,7 +66,9 @@ pub struct Attributes {
 
 impl Attributes {
     /// Those of a file of which this is known.
-    fn of(found: &Metadata) -> Attributes {
+    fn of(found: &Metadata) -> Attributes
+        ensures { result.mode ≡ metadata_mode found.now }
+    {
         Attributes {
             mode: found.mode(),
             uid: found.uid(),
@@ -97,7 +101,13 @@ impl<'l, 'p, 'n, L: Files> FileDisk<'l, 'p, 'n, L> {
         path: &'p str,
         fresh: &'n str,
         attributes: Option<Attributes>,
-    ) -> FileDisk<'l, 'p, 'n, L> {
+    ) -> FileDisk<'l, 'p, 'n, L>
+        ensures files { result.files ≡ files.entry }
+        ensures path { result.path ≡ path.entry }
+        ensures fresh { result.fresh ≡ fresh.entry }
+        ensures made { result.made ≡ None }
+        ensures attributes { result.attributes ≡ attributes }
+    {
         FileDisk {
             alloc,
             files,
@@ -159,7 +169,9 @@ impl<'l, 'p, 'n, L: Files> Disk for FileDisk<'l, 'p, 'n, L> {
 }
 
 /// The mode and the owner of the plain file at this path. `None` if there is no plain file, or the system does not say.
-pub fn plain_attributes<F: Files>(files: &F, path: &str) -> Option<Attributes> {
+pub fn plain_attributes<F: Files>(files: &F, path: &str) -> Option<Attributes>
+    ensures { IfSome result ArePlain }
+{
     match fs::symlink_metadata(files, path) {
         Ok(found) if found.is_file() => Some(Attributes::of(&found)),
         _ => None,

@@ -1,7 +1,7 @@
 //! The state of a device, kept in a file: it is read when the device starts, and written before what wrote something is
 //! answered. Reply windows and sessions are not kept.
-ghost use Rattle.std.specs.Prelude.{◌≡◌, ◌↔◌, ◌++◌, false, IfErr, IfOk, IfSome, IsNone, IsOk, IsTrue, Some as some};
-ghost use Rattle.std.specs.Prelude.{codes, is_some, string_bytes};
+ghost use Rattle.std.specs.Prelude.{◌≡◌, ◌↔◌, ◌++◌, false, IfErr, IfNone, IfOk, IfSome, IsNone, IsOk, IsTrue};
+ghost use Rattle.std.specs.Prelude.{Some as some, codes, is_some, string_bytes};
 ghost use Rattle.std.specs.Fs.{IsFile, file_type};
 ghost use Rattle.std.specs.Option.{option_copied};
 ghost use Rattle.oca_program.specs.declared.fault.RunFault.TheVariants.{NoMemory as no_memory, Read as read_failed};
@@ -31,7 +31,9 @@ const END_ROOM: usize = 40;
 
 /// Whether the file at the path `keep`, in which the state is kept, exists. `false` if `keep` is `None`. `true` also if
 /// the system does not say: then the file is read, so that its fault is printed.
-pub fn is_there<F: Files>(files: &F, keep: Option<&str>) -> bool {
+pub fn is_there<F: Files>(files: &F, keep: Option<&str>) -> bool
+    ensures { IfNone keep.entry (result ≡ false) }
+{
     let Some(path) = keep else {
         return false;
     };

@@ -131,13 +131,13 @@ impl DeviceBehind {
             return Answer::NotStarted;
         }
         match str::from_utf8(label) {
-            Ok(label) => self.set_text(ono, label),
+            Ok(label) => self.give_label(ono, label),
             Err(_) => Answer::BadText,
         }
     }
 
     /// Gives an object this label, once the device is started.
-    fn set_text(&mut self, ono: u32, label: &str) -> Answer
+    fn give_label(&mut self, ono: u32, label: &str) -> Answer
         ensures labels { (r : Rooms) (w : DeviceSizes) (T : List Object) (E : List Event) →
             RunsBehind r w self.old T E →
             ChangesFront r w result self.new T E ono (ToLabel label.now) (asked.SetLabel label.now) }

@@ -1,5 +1,5 @@
 //! What the device behind a handle tells.
-ghost use Rattle.std.specs.Prelude.{◌≡◌, ◌⊎◌, ◌≤◌, ◌<◌, List, None, IfSome, IfNone, IsSome, length, take, slice_get};
+ghost use Rattle.std.specs.Prelude.{◌≡◌, ◌⊎◌, List, None, IfSome, IfNone, IsSome, length, slice_get};
 ghost use Rattle.oca_types.specs.Sizes.{DeviceSizes};
 ghost use Rattle.oca_tree.specs.declared.object.Object.{Object};
 ghost use Rattle.oca_tree.specs.Readers.{failing_at, info_at, info_of_ono, lock_at, setting_at};
@@ -11,7 +11,7 @@ ghost use Rattle.oca_calls.specs.Numbers.{answer_number};
 ghost use Rattle.oca_calls.specs.Calls.{RunsBehind};
 ghost use Rattle.oca_calls.specs.CSpecs.{WritesSpec};
 ghost use Rattle.oca_calls.specs.Outputs.{WritesFailing, WritesLock, WritesNextLapse, WritesObject, WritesPeer, WritesSetting};
-ghost use Rattle.oca_calls.specs.Outputs.{WritesWords};
+ghost use Rattle.oca_calls.specs.Outputs.{WritesToBuffer, WritesWords};
 ghost use Rattle.oca_calls.specs.LinkRooms.{Rooms};
 
 use super::DeviceBehind;
@@ -19,7 +19,7 @@ use crate::answer::Answer;
 use crate::reading::Reading;
 use crate::spec_reading::{read_spec, read_spec_of};
 use crate::spec_words::SpecWords;
-use crate::words::{lock_number, object_words, put_front, put_numbers, put_words};
+use crate::words::{lock_number, object_words, put_bytes, put_numbers, put_words};
 use oca_types::Ono;
 
 impl DeviceBehind {
@@ -80,11 +80,8 @@ impl DeviceBehind {
     pub fn packet(&self, i: usize, out: &mut [u8], len: &mut usize) -> Answer
         ensures nothing { IsSome self.now.device → IfNone (slice_get self.now.outbox.packets i) (result ≡ Nothing) }
         ensures packet { IsSome self.now.device →
-            IfSome (slice_get self.now.outbox.packets i) (λ p. length p ≤ length out.old →
-            (result ≡ Done) × (len.new ≡ length p) × (take (length p) out.new ≡ p)) }
-        ensures small { IsSome self.now.device →
-            IfSome (slice_get self.now.outbox.packets i) (λ p. length out.old < length p →
-            (result ≡ TooSmall) × (len.new ≡ length p) × (out.new ≡ out.old)) }
+            IfSome (slice_get self.now.outbox.packets i)
+            (λ p. WritesToBuffer p out.old out.new len.new (answer_number result)) }
         ensures building { self.now.device ≡ None → result ≡ NotStarted }
         ensures unwritten { (result ≡ Done) ⊎ (out.new ≡ out.old) }
         ensures untold { (result ≡ Done) ⊎ ((result ≡ TooSmall) ⊎ (len.new ≡ len.old)) }
@@ -95,7 +92,7 @@ impl DeviceBehind {
         let Some(packet) = self.outbox.get(i) else {
             return Answer::Nothing;
         };
-        put_packet(packet.as_slice(), out, len)
+        put_bytes(packet.as_slice(), out, len)
     }
 
     /// Copies the numbers of the objects that the last datagram wrote to to the front of `out`, in order, each as often
@@ -317,21 +314,4 @@ impl DeviceBehind {
         *reading = out;
         Answer::Done
     }
-}
-
-/// Copies the bytes of a packet to the front of `out`, and writes to `len` how many they are. Returns `Done`.
-/// `TooSmall` if `out` has fewer bytes: then only `len` is written.
-fn put_packet(bytes: &[u8], out: &mut [u8], len: &mut usize) -> Answer
-    ensures len { len.new ≡ length bytes.now }
-    ensures packet { length bytes.now ≤ length out.old →
-        (result ≡ Done) × (take (length bytes.now) out.new ≡ bytes.now) }
-    ensures small { length out.old < length bytes.now → (result ≡ TooSmall) × (out.new ≡ out.old) }
-    ensures unwritten { (result ≡ Done) ⊎ ((result ≡ TooSmall) × (out.new ≡ out.old)) }
-{
-    *len = bytes.len();
-    if out.len() < bytes.len() {
-        return Answer::TooSmall;
-    }
-    put_front(bytes, out);
-    Answer::Done
 }
