@@ -458,24 +458,27 @@ def listed_as_edits(top):
 
 
 def public_functions(crates):
-    """Of these crates' public functions those without a contract; and those that have one, and of which no edit touches one, nor a function
-    that it calls, by its name. Of these the ones are left out that only read or hand out a field; of both laws, for which edits of definitions are."""
-    touched, calls, bare, public = set(), {}, [], []
+    """The crates without edits; the public functions of the others that have no contract; and those that have one, but that no edit reaches.
+    An edit reaches, by name alone, what it touches, and what calls that, at any depth; but for calls by a name that std uses too. Not looked
+    at: methods of traits, and laws, whose edits are of definitions. Left out of the last: what only hands out a field."""
+    reached, calls, bare, public, without = set(), {}, [], [], []
     for crate in crates:
-        its = [edits.Edit(it, crate) for it, _ in edits.files_of_edits(crate)]
-        touched |= {function.name for it in its for function in it.functions}
+        its = [edits.Edit(it, crate) for it, must_pass in edits.files_of_edits(crate) if not must_pass]
+        without += [] if its else [crate.name]
+        paths = {function.path() for it in its for function in it.functions}
         for path, text in edits.sources_of(crate).items() if its else ():
             lines = text.split("\n")
             for it in edits.functions_in(crate, path, text):
                 body = "\n".join(lines[it.last if it.opens is None else it.opens + 1:it.last]).strip()
-                calls.setdefault(it.name, set()).update(re.findall(r"\b(\w+)(?:::<[^(]*>)?\(", body))
-                if lines[it.first].strip().startswith("pub ") and not it.name.startswith("law_"):
-                    its_name = f"{crate.name} {it.path()}"
+                calls.setdefault(it.name, set()).update({*re.findall(r"\b(\w+)(?:::<[^(]*>)?\(", body)} - {*DATA.of_std.split(), it.name})
+                reached |= {it.name} if it.path() in paths else set()
+                if lines[it.first].strip().startswith("pub ") and not it.name.startswith("law_") and not it.is_of_trait:
+                    its_name, is_field = f"{crate.name} {it.path()}", re.fullmatch(r"(&(mut )?)?self(\.\w+)+( //.*)?", body)
                     bare += [] if edits.clauses_of(lines, it) else [its_name]
-                    public += [(its_name, it.name)] if not re.fullmatch(r"(&(mut )?)?self(\.\w+)+", body) and its_name not in bare else []
-    while more := {name for name, those in calls.items() if those & touched} - touched:
-        touched |= more
-    return [bare, [its_name for its_name, name in public if name not in touched]]
+                    public += [] if is_field or it.path() in paths or its_name in bare else [(its_name, it.name)]
+    while more := {name for name, those in calls.items() if those & reached} - reached:
+        reached |= more
+    return [without, bare, [its_name for its_name, name in public if not calls[name] & reached]]
 
 
 def public(top):
@@ -493,7 +496,7 @@ ASKED = {
     "defined twice in these": defined_twice,
     "defined twice": lambda _: defined_twice(run.TOP),
     "public": public,
-    "public functions of these": lambda top: public_functions([FakeCrate("a", top)]),
+    "public functions of these": lambda top: public_functions([FakeCrate("a", top), FakeCrate("b", top)]),
     "public functions": lambda _: public_functions(edits.rt.crates_below(str(run.TOP))),
 }
 each(DATA.of_files)(

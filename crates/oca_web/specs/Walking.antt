@@ -53,6 +53,6 @@ pub record IsAtRoot (number change : ℕ) (i : Inventory) : Type 0 where
   pub walked : i.walked ≡ false
   pub fresh : i.is_stale ≡ false
 
--- WHEN THERE IS SOMETHING TO ASK, besides what waits: where the walk is over, at the next round.
+-- WHEN THE NEXT ROUND MAY BEGIN, where the walk is over; no moment before.
 abbrev pub moment_to_ask : ℕ → Inventory → Option ℕ
 moment_to_ask now i = if i.walked then next_round now i.poll else None

@@ -69,7 +69,7 @@ impl Inventory {
     ghost use Rattle.std.specs.Prelude.{slice_get};
     ghost use Rattle.oca_web.specs.Walking.{BeginsAnew, IsAtRoot, WalkGoesOn, KeepsWalk, moment_to_ask};
     ghost use Rattle.oca_web.specs.Objects.{object_numbered};
-    ghost use Rattle.oca_net.specs.Ends.{one_more};
+    ghost use Rattle.oca_net.specs.Ends.{last_u64, one_more};
 
     /// Returns an inventory of a device of which nothing is known, with a walk that begins at the root (*profile*).
     /// `now` is the present moment of the program's clock, in milliseconds. The call asks nothing of the device. It
@@ -102,6 +102,7 @@ impl Inventory {
     #[tactic(auto, using(crate::proofs::FindLemmas::at_root))]
     pub fn begin_anew(&mut self) -> Result<(), NoMemory>
         ensures anew { BeginsAnew self.old self.new }
+        ensures last { self.old.epoch ≡ last_u64 → self.new ≡ self.old }
         ensures root { IfOk result (λ u. IsAtRoot (self.old.epoch + 1) (one_more (one_more self.old.objects.changes))
             self.new) }
         ensures asked { self.new.asked ≡ self.old.asked }
@@ -216,7 +217,7 @@ impl Inventory {
     pub fn is_walked(&self) -> bool
         ensures { result ≡ self.now.walked }
     {
-        self.walked // all of it
+        self.walked // to its end
     }
 
     /// Returns whether an answer showed that the device changed since the walk, so that another walk must begin
@@ -226,7 +227,7 @@ impl Inventory {
     pub fn is_stale(&self) -> bool
         ensures { result ≡ self.now.is_stale }
     {
-        self.is_stale // since the walk
+        self.is_stale // changed since the walk
     }
 
     /// Returns the number of questions in flight: they were submitted, and their answers were not taken yet
@@ -255,7 +256,7 @@ impl Inventory {
         self.poll.open(now, first, visible);
     }
 
-    /// When there is something to be asked, but for what waits.
+    /// When the next round of reads may begin.
     pub(crate) fn next_moment(&self, now: u64) -> Option<u64>
         ensures { result ≡ moment_to_ask now self.now }
     {

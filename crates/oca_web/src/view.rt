@@ -161,7 +161,7 @@ impl View {
     pub fn news(&self) -> LinkNews
         ensures { result ≡ self.now.news }
     {
-        self.news // at the present moment
+        self.news // of the link
     }
 
     /// Returns the present moment of the program's clock, in milliseconds (*profile*). It is the latest moment that
@@ -622,10 +622,10 @@ impl View {
         leaves_half(lowest, self.next_handle, self.reach.span.get())
     }
 
-    /// Returns the moment, in milliseconds of the program's clock, from which an object must be read again (*profile*).
-    /// The moment can already be past. What the link has to send is not counted. The result is `None` if no page is
-    /// open, or a walk or a round has not ended; a walk or a round goes on when an answer comes. The call changes
-    /// nothing.
+    /// Returns the moment, in milliseconds of the program's clock, from which the next round of reads may begin
+    /// (*profile*). The moment can already be past. What the link has to send is not counted. The result is `None` if no
+    /// page is open, or a walk or a round has not ended; a walk or a round goes on when an answer comes. The call
+    /// changes nothing.
     pub fn next_moment(&self) -> Option<u64>
         ensures { result ≡ moment_to_ask self.now.news.now self.now.inventory }
     {

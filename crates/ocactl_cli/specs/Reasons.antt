@@ -35,13 +35,14 @@ reason_text device own reasons.AnswersNone =
     peer_text device ++ codes " is heard, but answers no command from port " ++ decimal own.port
     ++ codes ": wait two minutes, or give another --port"
 
--- this note was printed, as far as the writes went; nothing was where there was no memory for it
+-- this note was printed, as far as the writes went, or nothing was
 abbrev pub PrintsIfMade : List ℕ → Output → Output → Type 0
 PrintsIfMade note old new =
     (new ≡ old) ⊎ ((written : Result Unit WriteFailed) × WritesOut written old new (note_text note))
 
--- WHY NO ANSWER CAME over an end was printed, without asking the device again: at most one note on a send, and then the
--- reason. Where the socket is, and whether the machine has lost its address, only the system says.
+-- WHY NO ANSWER CAME over an end was printed, or nothing was, without asking the device again. At most one other note was
+-- printed before it, of any text. No end says by a contract where its socket is, nor the system whether it lost its
+-- address.
 pub record NotesReason (end_there : WatchState) (device : Peer) (old new : Output) : Type 0 where
   pub between : Output
   pub sends : PrintsANote old between

@@ -1,5 +1,5 @@
 //! Why no answer came, as far as it is known.
-ghost use Rattle.std.specs.Prelude.{◌≡◌, IfOk, false, string_bytes, true};
+ghost use Rattle.std.specs.Prelude.{◌≡◌, IfNone, IfOk, false, string_bytes, true};
 ghost use Rattle.oca_program.specs.Notes.{PrintsANote};
 ghost use Rattle.ocactl_cli.specs.Beside.{AsksIfThere, IsSameBeside, TakesKeepAlives};
 ghost use Rattle.ocactl_cli.specs.Reasons.{NotesReason, reason_by, reason_text};
@@ -121,7 +121,8 @@ pub fn note_unanswered<N: Net, E: BoundEnd, F: Sink>(
 
 /// Prints why a send failed, where one has and there is memory for the line.
 fn note_failed_send<F: Sink>(alloc: Global, reason: Option<io::Error>, faults: &mut Printer<F>)
-    ensures { PrintsANote faults.old faults.new }
+    ensures one { PrintsANote faults.old faults.new }
+    ensures none { IfNone reason (faults.new ≡ faults.old) }
 {
     if let Some(reason) = reason {
         print_made_note(format!(in alloc; "a send failed: {reason}"), faults);

@@ -15,7 +15,7 @@ returns-clause-silent g c silent =
     let is = unasked c.why-reason.result gone now c.heard.result c.args.end.now.heard c.why-reason.ensures c.heard.ensures in
     record {
       between = between;
-      sends = c.note_failed_send.ensures;
+      sends = c.note_failed_send.ensures.one;
       own = own;
       is_gone = gone;
       now = now;
