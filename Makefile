@@ -3,15 +3,15 @@
 # make ocapanel   proves and builds the browser's panel, over the same crates
 # make test    the gate: every proof, from nothing but for what an earlier `rt ci` kept here of the same files, tests,
 #              programs, and the steps of gate/steps, with the wrong bodies that must be refused
-# make lossy   both programs over a network that loses, doubles, delays and reorders, one command at a time and 16 under
-#              way; and why the window must be 31 then: COMMANDS=200 SEED=1
+# make lossy   both programs over a network that loses, duplicates, delays and reorders: one command at a time, then 16 in
+#              flight with a window of 31; and a schedule that a window of 30 is too small for: COMMANDS=200 SEED=1
 # make fuzz    both programs against a second implementation of the profile, on random scripts: SECONDS=60 SEED=1
 # make world   schedules for both ends, held against the laws and the second implementation: SCHEDULES=8000 SEED=1
 # make law     histories of events, held against the law by events, and wrong devices: HISTORIES=2000 SEED=1
 # make bench   instructions, memory by size, requests a second beside bare loops, with the goals
 # make panel-trial   the panel's page: its cases in node, and in headless Chromium: clicks, drags, locks, loss, restarts
 # make install puts the programs, their manual pages and the library for C below PREFIX (of DESTDIR); what is not built yet is
-#              proved and built first (make build ocapanel library), and built anew where a source is newer
+#              proved and built first (make build ocapanel library), and built again where a source is newer
 # make library proves and builds the library for C: TARGET=aarch64-unknown-linux-gnu for another kind of processor, which
 #              `make install-library` then puts into a folder of its own
 # make uninstall takes away what was installed

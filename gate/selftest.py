@@ -37,6 +37,9 @@ from tables import as_it_stands, data, mapped
 
 DATA = data("gate_of_tools")
 
+# A call: the type or the module before it, or a dot, and its name.
+CALL = re.compile(r"(?:(\w+)(?:::<[^()]*?>)?::|(\.))?\b(\w+)(?:::<[^(]*?>)?\(")
+
 KEPT = []  # of which crates the prover was asked, what was kept there before, False where nothing was to be kept, and where it writes
 
 
@@ -457,28 +460,49 @@ def listed_as_edits(top):
     return [(it.name, edits.Edit(it, SimpleNamespace(folder=top)).why == "it is no edit") for it in edits.listed(top)]
 
 
+def called_by(function, body, named, below):
+    """Which of the functions, given by their names, a body of `function` may call, of its own crate and those below: behind a type those of this
+    type, behind a dot those of any type, but for a name that std uses too only of its own; else those of no type, behind a module those of this
+    module."""
+    for before, dot, name in CALL.findall(body):
+        for other in named.get(name, ()):
+            if other.crate not in below[function.crate]:
+                fits = False
+            elif dot:
+                fits = other.of and (name not in DATA.of_std.split() or other.of == function.of)
+            elif other.of:
+                fits = before == other.of.split("+")[0] or before == "Self" and other.of == function.of
+            else:
+                fits = before in ("", *other.module[-1:])
+            if fits:
+                yield other
+
+
 def public_functions(crates):
     """The crates without edits; the public functions of the others that have no contract; and those that have one, but that no edit reaches.
-    An edit reaches, by name alone, what it touches, and what calls that, at any depth; but for calls by a name that std uses too. Not looked
-    at: methods of traits, and laws, whose edits are of definitions. Left out of the last: what only hands out a field."""
-    reached, calls, bare, public, without = set(), {}, [], [], []
+    An edit reaches what it touches, and what calls that, at any depth, as far as calls tell without types. Not looked at: methods of traits,
+    and laws, whose edits are of definitions. Left out of the last: what only hands out a field."""
+    named, bodies, reached, bare, public, without, below = {}, {}, set(), [], {}, [], {}
     for crate in crates:
+        below[crate.name] = {crate.name, *(it.name for it in crate.below())}
         its = [edits.Edit(it, crate) for it, must_pass in edits.files_of_edits(crate) if not must_pass]
         without += [] if its else [crate.name]
         paths = {function.path() for it in its for function in it.functions}
         for path, text in edits.sources_of(crate).items() if its else ():
             lines = text.split("\n")
             for it in edits.functions_in(crate, path, text):
-                body = "\n".join(lines[it.last if it.opens is None else it.opens + 1:it.last]).strip()
-                calls.setdefault(it.name, set()).update({*re.findall(r"\b(\w+)(?:::<[^(]*>)?\(", body)} - {*DATA.of_std.split(), it.name})
-                reached |= {it.name} if it.path() in paths else set()
+                it.crate = crate.name
+                bodies[it] = "\n".join(lines[it.last if it.opens is None else it.opens + 1:it.last]).strip()
+                named.setdefault(it.name, []).append(it)
+                reached |= {it} if it.path() in paths else set()
                 if lines[it.first].strip().startswith("pub ") and not it.name.startswith("law_") and not it.is_of_trait:
-                    its_name, is_field = f"{crate.name} {it.path()}", re.fullmatch(r"(&(mut )?)?self(\.\w+)+( //.*)?", body)
+                    its_name, is_field = f"{crate.name} {it.path()}", re.fullmatch(r"(&(mut )?)?self(\.\w+)+", bodies[it])
                     bare += [] if edits.clauses_of(lines, it) else [its_name]
-                    public += [] if is_field or it.path() in paths or its_name in bare else [(its_name, it.name)]
-    while more := {name for name, those in calls.items() if those & reached} - reached:
+                    public |= {} if is_field or its_name in bare else {it: its_name}
+    calls = {it: {*called_by(it, body, named, below)} - {it} for it, body in bodies.items()}
+    while more := {it for it, those in calls.items() if those & reached} - reached:
         reached |= more
-    return [without, bare, [its_name for its_name, name in public if not calls[name] & reached]]
+    return [without, bare, [its_name for it, its_name in public.items() if it not in reached]]
 
 
 def public(top):

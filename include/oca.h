@@ -10,8 +10,9 @@
  * oca_store_.., oca_socket_.. and oca_serve.. open a file or a socket or read a clock, and nothing starts a thread.
  *
  * What the caller promises, at every call (no proof sees the C side):
- *  - no pointer is null, also if its length is 0 (a close takes a null pointer, and other calls where it is said); each points to as much
- *    memory as is said, which was written before (set to zero what a call only writes to); no two parameters of a call overlap;
+ *  - no pointer is null, even with length 0 (but a close takes a null pointer, and so do other calls where it is said);
+ *  - each pointer points to the stated amount of initialized memory: set to zero what a call only writes to;
+ *  - no two parameters of a call overlap;
  *  - a bool is 0 or 1;
  *  - the struct is as the last call left it, or zeroed; it may be moved, but never copied and both copies used;
  *  - one call at a time for a struct; another thread may make the next one, ordered by a lock, a start or a join; none from a
@@ -578,11 +579,12 @@ enum oca_result oca_device_add_uint64(struct oca_device *device, uint32_t contai
 enum oca_result oca_device_add_switch(struct oca_device *device, uint32_t container, uint32_t ono, const uint8_t *role, size_t role_len, bool lockable, const struct oca_name *names, size_t names_len, uint16_t position) OCA_CHECKED;
 
 /* Starts the device: from then on datagrams are handled, and no object can be added. `window` is for how many commands
- * of one peer the device keeps the replies: 1 to 64; 32 is usual. It must be at least twice the panels' span less one.
- * `peers` is how many peers can have a session at once: 1 to 64; 16 is usual. The call takes the memory for both, and
- * for 122 packets that answer a datagram. Returns OCA_DONE. Otherwise the first of these that applies. OCA_CLOSED if
- * the device is closed, OCA_STARTED if it is started already, OCA_BAD_SIZE if a size is outside its range: then nothing
- * is changed. OCA_NO_MEMORY if memory was refused: then the objects are lost and the struct is closed; it can be opened
+ * of one peer the device keeps the replies: 1 to 64; 32 is usual. It must be at least twice the panels' span less one,
+ * and one more for each command that earlier links of a panel, used in the last 100 seconds, left unanswered. `peers`
+ * is how many peers can have a session at once: 1 to 64; 16 is usual. The call takes the memory for both, and for 122
+ * packets that answer a datagram. Returns OCA_DONE. Otherwise the first of these that applies. OCA_CLOSED if the device
+ * is closed, OCA_STARTED if it is started already, OCA_BAD_SIZE if a size is outside its range: then nothing is
+ * changed. OCA_NO_MEMORY if memory was refused: then the objects are lost and the struct is closed; it can be opened
  * again. */
 enum oca_result oca_device_start(struct oca_device *device, uint8_t window, uint8_t peers) OCA_CHECKED;
 

@@ -1,20 +1,20 @@
 #!/usr/bin/env python3
-"""`ocadev serve` and `ocactl run` on 127.0.0.1, with a network between them that loses, doubles, delays and reorders
+"""`ocadev serve` and `ocactl run` on 127.0.0.1, with a network between them that loses, duplicates, delays and reorders
 datagrams.
 
 Usage: lossy.py BIN [COMMANDS] [SEED]     so many commands one at a time, with a window of 32; four times as many with
-                                          16 under way, with a window of 31. BIN is the folder with the programs
-       lossy.py BIN directed              16 under way: the last overtakes the others and stays unanswered while 15 more
-                                          are executed; then a copy of it comes, to a window of 30 and to one of 31
+                                          16 in flight, with a window of 31. BIN is the folder with the programs
+       lossy.py BIN directed              16 in flight: the last arrives before the others and stays unanswered while 15
+                                          more are executed; then its duplicate arrives, at a window of 30 and one of 31
 
 In the gate: lossy.py bin 30
 In the gate: lossy.py bin directed
 
 It prints what each run did, and at the end 'N passed, M failed' over the runs. One at a time, each answer must be what
-the second implementation says; with 16 under way the answers tell the commands apart in every order. A run fails if a
-command was executed twice, if a copy was too old before its answer was carried, or if an answer is wrong or missing;
-`directed` also if with a window of 31 the copy is not answered from the window, or with the smaller one is not too
-old."""
+the second implementation says; with 16 in flight the answers tell the commands apart in every order. A run fails if a
+command was executed twice, if a duplicate was too old before its answer was carried, or if an answer is wrong or
+missing; `directed` also if with a window of 31 the duplicate is not answered from the window, or with the smaller one
+is not too old."""
 import random
 import re
 import subprocess

@@ -279,6 +279,14 @@ def nulls(fields):
     return {name: None if value == "null" else value for name, value in fields.items()}
 
 
+def wanted_fields(row, fields):
+    """The fields of the head of the answer that a row describes. The page has its policy too, whatever that says."""
+    wanted = {"content-type": row.get("type"), "set-cookie": row.get("cookie")} | ({} if row.get("bare") else ROWS["protection"])
+    if row.get("type", "").startswith("text/html"):
+        wanted["content-security-policy"] = fields.get("content-security-policy", "a policy")
+    return sorted((name, it) for name, it in wanted.items() if it)
+
+
 class Bench(Scene):
     """A scene with a device, a way to it that may lose datagrams, and what a different controller locks."""
 
@@ -430,6 +438,7 @@ class Desk(Bench):
             "close": self.closes,
             "send": self.sends,
             "order at": lambda name, path, body: self.sends(name, self.panel.orders_by(path, body).decode()),
+            "orders at": self.sends_orders,
             "status at": lambda name: self.ends[name][0].answer()[0],
             "ticket at": self.ticket_at,
             "comes at": lambda name: self.ends[name][0].recv(100).decode(),
@@ -581,16 +590,15 @@ class Desk(Bench):
 
     def asks(self, kind, default="order"):
         """Each request of the rows of this kind is answered as its row says, and each answer of the panel, also a refusal, forbids keeping, guessing
-        types and framing."""
+        types and framing. The head of an answer has no other field but what the connection adds."""
         names = ROWS["text"] | {name: str(it) for name, it in self.names.items()}
         for row in (one for row in whole(ROWS[kind], names) for one in each(whole(ROWS[default], names) | row, *row)):
             data = request(row)
             status, fields, text = self.panel.exchange(data)
-            head = {name: fields[name] for name in ROWS["protection"] if name in fields}
-            same(f"{data[:120]!r}: what protects its answer", head, {} if row.get("bare") else ROWS["protection"])
+            head = sorted((name.lower(), it) for name, it in fields.items() if name.lower() not in ("content-length", "connection"))
+            same(f"{data[:120]!r}: the fields of its answer", head, wanted_fields(row, fields))
             is_said = re.fullmatch(row.get("says", ".+" if "type" in row else ""), text.decode(), re.DOTALL) is not None
-            got = status, fields.get("content-type"), fields.get("set-cookie"), is_said
-            same(f"{data[:120]!r}: its answer", got, (row["status"], row.get("type"), row.get("cookie"), True))
+            same(f"{data[:120]!r}: its answer", (status, is_said), (row["status"], True))
 
     def noise(self):
         generator = random.Random(1)
@@ -608,6 +616,10 @@ class Desk(Bench):
         for s in self.ends[name]:
             with contextlib.suppress(OSError):
                 s.sendall(octets(text))
+
+    def sends_orders(self, name, path, *bodies):
+        """Sends a question, and behind it these orders, in one piece."""
+        self.sends(name, b"".join([self.panel.asks("/values"), *(self.panel.orders_by(path, body) for body in bodies)]).decode())
 
     def ticket_at(self, name):
         """The ticket in the next answer that is none to a question; 0 where it is none to an order either."""

@@ -30,10 +30,12 @@ abbrev pub has_answer : Outcome → Bool
 has_answer (outcomes.Answered a) = true
 has_answer other = false
 
--- A keep-alive of five seconds was sent to the device.
+-- A keep-alive of five seconds was handed to the end for the device, which sent it or failed.
+abbrev pub KeepsAlive : (sent : Bool) → Peer → EndState → EndState → Type 0
+KeepsAlive sent device before after = Sends sent device (pdu_encoding (OneKeepAlive (Seconds 5))) before after
+
 abbrev pub SendsKeepAlive : Peer → EndState → EndState → Type 0
-SendsKeepAlive device before after =
-    (sent : Bool) × Sends sent device (pdu_encoding (OneKeepAlive (Seconds 5))) before after
+SendsKeepAlive device before after = (sent : Bool) × KeepsAlive sent device before after
 
 -- One round: a keep-alive was sent, and the answer waited for, five turns at most.
 pub record AsksRound (device : Peer) (h : ℕ) (answered : Bool) (old new : LinkState)

@@ -6,7 +6,7 @@
 ghost use Rattle.std.specs.Prelude.{◌≡◌};
 ghost use Rattle.oca_net.specs.EndStates.{IsPresent};
 ghost use Rattle.oca_control.specs.Links.{new_link, submission, submitted};
-ghost use Rattle.oca_panel.specs.Probes.{AsksQuestion, AsksRound, AsksRounds, Probes, SendsKeepAlive, handle_in};
+ghost use Rattle.oca_panel.specs.Probes.{AsksQuestion, AsksRound, AsksRounds, KeepsAlive, Probes, handle_in};
 ghost use Rattle.oca_panel.specs.Probes.{has_answer, question};
 ghost use Rattle.oca_panel.specs.Watching.{found_by};
 
@@ -141,7 +141,7 @@ fn submit(link: &mut Link, now: u64) -> Option<Handle>
 /// - `true` if the end sent the datagram, which does not say that it arrives.
 /// - `false` if the send failed.
 pub fn keep_alive<E: End>(end: &mut E, device: Peer) -> bool
-    ensures { SendsKeepAlive device (E.state end.old) (E.state end.new) }
+    ensures { KeepsAlive result device (E.state end.old) (E.state end.new) }
 {
     let mut packet = Packet::new();
     let _ = write_keepalive(&mut packet, Form::Seconds(5));

@@ -53,15 +53,16 @@ words_fault kinds.DisplayVersion = NoMemory
 words_fault kinds.OutOfMemory = NoMemory
 words_fault other = BadWords
 
--- THE WORDS OF A COMMAND LINE WERE NOT READ: there was no memory for them, and there is no note; or one of them is not
--- UTF-8, as the note says, where there was memory for it.
+-- THE FAILURE WHERE THE WORDS OF A COMMAND LINE WERE NOT READ: the fault is `NoMemory`, and there is no note; or the fault
+-- is `BadWords`, and the note, if there is one, says that an argument is not UTF-8. Which of the two it is, is not said
+-- here, nor when there is no note.
 abbrev pub IsUnreadWords : Failure → Type 0
 IsUnreadWords failure =
     ((failure.fault ≡ NoMemory) × (failure.note ≡ None))
     ⊎ ((failure.fault ≡ BadWords)
     × IfSome failure.note (λ told. string_bytes told ≡ codes "an argument is not UTF-8"))
 
--- the fault of the run, where the system gave the words with this error
+-- the fault of the run, where the words could not be read, by the kind of the system's error
 abbrev pub unread_fault : SystemError → RunFault
 unread_fault system.OutOfMemory = NoMemory
 unread_fault _ = BadWords

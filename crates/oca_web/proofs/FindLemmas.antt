@@ -1,7 +1,7 @@
 -- What a walk finds, place by place.
 use Rattle.std.proofs.Common.{◌≡◌, ◌≤◌, ℕ, Bool, true, false, cond, List, [], ◌∷◌, ◌++◌, length, length-append}
 use Rattle.std.proofs.Common.{arith, inl, inr, refl, sym, ap, ◌∙◌, append_assoc, append-nil, Option, Some, None}
-use Rattle.std.specs.Prelude.{◌⊎◌, IfOk, Result, Ok, Err, nat_lt, slice_get}
+use Rattle.std.specs.Prelude.{◌⊎◌, nat_lt, slice_get}
 use Rattle.std.specs.List.{find, position, position_or_len}
 use Rattle.std.specs.Option.{option_and_then}
 use Rattle.std.proofs.lemmas.List.Folds.{find_at}
@@ -9,7 +9,6 @@ use Rattle.std.proofs.lemmas.Option.{slice_get_past}
 use Rattle.oca_net.specs.Ends.{one_more}
 use Rattle.oca_types.specs.declared.class.Class.TheVariants as class
 use Rattle.oca_types.specs.declared.class.Class.{Class}
-use Rattle.oca_types.specs.declared.words.NoMemory.{NoMemory}
 use Rattle.oca_types.specs.declared.words.Ono.{Ono}
 use Rattle.oca_model.specs.declared.member.Member.{Member}
 use Rattle.oca_panel.specs.declared.walk.Place.{Place}
@@ -108,13 +107,13 @@ one-object : (list : List Object) (n changes : ℕ) (o : Object) → list ≡ re
     → n ≡ changes → objects-of list n ≡ objects-of (record o { changed = changes } ∷ []) changes
 one-object list n changes o e f = rw (e, f) refl
 
-at-root : (epoch changes : ℕ) (between new : Inventory) → between.walk ≡ begun_walk
+pub at_root : (epoch changes : ℕ) (between new : Inventory) → between.walk ≡ begun_walk
     → between.objects ≡ objects-of [] changes → between.waiting.items ≡ [] → between.lists.items ≡ []
     → between.epoch ≡ epoch → between.walked ≡ false → between.is_stale ≡ false
     → FindsNext (Some class.Block) between new
     → new ≡ record between { objects = new.objects; walk = new.walk; waiting = new.waiting }
     → IsAtRoot epoch (one_more changes) new
-at-root epoch changes between new w o q l n d s f rest =
+at_root epoch changes between new w o q l n d s f rest =
     let taken = root-taken f.taken between.walk new.walk w f.takes in
     let found : FindsOne root_place (Some class.Block) between new = rw taken.0 at f.finds in
     let made : AddsObject root-found (objects-of [] changes) new.objects = rw o at found.object in
@@ -128,15 +127,6 @@ at-root epoch changes between new w o q l n d s f rest =
       walked = ap (λ i. i.walked) rest ∙ d;
       fresh = ap (λ i. i.is_stale) rest ∙ s;
     }
-
-pub at_root : (result : Result Unit NoMemory) (epoch changes : ℕ) (between new : Inventory) → between.walk ≡ begun_walk
-    → between.objects ≡ objects-of [] changes → between.waiting.items ≡ [] → between.lists.items ≡ []
-    → between.epoch ≡ epoch → between.walked ≡ false → between.is_stale ≡ false
-    → IfOk result (λ u. FindsNext (Some class.Block) between new)
-    → new ≡ record between { objects = new.objects; walk = new.walk; waiting = new.waiting }
-    → IfOk result (λ u. IsAtRoot epoch (one_more changes) new)
-at_root (Ok u) epoch changes between new w o q l n d s f rest = at-root epoch changes between new w o q l n d s f rest
-at_root (Err e) epoch changes between new w o q l n d s f rest = tt
 
 -- ---- an object by its number
 

@@ -1,6 +1,8 @@
 pub mod PageLemmas
 pub mod OrderLemmas
 pub mod StepLemmas
+pub mod LeftLemmas
+pub mod EndLemmas
 pub mod ResultLemmas
 pub mod WalkLemmas
 pub mod ManyLemmas
@@ -10,3 +12,4 @@ pub mod ListingLemmas
 pub mod ChangeLemmas
 pub mod LearnLemmas
 pub mod FindLemmas
+pub mod HeadLemmas

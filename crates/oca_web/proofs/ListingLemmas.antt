@@ -5,7 +5,7 @@ use Rattle.std.specs.Bool.{Decides}
 use Rattle.std.proofs.lemmas.Bool.{eq-eqb}
 use Rattle.oca_model.specs.declared.member.Member.{Member}
 use Rattle.oca_web.specs.declared.inventory.Inventory.{Inventory}
-use Rattle.oca_web.specs.declared.inventory.Listed.{Listed}
+use Rattle.oca_web.specs.declared.listing.Listed.{Listed}
 use Rattle.oca_web.specs.Listing.{Compares, IsListOf, KeepsList, KeepsListed, WasListed}
 
 never : {P : Type 0} → (P → ⊥) → Decides false P

@@ -74,7 +74,7 @@ into_one at o sent done l m s t p q h e f = (record { sent = sent; done = done }
 
 pub into_none : (at : ℕ) (o : Option (Sent × Result Unit Trouble)) (l m : List Settled) (s t : OrdersState) (p q : PanelState)
     → SettlesAt at o s p t q → o ≡ None → m ≡ l → SettlesInto false at l m s p t q
-into_none at o l m s t p q h e f = let g : SettlesAt at None s p t q = rw e at h in (f, g.0, g.1)
+into_none at o l m s t p q h e f = let g : SettlesAt at None s p t q = rw e at h in (f, g.0, g.1, g.2)
 
 pub ruleset into_rules = (into_one, into_none)
 
@@ -128,7 +128,7 @@ behind_asked None n = n
 pub asks_one : (may : Bool) (ono : ℕ) (of : Option Class) (ask : Ask) (h : Option Handle) (n m : ℕ) (p q : PanelState)
     → AsksOne may ono of ask h p q → m ≡ behind_asked h n → AsksQuestions n p m q
 asks_one may ono of ask (Some handle) n m p q h e = rw e (OneAsked ono of ask handle NoneAsked h.1)
-asks_one may ono of ask None n m p q h e = rw (e, h) NoneAsked
+asks_one may ono of ask None n m p q h e = rw (e, h.0) NoneAsked
 
 pub asks_on : (n m k : ℕ) (p q r : PanelState) → AsksQuestions n p m q → AsksQuestions m q k r → AsksQuestions n p k r
 asks_on n m k p q r a NoneAsked = a
@@ -172,7 +172,9 @@ asks_nowhere question o old new p q e n same stays = rw (sym e, n) (refl, same, 
 pub asks_not : (question : Question) (o : Option (Ono × Option Class)) (t : Ono × Option Class) (may : Bool) (h : Option Handle) (old new : View)
     (p q : PanelState) → o ≡ option_map target_of (slice_get old.inventory.objects.list question.place) → o ≡ Some t
     → AsksOne may t.0.0 t.1 question.ask h p q → h ≡ None → new ≡ old → AsksAtPlace question false old p new q
-asks_not question o t may h old new p q e s asks n same = rw (sym e, s) (same, rw n at asks)
+asks_not question o t may h old new p q e s asks n same =
+    let none : AsksOne may t.0.0 t.1 question.ask None p q = rw n at asks in
+    rw (sym e, s) (same, none.0)
 
 pub asks_this : (question : Question) (o : Option (Ono × Option Class)) (t : Ono × Option Class) (may : Bool) (h : Option Handle) (handle : Handle)
     (old new : View) (p q : PanelState) → o ≡ option_map target_of (slice_get old.inventory.objects.list question.place) → o ≡ Some t

@@ -1,5 +1,5 @@
 -- What is asked of an object to know it (AES70-2).
-use Rattle.std.specs.Prelude.{◌≡◌, ℕ, ◌-◌, ◌*◌, nat_lt, Bool, true, Option, Some, None, Ok}
+use Rattle.std.specs.Prelude.{◌≡◌, ◌⊎◌, ℕ, ◌-◌, ◌*◌, nat_lt, Bool, true, false, Option, Some, None, Ok, Err}
 use Rattle.oca_types.specs.declared.class.Class.{Class}
 use Rattle.oca_types.specs.declared.class.Class.TheVariants as class
 use Rattle.oca_types.specs.declared.class.Method.{Method}
@@ -7,6 +7,7 @@ use Rattle.oca_types.specs.declared.class.Method.TheVariants as method
 use Rattle.oca_model.specs.declared.request.Request.{Request}
 use Rattle.oca_model.specs.declared.request.Request.TheVariants as requests
 use Rattle.oca_types.specs.declared.words.Handle.{Handle}
+use Rattle.oca_panel.specs.declared.trouble.Trouble.{Trouble}
 use Rattle.oca_panel.specs.Panels.{PanelState}
 use Rattle.oca_panel.specs.Beginnings.{BeginsAsking}
 use Rattle.oca_web.specs.declared.ask.Ask.{Ask}
@@ -34,6 +35,18 @@ method_of_ask asks.Names = method.GetPositionNames
 method_of_ask asks.Flags = method.GetPositionEnableds
 method_of_ask asks.Value = method.GetSetting
 
+-- whether two questions about an object ask the same
+abbrev pub is_same_ask : Ask → Ask → Bool
+is_same_ask asks.Members asks.Members = true
+is_same_ask asks.Role asks.Role = true
+is_same_ask asks.Label asks.Label = true
+is_same_ask asks.Lockable asks.Lockable = true
+is_same_ask asks.Enabled asks.Enabled = true
+is_same_ask asks.Names asks.Names = true
+is_same_ask asks.Flags asks.Flags = true
+is_same_ask asks.Value asks.Value = true
+is_same_ask _ _ = false
+
 -- the class by whose methods an object is asked
 abbrev pub class_for : Option Class → Class
 class_for None = class.Block
@@ -47,8 +60,13 @@ abbrev pub leaves_half : Option ℕ → ℕ → ℕ → Bool
 leaves_half None next span = true
 leaves_half (Some lowest) next span = nat_lt (2 * (next - lowest)) span
 
+-- why a question was not asked: it may not be, or the link refuses its command for this reason, which changes nothing
+abbrev pub IsNotAsked : Bool → ℕ → Option Class → Ask → PanelState → Type 0
+IsNotAsked may ono of ask p =
+    (may ≡ false) ⊎ ((reason : Trouble) × BeginsAsking ono (class_for of) (request_of_ask ask) (Err reason) p p)
+
 -- ONE QUESTION WAS ASKED, where it may be and the link took it; else nothing was.
 abbrev pub AsksOne : Bool → ℕ → Option Class → Ask → Option Handle → PanelState → PanelState → Type 0
 AsksOne may ono of ask (Some handle) old new = (may ≡ true) × BeginsAsking ono (class_for of) (request_of_ask ask)
     (Ok handle) old new
-AsksOne may ono of ask None old new = new ≡ old
+AsksOne may ono of ask None old new = (new ≡ old) × IsNotAsked may ono of ask old

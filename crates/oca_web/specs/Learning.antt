@@ -1,11 +1,18 @@
 -- What answers and ended orders change in what objects show (*profile*).
 use Rattle.std.specs.Prelude.{◌≡◌, ℕ, ◌==◌, ◌&&◌, Bool, true, false, slice_get, if◌then◌else◌, Option, Some, None, Result, Ok, Err}
-use Rattle.std.specs.Prelude.{List, [], ◌∷◌, ◌++◌}
+use Rattle.std.specs.Prelude.{List, [], ◌∷◌, ◌++◌, ◌⊎◌, length, map, not, option_and_then, option_to_list}
 use Rattle.std.specs.List.{position}
 use Rattle.std.specs.Option.{option_map}
 use Rattle.oca_types.specs.declared.words.NoMemory.{NoMemory}
 use Rattle.oca_panel.specs.Panels.{PanelState}
 use Rattle.oca_panel.specs.declared.trouble.Trouble.{Trouble}
+use Rattle.oca_types.specs.declared.class.Class.{Class}
+use Rattle.oca_panel.specs.Walks.{is_block_class}
+use Rattle.oca_web.specs.Asking.{is_same_ask}
+use Rattle.oca_web.specs.declared.ask.Asked.{Asked}
+use Rattle.oca_web.specs.declared.ask.Question.{Question}
+use Rattle.oca_web.specs.declared.order.Action.{Action}
+use Rattle.oca_web.specs.declared.order.Action.TheVariants as actions
 use Rattle.oca_web.specs.declared.ask.Ask.{Ask}
 use Rattle.oca_web.specs.declared.ask.Ask.TheVariants as asks
 use Rattle.oca_web.specs.declared.inventory.Inventory.{Inventory}
@@ -105,10 +112,50 @@ abbrev pub Learns : (place : ℕ) → Ask → (moment : ℕ) → Result Answer T
 Learns place ask moment (Ok answer) result old new = LearnsAnswer (listed_in ask answer) place ask moment answer result old new
 Learns place ask moment (Err t) result old new = LearnsTrouble place ask t old new
 
--- AN ORDER ENDED: its object shows what is made of what it showed. What is asked of it again, and which answers are not
--- learned, is another matter; all else is as it was.
+-- what is asked again of an object behind an order: what the order changes
+abbrev pub ask_behind : Action → Ask
+ask_behind (actions.Rename label) = asks.Label
+ask_behind (actions.Set value) = asks.Value
+ask_behind actions.Lock = asks.Value
+ask_behind actions.Unlock = asks.Value
+
+-- whether this can be asked again of an object of this class: its value only where it has one
+abbrev pub can_be_asked : Ask → Option Class → Bool
+can_be_asked asks.Value None = false
+can_be_asked asks.Value of = not (is_block_class of)
+can_be_asked _ of = true
+
+-- a question in flight, whose answer is not learned where it asks this of the object at the place: it is of no walk then
+abbrev pub of_no_walk : (place : ℕ) → Ask → Asked → Asked
+of_no_walk place ask a = if (a.question.place == place) && is_same_ask a.question.ask ask
+    then record a { question = record a.question { epoch = 0 } } else a
+
+-- the question behind such an action, about the object at the place
+abbrev pub question_about : (place : ℕ) → Action → Inventory → Option Question
+question_about place action i = option_and_then (λ o. if can_be_asked (ask_behind action) o.class
+    then Some (record { place = place; ask = ask_behind action; epoch = i.epoch }) else None) (slice_get i.objects.list place)
+
+-- ... behind an order: about the first object that was found with its number
+abbrev pub question_behind : Order → Inventory → Option Question
+question_behind order i =
+    option_and_then (λ place. question_about place order.action i) (position (λ o. o.ono.0 == order.ono.0) i.objects.list)
+
+-- THIS QUESTION, IF ANY, WAITS BEFORE ALL OTHERS; where memory was refused, no more wait than before.
+abbrev pub WaitFirst : Result Unit NoMemory → Option Question → List Question → List Question → Type 0
+WaitFirst (Ok u) first old new = new ≡ option_to_list first ++ old
+WaitFirst (Err e) first old new = new ≡ old
+
+-- whether each question of a walk was answered: none waits, and none is in flight
+abbrev pub all_answered : Inventory → Bool
+all_answered i = (length i.waiting.items == 0) && (length i.asked.items == 0)
+
+-- AN ORDER ENDED: its object shows what is made of what it showed. What the order changes is asked again before all that
+-- waits, or nothing is; and answers to the same question are not learned. All else is as it was.
 pub record LearnsOrderAt (place : ℕ) (order : Order) (done : Result Unit Trouble) (old new : Inventory) : Type 0 where
   pub objects : BecomesShown place (shown_ordered order done) old.objects new.objects
+  pub asked : new.asked.items ≡ map (of_no_walk place (ask_behind order.action)) old.asked.items
+  pub waiting : (new.waiting.items ≡ old.waiting.items)
+      ⊎ (new.waiting.items ≡ option_to_list (question_about place order.action old) ++ old.waiting.items)
   pub rest : new ≡ record old { objects = new.objects; asked = new.asked; waiting = new.waiting }
 
 -- its object is the first that was found with its number; where none was, nothing changed

@@ -2,7 +2,7 @@
 use Rattle.std.specs.Prelude.{◌≡◌, ◌⊎◌, ℕ, ◌++◌, true, List, [], ◌∷◌, slice_get, IfSome}
 use Rattle.oca_model.specs.declared.member.Member.{Member}
 use Rattle.oca_web.specs.declared.inventory.Inventory.{Inventory}
-use Rattle.oca_web.specs.declared.inventory.Listed.{Listed}
+use Rattle.oca_web.specs.declared.listing.Listed.{Listed}
 
 -- what is kept of a block that listed these members, in this order, each with its number and its class: the block is the
 -- object at this place

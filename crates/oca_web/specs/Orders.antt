@@ -1,7 +1,7 @@
 -- Orders: what pages want done with objects, in the order in which they came (*profile*).
 use Rattle.std.specs.Prelude.{◌≡◌, ◌⊎◌, ℕ, ◌+◌, ◌==◌, ◌||◌, ◌&&◌, Bool, true, false, if◌then◌else◌, List, [], ◌∷◌, ◌++◌}
-use Rattle.std.specs.Prelude.{length, max, min, nat_le, nat_lt, ◌<◌, ◌≤◌, drop, insert, remove, slice_get, Option, Some, None, Result, Ok, Err}
-use Rattle.std.specs.List.{list_any, position}
+use Rattle.std.specs.Prelude.{length, max, min, nat_le, nat_lt, ◌<◌, ◌≤◌, drop, insert, remove, slice_get, Option, Some, None, Result, Ok, Err, IfSome}
+use Rattle.std.specs.List.{All, list_any, position}
 use Rattle.oca_types.specs.declared.class.Class.{Class}
 use Rattle.oca_types.specs.declared.class.Class.TheVariants as class
 use Rattle.oca_types.specs.declared.words.Ono.{Ono}
@@ -9,6 +9,7 @@ use Rattle.oca_types.specs.declared.words.Handle.{Handle}
 use Rattle.oca_control.specs.declared.fault.ControlFault.TheVariants as faults
 use Rattle.oca_control.specs.declared.outcome.Outcome.{Outcome}
 use Rattle.oca_control.specs.Asking.{IsPresent}
+use Rattle.oca_control.specs.Untaken.{answer_under}
 use Rattle.oca_model.specs.declared.request.Request.{Request}
 use Rattle.oca_model.specs.declared.request.Request.TheVariants as requests
 use Rattle.oca_model.specs.Values.{class_of_value}
@@ -191,10 +192,15 @@ pub record SettlesOrder (at : ℕ) (sent : Sent) (done : Result Unit Trouble) (o
         (result_of sent.order (not_done done));
   }
 
+-- NO OUTCOME IS KNOWN of the command under a handle: the link holds no answer under it, and is not lost.
+abbrev pub HasNoOutcome : ℕ → PanelState → Type 0
+HasNoOutcome handle p = (answer_under handle p.link.untaken ≡ None) × (p.link.lost ≡ false)
+
 abbrev pub SettlesAt : ℕ → Option (Sent × Result Unit Trouble) → OrdersState → PanelState → OrdersState → PanelState
     → Type 0
 SettlesAt at (Some settled) old before new after = SettlesOrder at settled.0 settled.1 old before new after
 SettlesAt at None old before new after = (new ≡ old) × (after ≡ before)
+    × IfSome (slice_get old.in_flight at) (λ sent. HasNoOutcome sent.handle.0 before)
 
 -- ---- the link is lost
 
@@ -272,14 +278,19 @@ SettlesOne old before new after = (at : ℕ) × (sent : Sent) × (done : Result 
 abbrev pub SettlesOrders : OrdersState → PanelState → OrdersState → PanelState → Type 0
 SettlesOrders = Steps SettlesOne
 
+-- Of no order that is left in flight the outcome is known.
+abbrev pub NoneIsKnown : List Sent → PanelState → Type 0
+NoneIsKnown sent p = All (λ s. HasNoOutcome s.handle.0 p) sent
+
 -- THESE ORDERS CAME OUT, one after another, each as the answer says that the link held under its own handle.
 pub data SettlesEach : List Settled → OrdersState → PanelState → OrdersState → PanelState → Type 0 where
   NoneSettled : {s : OrdersState} {p : PanelState} → SettlesEach [] s p s p
   OneSettled : {all : List Settled} {s t u : OrdersState} {p q r : PanelState} (at : ℕ) (one : Settled)
       → SettlesEach all s p t q → SettlesOrder at one.sent one.done t q u r → SettlesEach (all ++ one ∷ []) s p u r
 
--- whether one more came out: where none did, nothing changed
+-- whether one more came out: where none did, nothing changed, and no outcome is known of the one at this place
 abbrev pub SettlesInto : Bool → ℕ → List Settled → List Settled → OrdersState → PanelState → OrdersState → PanelState → Type 0
 SettlesInto true at all more old before new after = (one : Settled) × (more ≡ all ++ one ∷ [])
     × SettlesOrder at one.sent one.done old before new after
 SettlesInto false at all more old before new after = (more ≡ all) × (new ≡ old) × (after ≡ before)
+    × IfSome (slice_get old.in_flight at) (λ sent. HasNoOutcome sent.handle.0 before)

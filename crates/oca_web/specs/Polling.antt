@@ -1,5 +1,5 @@
 -- Which object is read again, and when (*profile*). Moments are in milliseconds.
-use Rattle.std.specs.Prelude.{◌≡◌, ℕ, ◌+◌, ◌-◌, ◌≤◌, nat_lt, nat_le, Bool, true, ◌&&◌, not, if◌then◌else◌, List, slice_get}
+use Rattle.std.specs.Prelude.{◌≡◌, ℕ, ◌+◌, ◌-◌, ◌≤◌, nat_lt, nat_le, Bool, true, ◌&&◌, not, if◌then◌else◌, List, slice_get, slice_index_or}
 use Rattle.std.specs.Prelude.{Option, Some, None, ◌⊎◌, ◌<◌, ◌==◌, min, [], ◌∷◌, ◌++◌, length, slice_set}
 use Rattle.std.specs.List.{list_any, position}
 use Rattle.oca_net.specs.Ends.{last_u64}
@@ -42,13 +42,18 @@ or_else (Some at) other = Some at
 abbrev pub place_for : ℕ → Page → List Page → Option ℕ
 place_for now page pages = or_else (position (shows_same page) pages) (position (is_open_no_longer now) pages)
 
--- Where there is no such place it is kept behind all others while fewer than 128 are kept, else in the place of another.
--- All others stay.
+-- none of the first pages, so many, asked before the one at this place
+abbrev pub NoneEarlier : (count at : ℕ) → List Page → Type 0
+NoneEarlier count at pages =
+    (k : ℕ) (d : Page) → k < count → (slice_index_or pages at d).until ≤ (slice_index_or pages k d).until
+
+-- Where there is no such place it is kept behind all others while fewer than 128 are kept, else in the place of one that asked
+-- longest ago. All others stay.
 abbrev pub KeepsPageAt : Option ℕ → Page → List Page → List Page → Type 0
 KeepsPageAt (Some at) page old new = new ≡ slice_set old at page
 KeepsPageAt None page old new =
     ((length old < 128) × (new ≡ old ++ page ∷ []))
-    ⊎ ((128 ≤ length old) × ((at : ℕ) × (at < length old) × (new ≡ slice_set old at page)))
+    ⊎ ((128 ≤ length old) × ((at : ℕ) × (at < length old) × NoneEarlier (length old) at old × (new ≡ slice_set old at page)))
 
 -- A PAGE ASKED FOR VALUES, and is kept.
 abbrev pub OpensPage : ℕ → Page → List Page → List Page → Type 0

@@ -1,20 +1,22 @@
 -- What requests do to the view of a device (*profile*). The link is not in their reach at all.
-use Rattle.std.specs.Prelude.{◌≡◌, ◌≢◌, ◌⊎◌, ◌≤◌, ℕ, ◌+◌, min, List, [], ◌∷◌, ◌++◌, codes, decimal, Bool, true, false, if◌then◌else◌}
-use Rattle.std.specs.Prelude.{Option, Some}
+use Rattle.std.specs.Prelude.{◌≡◌, ◌≢◌, ◌⊎◌, ℕ, ◌+◌, min, List, [], ◌∷◌, ◌++◌, codes, decimal, Bool, true, false, if◌then◌else◌}
+use Rattle.std.specs.Prelude.{Option, Some, is_some, not, ◌&&◌, ◌==◌}
 use Rattle.std.specs.Prelude.{None, Result, Ok, Err}
 use Rattle.std.specs.Str.{bytes_eq}
 use Rattle.std.specs.declared.alloc.AllocError.{AllocError}
 use Rattle.http.specs.declared.request.Request.{Request}
 use Rattle.http.specs.Request.{head_of}
-use Rattle.http_uri.specs.Uri.{uri_path}
+use Rattle.http_uri.specs.Uri.{uri_authority, uri_path}
 use Rattle.http_server.specs.declared.response.Response.{Response}
+use Rattle.http_server.specs.Response.{IsResponse}
 use Rattle.json.specs.Token.{Token, begin_array, begin_object, end_array, end_object, key, number}
 use Rattle.json.specs.Print.{print}
 use Rattle.oca_types.specs.declared.words.Ono.{Ono}
 use Rattle.oca_web.specs.declared.order.Action.{Action}
 use Rattle.oca_web.specs.declared.order.Action.TheVariants as actions
 use Rattle.oca_web.specs.declared.site.Site.{Site}
-use Rattle.oca_web.specs.Admission.{lets_request_in}
+use Rattle.oca_web.specs.declared.admission.Terms.{Terms}
+use Rattle.oca_web.specs.Admission.{field, has_host, has_page, lets_request_in, request_opens}
 use Rattle.oca_web.specs.declared.order.Wanted.{Wanted}
 use Rattle.oca_web.specs.Orders.{with_all, with_order}
 use Rattle.oca_web.specs.Bodies.{AreOrdersIn, IsOrderIn}
@@ -43,10 +45,11 @@ abbrev pub last_moment_for : (now : ℕ) (given : Option ℕ) (doubts : Bool) �
 last_moment_for now (Some moment) doubts = min moment (latest_from now)
 last_moment_for now None doubts = if doubts then 0 else latest_from now
 
--- the orders are as they were, and so are the terms of the site
+-- the orders are as they were, and so are the terms of the site, and whether requests may have waited
 pub record KeepsAll (old new : Site) : Type 0 where
   pub orders : new.view.orders ≡ old.view.orders
   pub terms : new.terms ≡ old.terms
+  pub doubts : new.doubts ≡ old.doubts
 
 -- ONE ORDER WAS ADDED, and its ticket answered, with the status 202.
 pub record AddsOrder (ono : Ono) (action : Action) (given : Option ℕ) (old : Site) (response : Response) (new : Site) : Type 0 where
@@ -54,6 +57,7 @@ pub record AddsOrder (ono : Ono) (action : Action) (given : Option ℕ) (old : S
   pub ticket : response.body.items ≡ decimal (old.view.orders.tickets + 1)
   pub orders : new.view.orders ≡ with_order ono action (last_moment_for old.view.news.now given old.doubts) old.view.orders
   pub terms : new.terms ≡ old.terms
+  pub doubts : new.doubts ≡ old.doubts
 
 -- the tickets of so many orders from this one on, in JSON
 abbrev pub tickets_after : (ticket : ℕ) → List Wanted → List Token
@@ -75,6 +79,7 @@ pub record AddsOrders (ws : List Wanted) (given : Option ℕ) (old : Site) (resp
   pub tickets : EndsWithTickets (old.view.orders.tickets + 1) ws response.body.items
   pub orders : new.view.orders ≡ with_all ws (last_moment_for old.view.news.now given old.doubts) old.view.orders
   pub terms : new.terms ≡ old.terms
+  pub doubts : new.doubts ≡ old.doubts
 
 -- none was, and the status is another one
 pub record AddsNone (old : Site) (response : Response) (new : Site) : Type 0 where
@@ -130,6 +135,14 @@ KeepsOrders (Err e) old response new = KeepsAll old new
 abbrev pub method_of : Request (List ℕ) → List ℕ
 method_of r = (head_of r).method
 
+-- whether the request names a host in its address, as one to a proxy does
+abbrev pub is_for_proxy : Request (List ℕ) → Bool
+is_for_proxy r = is_some (uri_authority (head_of r).uri)
+
+-- whether a request is answered, and not refused
+abbrev pub admits_request : Terms → Request (List ℕ) → Bool
+admits_request t r = not (is_for_proxy r) && lets_request_in t r
+
 -- A POST THAT IS LET IN adds one order: what its path asks for, of the object, with the value and until the moment that
 -- its body says, or all orders of its body. It is answered 202 with the orders' own tickets; or it is refused with another
 -- status, and adds none. A body that names another run of the program adds none, and nor does any where the site is one
@@ -139,20 +152,78 @@ pub record Orders (old : Site) (request : Request (List ℕ)) (response : Respon
   pub post : bytes_eq (codes "POST") (method_of request) ≡ true
   pub adds : AddsFor (uri_path (head_of request).uri) request.body old response new
 
+-- ---- what is refused
+
+-- the fields of every answer of the site: no browser is to keep it, guess its type, or give it to another page
+abbrev pub protection : List (List ℕ × List ℕ)
+protection = (codes "cache-control", codes "no-store") ∷ (codes "x-content-type-options", codes "nosniff")
+    ∷ (codes "x-frame-options", codes "DENY") ∷ (codes "referrer-policy", codes "no-referrer")
+    ∷ (codes "cross-origin-resource-policy", codes "same-origin") ∷ []
+
+-- the field of a plain text
+abbrev pub plain_text : List ℕ × List ℕ
+plain_text = (codes "content-type", codes "text/plain; charset=utf-8")
+
 -- what a request without the token is told
 abbrev pub where_to_go : List ℕ
 where_to_go = codes "open the address that ocapanel printed\n"
 
--- THE REQUEST IS REFUSED: with a status of 400 or above, and no body but what is told with 401.
-pub record IsTurnedAway (response : Response) : Type 0 where
-  pub status : 400 ≤ response.status
-  pub body : (response.body.items ≡ []) ⊎ ((response.status ≡ 401) × (response.body.items ≡ where_to_go))
+-- the status of a POST that has this host and the token, and is not let in: 403 from a page of another host, and 415 for a
+-- body of another kind
+abbrev pub status_of_post : Terms → Request (List ℕ) → ℕ
+status_of_post t r = if has_page t.names.items (field (head_of r).headers (codes "host")) (field (head_of r).headers (codes "origin"))
+    then 415 else 403
+
+-- the status of a request to this site that is not let in: 421 for another host, and 401 without the token
+abbrev pub status_away : Terms → Request (List ℕ) → ℕ
+status_away t r = if has_host t.names.items (field (head_of r).headers (codes "host"))
+    then (if request_opens t.key r then status_of_post t r else 401) else 421
+
+-- THE WHOLE ANSWER WITH A STATUS: with 401 where to go, and with another one no body, and no field but those of every
+-- answer.
+abbrev pub TellsOnly : (status : ℕ) → Response → Type 0
+TellsOnly status response = IsResponse status (if status == 401 then protection ++ plain_text ∷ [] else protection)
+    (if status == 401 then where_to_go else []) response
+
+-- THE REQUEST IS REFUSED, and its answer has nothing of the device and nothing of the token: it is determined by whether
+-- the request names a host in its address, has a host and an origin of the panel, and brings the token. Where memory is
+-- refused it is 503 alone.
+abbrev pub IsTurnedAway : Terms → Request (List ℕ) → Response → Type 0
+IsTurnedAway t r response = TellsOnly (if is_for_proxy r then 400 else status_away t r) response
+    ⊎ IsResponse 503 [] [] response
+
+-- ---- what is counted
+
+-- no request was counted
+pub record KeepsCounts (old new : Site) : Type 0 where
+  pub calls : new.calls ≡ old.calls
+  pub admitted : new.admitted ≡ old.admitted
+
+-- the next number; the greatest one stays
+abbrev pub count_after : ℕ → ℕ
+count_after count = min (count + 1) 18446744073709551615
+
+-- so many were let in, with this request
+abbrev pub let_in_with : Terms → Request (List ℕ) → ℕ → ℕ
+let_in_with t r count = if admits_request t r then count_after count else count
+
+-- where memory was refused before it was looked at, the request is not counted as let in
+abbrev pub CountsLetIn : Result Unit AllocError → Site → Request (List ℕ) → Site → Type 0
+CountsLetIn (Ok u) old request new = new.admitted ≡ let_in_with old.terms request old.admitted
+CountsLetIn (Err e) old request new = (new.admitted ≡ let_in_with old.terms request old.admitted) ⊎ (new.admitted ≡ old.admitted)
+
+-- THE REQUEST IS COUNTED among those that were answered; and among those that were let in exactly if it was, unless it
+-- is answered 503.
+pub record CountsRequest (old : Site) (request : Request (List ℕ)) (response : Response) (new : Site) : Type 0 where
+  pub calls : new.calls ≡ count_after old.calls
+  pub admitted : (new.admitted ≡ let_in_with old.terms request old.admitted)
+      ⊎ ((response.status ≡ 503) × (new.admitted ≡ old.admitted))
 
 -- NOTHING IS ORDERED: a request that is not let in is refused, and the whole view stays as it was.
 pub record OrdersNothing (old : Site) (request : Request (List ℕ)) (response : Response) (new : Site) : Type 0 where
   pub status : response.status ≢ 202
   pub keeps : KeepsAll old new
-  pub refused : (lets_request_in old.terms request ≡ true) ⊎ ((new.view ≡ old.view) × IsTurnedAway response)
+  pub refused : (admits_request old.terms request ≡ true) ⊎ ((new.view ≡ old.view) × IsTurnedAway old.terms request response)
 
 abbrev pub Answers : Site → Request (List ℕ) → Response → Site → Type 0
 Answers old request response new = Orders old request response new ⊎ OrdersNothing old request response new
@@ -160,7 +231,7 @@ Answers old request response new = Orders old request response new ⊎ OrdersNot
 -- the same before memory that was refused is answered for
 pub record Fails (old : Site) (request : Request (List ℕ)) (new : Site) : Type 0 where
   pub keeps : KeepsAll old new
-  pub refused : (lets_request_in old.terms request ≡ true) ⊎ (new.view ≡ old.view)
+  pub refused : (admits_request old.terms request ≡ true) ⊎ (new.view ≡ old.view)
 
 abbrev pub AnswersOrFails : Result Unit AllocError → Site → Request (List ℕ) → Response → Site → Type 0
 AnswersOrFails (Ok u) old request response new = Answers old request response new

@@ -1,12 +1,15 @@
 -- What a view of a device does over its panel (*profile*).
 use Rattle.std.specs.Prelude.{◌≡◌, ◌≢◌, ◌⊎◌, ℕ, ◌+◌, ◌-◌, ◌*◌, ◌==◌, min, max, nat_le, nat_lt, Bool, true, false, if◌then◌else◌, Option, Result, Ok}
-use Rattle.std.specs.Prelude.{Err, Some, None, [], ◌∷◌, ◌++◌, remove, slice_get}
+use Rattle.std.specs.Prelude.{Err, Some, None, List, [], ◌∷◌, ◌++◌, remove, slice_get, IfSome}
+use Rattle.std.specs.List.{All}
 use Rattle.std.specs.Option.{option_map}
 use Rattle.oca_types.specs.declared.words.NoMemory.{NoMemory}
 use Rattle.oca_types.specs.declared.words.Handle.{Handle}
 use Rattle.oca_types.specs.declared.words.Ono.{Ono}
 use Rattle.oca_types.specs.declared.class.Class.{Class}
 use Rattle.oca_types.specs.Sizes.{span_size}
+use Rattle.oca_model.specs.declared.value.Value.{Value}
+use Rattle.oca_model.specs.Words.{IsRead}
 use Rattle.oca_net.specs.Ends.{last_u64}
 use Rattle.oca_control.specs.declared.report.DriveReport.{DriveReport}
 use Rattle.oca_control.specs.declared.outcome.Outcome.{Outcome}
@@ -18,10 +21,13 @@ use Rattle.oca_web.specs.declared.ask.Asked.{Asked}
 use Rattle.oca_web.specs.declared.ask.Question.{Question}
 use Rattle.oca_web.specs.declared.inventory.Inventory.{Inventory}
 use Rattle.oca_web.specs.declared.object.Object.{Object}
+use Rattle.oca_web.specs.declared.view.NoOrder.{NoOrder}
+use Rattle.oca_web.specs.declared.view.NoOrder.TheVariants as no_order
 use Rattle.oca_web.specs.declared.view.Reach.{Reach}
 use Rattle.oca_web.specs.declared.view.View.{View}
 use Rattle.oca_web.specs.Asking.{class_for, request_of_ask}
-use Rattle.oca_web.specs.Orders.{OrdersState, above_all, LosesOrders, NoneIsLeft, SettlesOrders, SubmitsOrders, with_passed, without_waiting}
+use Rattle.oca_web.specs.Orders.{OrdersState, above_all, HasNoOutcome, LosesOrders, NoneIsKnown, NoneIsLeft, SettlesOrders, SubmitsOrders, with_passed}
+use Rattle.oca_web.specs.Orders.{without_waiting}
 
 -- THE PROGRAM'S CLOCK at a moment of the end, which it is so far ahead of: it never goes back.
 abbrev pub moment_noted : (ahead moment before : ℕ) → ℕ
@@ -35,6 +41,15 @@ half_spent first next = nat_le (4294967295 - first) (2 * (next - first))
 -- handles are used. A number that is too great for 64 bits counts as the greatest.
 abbrev pub commands_submitted : View → ℕ
 commands_submitted v = min (v.submitted_before + (v.next_handle - v.first_handle)) last_u64
+
+-- THE SAME END: the view is of the same device, and over the same end, with its first handle. The program's clock is as far
+-- ahead of the end's as it was, and what was counted over the ends before stays.
+pub record KeepsEnd (old new : View) : Type 0 where
+  pub reach : new.reach ≡ old.reach
+  pub first : new.first_handle ≡ old.first_handle
+  pub ahead : new.ahead ≡ old.ahead
+  pub sent : new.sent_before ≡ old.sent_before
+  pub submitted : new.submitted_before ≡ old.submitted_before
 
 -- THE PROGRAM STOOD STILL where more than 2,000 ms passed since it looked at its clock before: nobody knows how long what
 -- waits has done so.
@@ -77,13 +92,15 @@ pub record TurnsHearing (ahead : ℕ) (heard : Option ℕ) (before : PanelState)
   pub turns : TurnsWith report before after
   pub hears : new_heard ≡ heard_behind ahead before.link.heard after.link.heard heard
 
--- Then the results of the orders that were answered were noted; what followed of it only took answers to questions.
+-- Then the results of the orders that were answered were noted, of all whose outcome was known; what followed of it only took
+-- answers to questions.
 pub record TurnsAndSettles (ahead : ℕ) (heard : Option ℕ) (old : OrdersState) (before : PanelState)
     (new_heard : Option ℕ) (new : OrdersState) (after : PanelState) : Type 0 where
   pub turned : PanelState
   pub settled : PanelState
   pub turns : TurnsHearing ahead heard before new_heard turned
   pub settles : SettlesOrders old turned new settled
+  pub left : NoneIsKnown new.in_flight settled
   pub answers : TakesAnswers settled after
 
 -- ---- one question
@@ -110,6 +127,25 @@ TakesFrom (Some asked) at old before new after =
 -- the question in flight at this place
 abbrev pub TakesAnswer : (at : ℕ) → Inventory → PanelState → Inventory → PanelState → Type 0
 TakesAnswer at old before new after = TakesFrom (slice_get old.asked.items at) at old before new after
+
+-- Whether an answer was taken: the one to the question at this place, which is in flight no longer; else the outcome of that
+-- one is not known, and nothing changed. Where memory is refused, nothing is said.
+pub record AnswersOne (at : ℕ) (old : List Asked) (before : PanelState) (new : List Asked) (after : PanelState) : Type 0 where
+  pub asked : Asked
+  pub outcome : Outcome
+  pub stood : slice_get old at ≡ Some asked
+  pub settles : SettlesIn asked.handle.0 before after outcome
+  pub removed : new ≡ remove old at
+
+abbrev pub AnswersAt : Result Bool NoMemory → (at : ℕ) → List Asked → PanelState → List Asked → PanelState → Type 0
+AnswersAt (Ok true) at old before new after = AnswersOne at old before new after
+AnswersAt (Ok false) at old before new after = (new ≡ old) × (after ≡ before)
+    × IfSome (slice_get old at) (λ asked. HasNoOutcome asked.handle.0 before)
+AnswersAt (Err e) at old before new after = Unit {0}
+
+-- Of no question that is left in flight the outcome is known.
+abbrev pub NoneIsAnswered : List Asked → PanelState → Type 0
+NoneIsAnswered asked p = All (λ a. HasNoOutcome a.handle.0 p) asked
 
 -- THIS QUESTION WAS ASKED of the object at its place, by the methods of its class: it is kept with the handle of its
 -- command and the present moment, and the view's next handle is above that one. Nothing else changed.
@@ -196,3 +232,17 @@ abbrev pub SubmitsAndAsks : (first next ahead now : ℕ) → OrdersState → Pan
 SubmitsAndAsks first next ahead now old before last new after = (submitted : PanelState)
     × SubmitsOrders ahead (with_passed now old) before new submitted × RestsBehind first next ahead new submitted
     × AsksQuestions (next_with first next new) submitted last after
+
+-- ---- the value that a word is for
+
+-- in an object of this class: the one that it is read as, and none only where it is read as none
+abbrev pub ReadsInClass : Class → List ℕ → Result Value NoOrder → Type 0
+ReadsInClass class word (Ok value) = IsRead class word (Some value)
+ReadsInClass class word (Err why) = (why ≡ no_order.NoValue) × IsRead class word None
+
+-- THE VALUE THAT A WORD NAMES for an object is one of the object's class; none where the object was not found, or its class is
+-- unknown.
+abbrev pub NamesValue : Option (Option Class) → List ℕ → Result Value NoOrder → Type 0
+NamesValue (Some (Some class)) word named = ReadsInClass class word named
+NamesValue (Some None) word named = named ≡ Err no_order.NoValue
+NamesValue None word named = named ≡ Err no_order.NoObject

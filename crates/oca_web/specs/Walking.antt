@@ -6,7 +6,7 @@ use Rattle.oca_web.specs.declared.inventory.Inventory.{Inventory}
 use Rattle.oca_web.specs.Finding.{asks_of, questions_of}
 use Rattle.oca_web.specs.Listing.{KeepsListed}
 use Rattle.oca_web.specs.Objects.{object_found}
-use Rattle.oca_web.specs.Polling.{next_round}
+use Rattle.oca_web.specs.Polling.{next_round, without_round}
 
 -- it is the same walk, and is over or not as it was; what blocks listed in it is kept, and no more
 pub record KeepsWalk (old new : Inventory) : Type 0 where
@@ -31,6 +31,15 @@ pub record OtherWalk (old new : Inventory) : Type 0 where
 
 abbrev pub BeginsAnew : Inventory → Inventory → Type 0
 BeginsAnew old new = OtherWalk old new ⊎ KeepsWalk old new
+
+-- MEMORY WAS REFUSED as another walk began: it has begun all the same, but no object is known, and no question waits. The
+-- round of reads is over, and another walk must begin.
+pub record ForgetsAll (old new : Inventory) : Type 0 where
+  pub other : OtherWalk old new
+  pub objects : new.objects.list ≡ []
+  pub waiting : new.waiting.items ≡ []
+  pub poll : new.poll ≡ without_round old.poll
+  pub stale : new.is_stale ≡ true
 
 -- THE END OF A WALK STAYS: a walk that is over is over as long as no other one began, and what blocks listed in it is kept.
 pub record StaysOver (old new : Inventory) : Type 0 where

@@ -1,6 +1,6 @@
 //! What is asked of an object to know it: nothing here sets anything.
 ghost use Rattle.std.specs.Prelude.{◌≡◌};
-ghost use Rattle.oca_web.specs.Asking.{class_for, method_of_ask, request_of_ask};
+ghost use Rattle.oca_web.specs.Asking.{class_for, is_same_ask, method_of_ask, request_of_ask};
 
 use oca_model::Request;
 use oca_types::{Class, Handle, Method};
@@ -60,6 +60,25 @@ impl Ask {
             Ask::Names => Method::GetPositionNames,
             Ask::Flags => Method::GetPositionEnableds,
             Ask::Value => Method::GetSetting,
+        }
+    }
+}
+
+impl Ask {
+    /// Whether both ask the same.
+    pub(crate) fn is_same(self, other: Ask) -> bool
+        ensures { result ≡ is_same_ask self other }
+    {
+        match (self, other) {
+            (Ask::Members, Ask::Members)
+            | (Ask::Role, Ask::Role)
+            | (Ask::Label, Ask::Label)
+            | (Ask::Lockable, Ask::Lockable)
+            | (Ask::Enabled, Ask::Enabled)
+            | (Ask::Names, Ask::Names)
+            | (Ask::Flags, Ask::Flags)
+            | (Ask::Value, Ask::Value) => true,
+            _ => false,
         }
     }
 }

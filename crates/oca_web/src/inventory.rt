@@ -1,14 +1,13 @@
 //! What is known of a device, and what is asked of it.
-ghost use Rattle.std.specs.Prelude.{◌≡◌, ◌+◌, ◌≤◌, [], ◌++◌, length, IfSome};
+ghost use Rattle.std.specs.Prelude.{◌≡◌, ◌+◌, ◌≤◌, ◌++◌, length, map, IfSome};
 ghost use Rattle.oca_web.specs.Finding.{asks_of, member_numbers};
 ghost use Rattle.std.specs.Option.{option_map};
-ghost use Rattle.oca_web.specs.Learning.{listed_in};
+ghost use Rattle.oca_web.specs.Learning.{ask_behind, can_be_asked, listed_in, of_no_walk};
 ghost use Rattle.oca_web.specs.declared.ask.Ask.TheVariants as asks;
-ghost use Rattle.std.specs.Bool.{Decides};
-ghost use Rattle.oca_web.specs.Listing.{IsListOf, WasListed};
 ghost use Rattle.oca_web.specs.Shows.{tells_of_another_device};
 
 use crate::ask::{Ask, Asked, Question, class_for};
+use crate::listing::{Listed, was_listed};
 use crate::object::{Object, Shown};
 use crate::objects::Objects;
 use crate::order::{Action, Order};
@@ -22,15 +21,6 @@ use oca_panel::{Place, Trouble, Walk};
 use oca_types::{Class, Handle, NoMemory, Ono};
 use std::alloc::Global;
 use std::collections::VecDeque;
-
-/// The members that a block listed in a walk.
-#[derive(Drop)]
-pub struct Listed {
-    /// The place of the block in the list of objects.
-    pub place: usize,
-    /// The members that the block listed, in order.
-    pub members: Vec<Member>,
-}
 
 /// What is known of a device, and which questions are asked of it (*profile*).
 ///
@@ -54,20 +44,20 @@ pub struct Inventory {
 }
 
 impl Inventory {
-    ghost use Rattle.std.specs.Prelude.{◌≡◌, ◌≢◌, ◌==◌, ◌≤◌, ◌+◌, [], true, length, IfOk, OnSome, remove};
+    ghost use Rattle.std.specs.Prelude.{◌≡◌, ◌≢◌, ◌==◌, ◌≤◌, ◌+◌, [], true, length, IfErr, IfOk, OnSome, remove};
     ghost use Rattle.std.specs.Option.{option_map};
     ghost use Rattle.oca_web.specs.Views.{target_of};
-    ghost use Rattle.oca_web.specs.Learning.{LearnsOrder, LearnsSome, LearnsTrouble, BecomesShown};
+    ghost use Rattle.oca_web.specs.Learning.{LearnsOrder, LearnsSome, LearnsTrouble, BecomesShown, WaitFirst, all_answered, question_about, question_behind};
     ghost use Rattle.oca_web.specs.Learning.{Learns, LearnsAnswer, LearnsFact, LearnsMembers, listed_in};
-    ghost use Rattle.oca_web.specs.Shows.{shown_listed, shown_read};
+    ghost use Rattle.oca_web.specs.Shows.{shown_listed, shown_ordered, shown_read};
     ghost use Rattle.oca_web.specs.Listing.{Compares, ComparesAt, KeepsList, KeepsListed};
-    ghost use Rattle.std.specs.Prelude.{◌∷◌, ◌++◌};
+    ghost use Rattle.std.specs.Prelude.{◌∷◌, ◌++◌, ◌||◌, Some};
     ghost use Rattle.oca_web.specs.Finding.{FindsAt, FindsEach, FindsNext, FindsOne, Visits, questions_of};
     ghost use Rattle.oca_web.specs.Polling.{OpensPage, page_asked, poll_begun, without_round};
     ghost use Rattle.oca_web.specs.Readings.{AsksAgain, ConfirmsBy, IsOfMoment, KeepsAsked, KeepsMoment};
     ghost use Rattle.oca_web.specs.declared.ask.Ask.TheVariants as asks;
     ghost use Rattle.std.specs.Prelude.{slice_get};
-    ghost use Rattle.oca_web.specs.Walking.{BeginsAnew, IsAtRoot, WalkGoesOn, KeepsWalk, moment_to_ask};
+    ghost use Rattle.oca_web.specs.Walking.{BeginsAnew, ForgetsAll, IsAtRoot, WalkGoesOn, KeepsWalk, moment_to_ask};
     ghost use Rattle.oca_web.specs.Objects.{object_numbered};
     ghost use Rattle.oca_net.specs.Ends.{last_u64, one_more};
 
@@ -97,8 +87,9 @@ impl Inventory {
 
     /// Forgets all objects, and begins another walk at the root (*profile*). Questions in flight stay in flight, but
     /// their answers are then not used. The call sends nothing. Refusals, the first that applies: `NoMemory` if the
-    /// present walk has the number 2^64 - 1; nothing is then changed. `NoMemory` if memory was refused; the objects are
-    /// then forgotten all the same.
+    /// present walk has the number 2^64 - 1; nothing is then changed. `NoMemory` if memory was refused: another walk has
+    /// then begun all the same, but no object is known, not even the root, no question waits, and another walk must
+    /// begin ([`is_stale`](Inventory::is_stale)).
     #[tactic(auto, using(crate::proofs::FindLemmas::at_root))]
     pub fn begin_anew(&mut self) -> Result<(), NoMemory>
         ensures anew { BeginsAnew self.old self.new }
@@ -107,6 +98,7 @@ impl Inventory {
             self.new) }
         ensures asked { self.new.asked ≡ self.old.asked }
         ensures poll { IfOk result (λ u. self.new.poll ≡ without_round self.old.poll) }
+        ensures refused { IfErr result (λ e. self.old.epoch ≢ last_u64 → ForgetsAll self.old self.new) }
     {
         if self.epoch == u64::MAX {
             return Err(NoMemory);
@@ -116,10 +108,23 @@ impl Inventory {
         self.lists.clear();
         self.poll.end_round();
         self.walked = false;
-        self.is_stale = false;
+        self.is_stale = true;
         self.epoch += 1;
-        self.walk = Walk::new(self.alloc)?;
-        self.add_next(Some(Class::Block))
+        let Ok(walk) = Walk::new(self.alloc) else {
+            return Err(NoMemory);
+        };
+        self.walk = walk;
+        match self.add_next(Some(Class::Block)) {
+            Ok(()) => {
+                self.is_stale = false;
+                Ok(())
+            }
+            Err(refused) => {
+                self.objects.clear();
+                self.waiting.clear();
+                Err(refused)
+            }
+        }
     }
 
     /// Adds the object at the next place of the walk, unless it was visited before, with what is asked to know it.
@@ -209,7 +214,7 @@ impl Inventory {
     pub fn epoch(&self) -> u64
         ensures { result ≡ self.now.epoch }
     {
-        self.epoch // of the present walk
+        self.epoch
     }
 
     /// Returns whether the walk ended: all its questions were answered (*profile*). The result is `false` at first, and
@@ -217,17 +222,18 @@ impl Inventory {
     pub fn is_walked(&self) -> bool
         ensures { result ≡ self.now.walked }
     {
-        self.walked // to its end
+        self.walked
     }
 
     /// Returns whether an answer showed that the device changed since the walk, so that another walk must begin
     /// (*profile*). This is so if a block lists other members than it listed in the walk. It is also so if the device
     /// answers a question about a known object with BadONo, with BadMethod or with an answer of another class. The
-    /// result is `false` at first, and again after [`begin_anew`](Inventory::begin_anew).
+    /// result is `false` at first, and again after [`begin_anew`](Inventory::begin_anew), unless that was refused
+    /// memory: then it is `true`.
     pub fn is_stale(&self) -> bool
         ensures { result ≡ self.now.is_stale }
     {
-        self.is_stale // changed since the walk
+        self.is_stale
     }
 
     /// Returns the number of questions in flight: they were submitted, and their answers were not taken yet
@@ -342,7 +348,7 @@ impl Inventory {
 
     /// The walk is over once nothing of it waits or is in flight.
     pub(crate) fn note_walked(&mut self)
-        ensures over { self.old.walked ≡ true → self.new.walked ≡ true }
+        ensures over { self.new.walked ≡ (self.old.walked || all_answered self.old) }
         ensures rest { self.new ≡ record self.old { walked = self.new.walked } }
     {
         if self.waiting.is_empty() && self.asked.is_empty() {
@@ -379,7 +385,8 @@ impl Inventory {
 
     /// A question that could not be submitted is asked before all others.
     pub(crate) fn ask_again(&mut self, question: Question) -> Result<(), NoMemory>
-        ensures { self.new ≡ record self.old { waiting = self.new.waiting } }
+        ensures waits { WaitFirst result (Some question) self.old.waiting.items self.new.waiting.items }
+        ensures rest { self.new ≡ record self.old { waiting = self.new.waiting } }
     {
         match self.waiting.push_front(question) {
             Ok(()) => Ok(()),
@@ -607,20 +614,43 @@ impl Inventory {
     /// for its value, if it has a value. The call itself sends nothing. An answer to the same question that is still in
     /// flight is not used, since it can be older than the order. If the order's object is not known, nothing is
     /// changed. The only refusal is `NoMemory`, if memory was refused; the question is then not put.
+    #[tactic(auto, using(crate::proofs::LearnLemmas::order_rules))]
     pub fn learn_order(&mut self, order: Order, done: Result<(), Trouble>) -> Result<(), NoMemory>
         ensures walk { KeepsWalk self.old self.new }
         ensures learns { LearnsOrder order done self.old self.new }
+        ensures asks { WaitFirst result (question_behind order self.old) self.old.waiting.items self.new.waiting.items }
     {
         let Some(place) = self.objects.place_of(order.ono) else {
             return Ok(());
         };
-        let Some(shown) = self.objects.shown(place) else {
-            return Ok(());
-        };
-        self.objects.show(place, shown_ordered(shown, order, done));
-        let ask = asked_behind(order.action);
-        forget(self.asked.as_mut_slice(), place, ask);
-        self.ask_first(place, ask)
+        let question = self.question_behind(place, order.action);
+        self.show_ended(place, order, done);
+        forget(self.asked.as_mut_slice(), place, ask_behind(order.action));
+        match question {
+            Some(question) => self.ask_again(question),
+            None => Ok(()),
+        }
+    }
+
+    /// What is asked again of the object at this place behind an order.
+    fn question_behind(&self, place: usize, action: Action) -> Option<Question>
+        ensures { result ≡ question_about place action self.now }
+    {
+        let (ask, epoch) = (ask_behind(action), self.epoch);
+        match self.objects.as_slice().get(place) {
+            Some(object) if can_be_asked(ask, object.class) => Some(Question { place, ask, epoch }),
+            _ => None,
+        }
+    }
+
+    /// The object at this place shows how an order for it ended.
+    fn show_ended(&mut self, place: usize, order: Order, done: Result<(), Trouble>)
+        ensures shows { BecomesShown place (shown_ordered order done) self.old.objects self.new.objects }
+        ensures rest { self.new ≡ record self.old { objects = self.new.objects } }
+    {
+        if let Some(shown) = self.objects.shown(place) {
+            self.objects.show(place, shown_ordered(shown, order, done));
+        }
     }
 
     /// Notes how orders ended, one after another, each with its own outcome.
@@ -637,20 +667,6 @@ impl Inventory {
             Err(refused) => Err(refused),
         }
     }
-
-    /// The label of an object, or its value, where it has one, is asked before all that waits.
-    fn ask_first(&mut self, place: usize, ask: Ask) -> Result<(), NoMemory>
-        ensures { self.new ≡ record self.old { waiting = self.new.waiting } }
-    {
-        let Some(object) = self.objects.as_slice().get(place) else {
-            return Ok(());
-        };
-        if ask == Ask::Value && matches!(object.class, None | Some(Class::Block)) {
-            return Ok(());
-        }
-        let epoch = self.epoch;
-        self.ask_again(Question { place, ask, epoch })
-    }
 }
 
 /// The members that a block listed, where they were asked.
@@ -662,66 +678,6 @@ fn members_in(ask: Ask, answer: &Answer) -> Option<&Members>
         (Ask::Members, Answer::Members(members)) => Some(members),
         _ => None,
     }
-}
-
-/// Whether two members are the same: by their numbers and their classes.
-fn is_same(one: &Member, other: &Member) -> bool
-    ensures { Decides result (one.now ≡ other.now) }
-{
-    one.ono.0 == other.ono.0 && one.class == other.class
-}
-
-/// Whether no member is left.
-#[tactic(auto, using(crate::proofs::ListingLemmas::end_rules))]
-fn ends(members: &[Member]) -> bool
-    ensures { Decides result ([] ≡ members.now) }
-{
-    match members.split_first() {
-        Some(_) => false,
-        None => true,
-    }
-}
-
-/// Whether two lists of members are the same, in the same order.
-#[tactic(auto, using(crate::proofs::ListingLemmas::same_rules))]
-fn are_same(some: &[Member], others: &[Member]) -> bool
-    ensures { Decides result (some.now ≡ others.now) }
-{
-    let Some((one, rest)) = some.split_first() else {
-        return ends(others);
-    };
-    let Some((other, more)) = others.split_first() else {
-        return false;
-    };
-    if !is_same(one, other) {
-        return false;
-    }
-    are_same(rest, more)
-}
-
-/// Whether a block listed these members, by what is kept of it.
-#[tactic(auto, using(crate::proofs::ListingLemmas::list_rules))]
-fn is_list_of(one: &Listed, place: usize, members: &[Member]) -> bool
-    ensures { Decides result (IsListOf place members.now one.now) }
-{
-    if one.place != place {
-        return false;
-    }
-    are_same(one.members.as_slice(), members)
-}
-
-/// Whether a block listed these members in the walk of which these are the lists.
-#[tactic(auto, using(crate::proofs::ListingLemmas::listed_rules))]
-fn was_listed(lists: &[Listed], place: usize, members: &[Member]) -> bool
-    ensures { Decides result (WasListed place members.now lists.now) }
-{
-    let Some((first, rest)) = lists.split_first() else {
-        return false;
-    };
-    if is_list_of(first, place, members) {
-        return true;
-    }
-    was_listed(rest, place, members)
 }
 
 /// The numbers of members.
@@ -789,18 +745,37 @@ fn is_of_another_device(trouble: Trouble) -> bool
 }
 
 /// What is asked again of an object behind an order: what the order changes.
-fn asked_behind(action: Action) -> Ask {
+fn ask_behind(action: Action) -> Ask
+    ensures { result ≡ ask_behind action }
+{
     match action {
         Action::Rename(_) => Ask::Label,
         Action::Set(_) | Action::Lock | Action::Unlock => Ask::Value,
     }
 }
 
+/// Whether this can be asked again of an object of this class: its value only where it has one.
+fn can_be_asked(ask: Ask, class: Option<Class>) -> bool
+    ensures { result ≡ can_be_asked ask class }
+{
+    ask != Ask::Value || !matches!(class, None | Some(Class::Block))
+}
+
 /// The answers to such questions in flight about the object at this place are not learned: they are of no walk.
-fn forget(asked: &mut [Asked], place: usize, ask: Ask) {
-    for one in asked.iter_mut() {
-        if one.question.place == place && one.question.ask == ask {
-            one.question.epoch = 0;
-        }
+fn forget(asked: &mut [Asked], place: usize, ask: Ask)
+    ensures { asked.new ≡ map (of_no_walk place ask) asked.old }
+{
+    for at in 0..asked.len() {
+        asked[at] = forgotten(place, ask, asked[at]);
     }
+}
+
+/// A question in flight, of no walk where it asks this of the object at this place.
+fn forgotten(place: usize, ask: Ask, mut one: Asked) -> Asked
+    ensures { result ≡ of_no_walk place ask one }
+{
+    if one.question.place == place && one.question.ask.is_same(ask) {
+        one.question.epoch = 0;
+    }
+    one
 }

@@ -13,6 +13,7 @@ mod ask;
 mod asking;
 mod inventory;
 mod label;
+mod listing;
 mod many;
 mod object;
 mod objects;

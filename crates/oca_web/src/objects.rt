@@ -66,7 +66,7 @@ impl Objects {
     pub fn changes(&self) -> u64
         ensures { result ≡ self.now.changes }
     {
-        self.changes // so far
+        self.changes
     }
 
     /// Adds an object at the end, which counts as a change (*profile*). The call does not check whether another object

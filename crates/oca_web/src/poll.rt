@@ -1,7 +1,7 @@
 //! Which object is read again next, and when.
-ghost use Rattle.std.specs.Prelude.{◌≡◌, ◌<◌, IfSome, length};
+ghost use Rattle.std.specs.Prelude.{◌≡◌, ◌<◌, ◌+◌, IfSome, length};
 ghost use Rattle.std.specs.List.{position};
-ghost use Rattle.oca_web.specs.Polling.{KeepsPageAt, is_open_no_longer, place_for, shows_same};
+ghost use Rattle.oca_web.specs.Polling.{KeepsPageAt, NoneEarlier, is_open_no_longer, place_for, shows_same};
 
 use crate::ask::Ask;
 use crate::object::Object;
@@ -354,17 +354,31 @@ fn keep_page(pages: &mut ArrayVec<Page, MOST_PAGES>, page: Page, place: Option<u
 }
 
 /// Where the page is kept that asked longest ago.
+#[tactic(auto, using(crate::proofs::PageLemmas::earlier_rules))]
 fn oldest(pages: &[Page]) -> usize
     requires { 0 < length pages.now }
-    ensures { result < length pages.now }
+    ensures within { result < length pages.now }
+    ensures first { NoneEarlier (length pages.now) result pages.now }
 {
     let mut oldest = 0usize;
     for at in 1..pages.len() {
-        if pages[at].until < pages[oldest].until {
-            oldest = at;
-        }
+        oldest = earlier_of(pages, at, oldest);
     }
     oldest
+}
+
+/// The one of two places whose page asked earlier.
+#[tactic(auto, using(crate::proofs::PageLemmas::earlier_rules))]
+fn earlier_of(pages: &[Page], one: usize, other: usize) -> usize
+    requires { (one < length pages.now) × (other < length pages.now) }
+    ensures within { result < length pages.now }
+    ensures first { NoneEarlier one other pages.now → NoneEarlier (one + 1) result pages.now }
+{
+    if pages[one].until < pages[other].until {
+        one
+    } else {
+        other
+    }
 }
 
 /// What is read of an object, where its class is known.

@@ -1,8 +1,10 @@
 //! The service: which requests are let in, and what answers them.
-ghost use Rattle.std.specs.Prelude.{◌≡◌, ◌≢◌, ◌++◌, IfErr, IfOk, OnOk, Some};
+ghost use Rattle.std.specs.Prelude.{◌≡◌, ◌≢◌, ◌++◌, ◌∷◌, [], IfErr, IfOk, IsTrue, OnOk, Some};
 ghost use Rattle.serde_json.specs.View.{view};
 ghost use Rattle.oca_web.specs.Bodies.{last_in, names_run, ono_in, run_in};
-ghost use Rattle.oca_web.specs.Sites.{last_moment_for};
+ghost use Rattle.http_header.specs.FieldValue.{is_visible_text};
+ghost use Rattle.http_server.specs.Response.{fields_of};
+ghost use Rattle.oca_web.specs.Sites.{last_moment_for, protection};
 
 use crate::admission::{Key, Terms, field, has_host, has_page, lets_in, opens};
 use crate::answers::{MOST_RANGES, Range, Told, tickets_json, tree_json, values_json};
@@ -37,13 +39,13 @@ pub struct Site {
 }
 
 impl Site {
-    ghost use Rattle.std.specs.Prelude.{◌≡◌, ◌≢◌, ◌≤◌, [], IfOk, IfErr, Some};
+    ghost use Rattle.std.specs.Prelude.{◌≡◌, ◌≢◌, [], IfOk, IfErr, OnOk, Some, false};
     ghost use Rattle.serde_json.specs.View.{view};
     ghost use Rattle.oca_web.specs.Bodies.{IsOrderIn, IsOrderOf, IsValueIn, last_in, ono_in};
-    ghost use Rattle.http_server.specs.Response.{IsBlank};
+    ghost use Rattle.http_server.specs.Response.{IsBlank, fields_of};
     ghost use Rattle.oca_web.specs.Admission.{lets_request_in, request_opens};
-    ghost use Rattle.oca_web.specs.Sites.{AnswersOrFails, IsActionFor, IsSetting, IsTurnedAway, KeepsOrders, PostsMany, PostsOne};
-    ghost use Rattle.oca_web.specs.Sites.{PostsOrder, TakesOrder, TakesOrders};
+    ghost use Rattle.oca_web.specs.Sites.{AnswersOrFails, CountsLetIn, IsActionFor, IsSetting, KeepsCounts, KeepsOrders, PostsMany};
+    ghost use Rattle.oca_web.specs.Sites.{PostsOne, PostsOrder, TakesOrder, TakesOrders, TellsOnly, protection, status_away};
     ghost use Rattle.std.specs.Borrow.{sem};
     ghost use Rattle.oca_web.specs.Lending.{LendsView};
 
@@ -53,6 +55,9 @@ impl Site {
     pub fn new(alloc: Global, view: View, terms: Terms) -> Site
         ensures view { result.view ≡ view }
         ensures terms { result.terms ≡ terms }
+        ensures calls { result.calls ≡ 0 }
+        ensures admitted { result.admitted ≡ 0 }
+        ensures doubts { result.doubts ≡ false }
     {
         Site {
             alloc,
@@ -80,6 +85,7 @@ impl Site {
         ensures doubts { self.new.doubts ≡ doubts }
         ensures view { self.new.view ≡ self.old.view }
         ensures terms { self.new.terms ≡ self.old.terms }
+        ensures counts { KeepsCounts self.old self.new }
     {
         self.doubts = doubts;
     }
@@ -89,17 +95,18 @@ impl Site {
     pub fn calls(&self) -> u64
         ensures { result ≡ self.now.calls }
     {
-        self.calls // refused ones too
+        self.calls
     }
 
     /// Returns the number of HTTP requests that were let in since the service was made (*profile*). A request is let in
     /// if its host is one of the panel's names, and it brings the token, if the panel has one. A POST must also have
-    /// the right origin and Content-Type. The result is 0 at first, at most 2^64 - 1. A request that was let in can
-    /// still be answered with an error.
+    /// the right origin and Content-Type, and no request may name a host in its address. The result is 0 at first, at
+    /// most 2^64 - 1. A request that was let in can still be answered with an error. One that is answered 503 may be
+    /// left out.
     pub fn admitted(&self) -> u64
         ensures { result ≡ self.now.admitted }
     {
-        self.admitted // failed ones too
+        self.admitted
     }
 
     /// Whether a request brings the token, where the panel has one.
@@ -126,8 +133,8 @@ impl Site {
     /// The status of a request that is not let in: for another host, without the token, from another page, or of another
     /// kind.
     fn refusal(&self, request: &Request<Bytes>) -> StatusCode
+        ensures status { result ≡ status_away self.now.terms request.now }
         ensures other { result ≢ 202 }
-        ensures error { 400 ≤ result }
     {
         let headers = request.headers();
         let host = field(headers, header::HOST);
@@ -147,8 +154,10 @@ impl Site {
 
     /// Refuses a request that is not let in. One without the token is told where to get it.
     fn turn_away(&self, request: &Request<Bytes>, response: &mut Response) -> Result<(), AllocError>
-        requires { response.old.body.items ≡ [] }
-        ensures { IfOk result (λ u. (response.new.status ≢ 202) × IsTurnedAway response.new) }
+        requires fields { fields_of response.old ≡ protection }
+        requires body { response.old.body.items ≡ [] }
+        ensures other { OnOk result (response.new.status ≢ 202) }
+        ensures told { OnOk result (TellsOnly (status_away self.now.terms request.now) response.new) }
     {
         response.status = self.refusal(request);
         if response.status != StatusCode::UNAUTHORIZED {
@@ -168,7 +177,9 @@ impl Site {
         response: &mut Response,
     ) -> Result<(), AllocError>
         requires { IsBlank response.old }
-        ensures { AnswersOrFails result self.old request.now response.new self.new }
+        ensures answers { AnswersOrFails result self.old request.now response.new self.new }
+        ensures calls { self.new.calls ≡ self.old.calls }
+        ensures let_in { CountsLetIn result self.old request.now self.new }
     {
         put_protection(response)?;
         if request.uri().host().is_some() {
@@ -189,7 +200,8 @@ impl Site {
     /// Answers a request that reads.
     fn get(&mut self, request: &Request<Bytes>, response: &mut Response) -> Result<(), AllocError>
         requires { response.old.status ≡ 200 }
-        ensures { KeepsOrders result self.old response.new self.new }
+        ensures answers { KeepsOrders result self.old response.new self.new }
+        ensures counts { KeepsCounts self.old self.new }
     {
         let path = request.uri().path();
         if request.method().as_str() != "GET" {
@@ -233,6 +245,8 @@ impl Site {
     fn get_values(&mut self, query: Option<&str>, response: &mut Response) -> Result<(), AllocError>
         ensures orders { self.new.view.orders ≡ self.old.view.orders }
         ensures terms { self.new.terms ≡ self.old.terms }
+        ensures doubts { self.new.doubts ≡ self.old.doubts }
+        ensures counts { KeepsCounts self.old self.new }
         ensures status { response.new.status ≡ response.old.status }
     {
         let ranges = ranges_in(query);
@@ -270,6 +284,8 @@ impl Site {
     fn open(&mut self, ranges: &[Range])
         ensures orders { self.new.view.orders ≡ self.old.view.orders }
         ensures terms { self.new.terms ≡ self.old.terms }
+        ensures doubts { self.new.doubts ≡ self.old.doubts }
+        ensures counts { KeepsCounts self.old self.new }
     {
         for range in ranges {
             self.view.open(range.first, range.count);
@@ -279,7 +295,8 @@ impl Site {
     /// Answers a request that orders something.
     fn post(&mut self, path: &str, body: &[u8], response: &mut Response) -> Result<(), AllocError>
         requires { response.old.body.items ≡ [] }
-        ensures { PostsOrder path.now body.now result self.old response.new self.new }
+        ensures answers { PostsOrder path.now body.now result self.old response.new self.new }
+        ensures counts { KeepsCounts self.old self.new }
     {
         if self.terms.read_only {
             response.status = StatusCode::FORBIDDEN;
@@ -300,7 +317,8 @@ impl Site {
         response: &mut Response,
     ) -> Result<(), AllocError>
         requires { response.old.body.items ≡ [] }
-        ensures { PostsOne path.now body.now result self.old response.new self.new }
+        ensures answers { PostsOne path.now body.now result self.old response.new self.new }
+        ensures counts { KeepsCounts self.old self.new }
     {
         match self.order_in(path, body) {
             Ok((ono, action, given)) => self.take_order(ono, action, given, response),
@@ -314,7 +332,8 @@ impl Site {
     /// Answers a request with many orders: all of them are taken, or none.
     fn post_orders(&mut self, body: &[u8], response: &mut Response) -> Result<(), AllocError>
         requires { response.old.body.items ≡ [] }
-        ensures { PostsMany body.now result self.old response.new self.new }
+        ensures answers { PostsMany body.now result self.old response.new self.new }
+        ensures counts { KeepsCounts self.old self.new }
     {
         match orders_in(self.alloc, &self.view, self.terms.run, body) {
             Ok((wanted, given)) => self.take_orders(wanted.as_slice(), given, response),
@@ -330,7 +349,8 @@ impl Site {
         response: &mut Response,
     ) -> Result<(), AllocError>
         requires { response.old.body.items ≡ [] }
-        ensures { TakesOrders result wanted.now given self.old response.new self.new }
+        ensures answers { TakesOrders result wanted.now given self.old response.new self.new }
+        ensures counts { KeepsCounts self.old self.new }
     {
         if !self.view.has_room(wanted.len()) {
             response.status = StatusCode::SERVICE_UNAVAILABLE;
@@ -447,7 +467,8 @@ impl Site {
         response: &mut Response,
     ) -> Result<(), AllocError>
         requires { response.old.body.items ≡ [] }
-        ensures { TakesOrder result ono action given self.old response.new self.new }
+        ensures answers { TakesOrder result ono action given self.old response.new self.new }
+        ensures counts { KeepsCounts self.old self.new }
     {
         let mut buffer = Buffer::new();
         let ticket = self.view.next_ticket();
@@ -466,9 +487,9 @@ impl Site {
 }
 
 impl Service for Site {
-    ghost use Rattle.oca_web.specs.Sites.{Answers};
+    ghost use Rattle.oca_web.specs.Sites.{Answers, CountsRequest};
 
-    ghost answers = { λ old request response new. Answers old request response new };
+    ghost answers = { λ old request response new. Answers old request response new × CountsRequest old request response new };
 
     /// Answers an HTTP request into `response` (*profile*). If memory is refused, the answer is 503 without a body. The
     /// call itself refuses nothing.
@@ -667,42 +688,29 @@ fn put_page(response: &mut Response) -> Result<(), AllocError>
 fn put_field(
     response: &mut Response,
     name: HeaderName,
-    value: HeaderValue,
+    value: &'static str,
 ) -> Result<(), AllocError>
+    requires { IsTrue (is_visible_text value.now) }
     ensures status { response.new.status ≡ response.old.status }
     ensures body { response.new.body ≡ response.old.body }
+    ensures fields { OnOk result (fields_of response.new ≡ fields_of response.old ++ (name, value.now) ∷ []) }
 {
-    response.add_header(name, value)
+    response.add_header(name, HeaderValue::from_static(value))
 }
 
 /// What every answer asks of the browser: not to cache it, not to guess its type, and to give it to no other page.
 fn put_protection(response: &mut Response) -> Result<(), AllocError>
     ensures status { response.new.status ≡ response.old.status }
     ensures body { response.new.body ≡ response.old.body }
+    ensures fields { OnOk result (fields_of response.new ≡ fields_of response.old ++ protection) }
 {
-    put_field(
-        response,
-        header::CACHE_CONTROL,
-        HeaderValue::from_static("no-store"),
-    )?;
-    put_field(
-        response,
-        header::X_CONTENT_TYPE_OPTIONS,
-        HeaderValue::from_static("nosniff"),
-    )?;
-    put_field(
-        response,
-        header::X_FRAME_OPTIONS,
-        HeaderValue::from_static("DENY"),
-    )?;
-    put_field(
-        response,
-        header::REFERRER_POLICY,
-        HeaderValue::from_static("no-referrer"),
-    )?;
+    put_field(response, header::CACHE_CONTROL, "no-store")?;
+    put_field(response, header::X_CONTENT_TYPE_OPTIONS, "nosniff")?;
+    put_field(response, header::X_FRAME_OPTIONS, "DENY")?;
+    put_field(response, header::REFERRER_POLICY, "no-referrer")?;
     put_field(
         response,
         HeaderName::from_static("cross-origin-resource-policy"),
-        HeaderValue::from_static("same-origin"),
+        "same-origin",
     )
 }

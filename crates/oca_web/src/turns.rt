@@ -1,7 +1,7 @@
 //! Orders over a panel: they are submitted in their order, and what the answers say is noted under their tickets.
 ghost use Rattle.std.specs.Prelude.{◌<◌, length};
 ghost use Rattle.oca_web.specs.Orders.{LosesOrders, NoneIsLeft, SettlesAt, SettlesOrders, SubmitsFirst, SubmitsOrders};
-ghost use Rattle.oca_web.specs.Orders.{SettlesEach, SettlesInto};
+ghost use Rattle.oca_web.specs.Orders.{NoneIsKnown, SettlesEach, SettlesInto};
 
 use crate::order::Sent;
 use crate::orders::Orders;
@@ -97,12 +97,14 @@ impl Default for Settled {
 pub fn settle_orders<E: End>(orders: &mut Orders, panel: &mut Panel<E>) -> ArrayVec<Settled, 32>
     ensures settles { SettlesOrders orders.old panel.old orders.new panel.new }
     ensures each { SettlesEach result.items orders.old panel.old orders.new panel.new }
+    ensures left { NoneIsKnown orders.new.in_flight panel.new }
 {
     let mut all = ArrayVec::new();
     let mut at = 0usize;
-    for _order in 0..32u32 {
+    let most = orders.in_flight();
+    for _order in 0..most {
         if !settle_one(orders, panel, at, &mut all) {
-            at = at.saturating_add(1);
+            at += 1;
         }
     }
     all

@@ -2,7 +2,7 @@
 ghost use Rattle.std.specs.Prelude.{◌≡◌, IfOk};
 ghost use Rattle.std.specs.Option.{option_map};
 ghost use Rattle.oca_web.specs.Bodies.{IsForWord};
-ghost use Rattle.oca_web.specs.Views.{begins_behind};
+ghost use Rattle.oca_web.specs.Views.{ReadsInClass, begins_behind};
 
 use crate::ask::{Asked, Question};
 use crate::asking::{ask_one, leaves_half};
@@ -77,15 +77,18 @@ pub struct View {
 
 impl View {
     ghost use Rattle.std.specs.Prelude.{◌≡◌, ◌<◌, ◌+◌, ◌-◌, ◌==◌, ◌&&◌, false, IfOk, IfSome, None, Some, length};
-    ghost use Rattle.std.specs.Prelude.{is_some, slice_get};
-    ghost use Rattle.oca_net.specs.Ends.{one_more};
-    ghost use Rattle.oca_web.specs.Orders.{AddsAll, AddsTicket, SettlesOrders, SubmitsOrders, has_orders, has_room_for, no_orders};
+    ghost use Rattle.std.specs.Prelude.{is_some, min, slice_get};
+    ghost use Rattle.oca_net.specs.Ends.{last_u64, one_more};
+    ghost use Rattle.oca_web.specs.Orders.{AddsAll, AddsTicket, NoneIsKnown, SettlesOrders, SubmitsOrders, has_orders, has_room_for};
+    ghost use Rattle.oca_web.specs.Orders.{no_orders};
     ghost use Rattle.oca_web.specs.Bodies.{IsForWord};
     ghost use Rattle.oca_web.specs.Learning.{LearnsSettled};
     ghost use Rattle.oca_web.specs.Readings.{ConfirmsAsked, KeepsAsked};
     ghost use Rattle.oca_web.specs.Views.{AsksQuestions, Continues, RenewsLost, RestsBehind, SubmitsAndAsks, TakesAnswers, TurnsAndSettles};
-    ghost use Rattle.oca_web.specs.Views.{AsksAtPlace, LeavesAsked, TakesAnswer, TurnsHearing};
+    ghost use Rattle.oca_web.specs.Views.{AnswersAt, AsksAtPlace, KeepsEnd, LeavesAsked, NamesValue, NoneIsAnswered, TakesAnswer};
+    ghost use Rattle.oca_web.specs.Views.{TurnsHearing};
     ghost use Rattle.std.specs.Bool.{OnTrue};
+    ghost use Rattle.std.specs.Option.{option_map};
     ghost use Rattle.oca_web.specs.Views.{commands_submitted, half_spent, moment_noted, next_behind, next_with};
     ghost use Rattle.oca_web.specs.Views.{orders_after, stood_still};
     ghost use Rattle.oca_web.specs.Polling.{OpensPage, page_asked};
@@ -109,6 +112,8 @@ impl View {
         ensures ahead { IfOk result (λ view. view.ahead ≡ 0) }
         ensures now { IfOk result (λ view. view.news.now ≡ now) }
         ensures heard { IfOk result (λ view. view.news.heard ≡ None) }
+        ensures sent { IfOk result (λ view. (view.sent_before ≡ 0) × (view.news.sent ≡ 0)) }
+        ensures submitted { IfOk result (λ view. commands_submitted view ≡ 0) }
         ensures reach { IfOk result (λ view. view.reach ≡ record { device = device; span = span }) }
     {
         Ok(View {
@@ -161,7 +166,7 @@ impl View {
     pub fn news(&self) -> LinkNews
         ensures { result ≡ self.now.news }
     {
-        self.news // of the link
+        self.news
     }
 
     /// Returns the present moment of the program's clock, in milliseconds (*profile*). It is the latest moment that
@@ -240,6 +245,10 @@ impl View {
         ensures first { self.new.first_handle ≡ first.0 }
         ensures next { self.new.next_handle ≡ first.0 }
         ensures ahead { self.new.ahead ≡ self.new.news.now - moment }
+        ensures sent { self.new.news.sent ≡ min (self.old.sent_before + sent) last_u64 }
+        ensures before { self.new.sent_before ≡ self.new.news.sent }
+        ensures submitted { commands_submitted self.new ≡ commands_submitted self.old }
+        ensures reach { self.new.reach ≡ self.old.reach }
     {
         let stood_still = self.note(last, sent);
         self.submitted_before = self.submitted();
@@ -255,7 +264,7 @@ impl View {
     pub fn ahead(&self) -> u64
         ensures { result ≡ self.now.ahead }
     {
-        self.ahead // of the present end
+        self.ahead
     }
 
     /// Notes that a page asked for values at the present moment, and which objects it shows (*profile*). It shows
@@ -287,6 +296,11 @@ impl View {
         ensures orders { self.new.orders ≡ orders_after result self.old.orders }
         ensures inventory { self.new.inventory ≡ self.old.inventory }
         ensures heard { self.new.news.heard ≡ self.old.news.heard }
+        ensures sent { self.new.news.sent ≡ min (self.old.sent_before + sent) last_u64 }
+        ensures rest { self.new ≡ record self.old {
+          orders = self.new.orders;
+          news = record self.old.news { now = self.new.news.now; sent = self.new.news.sent };
+        } }
     {
         let before = self.news.now;
         self.news.now = before.max(self.ahead.saturating_add(moment));
@@ -310,8 +324,11 @@ impl View {
     /// of the object are not checked. The call sends nothing and takes no memory. Refusals, the first that applies:
     /// `NoObject` if no object with this number is known. `NoValue` if this profile does not have its class, or its
     /// class has no value, or the word means no value of the class.
+    #[tactic(auto, using(crate::proofs::EndLemmas::named_rules))]
     pub fn value_named(&self, ono: Ono, word: &str) -> Result<Value, NoOrder>
-        ensures { IfOk result (IsForWord word.now) }
+        ensures word { IfOk result (IsForWord word.now) }
+        ensures named { NamesValue (option_map (λ o. o.class) (object_numbered ono.0 self.now.inventory.objects.list))
+            word.now result }
     {
         match self.inventory.class_of(ono) {
             Some(Some(class)) => value_in(class, word),
@@ -364,11 +381,19 @@ impl View {
     /// Then it takes the answers that came, and notes what they say: the results of orders, and what is known of the
     /// device. The only refusal is `NoMemory`, if memory was refused; datagrams were then received and sent all the
     /// same, and facts about the device may be missing.
-    #[tactic(auto, using(crate::proofs::WalkLemmas::keeps_stays, crate::proofs::WalkLemmas::stays_on, crate::proofs::StepLemmas::answer_rules))]
+    #[tactic(auto, using(crate::proofs::WalkLemmas::keeps_stays, crate::proofs::WalkLemmas::stays_on, crate::proofs::StepLemmas::answer_rules, crate::proofs::EndLemmas::end_rules, crate::proofs::EndLemmas::news_rules))]
     pub fn take_turn<E: End>(&mut self, panel: &mut Panel<E>) -> Result<(), NoMemory>
         ensures orders { TurnsAndSettles self.old.ahead self.old.news.heard self.old.orders panel.old self.new.news.heard
             self.new.orders panel.new }
         ensures walk { StaysOver self.old.inventory self.new.inventory }
+        ensures left { IfOk result (λ u. NoneIsAnswered self.new.inventory.asked.items panel.new) }
+        ensures end { KeepsEnd self.old self.new }
+        ensures next { self.new.next_handle ≡ self.old.next_handle }
+        ensures news { self.new.news ≡ record self.old.news {
+          heard = self.new.news.heard;
+          lost_since = self.new.news.lost_since;
+          keep_alives = self.new.news.keep_alives;
+        } }
     {
         self.turn_once(panel);
         self.take_order_answers(panel)?;
@@ -379,6 +404,11 @@ impl View {
     fn turn_once<E: End>(&mut self, panel: &mut Panel<E>)
         ensures turns { TurnsHearing self.old.ahead self.old.news.heard panel.old self.new.news.heard panel.new }
         ensures rest { self.new ≡ record self.old { news = self.new.news } }
+        ensures news { self.new.news ≡ record self.old.news {
+          heard = self.new.news.heard;
+          lost_since = self.new.news.lost_since;
+          keep_alives = self.new.news.keep_alives;
+        } }
     {
         let before = panel.last_heard();
         let report = panel.turn_with_report();
@@ -396,11 +426,13 @@ impl View {
     /// last moment has passed: these end as not sent. Then questions are submitted, as far as there is room. Nothing is
     /// submitted once half of the handles are used. The only refusal is `NoMemory`, if memory was refused. The steps
     /// after the refusal are then left out, and facts about the device may be missing.
-    #[tactic(auto, using(crate::proofs::WalkLemmas::walk_rules))]
+    #[tactic(auto, using(crate::proofs::WalkLemmas::walk_rules, crate::proofs::EndLemmas::end_rules, crate::proofs::EndLemmas::news_rules))]
     pub fn go_on<E: End>(&mut self, panel: &mut Panel<E>) -> Result<(), NoMemory>
         ensures orders { Continues self.old.reach self.old.first_handle self.old.next_handle self.old.ahead
             self.old.news.now result self.old.orders panel.old self.new.next_handle self.new.orders panel.new }
         ensures walk { StaysOver self.old.inventory self.new.inventory }
+        ensures end { KeepsEnd self.old self.new }
+        ensures news { self.new.news ≡ record self.old.news { lost = self.new.news.lost; lost_since = self.new.news.lost_since } }
     {
         match self.begin_if_stale() {
             Ok(()) => self.go_on_with(panel),
@@ -421,11 +453,13 @@ impl View {
     }
 
     /// Goes on with the walk that is.
-    #[tactic(auto, using(crate::proofs::WalkLemmas::walk_rules))]
+    #[tactic(auto, using(crate::proofs::WalkLemmas::walk_rules, crate::proofs::EndLemmas::end_rules, crate::proofs::EndLemmas::news_rules))]
     fn go_on_with<E: End>(&mut self, panel: &mut Panel<E>) -> Result<(), NoMemory>
         ensures orders { Continues self.old.reach self.old.first_handle self.old.next_handle self.old.ahead
             self.old.news.now result self.old.orders panel.old self.new.next_handle self.new.orders panel.new }
         ensures walk { BeginsAnew self.old.inventory self.new.inventory }
+        ensures end { KeepsEnd self.old self.new }
+        ensures news { self.new.news ≡ record self.old.news { lost = self.new.news.lost; lost_since = self.new.news.lost_since } }
     {
         match self.renew_lost(panel) {
             Ok(()) => self.submit_and_ask(panel),
@@ -434,11 +468,13 @@ impl View {
     }
 
     /// Submits orders, in time and else not at all, and then questions as far as there is room.
-    #[tactic(auto, using(crate::proofs::WalkLemmas::walk_rules))]
+    #[tactic(auto, using(crate::proofs::WalkLemmas::walk_rules, crate::proofs::EndLemmas::end_rules, crate::proofs::EndLemmas::news_rules))]
     fn submit_and_ask<E: End>(&mut self, panel: &mut Panel<E>) -> Result<(), NoMemory>
         ensures orders { SubmitsAndAsks self.old.first_handle self.old.next_handle self.old.ahead self.old.news.now
             self.old.orders panel.old self.new.next_handle self.new.orders panel.new }
         ensures walk { KeepsWalk self.old.inventory self.new.inventory }
+        ensures end { KeepsEnd self.old self.new }
+        ensures news { self.new.news ≡ self.old.news }
     {
         let now = self.news.now;
         let ahead = self.ahead;
@@ -453,6 +489,8 @@ impl View {
         ensures rests { RestsBehind self.old.first_handle self.old.next_handle ahead self.new.orders panel.new }
         ensures next { self.new.next_handle ≡ next_with self.old.first_handle self.old.next_handle self.new.orders }
         ensures inventory { self.new.inventory ≡ self.old.inventory }
+        ensures end { KeepsEnd self.old self.new }
+        ensures news { self.new.news ≡ self.old.news }
     {
         if self.is_spent() {
             return;
@@ -467,8 +505,9 @@ impl View {
         ensures orders { SettlesOrders self.old.orders panel.old self.new.orders panel.new }
         ensures learns { LearnsSettled result self.old.orders panel.old self.old.inventory self.new.orders panel.new
             self.new.inventory }
+        ensures left { NoneIsKnown self.new.orders.in_flight panel.new }
         ensures walk { KeepsWalk self.old.inventory self.new.inventory }
-        ensures news { self.new.news ≡ self.old.news }
+        ensures rest { self.new ≡ record self.old { orders = self.new.orders; inventory = self.new.inventory } }
     {
         let settled = settle_orders(&mut self.orders, panel);
         self.inventory.learn_orders(settled.as_slice())
@@ -480,12 +519,14 @@ impl View {
         ensures orders { self.new.orders ≡ self.old.orders }
         ensures walk { StaysOver self.old.inventory self.new.inventory }
         ensures panel { TakesAnswers panel.old panel.new }
-        ensures news { self.new.news ≡ self.old.news }
+        ensures left { IfOk result (λ u. NoneIsAnswered self.new.inventory.asked.items panel.new) }
+        ensures rest { self.new ≡ record self.old { inventory = self.new.inventory } }
     {
         let mut at = 0usize;
-        for _ in 0..32u32 {
+        let most = self.inventory.in_flight();
+        for _asked in 0..most {
             if !self.take_answer(panel, at)? {
-                at = at.saturating_add(1);
+                at += 1;
             }
         }
         self.inventory.note_walked();
@@ -493,13 +534,15 @@ impl View {
     }
 
     /// Takes the answer to the question in flight at this place. Returns whether it is there.
-    #[tactic(auto, using(crate::proofs::WalkLemmas::answer_goes, crate::proofs::StepLemmas::answer_rules, crate::proofs::StepLemmas::take_rules))]
+    #[tactic(auto, using(crate::proofs::WalkLemmas::answer_goes, crate::proofs::StepLemmas::answer_rules, crate::proofs::StepLemmas::take_rules, crate::proofs::LeftLemmas::one_answer_rules))]
     fn take_answer<E: End>(&mut self, panel: &mut Panel<E>, at: usize) -> Result<bool, NoMemory>
         ensures orders { self.new.orders ≡ self.old.orders }
         ensures walk { WalkGoesOn self.old.inventory self.new.inventory }
         ensures panel { TakesAnswers panel.old panel.new }
         ensures takes { TakesAnswer at self.old.inventory panel.old self.new.inventory panel.new }
-        ensures news { self.new.news ≡ self.old.news }
+        ensures answers { AnswersAt result at self.old.inventory.asked.items panel.old
+            self.new.inventory.asked.items panel.new }
+        ensures rest { self.new ≡ record self.old { inventory = self.new.inventory } }
         ensures moment { IfSome (slice_get self.old.inventory.asked.items at)
             (λ asked. ConfirmsAsked asked self.old.inventory self.new.inventory) }
     {
@@ -531,7 +574,7 @@ impl View {
     }
 
     /// Where the link is lost or late, all orders are noted as lost, and another link and another walk begin.
-    #[tactic(auto, using(crate::proofs::WalkLemmas::keeps_begins))]
+    #[tactic(auto, using(crate::proofs::WalkLemmas::keeps_begins, crate::proofs::EndLemmas::end_rules))]
     fn renew_lost<E: End>(&mut self, panel: &mut Panel<E>) -> Result<(), NoMemory>
         ensures orders { RenewsLost self.old.reach self.old.next_handle self.old.orders panel.old self.new.orders
             panel.new }
@@ -540,6 +583,8 @@ impl View {
         ensures next { self.new.next_handle ≡ self.old.next_handle }
         ensures ahead { self.new.ahead ≡ self.old.ahead }
         ensures now { self.new.news.now ≡ self.old.news.now }
+        ensures end { KeepsEnd self.old self.new }
+        ensures news { self.new.news ≡ record self.old.news { lost = self.new.news.lost; lost_since = self.new.news.lost_since } }
     {
         if !lose_orders(&mut self.orders, panel) {
             return Ok(());
@@ -553,11 +598,13 @@ impl View {
     }
 
     /// Asks what is to be asked, as far as half of the span is left for orders.
-    #[tactic(auto, using(crate::proofs::StepLemmas::question_rules))]
+    #[tactic(auto, using(crate::proofs::StepLemmas::question_rules, crate::proofs::EndLemmas::end_rules))]
     fn ask_all<E: End>(&mut self, panel: &mut Panel<E>) -> Result<(), NoMemory>
         ensures orders { self.new.orders ≡ self.old.orders }
         ensures walk { KeepsWalk self.old.inventory self.new.inventory }
         ensures panel { AsksQuestions self.old.next_handle panel.old self.new.next_handle panel.new }
+        ensures end { KeepsEnd self.old self.new }
+        ensures news { self.new.news ≡ self.old.news }
     {
         for _ in 0..32u32 {
             if !self.may_ask() {
@@ -574,12 +621,14 @@ impl View {
     }
 
     /// Asks one question. Returns whether it was submitted, or is about no object.
-    #[tactic(auto, using(crate::proofs::StepLemmas::question_rules, crate::proofs::StepLemmas::ask_rules))]
+    #[tactic(auto, using(crate::proofs::StepLemmas::question_rules, crate::proofs::StepLemmas::ask_rules, crate::proofs::EndLemmas::end_rules))]
     fn ask<E: End>(&mut self, panel: &mut Panel<E>, question: Question) -> bool
         ensures orders { self.new.orders ≡ self.old.orders }
         ensures walk { KeepsWalk self.old.inventory self.new.inventory }
         ensures panel { AsksQuestions self.old.next_handle panel.old self.new.next_handle panel.new }
         ensures asks { AsksAtPlace question result self.old panel.old self.new panel.new }
+        ensures end { KeepsEnd self.old self.new }
+        ensures news { self.new.news ≡ self.old.news }
     {
         let Some((ono, class)) = self.inventory.target_of(question.place) else {
             return true;
@@ -646,7 +695,8 @@ fn first_behind(next: u32, of_link: Option<Handle>) -> Handle
 
 /// The value of an object of this class that a word names.
 fn value_in(class: Class, word: &str) -> Result<Value, NoOrder>
-    ensures { IfOk result (IsForWord word.now) }
+    ensures word { IfOk result (IsForWord word.now) }
+    ensures reads { ReadsInClass class word.now result }
 {
     match value_from_word(class, word) {
         Some(value) => Ok(value),

@@ -3,25 +3,36 @@ use Rattle.std.proofs.Common.{◌≡◌, ◌∙◌, ap, ℕ, ◌+◌, ◌<◌, �
 use Rattle.std.specs.Prelude.{IsTrue, replicate}
 use Rattle.std.proofs.lemmas.List.{append-nil, replicate-append-replicate}
 use Rattle.oca_types.specs.declared.words.Peer.{Peer}
+use Rattle.oca_net.specs.declared.end.Heard.{Heard}
 use Rattle.oca_net.specs.Deliveries.{Sent}
 use Rattle.oca_net.specs.Ends.{taken_after}
 use Rattle.oca_net.specs.EndStates.{EndState}
 use Rattle.oca_control.specs.Links.{LinkState}
 use Rattle.oca_panel.specs.Panels.{PanelState}
+use Rattle.oca_panel.specs.Calls.{CallsBeside}
 use Rattle.ocactl_cli.specs.Beside.{IsSameBeside, AsksIfThere, CallsSoOften, NotCalled, CalledAgain, CallsDevice, TakesKeepAlives, keep_alive_for}
+use Rattle.ocactl_cli.specs.Beside.{CallsInVain, NoneCalled, CalledInVain, FindsIfThere, HearsBack, is_heard_from}
 
 -- nothing was sent
 pub not_asked : (device : Peer) (before after : EndState) → after ≡ before → AsksIfThere device before after
 not_asked device before after same =
     record { rounds = 0; most = omega arith; calls = subst (λ (e : EndState). CallsSoOften device 0 before e) (sym same) NotCalled }
 
--- so many rounds, and one more in which the device was heard
-pub asked_once_more : (device : Peer) (n : ℕ) (before between after : EndState) → n < 4 → CallsSoOften device n before between → CallsDevice device between after
-    → AsksIfThere device before after
-asked_once_more device n before between after few h one = record { rounds = n + 1; most = omega (arith, few); calls = CalledAgain h one }
+-- the device was called once, and this is whether a datagram of it was received
+pub hears_back : (device : Peer) (heard : Heard) (is_heard : Bool) (old new : PanelState) → CallsBeside device heard old new → is_heard ≡ is_heard_from device heard
+    → HearsBack device is_heard old.end_state new.end_state
+hears_back device heard is_heard old new c is =
+    record { calls = record { between = c.between; heard = heard; bytes = c.bytes; keeps = c.keeps; receives = c.receives }; by = is }
 
-pub asked_often : (device : Peer) (before after : EndState) → CallsSoOften device 4 before after → AsksIfThere device before after
-asked_often device before after h = record { rounds = 4; most = omega arith; calls = h }
+so-often : {device : Peer} {n : ℕ} {before after : EndState} → CallsInVain device n before after → CallsSoOften device n before after
+so-often (NoneCalled {e = e}) = NotCalled
+so-often (CalledInVain more one) = CalledAgain (so-often more) one.calls
+
+-- the device was asked at most so often, whatever was found
+pub asked_so : (device : Peer) (is_there : Bool) (before after : EndState) → FindsIfThere device is_there before after → AsksIfThere device before after
+asked_so device false before after h = record { rounds = 4; most = omega arith; calls = so-often h }
+asked_so device true before after (n, between, few, more, one) =
+    record { rounds = n + 1; most = omega (arith, few); calls = CalledAgain (so-often more) one.calls }
 
 -- ---- by an end that tells
 

@@ -4,6 +4,7 @@ use Rattle.std.specs.Prelude.{IfSome, OnOk, ℤ, Option, Some, None, map, ◌==�
 use Rattle.std.proofs.lemmas.Bool.{ne_eqb}
 use Rattle.std.proofs.lemmas.List.{map-append, length-map}
 use Rattle.oca_types.specs.declared.words.Handle.{Handle}
+use Rattle.oca_types.specs.declared.words.Peer.{Peer}
 use Rattle.oca_types.specs.Peers.{RequestFields}
 use Rattle.oca_net.specs.EndStates.{EndState}
 use Rattle.oca_script.specs.declared.fault.ReplayFault.{ReplayFault}
@@ -27,8 +28,9 @@ use Rattle.oca_control.specs.Limits.{longest_life}
 use Rattle.oca_control.specs.Links.{LinkState}
 use Rattle.oca_control.specs.Asking.{refused_by, Begins, Waits, ReceivesSoOften, IsPresent}
 use Rattle.oca_control.specs.Waiting.{ReceivesInAWait, WaitsWhile}
+use Rattle.ocactl_cli.specs.Reasons.{NotesNoAnswer}
 use Rattle.ocactl_cli.specs.Requests.{LineAsked, Send, asked_line}
-use Rattle.ocactl_cli.specs.Exchanges.{SessionState, AwaitsLine, SendsLines, FirstIsOpen, TakesOne, Idles, IdledNot, OneTurned, OnePrinted, AwaitsFirst, Awaits, NoneAwaited, OneAwaited, AwaitsUntil, DoesLine, DoesTakenUp, SubmitsCommand, Refuses, Concludes, FinishesUnless, is_write_failure, ended_by, line_wait, outcome_line, outcome_status, TakesUp, since}
+use Rattle.ocactl_cli.specs.Exchanges.{SessionState, AwaitsLine, SendsLines, FirstIsOpen, TakesOne, Idles, IdledNot, OneTurned, OnePrinted, AwaitsFirst, Awaits, NoneAwaited, OneAwaited, AwaitsUntil, DoesLine, DoesTakenUp, SubmitsCommand, Refuses, Concludes, FinishesUnless, is_write_failure, ended_by, line_wait, outcome_line, outcome_status, TakesUp, since, IsFoundLostNow, NotesIfLost}
 use Rattle.ocactl_cli.specs.PrivateExchanges.{PrintsUnlessFailed, AndPrints, SendsOrRefuses, Submitted, TakesFirst}
 
 -- ---- printing, unless a write has failed
@@ -115,6 +117,17 @@ refuses request returned f queue more old new ahead refused socket is_open at_ha
 -- the present moment, by what the end says of itself
 pub present_of : (d e : EndState) (now : ℕ) → d ≡ e → IsPresent now d → IsPresent now e
 present_of d e now is h = subst (IsPresent now) is h
+
+-- why no answer came was printed where the link is lost, and elsewhere nothing was done
+pub notes_if_lost : (device : Peer) (queue : List (ℕ × Unit {0})) (p q : PanelState) (ahead : ℕ) (refused : Bool) (socket : Option ℤ) (is_open : Bool) (at_hand : Option ℕ) (before : SessionState) (lost : Bool) (was is : Output)
+    → session_of p queue ahead refused socket is_open at_hand ≡ before → IsFoundLostNow before lost → (lost ≡ true → NotesNoAnswer device p.end_state q.end_state was is) → (lost ≡ false → q ≡ p)
+    → (lost ≡ false → is ≡ was) → NotesIfLost device before (session_of q queue ahead refused socket is_open at_hand) was is
+notes_if_lost device queue p q ahead refused socket is_open at_hand before lost was is e found notes same quiet = record {
+  lost = lost;
+  found = found;
+  notes = λ (l : lost ≡ true). subst (λ (x : SessionState). NotesNoAnswer device x.end_state q.end_state was is) e (notes l);
+  quiet = λ (l : lost ≡ false). (ap (λ (x : PanelState). session_of x queue ahead refused socket is_open at_hand) (same l) ∙ e, quiet l);
+}
 
 pub took-up : (queue : List (ℕ × Unit {0})) (p : PanelState) (ahead : ℕ) (refused : Bool) (socket : Option ℤ) (is_open : Bool) (at_hand : Option ℕ) (before : SessionState) (now from : ℕ)
     → session_of p queue ahead refused socket is_open at_hand ≡ before → IsPresent now p.end_state → from ≡ since at_hand now

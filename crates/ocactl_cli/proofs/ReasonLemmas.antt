@@ -1,23 +1,40 @@
 -- What is printed of a reason.
-use Rattle.std.proofs.Common.{◌≡◌, ◌∙◌, ℕ, Bool, false, List, ◌++◌, Option, Ok, Err, ap, append_assoc, inl, inr, subst, sym}
-use Rattle.std.specs.Prelude.{IfErr, IfOk, Result}
-use Rattle.oca_script.specs.declared.fault.WriteFailed.{WriteFailed}
-use Rattle.oca_script.specs.Ends.{Output}
-use Rattle.oca_script.specs.Printing.{WritesOut}
-use Rattle.oca_program.specs.Faults.{note_text}
+use Rattle.std.proofs.Common.{◌≡◌, ◌∙◌, ℕ, Bool, false, true, List, ◌++◌, Option, ap, append_assoc, subst}
+use Rattle.oca_types.specs.declared.words.Peer.{Peer}
+use Rattle.oca_net.specs.EndStates.{EndState, IsPresent}
+use Rattle.oca_script.specs.Ends.{Output, output}
+use Rattle.oca_program.specs.Notes.{PrintsANote}
+use Rattle.ocactl_cli.specs.Beside.{FindsIfThere}
 use Rattle.ocactl_cli.specs.declared.reason.Reason.{Reason}
-use Rattle.ocactl_cli.specs.Reasons.{PrintsIfMade, reason_by}
-
--- a note of this text was printed, where it was made
-pub if-made : {S E : Type 0} (bytes : S → List ℕ) (note : Result S E) (text : List ℕ) (old new : Output) → IfOk note (λ t. bytes t ≡ text)
-    → IfOk note (λ t. (written : Result Unit WriteFailed) × WritesOut written old new (note_text (bytes t))) → IfErr note (λ _. new ≡ old) → PrintsIfMade text old new
-if-made bytes (Ok t) text old new is made none = inr (made.0, subst (λ (x : List ℕ). WritesOut made.0 old new (note_text x)) is made.1)
-if-made bytes (Err e) text old new is made none = inl none
-
--- a text of four parts that begins with a name
-pub four_parts : (name words number rest : List ℕ) → name ++ (words ++ (number ++ rest)) ≡ name ++ words ++ number ++ rest
-four_parts name words number rest = sym (append_assoc name words (number ++ rest)) ∙ sym (append_assoc (name ++ words) number rest)
+use Rattle.ocactl_cli.specs.Reasons.{NotesNoAnswer, NotesSilence, PrintsReason, asks_again, reason_by}
 
 -- the reason by what an end heard, where the device is not asked
 pub unasked : (why : Reason) (gone : Bool) (now : ℕ) (heard at : Option ℕ) → why ≡ reason_by gone now heard false false → heard ≡ at → why ≡ reason_by gone now at false false
 unasked why gone now heard at is same = is ∙ ap (λ (moment : Option ℕ). reason_by gone now moment false false) same
+
+-- one text is held behind what was held, and then another
+pub held_then : (o p q : Output) (a b : List ℕ) → p ≡ output o.contents (o.held ++ a) o.failed → q ≡ output p.contents (p.held ++ b) p.failed → q ≡ output o.contents (o.held ++ (a ++ b)) o.failed
+held_then o p q a b h k =
+    k ∙ (ap (λ (x : Output). output x.contents (x.held ++ b) x.failed) h ∙ ap (λ (l : List ℕ). output o.contents l o.failed) (append_assoc o.held a b))
+
+-- why no answer came over a panel: what was asked, what was found by that, and what was printed
+pub notes_silence : (device own : Peer) (gone asks is_there is_refused : Bool) (heard : Option ℕ) (now : ℕ) (why : Reason) (before after : EndState) (old new : Output)
+    → asks ≡ asks_again gone heard → (asks ≡ true → FindsIfThere device is_there before after) → (asks ≡ false → after ≡ before) → IsPresent now after
+    → why ≡ reason_by gone now heard is_there is_refused → PrintsReason device own why old new → NotesSilence device before after old new
+notes_silence device own gone asks is_there is_refused heard now why before after old new same asked unasked present is printed = record {
+  own = own;
+  is_gone = gone;
+  heard = heard;
+  is_there = is_there;
+  is_refused = is_refused;
+  asked = λ (e : asks_again gone heard ≡ true). asked (same ∙ e);
+  unasked = λ (e : asks_again gone heard ≡ false). unasked (same ∙ e);
+  now = now;
+  present = present;
+  reason = subst (λ (r : Reason). PrintsReason device own r old new) is printed;
+}
+
+-- the same behind at most one other note
+pub notes_no_answer : (device : Peer) (before after : EndState) (old between new : Output) → PrintsANote old between → NotesSilence device before after between new
+    → NotesNoAnswer device before after old new
+notes_no_answer device before after old between new one silence = record { between = between; sends = one; silence = silence }

@@ -3,6 +3,7 @@ use Rattle.std.specs.Prelude.{IfSome, MatchOption, Option, ◌≡◌, ◌⊎◌,
 use Rattle.std.specs.Prelude.{true, false, Some, None, List, [], ◌∷◌, ◌++◌, length, codes, Result, Ok}
 use Rattle.std.specs.Prelude.{Err, unwrap_or}
 use Rattle.oca_types.specs.declared.words.Handle.{Handle}
+use Rattle.oca_types.specs.declared.words.Peer.{Peer}
 use Rattle.oca_types.specs.Peers.{RequestFields}
 use Rattle.oca_net.specs.EndStates.{EndState}
 use Rattle.oca_control.specs.declared.fault.ControlFault.{ControlFault}
@@ -25,6 +26,7 @@ use Rattle.oca_script.specs.Printing.{WritesOut}
 use Rattle.oca_script.specs.Replaying.{Replays, Outcome as ReadsLines}
 use Rattle.oca_panel.specs.Outcomes.{done_answered}
 use Rattle.ocactl_cli.specs.Objects.{WritesLine, done_status}
+use Rattle.ocactl_cli.specs.Reasons.{NotesNoAnswer}
 use Rattle.ocactl_cli.specs.Requests.{LineAsked, Send, Wait, asked_line}
 use Rattle.ocactl_replay.specs.Printing.{answer_text, refusal_text}
 
@@ -93,6 +95,14 @@ pub record IsFoundLostNow (s : SessionState) (found : Bool) : Type 0 where
   pub now : ℕ
   pub present : IsPresent now s.end_state
   pub lost : found ≡ (s.link.lost || late_at now s.link)
+
+-- WHY NO ANSWER CAME was printed where the link is found lost or late now. Elsewhere nothing was printed, and nothing was
+-- done.
+pub record NotesIfLost (device : Peer) (old new : SessionState) (was is : Output) : Type 0 where
+  pub lost : Bool
+  pub found : IsFoundLostNow old lost
+  pub notes : lost ≡ true → NotesNoAnswer device old.end_state new.end_state was is
+  pub quiet : lost ≡ false → (new ≡ old) × (is ≡ was)
 
 -- The first command in flight came out so: it was waited for, or that was known without a turn and without a look at the
 -- end's moment.

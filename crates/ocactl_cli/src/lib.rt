@@ -19,6 +19,7 @@ pub mod objects;
 mod probe;
 mod reaching;
 mod reason;
+mod reason_line;
 pub mod run;
 pub mod session;
 mod setting;

@@ -2,8 +2,8 @@
 ghost use Rattle.std.specs.Prelude.{◌≡◌, ◌==◌, ◌||◌, ◌<◌, ◌≤◌, ◌+◌, length, true, false};
 ghost use Rattle.oca_types.specs.Peers.{request_of};
 ghost use Rattle.oca_control.specs.Limits.{longest_life};
-ghost use Rattle.ocactl_cli.specs.Exchanges.{AwaitsFirst, IsFoundLostNow, IsWaitTime, NoneInFlight, TakesOne, TakesUp};
-ghost use Rattle.ocactl_cli.specs.Exchanges.{is_over, since, time_beside};
+ghost use Rattle.ocactl_cli.specs.Exchanges.{AwaitsFirst, IsFoundLostNow, IsWaitTime, NoneInFlight, NotesIfLost};
+ghost use Rattle.ocactl_cli.specs.Exchanges.{TakesOne, TakesUp, is_over, since, time_beside};
 ghost use Rattle.ocactl_cli.specs.PrivateExchanges.{Submitted, TakesFirst};
 ghost use Rattle.ocactl_cli.specs.Beside.{AsksIfThere};
 
@@ -249,7 +249,7 @@ impl<E: BoundEnd> Session<Watched<E>> {
     /// If the link is lost or late now, prints to `faults` what is known of the reason, as [`note_no_answer`] does.
     /// `reach` has the address of the device. A device that was never heard is first asked whether it is there. If the
     /// link is neither, nothing is done.
-    #[tactic(auto, using(crate::proofs::BesideLemmas::still_waits))]
+    #[tactic(auto, using(crate::proofs::BesideLemmas::still_waits, crate::proofs::ExchangeLemmas::notes_if_lost))]
     pub fn note_silence<N: Net, F: Sink>(
         &mut self,
         alloc: Global,
@@ -257,7 +257,8 @@ impl<E: BoundEnd> Session<Watched<E>> {
         reach: Reach,
         faults: &mut Printer<F>,
     )
-        ensures { AsksIfThere reach.device self.old.end_state self.new.end_state }
+        ensures beside { AsksIfThere reach.device self.old.end_state self.new.end_state }
+        ensures notes { NotesIfLost reach.device self.old self.new faults.old faults.new }
     {
         let silent = self.is_lost();
         note_no_answer(alloc, system, &mut self.panel, reach, silent, faults);

@@ -1,5 +1,5 @@
 -- Which file a state may be kept in, and with which objects a device starts whose state is kept (*profile*).
-use Rattle.std.specs.Prelude.{◌≡◌, ℕ, Bool, if◌then◌else◌, List, Option, Some, None, Result, Ok, Err}
+use Rattle.std.specs.Prelude.{◌≡◌, ℕ, Bool, true, if◌then◌else◌, List, Option, Some, None, Result, Ok, Err}
 use Rattle.std.specs.Fs.{IsFile, file_type}
 use Rattle.std.specs.IoError.{error_kind}
 use Rattle.std.specs.declared.fs.attrs.Metadata.{Metadata}
@@ -13,6 +13,11 @@ use Rattle.ocadev_cli.specs.Words.{ObjectSource, Listed}
 abbrev pub IsPlainOrMissing : Result Metadata Error → Type 0
 IsPlainOrMissing (Ok found) = IsFile (file_type found)
 IsPlainOrMissing (Err reason) = error_kind reason ≡ NotFound
+
+-- whether the file is there, by what the system says: it is taken for one that is there where the system does not say
+abbrev pub is_said_there : Result Bool Error → Bool
+is_said_there (Ok there) = there
+is_said_there (Err reason) = true
 
 -- THE OBJECTS AT THE START: those of the file in which the state is kept, where it is there; else those asked for.
 abbrev pub starting_objects : Option (List ℕ) → Bool → ObjectSource → ObjectSource

@@ -1,7 +1,7 @@
 //! How the objects of a device are written over a file: a new file takes the place of the old one.
-ghost use Rattle.std.specs.Prelude.{◌≡◌, ◌++◌, IfSome, None, codes, decimal, is_ok, string_bytes};
+ghost use Rattle.std.specs.Prelude.{◌≡◌, ◌↔◌, ◌++◌, IfOk, IfSome, IsSome, None, codes, decimal, is_ok, string_bytes};
 ghost use Rattle.std.specs.Fs.{metadata_mode};
-ghost use Rattle.ocadev_cli.specs.Storing.{ArePlain, DiskState, Replaces, StoresBy, SyncsFolder, SyncsNew, Tries};
+ghost use Rattle.ocadev_cli.specs.Storing.{ArePlain, DiskState, IsSaidPlain, Replaces, StoresBy, SyncsFolder, SyncsNew, Tries};
 ghost use Rattle.ocadev_cli.specs.Storing.{WritesNew};
 
 use super::show::show_text;
@@ -169,10 +169,22 @@ impl<'l, 'p, 'n, L: Files> Disk for FileDisk<'l, 'p, 'n, L> {
 }
 
 /// The mode and the owner of the plain file at this path. `None` if there is no plain file, or the system does not say.
+/// (No contract of std says what is at a path. So the contract of this function says only that a mode is that of a plain
+/// file.)
 pub fn plain_attributes<F: Files>(files: &F, path: &str) -> Option<Attributes>
     ensures { IfSome result ArePlain }
 {
-    match fs::symlink_metadata(files, path) {
+    attributes_in(fs::symlink_metadata(files, path))
+}
+
+/// The mode and the owner of a plain file, by what the system says of a path. `None` exactly if it says that something
+/// else is there, or does not say what is there.
+fn attributes_in(found: io::Result<Metadata>) -> Option<Attributes>
+    ensures plain { IfSome result ArePlain }
+    ensures some { IsSome result ↔ IsSaidPlain found }
+    ensures mode { IfOk found (λ said. IfSome result (λ a. a.mode ≡ metadata_mode said)) }
+{
+    match found {
         Ok(found) if found.is_file() => Some(Attributes::of(&found)),
         _ => None,
     }

@@ -7,7 +7,7 @@ ghost use Rattle.std.specs.Option.{option_copied};
 ghost use Rattle.oca_program.specs.declared.fault.RunFault.TheVariants.{NoMemory as no_memory, Read as read_failed};
 ghost use Rattle.ocadev_cli.specs.Words.{object_source};
 ghost use Rattle.oca_program.specs.Faults.{fault_in};
-ghost use Rattle.ocadev_cli.specs.Keeping.{IsPlainOrMissing, moment_heard, starting_objects};
+ghost use Rattle.ocadev_cli.specs.Keeping.{IsPlainOrMissing, is_said_there, moment_heard, starting_objects};
 ghost use Rattle.ocadev_cli.specs.Makings.{MakesObjects};
 
 use super::disk::{Attributes, Disk, end_line, plain_attributes, write_over};
@@ -30,14 +30,22 @@ use std::{fs, io};
 const END_ROOM: usize = 40;
 
 /// Whether the file at the path `keep`, in which the state is kept, exists. `false` if `keep` is `None`. `true` also if
-/// the system does not say: then the file is read, so that its fault is printed.
+/// the system does not say: then the file is read, so that its fault is printed. (No contract of std says whether a file
+/// exists. So the contract of this function says only what it returns if `keep` is `None`.)
 pub fn is_there<F: Files>(files: &F, keep: Option<&str>) -> bool
     ensures { IfNone keep.entry (result ≡ false) }
 {
     let Some(path) = keep else {
         return false;
     };
-    match fs::exists(files, path) {
+    is_said_there(fs::exists(files, path))
+}
+
+/// Whether a file exists, by what the system says; `true` if it does not say.
+fn is_said_there(found: io::Result<bool>) -> bool
+    ensures { result ≡ is_said_there found }
+{
+    match found {
         Ok(there) => there,
         Err(_) => true,
     }

@@ -1,7 +1,7 @@
-use Rattle.std.proofs.Common.{string_bytes, subst}
+use Rattle.std.proofs.Common.{subst}
 use Rattle.oca_net.specs.EndStates.{IsPresent}
-use Rattle.ocactl_cli.specs.Reasons.{PrintsIfMade, reason_text}
-use Rattle.ocactl_cli.proofs.ReasonLemmas.{if-made, unasked}
+use Rattle.ocactl_cli.specs.Reasons.{PrintsReason}
+use Rattle.ocactl_cli.proofs.ReasonLemmas.{unasked}
 use Rattle.ocactl_cli.proofs.reason.note_unanswered.Goals as goal
 
 pub returns-clause-silent : goal.returns-clause-silent
@@ -10,8 +10,6 @@ returns-clause-silent g c silent =
     let gone = c.is_gone-is_gone.result in
     let now = c.now.result in
     let between = c.note_failed_send.new.faults in
-    let made = if-made string_bytes c.reason_text.result (reason_text c.args.device own c.why-reason.result) between c.print_made_note.new.faults c.reason_text.ensures
-    c.print_made_note.ensures.made c.print_made_note.ensures.none in
     let is = unasked c.why-reason.result gone now c.heard.result c.args.end.now.heard c.why-reason.ensures c.heard.ensures in
     record {
       between = between;
@@ -20,5 +18,5 @@ returns-clause-silent g c silent =
       is_gone = gone;
       now = now;
       present = subst (IsPresent now) c.end-3.ensures c.now.ensures;
-      reason = subst (λ why. PrintsIfMade (reason_text c.args.device own why) between c.print_made_note.new.faults) is made;
+      reason = subst (λ why. PrintsReason c.args.device own why between c.print_reason.new.faults) is c.print_reason.ensures;
     }
