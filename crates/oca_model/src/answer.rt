@@ -182,7 +182,8 @@ impl Answer {
 
     /// Appends the parameters of the answer to `params` (AES70-3). [`Answer::count`] returns how many they are; `Done`
     /// appends nothing. The only refusal is `Full`, if the parameters would have more than 1,452 bytes in all. Then a
-    /// part of the answer may have been appended, so discard the parameters. The call takes no memory.
+    /// part of the answer may have been appended, so discard the parameters. Of a member whose class is `None` only the
+    /// numbers are appended, which is no encoding of AES70-3. The call takes no memory.
     #[tactic(auto, unfolding(crate::specs::Answers::answer_encoding))]
     pub fn put(&self, params: &mut Params) -> Result<(), PutFault>
         ensures { Puts result params.old.items params.new.items (answer_encoding self.now) }

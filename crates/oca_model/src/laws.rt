@@ -38,6 +38,7 @@ pub fn law_of_requests()
 /// The function states this law as its contract, and does nothing at run time. The premises:
 /// - The answer is of the kind that the method has ([`shape_of`](crate::shape_of)).
 /// - If the answer is a reading, which is a value with its limits, it is of the object's class.
+/// - Each member of a list has a class ([`Member::class`](crate::Member::class) is not `None`).
 /// - Numbers, texts and lists are within their types and limits, since a contract has them of any size. In Rust that is
 ///   always true.
 pub fn law_of_answers()

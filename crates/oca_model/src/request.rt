@@ -6,6 +6,7 @@ ghost use Rattle.oca_types.specs.Sizes.{most_parameter_bytes};
 ghost use Rattle.oca_types.specs.declared.class.Method.{Method};
 ghost use Rattle.oca_types.specs.declared.words.MethodId.{MethodId};
 ghost use Rattle.oca_model.specs.Requests.{AskedBy, IsCallFor, IsRefusedCall, count_of, parameters_of, request_in};
+ghost use Rattle.oca_model.specs.declared.request.RequestFault.TheVariants.{OtherClass};
 
 use crate::asked::Asked;
 use crate::item::Item;
@@ -178,6 +179,7 @@ impl Request {
     pub fn call(&self, class: Class, params: &mut Params) -> Result<Call, RequestFault>
         ensures call { IfOk result (λ call. IsCallFor class self.now call params.new.items) }
         ensures refused { IfErr result (λ fault. IsRefusedCall class self.now fault) }
+        ensures unchanged { IfErr result (λ fault. fault ≡ OtherClass → params.new ≡ params.old) }
     {
         let Some(method) = self.method(class) else {
             return Err(RequestFault::OtherClass);

@@ -1,5 +1,5 @@
 //! What an object is set to, in the terms of its class.
-ghost use Rattle.std.specs.Prelude.{◌≡◌};
+ghost use Rattle.std.specs.Prelude.{◌≡◌, OnErr};
 ghost use Rattle.std.specs.Int.{w8};
 ghost use Rattle.oca_types.specs.Putting.{Puts};
 ghost use Rattle.oca_types.specs.Reading.{unsigned_at};
@@ -150,7 +150,8 @@ impl Value {
     /// 1,452 bytes in all; the parameters are then unchanged. The call takes no memory.
     #[tactic(auto, unfolding(crate::specs::Values::value_encoding))]
     pub fn put(self, params: &mut Params) -> Result<(), PutFault>
-        ensures { Puts result params.old.items params.new.items (value_encoding self) }
+        ensures puts { Puts result params.old.items params.new.items (value_encoding self) }
+        ensures err { OnErr result (params.new ≡ params.old) }
     {
         macro_rules! put {
             ($($integer:ident $type:ty),*) => {

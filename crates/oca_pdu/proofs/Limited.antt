@@ -1,7 +1,7 @@
 -- A datagram is within the limits.
-use Rattle.std.proofs.Common.{◌≡◌, ℕ, ◌+◌, ◌*◌, ◌≤◌, Bool, true, List, [], ◌∷◌, length, map, refl, sym, ap, subst, ◌∙◌, arith, length-append, cond}
+use Rattle.std.proofs.Common.{◌≡◌, ℕ, ◌+◌, ◌*◌, ◌<◌, ◌≤◌, Bool, true, List, [], ◌∷◌, length, map, refl, sym, ap, subst, ◌∙◌, arith, length-append, cond}
 use Rattle.std.specs.Prelude.{not, count_by, is_ok}
-use Rattle.std.specs.List.{flat_map}
+use Rattle.std.specs.List.{flat_map, AllByRecursion}
 use Rattle.std.proofs.lemmas.List.Concat.{flat_map-cons}
 use Rattle.std.proofs.lemmas.List.Sums.{sum_by-append}
 use Rattle.std.proofs.lemmas.List.{append-nil}
@@ -9,7 +9,7 @@ use Rattle.oca_types.specs.Peers.{CommandFields}
 use Rattle.oca_pdu.specs.declared.message.Form.{Form}
 use Rattle.oca_pdu.specs.declared.message.Form.TheVariants.{Seconds, Millis}
 use Rattle.oca_pdu.specs.Messages.{Msg, Command, Response, ResponseFields, Pdu, Commands, Responses, OneKeepAlive, messages_of}
-use Rattle.oca_pdu.specs.Encoding.{command_encoding, response_encoding, pdu_encoding, IsDatagram}
+use Rattle.oca_pdu.specs.Encoding.{command_encoding, response_encoding, pdu_encoding, PduFits, IsDatagram}
 use Rattle.oca_pdu.specs.Limits.{is_command, is_response, IsWithinLimits}
 use Rattle.oca_pdu.specs.Reading.{read_datagram}
 use Rattle.oca_pdu.specs.Datagrams.{read_or_none}
@@ -97,11 +97,23 @@ few (q ∷ []) short =
     omega (arith, ap length all, (takes q).alone (omega (arith, ap length bytes, short)))
 few (q ∷ r ∷ qs) short = omega (arith, (take_all (q ∷ r ∷ qs)).messages, short)
 
+-- a datagram has a PDU, and each PDU a message
+has_one : (q : Pdu) → PduFits q → 0 < length (messages_of q)
+has_one (Commands respond cs) fits = omega (arith, (commands_in respond cs).0, fits.0)
+has_one (Responses rs) fits = omega (arith, (responses_in rs).0, fits.0)
+has_one (OneKeepAlive form) fits = omega arith
+
+have_one : (qs : List Pdu) → 0 < length qs → AllByRecursion PduFits qs → 0 < length (flat_map messages_of qs)
+have_one [] some fits = omega (arith, some)
+have_one (q ∷ qs) some fits =
+    let messages : length (flat_map messages_of (q ∷ qs)) ≡ length (messages_of q) + length (flat_map messages_of qs) = ap length (flat_map-cons messages_of q qs) ∙ length-append (messages_of q) (flat_map messages_of qs) in
+    omega (arith, messages, has_one q fits.0)
+
 within : (qs : List Pdu) (bytes : List ℕ) → IsDatagram qs bytes → IsWithinLimits (flat_map messages_of qs)
 within qs bytes are =
     let short : length (flat_map pdu_encoding qs) ≤ 1472 = omega (arith, ap length are.bytes_are, are.within_limit) in
     let all = take_all qs in
-    record { messages = few qs short; commands = omega (arith, all.commands, short); no_responses = omega (arith, all.answered, short) }
+    record { some = have_one qs are.nonempty are.well_formed; messages = few qs short; commands = omega (arith, all.commands, short); no_responses = omega (arith, all.answered, short) }
 
 -- what is read is within the limits of its numbers
 pub limited : (bytes : List ℕ) → IsBytes bytes → is_ok (read_datagram bytes) ≡ true → IsWithinLimits (read_or_none (read_datagram bytes))

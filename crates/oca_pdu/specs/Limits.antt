@@ -1,5 +1,6 @@
--- How many messages a datagram has at most, which follows from its 1,472 bytes (profile).
-use Rattle.std.specs.Prelude.{ℕ, ◌≤◌, Bool, true, false, not, List, length, count_by}
+-- How many messages a datagram has: at least one, since each PDU has one; and at most so many as 1,472 bytes have room
+-- for (profile).
+use Rattle.std.specs.Prelude.{ℕ, ◌<◌, ◌≤◌, Bool, true, false, not, List, length, count_by}
 use Rattle.oca_pdu.specs.Messages.{Msg, Command, Response, KeepAlive}
 
 abbrev pub is_command : Msg → Bool
@@ -24,8 +25,9 @@ most_commands = 86
 abbrev pub most_answered : ℕ
 most_answered = 122
 
--- No more than these.
+-- At least one, and no more than these.
 pub record IsWithinLimits (ms : List Msg) : Type 0 where
+  pub some : 0 < length ms
   pub messages : length ms ≤ most_messages
   pub commands : count_by is_command ms ≤ most_commands
   -- commands and keep-alives

@@ -205,9 +205,9 @@ fn raise_header(pdu: &mut [u8], size: u32)
     pdu[8..10].copy_from_slice(&count.to_be_bytes());
 }
 
-/// Returns whether the first PDU of the packet contains responses (PduType 3, AES70-3). [`extend_response`] can then
-/// add a response, if the packet is this PDU alone. The result is `false` for an empty packet. The result is meaningful
-/// for a packet that is exactly one PDU; the call does not check this, and changes nothing.
+/// Returns whether a packet that is exactly one PDU contains responses (PduType 3, AES70-3). [`extend_response`] can
+/// then add a response. For any other packet, also an empty one, the result says nothing. The call does not check that
+/// the packet is one PDU, and changes nothing.
 #[inline(always)]
 pub fn holds_responses(packet: &Packet) -> bool
     ensures { (p : Pdu) → packet.now.items ≡ pdu_encoding p → result ≡ is_of_responses p }

@@ -203,11 +203,12 @@ impl<'a> Cursor<'a> {
 
     /// Reads an OcaString of at most 64 bytes from the cursor, and moves the cursor past it (AES70-3). Its encoding is
     /// a Uint16 with the number of Unicode scalar values, and then these as UTF-8. Each scalar value counts as 1, also
-    /// outside of ASCII (*profile*). An empty text is allowed. Refusals, the first that applies; the cursor is then
-    /// unchanged:
-    /// - `Short` if the bytes end before the text does.
-    /// - `NotUtf8` if bytes that are not UTF-8 come before the end of the text.
-    /// - `TooLong` if the text has more than 64 bytes.
+    /// outside of ASCII (*profile*). An empty text is allowed. Refusals, of which at most one applies; the cursor is
+    /// then unchanged:
+    /// - `Short` if all the bytes that are left are the beginning of the encoding of a text, of whatever length, and
+    ///   this encoding goes on. So it is if no byte is left.
+    /// - `NotUtf8` if they are no such beginning, and do not begin with the encoding of a text, of whatever length.
+    /// - `TooLong` if they begin with the encoding of a text of more than 64 bytes.
     pub fn take_text(&mut self) -> Result<Text, ReadFault>
         ensures found { IfOk result (λ text. Takes IsTextEncoding text (bytes_left self.old) (bytes_left self.new)) }
         ensures only { (text front rest : List ℕ) → IsTextEncoding text front → bytes_left self.old ≡ front ++ rest →
