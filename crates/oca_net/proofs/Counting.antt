@@ -13,6 +13,13 @@ kept n = min-le_left n last_u64
 pub kept_or_more : (n : ℕ) → min n last_u64 ≤ one_more n
 kept_or_more n = le-min (le_trans (min-le_left n last_u64) (omega arith)) (min-le_right n last_u64)
 
+-- at most one call more, where there was none, and where there was one
+pub once_none : (n : ℕ) → n ≤ n + 1
+once_none n = omega arith
+
+pub once_one : (n : ℕ) → one_more n ≤ n + 1
+once_one n = min-le_left (n + 1) last_u64
+
 -- one more in the first of two numbers is at most one more in the least of both
 pub min_step : (a b : ℕ) → min (a + 1) b ≤ min a b + 1
 min_step a b =

@@ -47,9 +47,9 @@ heard_by heard.Failed t e = tt
 heard_by heard.Closed t e = tt
 
 -- what was heard needs no reason
-pub why_heard : (h : Heard) (fault : Option Error) → IsWhy h None → IsWhy h fault
-why_heard (heard.Datagram from now) fault w = tt
-why_heard (heard.Quiet now) fault w = absurd (false≢true w)
-why_heard (heard.Oversize now) fault w = tt
-why_heard heard.Failed fault w = absurd (false≢true w.0)
-why_heard heard.Closed fault w = tt
+pub why_heard : (h : Heard) (noted given : Option Error) → IsWhy h None None → IsWhy h noted given
+why_heard (heard.Datagram from now) noted given w = tt
+why_heard (heard.Quiet now) noted given w = absurd (false≢true w.0)
+why_heard (heard.Oversize now) noted given w = tt
+why_heard heard.Failed noted given w = absurd (false≢true w.0)
+why_heard heard.Closed noted given w = tt

@@ -2,7 +2,7 @@
 use Rattle.std.proofs.Common.{ℕ, ◌+◌, ◌≤◌, min, arith}
 use Rattle.std.proofs.Math.Nat.{min-le_left, min-le_right, le-min, le_trans}
 use Rattle.oca_net.specs.Ends.{last_u64}
-use Rattle.oca_net.specs.PrivateMoments.{until_at_most}
+use Rattle.oca_net.specs.Moments.{until_at_most}
 
 -- what is added to an earlier moment ends no later
 pub sum_later : (n : ℕ) {a b : ℕ} → a ≤ b → min (a + n) last_u64 ≤ min (b + n) last_u64

@@ -1,7 +1,7 @@
 -- An end at a UDP socket (*profile*). It tells neither what it delivered nor what it took, and is never closed.
 use Rattle.std.specs.Prelude.{◌≡◌, ◌≢◌, ◌<◌, ◌+◌, ◌==◌, ℕ, zero, suc, max, Bool, true, false, if◌then◌else◌, []}
 use Rattle.std.specs.Prelude.{Option, None, Some}
-use Rattle.std.specs.Prelude.{Result, Ok, Err, IsSome}
+use Rattle.std.specs.Prelude.{Result, Ok, Err, IsSome, IsSomeAnd}
 use Rattle.std.specs.IoError.{error_kind}
 use Rattle.std.specs.declared.io.ErrorKind.{ErrorKind}
 use Rattle.std.specs.declared.io.ErrorKind.TheVariants as kind
@@ -19,7 +19,8 @@ use Rattle.oca_net.specs.EndStates.{EndState}
 -- What the calls of the system were, numbered from 1 in their order: looks at the clock, receives and sends. How many
 -- there were; the number of the last look, and what it gave for a moment, in milliseconds (0 where the clock could not
 -- be read); the number of the last receive; and how many bytes of the last datagram that was handed over were taken,
--- where it was. Why the last receive or send failed, where it did; and how many of them a signal interrupted.
+-- where it was. The reason that the system gave where the last receive or send failed, or where the time to wait could
+-- not be set for the receive; and how many receives and sends a signal interrupted.
 pub record CallState : Type 0 where
   pub calls : ℕ
   pub looked : ℕ
@@ -68,14 +69,29 @@ abbrev pub says_none : Option Error → Bool
 says_none None = false
 says_none (Some e) = says_none_came (error_kind e)
 
--- Why nothing was heard, by the reason that was noted last: `Quiet` where it is that no datagram has come, `Failed`
--- where it is another one.
-abbrev pub IsWhy : Heard → Option Error → Type 0
-IsWhy (heard.Datagram from now) fault = Unit {0}
-IsWhy (heard.Quiet now) fault = says_none fault ≡ true
-IsWhy (heard.Oversize now) fault = Unit {0}
-IsWhy heard.Failed fault = IsSome fault × (says_none fault ≡ false)
-IsWhy heard.Closed fault = Unit {0}
+-- The reason that is noted of a call that failed: the one that the system gave, or where it gave none, one of this kind.
+abbrev pub IsReason : (own_kind : ErrorKind) → (noted given : Option Error) → Type 0
+IsReason own_kind noted None = IsSomeAnd noted (λ e. error_kind e ≡ own_kind)
+IsReason own_kind noted (Some reason) = noted ≡ Some reason
+
+-- The reason that is noted where no datagram was received. The system gives none where a datagram came whose sender has
+-- no address of IPv4.
+abbrev pub IsUnheardFor : (noted given : Option Error) → Type 0
+IsUnheardFor noted given = IsReason kind.InvalidData noted given
+
+-- The reason that is noted where a datagram was not taken. The system gives none where it took only a part.
+abbrev pub IsUntakenFor : (was_taken : Bool) → (noted given : Option Error) → Type 0
+IsUntakenFor true noted given = Unit {0}
+IsUntakenFor false noted given = IsReason kind.WriteZero noted given
+
+-- Why nothing was heard, by the reason that was noted last, which is the one that the system gave: `Quiet` where it is
+-- that no datagram has come, `Failed` where it is another one.
+abbrev pub IsWhy : Heard → (noted given : Option Error) → Type 0
+IsWhy (heard.Datagram from now) noted given = Unit {0}
+IsWhy (heard.Quiet now) noted given = (says_none noted ≡ true) × IsUnheardFor noted given
+IsWhy (heard.Oversize now) noted given = Unit {0}
+IsWhy heard.Failed noted given = IsSome noted × (says_none noted ≡ false) × IsUnheardFor noted given
+IsWhy heard.Closed noted given = Unit {0}
 
 -- how often a send is begun at most
 abbrev pub most_tries : ℕ
@@ -97,8 +113,8 @@ pub record IsBegunAgain (refused : Option Error) (calls calls_now signals signal
   pub last : is_interrupted refused ≡ true → again + 1 ≡ most_tries
 
 -- Where it is bound, its counts of failures, of receives and of sends, the latest moment that it said, the calls of the system,
--- until which moment the last receive was to wait, why the last receive or send that failed did so, and that of
--- receives and of sends alone.
+-- at which moment the last receive began, by its first look at the clock, and until which it was to wait, why the last
+-- receive or send that failed did so, and that of receives and of sends alone.
 pub record SocketState : Type 0 where
   pub local : Peer
   pub failures : ℕ
@@ -106,6 +122,7 @@ pub record SocketState : Type 0 where
   pub sends : ℕ
   pub moment : ℕ
   pub system : CallState
+  pub begun : ℕ
   pub until : ℕ
   pub fault : Option Error
   pub receive_fault : Option Error
@@ -137,6 +154,7 @@ new_socket local =
       sends = 0;
       moment = 0;
       system = record { calls = 0; looked = 0; reading = 0; received = 0; taken = None; refused = None; signals = 0 };
+      begun = 0;
       until = 0;
       fault = None;
       receive_fault = None;
@@ -160,11 +178,11 @@ pub record IsBoundFrom (ip port : ℕ) (local : Peer) : Type 0 where
   pub address : ip ≢ 0 → local.ip ≡ ip
   pub same_port : port ≢ 0 → local.port ≡ port
 
--- The end after a receive that returned this, and left the calls of the system, the moment to wait for and the reason
--- so. Where it did not fail, the moment said is what the last look at the clock gave, or the one before where that is
+-- The end after a receive that returned this, and left the calls of the system, its beginning, the moment to wait for
+-- and the reason so. Where it did not fail, the moment said is what the last look at the clock gave, or the one before where that is
 -- later; where it failed, the reason is kept.
-abbrev pub after_heard : Heard → CallState → (until : ℕ) → Option Error → SocketState → SocketState
-after_heard h system until fault e =
+abbrev pub after_heard : Heard → CallState → (begun until : ℕ) → Option Error → SocketState → SocketState
+after_heard h system begun until fault e =
     record {
       local = e.local;
       failures = failures_after h e.failures;
@@ -172,6 +190,7 @@ after_heard h system until fault e =
       sends = e.sends;
       moment = if is_failed h then e.moment else max e.moment system.reading;
       system = system;
+      begun = begun;
       until = until;
       fault = fault;
       receive_fault = if is_failed h then fault else e.receive_fault;
@@ -214,6 +233,7 @@ after_sent was_taken system fault e =
       sends = one_more e.sends;
       moment = e.moment;
       system = system;
+      begun = e.begun;
       until = e.until;
       fault = fault;
       receive_fault = e.receive_fault;

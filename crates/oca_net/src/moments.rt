@@ -2,7 +2,8 @@
 //! earlier; where the clock can't be read, the latest one is told again.
 ghost use Rattle.std.specs.Prelude.{◌≡◌, ◌≤◌, max};
 ghost use Rattle.oca_net.specs.Ends.{one_more};
-ghost use Rattle.oca_net.specs.PrivateMoments.{IsFresh, milliseconds_of};
+ghost use Rattle.oca_net.specs.Moments.{milliseconds_of};
+ghost use Rattle.oca_net.specs.PrivateMoments.{IsFresh};
 
 use crate::socket::Socket;
 use std::rt::Clock;
@@ -25,6 +26,8 @@ impl<'a, C: Clock> Socket<'a, C> {
         ensures until { self.new.until ≡ self.old.until }
         ensures taken { self.new.system.taken ≡ self.old.system.taken }
         ensures fault { self.new.fault ≡ self.old.fault }
+        ensures refused { self.new.system.refused ≡ self.old.system.refused }
+        ensures begun { self.new.begun ≡ self.old.begun }
         ensures calls { self.new.system.calls ≡ one_more self.old.system.calls }
     {
         milliseconds(self.system.look()).max(self.latest)
@@ -40,6 +43,8 @@ impl<'a, C: Clock> Socket<'a, C> {
         ensures waited { self.new.system.waited ≡ self.old.system.waited }
         ensures taken { self.new.system.taken ≡ self.old.system.taken }
         ensures fault { self.new.fault ≡ self.old.fault }
+        ensures refused { self.new.system.refused ≡ self.old.system.refused }
+        ensures begun { self.new.begun ≡ self.old.begun }
         ensures until { self.new.until ≡ self.old.until }
     {
         self.latest = self.latest.max(milliseconds(self.system.look()));

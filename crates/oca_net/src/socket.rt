@@ -1,8 +1,10 @@
 //! A UDP socket of IPv4, and how long its calls wait.
-ghost use Rattle.std.specs.Prelude.{◌≡◌, ◌≢◌, ◌≤◌, ◌-◌, IfOk, IfErr, IsOk, OnOk, Some, None, length, min, true, false};
+ghost use Rattle.std.specs.Prelude.{◌≡◌, ◌≢◌, ◌≤◌, ◌+◌, ◌-◌, IfOk, IfErr, IsOk, OnOk, Some, None, length, min, true, false};
 ghost use Rattle.oca_net.specs.Ends.{last_u64, one_more};
-ghost use Rattle.oca_net.specs.PrivateMoments.{IsFresh, milliseconds_of, wait_of};
-ghost use Rattle.oca_net.specs.Sockets.{IsBoundAt, is_interrupted, is_taken, reason_of, signals_after};
+ghost use Rattle.oca_net.specs.Moments.{milliseconds_of};
+ghost use Rattle.oca_net.specs.PrivateMoments.{IsFresh, wait_of};
+ghost use Rattle.oca_net.specs.Sockets.{IsBoundAt, IsUnheardFor, IsUntakenFor, is_interrupted, is_taken, reason_of};
+ghost use Rattle.oca_net.specs.Sockets.{signals_after};
 
 use crate::system;
 use crate::system::System;
@@ -21,6 +23,8 @@ pub(crate) struct Socket<'a, C: Clock> {
     pub(crate) system: System<'a, C>,
     /// The latest moment that was told, in milliseconds since the start of the clock.
     pub(crate) latest: u64,
+    /// At which moment the last receive of an end began.
+    pub(crate) begun: u64,
     /// Until which moment receives are to wait.
     pub(crate) until: u64,
     /// Why the last receive or send that failed did so.
@@ -37,6 +41,7 @@ impl<'a, C: Clock> Socket<'a, C> {
         C: Net,
         ensures bound { IfOk result (λ r. IsBoundAt asked.ip asked.port r.1) }
         ensures latest { IfOk result (λ r. r.0.latest ≡ 0) }
+        ensures begun { IfOk result (λ r. r.0.begun ≡ 0) }
         ensures until { IfOk result (λ r. r.0.until ≡ 0) }
         ensures fault { IfOk result (λ r. r.0.fault ≡ None) }
         ensures calls { IfOk result (λ r. r.0.system.calls ≡ 0) }
@@ -56,6 +61,7 @@ impl<'a, C: Clock> Socket<'a, C> {
     fn over(system: System<'a, C>) -> Socket<'a, C>
         ensures system { result.system ≡ system.entry }
         ensures latest { result.latest ≡ 0 }
+        ensures begun { result.begun ≡ 0 }
         ensures until { result.until ≡ 0 }
         ensures fault { result.fault ≡ None }
     {
@@ -63,6 +69,7 @@ impl<'a, C: Clock> Socket<'a, C> {
         Socket {
             system,
             latest: 0,
+            begun: 0,
             until: 0,
             fault: None,
             send_buffer,
@@ -76,8 +83,10 @@ impl<'a, C: Clock> Socket<'a, C> {
           system = record self.old.system {
             blocking = self.new.system.blocking;
             timeout = self.new.system.timeout;
+            refused = self.new.system.refused;
           };
         } }
+        ensures refused { IfErr result (λ e. self.new.system.refused ≡ Some e) }
     {
         if wait == 0 {
             return self.set_blocking(false);
@@ -91,8 +100,13 @@ impl<'a, C: Clock> Socket<'a, C> {
     /// Lets a receive wait, or not.
     fn set_blocking(&mut self, blocking: bool) -> io::Result<()>
         ensures blocking { IfOk result (λ _. self.new.system.blocking ≡ blocking) }
-        ensures same { self.new
-            ≡ record self.old { system = record self.old.system { blocking = self.new.system.blocking } } }
+        ensures same { self.new ≡ record self.old {
+          system = record self.old.system {
+            blocking = self.new.system.blocking;
+            refused = self.new.system.refused;
+          };
+        } }
+        ensures refused { IfErr result (λ e. self.new.system.refused ≡ Some e) }
     {
         if self.system.is_blocking() == blocking {
             return Ok(());
@@ -109,8 +123,11 @@ impl<'a, C: Clock> Socket<'a, C> {
         ensures waited { IfOk result (λ d. self.new.system.waited ≡ self.old.until - now) }
         ensures received { IfOk result (λ d. self.new.system.received ≡ self.new.system.calls) }
         ensures behind { IfOk result (λ d. self.new.system.received ≡ one_more self.old.system.looked) }
+        ensures once { self.new.system.calls ≤ self.old.system.calls + 1 }
         ensures fault { IfErr result (λ e. self.new.fault ≡ Some e) }
+        ensures why { IfErr result (λ e. IsUnheardFor self.new.fault self.new.system.refused) }
         ensures latest { self.new.latest ≡ self.old.latest }
+        ensures begun { self.new.begun ≡ self.old.begun }
         ensures until { self.new.until ≡ self.old.until }
         ensures reading { self.new.system.reading ≡ self.old.system.reading }
         ensures taken { self.new.system.taken ≡ self.old.system.taken }
@@ -123,14 +140,17 @@ impl<'a, C: Clock> Socket<'a, C> {
         received
     }
 
-    /// Receives a datagram within so many milliseconds.
-    #[tactic(auto, using(crate::proofs::Counting::kept, crate::proofs::Counting::kept_or_more))]
+    /// Receives a datagram within so many milliseconds, by one call of the system at most.
+    #[tactic(auto, using(crate::proofs::Counting::kept, crate::proofs::Counting::kept_or_more, crate::proofs::Counting::once_none, crate::proofs::Counting::once_one))]
     fn try_receive(&mut self, buffer: &mut [u8], wait: u64) -> io::Result<(usize, Peer)>
         ensures length { IfOk result (λ d. d.0 ≤ length buffer.new) }
         ensures waited { IfOk result (λ d. self.new.system.waited ≡ wait) }
         ensures received { IfOk result (λ d. self.new.system.received ≡ self.new.system.calls) }
         ensures behind { IfOk result (λ d. self.new.system.received ≡ one_more self.old.system.calls) }
+        ensures once { self.new.system.calls ≤ self.old.system.calls + 1 }
+        ensures why { IfErr result (λ e. IsUnheardFor (Some e) self.new.system.refused) }
         ensures latest { self.new.latest ≡ self.old.latest }
+        ensures begun { self.new.begun ≡ self.old.begun }
         ensures until { self.new.until ≡ self.old.until }
         ensures reading { self.new.system.reading ≡ self.old.system.reading }
         ensures taken { self.new.system.taken ≡ self.old.system.taken }
@@ -145,6 +165,7 @@ impl<'a, C: Clock> Socket<'a, C> {
         ensures ok { IfOk result (λ _. is_taken (length bytes.now) self.new.system.taken ≡ true) }
         ensures err { IfErr result (λ e. is_taken (length bytes.now) self.new.system.taken ≡ false) }
         ensures fault { IfErr result (λ e. self.new.fault ≡ Some e) }
+        ensures why { IfErr result (λ _. IsUntakenFor false self.new.fault self.new.system.refused) }
         ensures reason { is_interrupted (reason_of result) ≡ is_interrupted self.new.system.refused }
         ensures calls { self.new.system
             ≡ record self.old.system {
@@ -154,6 +175,7 @@ impl<'a, C: Clock> Socket<'a, C> {
               signals = signals_after self.new.system.refused self.old.system.signals;
             } }
         ensures latest { self.new.latest ≡ self.old.latest }
+        ensures begun { self.new.begun ≡ self.old.begun }
         ensures until { self.new.until ≡ self.old.until }
     {
         let sent = whole(self.system.send(bytes, SocketAddrV4::from(to)), bytes.len());
@@ -183,6 +205,7 @@ fn whole(sent: io::Result<usize>, bytes: usize) -> io::Result<()>
     ensures ok { IfOk result (λ _. IfOk sent (λ n. n ≡ bytes)) }
     ensures sent { OnOk result (IsOk sent) }
     ensures err { IfErr result (λ e. IfOk sent (λ n. n ≢ bytes)) }
+    ensures why { IfErr result (λ e. IsUntakenFor false (Some e) (reason_of sent)) }
     ensures reason { is_interrupted (reason_of result) ≡ is_interrupted (reason_of sent) }
 {
     let n = sent?;
@@ -197,7 +220,9 @@ fn whole(sent: io::Result<usize>, bytes: usize) -> io::Result<()>
 /// it was asked to be.
 fn set_up<C: Clock>(system: &mut System<'_, C>, asked: Peer, wait: u64) -> io::Result<Peer>
     ensures bound { IfOk result (λ p. IsBoundAt asked.ip asked.port p) }
-    ensures same { system.new ≡ record system.old { timeout = system.new.timeout } }
+    ensures same { system.new
+        ≡ record system.old { timeout = system.new.timeout; refused = system.new.refused } }
+    ensures kept { IfOk result (λ _. system.new.refused ≡ system.old.refused) }
 {
     system.set_timeout(wait)?;
     let local = peer_of(system.local()?)?;
@@ -217,6 +242,7 @@ fn granted(socket: RawFd) -> u32 {
 fn from_peer(received: io::Result<(usize, SocketAddr)>) -> io::Result<(usize, Peer)>
     ensures length { IfOk result (λ d. IfOk received (λ r. d.0 ≡ r.0)) }
     ensures received { OnOk result (IsOk received) }
+    ensures why { IfErr result (λ e. IsUnheardFor (Some e) (reason_of received)) }
 {
     let (n, from) = received?;
     Ok((n, peer_of(from)?))
@@ -242,7 +268,9 @@ fn one_address(local: Peer) -> io::Result<u32>
 }
 
 /// The peer at an address; one of IPv6 is none.
-fn peer_of(address: SocketAddr) -> io::Result<Peer> {
+fn peer_of(address: SocketAddr) -> io::Result<Peer>
+    ensures why { IfErr result (λ e. IsUnheardFor (Some e) None) }
+{
     match address {
         SocketAddr::V4(address) => Ok(Peer::from(address)),
         SocketAddr::V6(_) => Err(io::Error::from(io::ErrorKind::InvalidData)),

@@ -2,8 +2,9 @@
 ghost use Rattle.std.specs.Prelude.{◌≡◌, ◌≤◌, IfOk, IfErr, IsSome, None, Some, length};
 ghost use Rattle.std.specs.IoError.{raw_os_error};
 ghost use Rattle.oca_net.specs.Ends.{one_more};
-ghost use Rattle.oca_net.specs.PrivateMoments.{milliseconds_of, wait_of};
-ghost use Rattle.oca_net.specs.Sockets.{signals_after};
+ghost use Rattle.oca_net.specs.Moments.{milliseconds_of};
+ghost use Rattle.oca_net.specs.PrivateMoments.{wait_of};
+ghost use Rattle.oca_net.specs.Sockets.{reason_of, signals_after};
 
 use crate::count::step;
 use crate::reason::{is_interrupted, reason_of};
@@ -44,7 +45,8 @@ pub(crate) struct System<'a, C: Clock> {
     waited: u64,
     /// How many bytes of the last datagram that was handed over were taken, where it was.
     taken: Option<usize>,
-    /// Why the last receive or send failed, where it did.
+    /// The reason that the system gave where the last receive or send failed, or where the time to wait could not be set
+    /// for the receive.
     refused: Option<io::Error>,
     /// How many receives and sends a signal interrupted.
     signals: u64,
@@ -126,25 +128,39 @@ impl<'a, C: Clock> System<'a, C> {
         self.blocking
     }
 
-    /// Gives the timeout of the socket's receives, in milliseconds.
+    /// Gives the timeout of the socket's receives, in milliseconds. Notes the reason where that fails.
     pub(crate) fn set_timeout(&mut self, timeout: u64) -> io::Result<()>
         ensures ok { IfOk result (λ _. self.new ≡ record self.old { timeout = timeout }) }
-        ensures err { IfErr result (λ _. self.new ≡ self.old) }
+        ensures err { IfErr result (λ e. self.new ≡ record self.old { refused = Some e }) }
     {
-        self.socket
-            .set_read_timeout(Some(Duration::from_millis(timeout)))?;
-        self.timeout = timeout;
-        Ok(())
+        let time = Duration::from_millis(timeout);
+        match self.socket.set_read_timeout(Some(time)) {
+            Ok(()) => {
+                self.timeout = timeout;
+                Ok(())
+            }
+            Err(reason) => {
+                self.refused = Some(reason);
+                Err(reason)
+            }
+        }
     }
 
-    /// Lets the socket's calls wait, or not.
+    /// Lets the socket's calls wait, or not. Notes the reason where that fails.
     pub(crate) fn set_blocking(&mut self, blocking: bool) -> io::Result<()>
         ensures ok { IfOk result (λ _. self.new ≡ record self.old { blocking = blocking }) }
-        ensures err { IfErr result (λ _. self.new ≡ self.old) }
+        ensures err { IfErr result (λ e. self.new ≡ record self.old { refused = Some e }) }
     {
-        self.socket.set_nonblocking(!blocking)?;
-        self.blocking = blocking;
-        Ok(())
+        match self.socket.set_nonblocking(!blocking) {
+            Ok(()) => {
+                self.blocking = blocking;
+                Ok(())
+            }
+            Err(reason) => {
+                self.refused = Some(reason);
+                Err(reason)
+            }
+        }
     }
 
     /// Receives a datagram: its length, cut to the buffer's, and its sender.
@@ -159,6 +175,7 @@ impl<'a, C: Clock> System<'a, C> {
         ensures length { IfOk result (λ d. d.0 ≤ length buffer.new) }
         ensures gave { IfOk result (λ d. self.new.refused ≡ None) }
         ensures refused { IfErr result (λ e. self.new.refused ≡ Some e) }
+        ensures reason { self.new.refused ≡ reason_of result }
     {
         step(&mut self.calls);
         self.received = self.calls;
@@ -174,6 +191,7 @@ impl<'a, C: Clock> System<'a, C> {
         ensures failed { IfErr result (λ _. self.new.taken ≡ None) }
         ensures refused { IfErr result (λ e. self.new.refused ≡ Some e) }
         ensures gave { IfOk result (λ n. self.new.refused ≡ None) }
+        ensures reason { self.new.refused ≡ reason_of result }
         ensures new { self.new ≡ record self.old {
           calls = one_more self.old.calls;
           taken = self.new.taken;

@@ -3,10 +3,14 @@ ghost use Rattle.std.specs.Prelude.{◌≡◌, ◌≤◌, ◌<◌, ◌+◌, ◌-
 ghost use Rattle.std.specs.Prelude.{length, max, min};
 ghost use Rattle.std.specs.IoError.{error_kind};
 ghost use Rattle.oca_net.specs.Ends.{HoldsOnlyADatagram, is_closed, is_failed, largest_datagram, last_u64, one_more};
-ghost use Rattle.oca_net.specs.Sockets.{IsBegunAgain, IsBoundAt, IsBoundAtOne, IsWhy, ReadsClockAfter, ReturnsMoment};
+ghost use Rattle.oca_net.specs.Sockets.{IsBegunAgain, IsBoundAt, IsBoundAtOne, IsUnheardFor, IsUntakenFor, IsWhy};
+ghost use Rattle.oca_net.specs.Sockets.{ReadsClockAfter, ReturnsMoment};
 ghost use Rattle.oca_net.specs.Sockets.{after_heard, after_sent, fault_of, is_interrupted, is_taken, most_tries};
 ghost use Rattle.oca_net.specs.Sockets.{new_socket, says_none, says_none_came, state_of_socket};
-ghost use Rattle.oca_net.specs.PrivateMoments.{IsFresh, milliseconds_of, until_at_most};
+ghost use Rattle.oca_net.specs.Deliveries.{Datagram};
+ghost use Rattle.oca_net.specs.Memory.{bytes_of, heard_of};
+ghost use Rattle.oca_net.specs.Moments.{milliseconds_of, until_at_most};
+ghost use Rattle.oca_net.specs.PrivateMoments.{IsFresh};
 
 use crate::count::step;
 use crate::end::{End, Heard};
@@ -103,7 +107,7 @@ pub struct UdpEnd<'a, C: Clock> {
 }
 
 impl<'a, C: Clock> Model for UdpEnd<'a, C> {
-    ghost use Rattle.oca_net.specs.PrivateMoments.{milliseconds_of};
+    ghost use Rattle.oca_net.specs.Moments.{milliseconds_of};
     ghost use Rattle.oca_net.specs.Sockets.{SocketState};
 
     ghost Value = { SocketState };
@@ -123,6 +127,7 @@ impl<'a, C: Clock> Model for UdpEnd<'a, C> {
         refused = a.socket.system.refused;
         signals = a.socket.system.signals;
       };
+      begun = a.socket.begun;
       until = a.socket.until;
       fault = a.socket.fault;
       receive_fault = a.failed_receive;
@@ -308,11 +313,13 @@ impl<'a, C: Clock> UdpEnd<'a, C> {
         ensures open { is_closed result ≡ false }
         ensures said { ReturnsMoment result self.new.moment }
         ensures later { self.old.moment ≤ self.new.moment }
-        ensures end { self.new ≡ after_heard result self.new.system self.new.until self.new.fault self.old }
+        ensures end { self.new ≡ after_heard result self.new.system self.new.begun self.new.until self.new.fault self.old }
         ensures behind { ReadsClockAfter result self.new.system }
-        ensures why { IsWhy result self.new.fault }
+        ensures why { IsWhy result self.new.fault self.new.system.refused }
         ensures most { self.new.until ≤ moment }
         ensures least { until_at_most self.old.moment moment ≤ self.new.until }
+        ensures begun { self.old.moment ≤ self.new.begun }
+        ensures until { self.new.until ≡ until_at_most self.new.begun moment }
     {
         let now = self.socket.look();
         self.hear(packet, now, end_of_wait(now, moment))
@@ -327,9 +334,10 @@ impl<'a, C: Clock> UdpEnd<'a, C> {
         ensures open { is_closed result ≡ false }
         ensures said { ReturnsMoment result self.new.moment }
         ensures later { self.old.moment ≤ self.new.moment }
-        ensures end { self.new ≡ after_heard result self.new.system self.new.until self.new.fault self.old }
+        ensures end { self.new ≡ after_heard result self.new.system self.new.begun self.new.until self.new.fault self.old }
         ensures behind { ReadsClockAfter result self.new.system }
-        ensures why { IsWhy result self.new.fault }
+        ensures why { IsWhy result self.new.fault self.new.system.refused }
+        ensures begun { self.new.begun ≡ now }
         ensures until { self.new.until ≡ until }
     {
         packet.clear();
@@ -358,6 +366,7 @@ impl<'a, C: Clock> UdpEnd<'a, C> {
         ensures end { self.new
             ≡ record (after_sent result self.new.system self.new.fault self.old) { sends = self.old.sends } }
         ensures taken { result ≡ is_taken (length bytes.now) self.new.system.taken }
+        ensures why { IsUntakenFor result self.new.fault self.new.system.refused }
         ensures again { IsBegunAgain self.new.system.refused self.old.system.calls self.new.system.calls
             self.old.system.signals self.new.system.signals }
     {
@@ -382,10 +391,12 @@ impl<'a, C: Clock> End for UdpEnd<'a, C> {
         ensures open { is_closed result ≡ false }
         ensures said { ReturnsMoment result self.new.moment }
         ensures later { self.old.moment ≤ self.new.moment }
-        ensures end { self.new ≡ after_heard result self.new.system self.new.until self.new.fault self.old }
+        ensures end { self.new ≡ after_heard result self.new.system self.new.begun self.new.until self.new.fault self.old }
         ensures behind { ReadsClockAfter result self.new.system }
-        ensures why { IsWhy result self.new.fault }
+        ensures why { IsWhy result self.new.fault self.new.system.refused }
         ensures least { min (self.old.moment + 50) last_u64 ≤ self.new.until }
+        ensures begun { self.old.moment ≤ self.new.begun }
+        ensures until { self.new.until ≡ min (self.new.begun + 50) last_u64 }
     {
         let now = self.socket.look();
         self.hear(packet, now, now.saturating_add(WAIT_MS))
@@ -397,11 +408,13 @@ impl<'a, C: Clock> End for UdpEnd<'a, C> {
         ensures open { is_closed result ≡ false }
         ensures said { ReturnsMoment result self.new.moment }
         ensures later { self.old.moment ≤ self.new.moment }
-        ensures end { self.new ≡ after_heard result self.new.system self.new.until self.new.fault self.old }
+        ensures end { self.new ≡ after_heard result self.new.system self.new.begun self.new.until self.new.fault self.old }
         ensures behind { ReadsClockAfter result self.new.system }
-        ensures why { IsWhy result self.new.fault }
+        ensures why { IsWhy result self.new.fault self.new.system.refused }
         ensures most { self.new.until ≤ moment }
         ensures least { until_at_most self.old.moment moment ≤ self.new.until }
+        ensures begun { self.old.moment ≤ self.new.begun }
+        ensures until { self.new.until ≡ until_at_most self.new.begun moment }
     {
         UdpEnd::receive_by(self, packet, moment)
     }
@@ -419,6 +432,7 @@ impl<'a, C: Clock> End for UdpEnd<'a, C> {
         requires { length bytes.now ≤ largest_datagram }
         ensures end { self.new ≡ after_sent result self.new.system self.new.fault self.old }
         ensures taken { result ≡ is_taken (length bytes.now) self.new.system.taken }
+        ensures why { IsUntakenFor result self.new.fault self.new.system.refused }
         ensures again { IsBegunAgain self.new.system.refused self.old.system.calls self.new.system.calls
             self.old.system.signals self.new.system.signals }
     {
@@ -477,10 +491,14 @@ fn wait<C: Clock>(
     ensures over { IfOk result (λ o. IfNone o (is_interrupted socket.new.fault ≡ true
         → max socket.new.latest (milliseconds_of socket.new.system.reading) < until
         → min (socket.old.system.calls + most_tries) last_u64 ≤ socket.new.system.calls)) }
+    ensures why { IfErr result (λ _. IsUnheardFor socket.new.fault socket.new.system.refused) }
+    ensures why_none { IfOk result (λ o. IfNone o (IsUnheardFor socket.new.fault socket.new.system.refused)) }
     ensures latest { socket.new.latest ≡ socket.old.latest }
+    ensures begun { socket.new.begun ≡ begun }
     ensures until { socket.new.until ≡ until }
     ensures taken { socket.new.system.taken ≡ socket.old.system.taken }
 {
+    socket.begun = begun;
     socket.until = until;
     let mut now = begun;
     for _try in 0..TRIES {
@@ -516,7 +534,9 @@ fn fill(packet: &mut Packet, bytes: &[u8], from: Peer, now: u64) -> Heard
     ensures open { is_closed result ≡ false }
     ensures failed { is_failed result ≡ false }
     ensures said { ReturnsMoment result now }
-    ensures why { IsWhy result None }
+    ensures why { IsWhy result None None }
+    ensures heard { result ≡ heard_of (Datagram from bytes.now now) }
+    ensures bytes { packet.new.items ≡ bytes_of (Datagram from bytes.now now) }
 {
     match packet.try_extend_from_slice(bytes) {
         Ok(()) => Heard::Datagram { from, now },
@@ -529,9 +549,11 @@ fn send_datagram<C: Clock>(socket: &mut Socket<'_, C>, to: Peer, bytes: &[u8]) -
     ensures ok { IfOk result (λ _. is_taken (length bytes.now) socket.new.system.taken ≡ true) }
     ensures err { IfErr result (λ e. is_taken (length bytes.now) socket.new.system.taken ≡ false) }
     ensures fault { IfErr result (λ e. socket.new.fault ≡ Some e) }
+    ensures why { IfErr result (λ _. IsUntakenFor false socket.new.fault socket.new.system.refused) }
     ensures again { IsBegunAgain socket.new.system.refused socket.old.system.calls socket.new.system.calls
         socket.old.system.signals socket.new.system.signals }
     ensures latest { socket.new.latest ≡ socket.old.latest }
+    ensures begun { socket.new.begun ≡ socket.old.begun }
     ensures until { socket.new.until ≡ socket.old.until }
 {
     for _try in 1..TRIES {
