@@ -350,9 +350,9 @@ impl<const COMMAND: usize, const ANSWER: usize> DeviceOf<COMMAND, ANSWER> {
     /// is answered ProcessingFailed (AES70-2, OcaStatus), or with the status of another fault that the command has.
     /// When this status is sent is the profile's choice.
     ///
-    /// A duplicate gets its retained reply. Commands that read or lock work as before, and so do the calls of the local
-    /// front panel. The setting is not saved to a store. The clock and the sessions stay as they are. Refusal:
-    /// `NoObject` if no object has the number `ono`; then nothing is changed.
+    /// A duplicate that asks for a response gets its retained reply. Commands that read or lock work as before, and so
+    /// do the calls of the local front panel. The setting is not saved to a store. The clock and the sessions stay as
+    /// they are. Refusal: `NoObject` if no object has the number `ono`; then nothing is changed.
     pub fn set_failing(&mut self, ono: Ono, failing: bool) -> Result<(), FrontFault>
         ensures represents { (w : DeviceSizes) (T : List Object) (E : List Event) →
             RepresentsWithin ANSWER w self.old T E →

@@ -188,10 +188,11 @@ impl fmt::Debug for Keeping {
 ///   served, in at most 64 turns together, and while at most 244 packets wait. Then the objects are stored once.
 /// - If the store returns `true`, the answers that wait are sent.
 /// - If the store returns `false`, the answers that wait are dropped, as if the network had lost them. The loop goes
-///   on. The objects stay changed, and the device keeps the replies: a peer that repeats its command gets its reply.
+///   on. The objects stay changed, and the device keeps the replies: a peer that repeats its command and asks for a
+///   response gets its reply.
 /// - The answers to a datagram with a duplicate wait too while something that a datagram wrote is not stored. The
-///   objects are then stored, also if the last store failed. A *duplicate* is a command that came again and gets the
-///   reply of its execution ([`Device`]).
+///   objects are then stored, also if the last store failed. A *duplicate* is a command that came again ([`Device`]).
+///   If it asks for a response, it gets the reply of its execution.
 /// - All other answers are sent at once, even if they report what is not stored yet.
 ///
 /// What was set at the local front panel is stored with the next datagram that writes.
