@@ -51,7 +51,8 @@ pub struct Keeping {
 
 impl Model for Keeping {
     ghost use Rattle.std.specs.Prelude.{◌≤◌, length, vec_capacity};
-    ghost use Rattle.oca_device.specs.PrivateKeeping.{KeepingState, packets_held};
+    ghost use Rattle.oca_device.specs.Keeping.{KeepingState};
+    ghost use Rattle.oca_device.specs.PrivateKeeping.{packets_held};
 
     ghost Value = { KeepingState };
 
