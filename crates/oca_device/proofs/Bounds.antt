@@ -20,7 +20,17 @@ use Rattle.oca_device.specs.Groups.{last_with, from_with, with_answer, with_answ
 use Rattle.oca_device.specs.Answers.{answer_to_command, answer_to, answers_to_messages, answers_to_reading, packets_of}
 use Rattle.oca_device.specs.Rooms.{is_short_enough, shortened_answers}
 use Rattle.oca_device.proofs.Rooms.{as_many}
-use Rattle.oca_device.specs.PrivateServing.{IsShort, may_answer, most_answers, commands_of, all_commands}
+use Rattle.oca_device.specs.PrivateServing.{IsShort, commands_of, all_commands}
+
+-- a message has one answer at most, and a response none
+abbrev pub may_answer : Msg → ℕ
+may_answer (Command respond c) = 1
+may_answer (KeepAlive form) = 1
+may_answer (Response r) = 0
+
+abbrev pub most_answers : List Msg → ℕ
+most_answers [] = 0
+most_answers (m ∷ messages) = may_answer m + most_answers messages
 
 abbrev counted : Msg → ℕ
 counted m = cond (not (is_response m)) 1 0

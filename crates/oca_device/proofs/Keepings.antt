@@ -28,8 +28,8 @@ use Rattle.oca_device.specs.Replies.{Serves, sent_for, sent_to}
 use Rattle.oca_device.specs.States.{state_after}
 use Rattle.oca_device.specs.Written as effects
 use Rattle.oca_device.specs.Following.{Followed, ElectronicsState, Follows, handed, handed_of}
-use Rattle.oca_device.specs.Keeping.{Storing, StoreState, Group, is_writing, is_repeating, answers_wait, behind_after, behind_all, waiting, at_once, some_wait, behind_group, storings_of, sent_for_group, all_deliveries, behind_groups, storings_in_all, sent_of_all, ServesKeeping}
-use Rattle.oca_device.specs.PrivateKeeping.{KeepingState, packets_held, TakesExactly, TakesIn, SettlesGroup, StaysClosed}
+use Rattle.oca_device.specs.Keeping.{KeepingState, Storing, StoreState, Group, is_writing, is_repeating, answers_wait, behind_after, behind_all, waiting, at_once, some_wait, behind_group, storings_of, sent_for_group, all_deliveries, behind_groups, storings_in_all, sent_of_all, ServesKeeping}
+use Rattle.oca_device.specs.PrivateKeeping.{packets_held, TakesExactly, TakesIn, SettlesGroup, StaysClosed}
 use Rattle.oca_device.proofs.Turns.{later_events, later_handed, nothing_served, one_served, serves_more, verdict_one, first_sent, further}
 
 -- ---- deliveries one after another

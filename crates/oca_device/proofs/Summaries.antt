@@ -4,13 +4,14 @@ use Rattle.std.specs.Prelude.{map, filter, Option, Some}
 use Rattle.std.specs.List.{IsDistinct}
 use Rattle.oca_types.specs.declared.words.Peer.{Peer}
 use Rattle.oca_types.specs.Peers.{CommandFields}
-use Rattle.oca_types.specs.Sizes.{DeviceSizes}
+use Rattle.oca_types.specs.Sizes.{DeviceSizes, most_parameter_bytes}
 use Rattle.oca_tree.specs.declared.object.Object.{Object}
 use Rattle.oca_pdu.specs.Messages.{Msg}
 use Rattle.oca_session.specs.Accepted.{Entry, window, outside, entry_under, greatest, higher_of}
-use Rattle.oca_device.specs.Notes.{run, is_noted, noted_peers, noted_order, accepted, heartbeat_noted}
+use Rattle.oca_session.specs.Table.{Session}
+use Rattle.oca_device.specs.Notes.{Note, run, is_noted, noted_peers, noted_order, accepted, heartbeat_noted}
 use Rattle.oca_device.specs.States.{State}
-use Rattle.oca_device.specs.Devices.{session_for, table_of}
+use Rattle.oca_device.specs.Devices.{session_within, table_of}
 use Rattle.oca_device.specs.Answers.{response}
 use Rattle.oca_device.specs.LawByEvents.{Arrival, Happening, clock, admitted, messages_in, accepted_of, Change, changes, reply, Summary, summary_of, summary_by_events, greatest_handle}
 use Rattle.oca_device.specs.LawByEvents as law
@@ -18,6 +19,10 @@ use Rattle.oca_device.proofs.Acceptance.{commands_of, AreDistinct, distinct_none
 use Rattle.oca_device.proofs.Answering.{AnswersUnder, Replied}
 use Rattle.oca_device.proofs.Sessions.{latest, AllBridged, known_are, session_is}
 use Rattle.oca_device.proofs.Standing.{Stands}
+
+-- the session of a peer, where there is room for each reply
+abbrev session_for : DeviceSizes → List Note → Peer → Session
+session_for w notes p = session_within most_parameter_bytes w notes p
 
 module _ {X Y Z : Type 0} where
   map_twice : (f : Y → Z) (g : X → Y) (xs : List X) → map f (map g xs) ≡ map (λ x. f (g x)) xs

@@ -44,9 +44,6 @@ table_within room w s =
     }
 
 -- where there is room for each reply
-abbrev pub session_for : DeviceSizes → List Note → Peer → Session
-session_for w notes p = session_within most_parameter_bytes w notes p
-
 abbrev pub table_of : DeviceSizes → State → Table
 table_of w s = table_within most_parameter_bytes w s
 

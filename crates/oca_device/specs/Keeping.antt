@@ -36,6 +36,12 @@ pub record Stores (stored : Bool) (tree : List Object) (old new : StoreState) : 
 
 -- ---- which answers wait
 
+-- What a device keeps between its turns: whether something that a datagram wrote is not stored, and the answers that
+-- wait.
+pub record KeepingState : Type 0 where
+  pub is_behind : Bool
+  pub held : List Sent
+
 -- a datagram wrote to an object
 abbrev pub is_writing : DeviceSizes → List Object → List Event → Delivery → Bool
 is_writing w tree events (Datagram from bytes now) =

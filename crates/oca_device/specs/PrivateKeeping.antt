@@ -16,12 +16,7 @@ use Rattle.oca_device.specs.Devices.{DeviceState, Represents}
 use Rattle.oca_device.specs.Reports.{capped}
 use Rattle.oca_device.specs.Replies.{Serves}
 use Rattle.oca_device.specs.Following.{ElectronicsState, handed}
-use Rattle.oca_device.specs.Keeping.{StoreState, Stores, at_once, waiting, behind_all, some_wait}
-
--- whether something written is not stored, and what waits
-pub record KeepingState : Type 0 where
-  pub is_behind : Bool
-  pub held : List Sent
+use Rattle.oca_device.specs.Keeping.{KeepingState, StoreState, Stores, at_once, waiting, behind_all, some_wait}
 
 -- what these answers are, and to whom
 abbrev pub packets_held : List Answer → List Sent

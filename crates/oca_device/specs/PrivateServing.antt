@@ -1,5 +1,4 @@
--- What serving a datagram, its messages or one message makes of a device and its outbox, and how many answers there are
--- at most.
+-- What serving a datagram, its messages or one message makes of a device and its outbox.
 use Rattle.std.specs.Prelude.{◌≡◌, ℕ, ◌+◌, ◌≤◌, Bool, true, false, ⊤, List, [], ◌∷◌, ◌++◌, length}
 use Rattle.oca_types.specs.declared.words.Peer.{Peer}
 use Rattle.oca_types.specs.Sizes.{DeviceSizes}
@@ -93,13 +92,3 @@ pub record TakesDatagram (room_for : ℕ) (w : DeviceSizes) (new : DeviceState) 
   pub effects : new.effects ≡ effects_of_reading w p (read_datagram bytes) s
   pub packets : after ≡ first_packets room (packets_of (shortened_answers room_for (answers_to_reading w p (read_datagram bytes) s)))
   pub verdict_is : verdict ≡ verdict_of_reading w p (read_datagram bytes) s
-
--- a message has one answer at most, and a response none
-abbrev pub may_answer : Msg → ℕ
-may_answer (Command respond c) = 1
-may_answer (KeepAlive form) = 1
-may_answer (Response r) = 0
-
-abbrev pub most_answers : List Msg → ℕ
-most_answers [] = 0
-most_answers (m ∷ messages) = may_answer m + most_answers messages

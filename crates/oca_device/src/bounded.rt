@@ -47,7 +47,7 @@ impl Model for BoundedOutbox {
 impl BoundedOutbox {
     ghost use Rattle.oca_device.specs.Outboxes.{bytes_of_packets, first_packets};
 
-    /// Makes an empty outbox with room for `room` packets, of at most 1,472 bytes each.  With a room of 0 every answer
+    /// Makes an empty outbox with room for `room` packets, of at most 1,472 bytes each. With a room of 0 every answer
     /// is left out. No datagram has more than 122 packets of answers. The call takes from `alloc` all the memory that
     /// the outbox will need, some 1,480 bytes a packet. The only refusal is `NoMemory` if that memory is refused. No
     /// memory is then kept.

@@ -1,6 +1,6 @@
 //! The device: it takes events, and puts its answers into an outbox.
 ghost use Rattle.std.specs.Prelude.{◌≡◌, ◌+◌, ◌<◌, ◌≤◌, List, [], ◌∷◌, ◌++◌, length, max, IfOk, OnErr, MatchOption};
-ghost use Rattle.std.specs.Prelude.{true, IsTrue, IsSome, if◌then◌else◌, Ok, Err, slice_get};
+ghost use Rattle.std.specs.Prelude.{true, IsTrue, IsSome, if◌then◌else◌, Ok, Err, slice_get, Some, None, is_none};
 ghost use Rattle.oca_types.specs.Peers.{fields_of};
 ghost use Rattle.oca_types.specs.Sizes.{window_size, sizes_of, DeviceSizes};
 ghost use Rattle.std.specs.List.{AllByRecursion};
@@ -17,6 +17,7 @@ ghost use Rattle.oca_tree.specs.Execution.{execution};
 ghost use Rattle.oca_tree.specs.Settings.{set_fault};
 ghost use Rattle.oca_tree.specs.LocalChanges.{front_fault, ToValue, ToLabel, ToEnabled, ToUnlocked, ToFailing};
 ghost use Rattle.oca_tree.specs.Readers.{failing_at};
+ghost use Rattle.oca_tree.specs.declared.front.FrontFault.TheVariants as front_faults;
 ghost use Rattle.oca_model.specs.declared.request.Request.TheVariants as asked;
 ghost use Rattle.std.specs.Result.{result_err};
 ghost use Rattle.oca_device.specs.Answers.{packets_of, answers_to_reading};
@@ -350,14 +351,16 @@ impl<const COMMAND: usize, const ANSWER: usize> DeviceOf<COMMAND, ANSWER> {
     /// is answered ProcessingFailed (AES70-2, OcaStatus), or with the status of another fault that the command has.
     /// When this status is sent is the profile's choice.
     ///
-    /// A duplicate gets its retained reply. Commands that read or lock work as before, and so do the calls of the local
-    /// front panel. The setting is not saved to a store. The clock and the sessions stay as they are. Refusal:
-    /// `NoObject` if no object has the number `ono`; then nothing is changed.
+    /// A duplicate that asks for a response gets its retained reply. Commands that read or lock work as before, and so
+    /// do the calls of the local front panel. The setting is not saved to a store. The clock and the sessions stay as
+    /// they are. Refusal: `NoObject` if no object has the number `ono`; then nothing is changed.
     pub fn set_failing(&mut self, ono: Ono, failing: bool) -> Result<(), FrontFault>
         ensures represents { (w : DeviceSizes) (T : List Object) (E : List Event) →
             RepresentsWithin ANSWER w self.old T E →
             RepresentsWithin ANSWER w self.new T (Local ono.0 (ToFailing failing) ∷ E) }
         ensures fault { result_err result ≡ front_fault self.old.tree ono.0 (asked.SetEnabled failing) }
+        ensures missing { result_err result
+            ≡ (if is_none (failing_at self.old.tree ono.0) then Some front_faults.NoObject else None) }
         ensures represented { (w : DeviceSizes) (T : List Object) (E : List Event) →
             RepresentsWithin ANSWER w self.old T E →
             result_err result ≡ front_fault (state_after w T E).tree ono.0 (asked.SetEnabled failing) }
@@ -394,6 +397,7 @@ impl<const COMMAND: usize, const ANSWER: usize> DeviceOf<COMMAND, ANSWER> {
     #[tactic(auto, using(crate::proofs::Steps::known_counted))]
     pub fn sessions(&self) -> usize
         ensures sessions { result ≡ length self.now.sessions.sessions }
+        ensures few { result ≤ self.now.sessions.sizes.peers }
         ensures represented { (w : DeviceSizes) (T : List Object) (E : List Event) →
             RepresentsWithin ANSWER w self.now T E →
             result ≡ length (known_after (state_after w T E)) }
@@ -423,6 +427,7 @@ impl<const COMMAND: usize, const ANSWER: usize> DeviceOf<COMMAND, ANSWER> {
     /// So read it after each datagram. Clock readings and changes at the local front panel leave the list as it is.
     pub fn written(&self) -> &[Ono]
         ensures written { numbers_of result.now ≡ self.now.written }
+        ensures most { length result.now ≤ most_commands }
         ensures represented { (w : DeviceSizes) (T : List Object) (E : List Event) →
             RepresentsWithin ANSWER w self.now T E →
             numbers_of result.now ≡ written w T E }
@@ -436,6 +441,7 @@ impl<const COMMAND: usize, const ANSWER: usize> DeviceOf<COMMAND, ANSWER> {
     /// after each datagram. Clock readings and changes at the local front panel leave the list as it is.
     pub fn effects(&self) -> &[Effect]
         ensures effects { result.now ≡ self.now.effects }
+        ensures most { length result.now ≤ most_commands }
         ensures represented { (w : DeviceSizes) (T : List Object) (E : List Event) →
             RepresentsWithin ANSWER w self.now T E →
             result.now ≡ effects w T E }

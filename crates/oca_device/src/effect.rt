@@ -1,5 +1,5 @@
 //! What a device did with a command.
-ghost use Rattle.std.specs.Prelude.{◌≡◌, ◌<◌, [], ◌∷◌, ◌++◌, length};
+ghost use Rattle.std.specs.Prelude.{◌≡◌, ◌<◌, ◌≤◌, [], ◌∷◌, ◌++◌, length};
 ghost use Rattle.oca_pdu.specs.Limits.{most_commands};
 
 use oca_types::{MethodId, Ono, Status};
@@ -96,7 +96,8 @@ impl Effects {
 
     /// The effects, in order.
     pub(crate) fn as_slice(&self) -> &[Effect]
-        ensures { result.now ≡ self.now }
+        ensures now { result.now ≡ self.now }
+        ensures most { length result.now ≤ most_commands }
     {
         &self.places[..self.count]
     }

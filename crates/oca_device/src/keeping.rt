@@ -3,8 +3,8 @@ ghost use Rattle.std.specs.Prelude.{◌≡◌, ◌+◌, ◌<◌, ◌≤◌, ◌^
 ghost use Rattle.std.specs.Prelude.{if◌then◌else◌, IfSome, min};
 ghost use Rattle.oca_pdu.specs.Limits.{most_answered};
 ghost use Rattle.oca_net.specs.EndStates.{Receives, SendsAllBut};
-ghost use Rattle.oca_device.specs.Reports.{added, capped, no_turns, one_turn};
-ghost use Rattle.oca_net.specs.Ends.{last_u64};
+ghost use Rattle.oca_device.specs.Reports.{added, capped, no_turns, one_turn, receives_of};
+ghost use Rattle.oca_net.specs.Ends.{last_u64, one_more};
 ghost use Rattle.oca_device.specs.Replies.{sent_to};
 ghost use Rattle.oca_device.specs.Keeping.{ServesKeeping};
 ghost use Rattle.oca_device.specs.PrivateTotals.{IsAtMostEach};
@@ -51,7 +51,8 @@ pub struct Keeping {
 
 impl Model for Keeping {
     ghost use Rattle.std.specs.Prelude.{◌≤◌, length, vec_capacity};
-    ghost use Rattle.oca_device.specs.PrivateKeeping.{KeepingState, packets_held};
+    ghost use Rattle.oca_device.specs.Keeping.{KeepingState};
+    ghost use Rattle.oca_device.specs.PrivateKeeping.{packets_held};
 
     ghost Value = { KeepingState };
 
@@ -188,10 +189,11 @@ impl fmt::Debug for Keeping {
 ///   served, in at most 64 turns together, and while at most 244 packets wait. Then the objects are stored once.
 /// - If the store returns `true`, the answers that wait are sent.
 /// - If the store returns `false`, the answers that wait are dropped, as if the network had lost them. The loop goes
-///   on. The objects stay changed, and the device keeps the replies: a peer that repeats its command gets its reply.
+///   on. The objects stay changed, and the device keeps the replies: a peer that repeats its command and asks for a
+///   response gets its reply.
 /// - The answers to a datagram with a duplicate wait too while something that a datagram wrote is not stored. The
-///   objects are then stored, also if the last store failed. A *duplicate* is a command that came again and gets the
-///   reply of its execution ([`Device`]).
+///   objects are then stored, also if the last store failed. A *duplicate* is a command that came again ([`Device`]).
+///   If it asks for a response, it gets the reply of its execution.
 /// - All other answers are sent at once, even if they report what is not stored yet.
 ///
 /// What was set at the local front panel is stored with the next datagram that writes.
@@ -209,6 +211,8 @@ pub fn serve_keeping<E: End, S: Store, L: Electronics>(
         result }
     ensures turns { result.turns ≤ turns }
     ensures closed { result.turns < turns → IsTrue (E.state end.new).closed }
+    ensures receives { (E.state end.new).receives < last_u64 →
+        (E.state end.new).receives ≡ (E.state end.old).receives + receives_of result.turns turns }
     ensures none { keeping.new.held ≡ [] }
     ensures outbox { outbox.new ≡ [] }
 {
@@ -292,6 +296,10 @@ fn serve_group<E: End, S: Store, L: Electronics>(
     ensures most { result.turns ≤ most }
     ensures some { result.is_closed ≡ false → 0 < result.turns }
     ensures closed { IsTrue result.is_closed → IsTrue (E.state end.new).closed }
+    ensures receives { (E.state end.new).receives < last_u64 →
+        (E.state end.new).receives ≡ (E.state end.old).receives
+        + (if result.is_closed then result.turns + 1 else result.turns) }
+    ensures fewer { IsTrue result.is_closed → result.turns < most }
     ensures none { keeping.new.held ≡ [] }
     ensures outbox { outbox.new ≡ [] }
 {
@@ -376,6 +384,10 @@ fn take_in<E: End, S: Store, L: Electronics>(
     ensures most { result.turns ≤ most }
     ensures some { result.is_closed ≡ false → 0 < result.turns }
     ensures closed { IsTrue result.is_closed → IsTrue (E.state end.new).closed }
+    ensures receives { (E.state end.new).receives < last_u64 →
+        (E.state end.new).receives ≡ (E.state end.old).receives
+        + (if result.is_closed then result.turns + 1 else result.turns) }
+    ensures fewer { IsTrue result.is_closed → result.turns < most }
     ensures outbox { outbox.new ≡ [] }
 {
     let mut taken = none_taken();
@@ -479,6 +491,7 @@ fn take_turn<E: End, S: Store, L: Electronics>(
     ensures turn { TakesOneIn device.old device.new (E.state end.old) (E.state end.new) (L.state electronics.old)
         (L.state electronics.new) keeping.old keeping.new result }
     ensures one { IfSome result (λ turn. turn.report.turns ≡ 1) }
+    ensures receives { (E.state end.new).receives ≡ one_more (E.state end.old).receives }
     ensures store { S.state store.new ≡ S.state store.old }
     ensures outbox { outbox.new ≡ [] }
 {
@@ -579,6 +592,7 @@ fn take_datagram<E: End, L: Electronics>(
     requires room { length keeping.old.held ≤ 244 }
     ensures turn { TakesDatagramIn result from packet.now.items now device.old device.new (E.state end.old)
         (E.state end.new) (L.state electronics.old) (L.state electronics.new) keeping.old keeping.new }
+    ensures receives { (E.state end.new).receives ≡ (E.state end.old).receives }
 {
     let verdict = device.datagram(from, packet.as_slice(), now, outbox);
     let report = of_verdict(verdict);

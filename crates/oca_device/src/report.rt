@@ -9,7 +9,8 @@ pub struct Report {
     pub turns: u64,
     /// Commands that were executed, whatever their status.
     pub executed: u64,
-    /// Duplicates, which got their retained reply.
+    /// Duplicates: commands that came again. They were not executed again. Those that ask for a response got the
+    /// retained reply.
     pub kept: u64,
     /// Commands that were too old for the reply window, and were ignored.
     pub old: u64,

@@ -31,8 +31,8 @@ use oca_types::{Packet, Peer};
 ///
 /// The report has these numbers:
 /// - `turns`, `quiet` (no datagram came), `oversize`, `failed_receives` and `failed_sends`.
-/// - `executed`: the commands that were executed. `kept`: the duplicates, which are commands that came again and got
-///   the reply of their execution.
+/// - `executed`: the commands that were executed. `kept`: the duplicates, which are commands that came again. They were
+///   not executed again. Those that ask for a response got the reply of the execution.
 /// - `old`: the commands that are too old for the reply window. `reused`: the commands that ask something else under
 ///   the handle of a command in the reply window. Both are ignored. The reply window has the peer's last commands with
 ///   their replies ([`Device`]).

@@ -12,7 +12,8 @@ pub enum Verdict {
     Served {
         /// Commands that were executed, whatever their status.
         executed: u32,
-        /// Duplicates, which got their retained reply.
+        /// Duplicates: commands that came again. They were not executed again. Those that ask for a response got the
+        /// retained reply.
         kept: u32,
         /// Commands that were too old for the reply window, and were ignored.
         old: u32,

@@ -17,4 +17,5 @@ returns g c = record {
         (c.send_or_hold-failed_sends.ensures.held ∙ ap (λ (xs : List Sent). xs ++ cond c.note-waits.result (sent_to c.args.from c.datagram-verdict.new.outbox) []) c.note-waits.ensures.held);
     one = ap (λ (m : Report). m.turns) c.of_verdict-report.ensures ∙ (verdict_one c.datagram-verdict.result).0;
   };
+  receives = c.send_or_hold-failed_sends.ensures.sends.receives;
 }

@@ -1,4 +1,5 @@
-use Rattle.std.proofs.Common.{ℕ, ◌+◌, refl, sym, ap, ◌∙◌}
+use Rattle.std.proofs.Common.{ℕ, ◌+◌, refl, sym, ap, ◌∙◌, arith}
+use Rattle.oca_net.proofs.Running.{received_more}
 use Rattle.oca_device.specs.declared.report.Report.{Report}
 use Rattle.oca_device.proofs.Keepings.{in_none, in_more, in_closed, room_none}
 use Rattle.oca_device.proofs.keeping.take_in.Goals as goal
@@ -11,6 +12,7 @@ loop-turn-init g c = record {
   same = ap (λ (r : Report). r.turns) c.none_taken-taken.ensures.report ∙ sym c.none_taken-taken.ensures.turns;
   open_yet = c.none_taken-taken.ensures.closed;
   empty = c.requires.outbox;
+  receives = λ _. omega arith;
   room = room_none _ c.requires.none;
 }
 
@@ -24,6 +26,7 @@ loop-turn-preserved g c =
       same = c.more-taken.ensures.same inv.same c.in-Some.ensures.one;
       open_yet = c.more-taken.ensures.closed ∙ inv.open_yet;
       empty = c.in-Some.ensures.outbox;
+      receives = received_more _ _ _ c.loop-turn._turn _ inv.receives c.in-Some.ensures.receives refl;
       room = c.goes_on.ensures c.if-not-goes_on.false;
     }
 

@@ -1,4 +1,5 @@
-use Rattle.std.proofs.Common.{◌≡◌, ◌≤◌, false, [], length}
+use Rattle.std.proofs.Common.{◌≡◌, ◌+◌, ◌<◌, ◌≤◌, false, [], length}
+use Rattle.oca_net.specs.Ends.{last_u64}
 use Rattle.oca_device.specs.PrivateKeeping.{TakesIn}
 use Rattle.oca_device.proofs.keeping.take_in.Given as goal
 
@@ -10,5 +11,6 @@ invariant-loop-turn g l = record {
   same : l.taken.report.turns ≡ l.taken.turns;
   open_yet : l.taken.is_closed ≡ false;
   empty : l.outbox ≡ [];
+  receives : (g.E.End.state l.end).receives < last_u64 → (g.E.End.state l.end).receives ≡ (g.E.End.state l.fn.end).receives + l._turn;
   room : length l.keeping.held ≤ 244;
 }

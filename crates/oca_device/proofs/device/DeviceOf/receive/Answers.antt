@@ -11,8 +11,8 @@ use Rattle.oca_device.specs.Devices.{IsIn}
 use Rattle.oca_pdu.specs.declared.fault.PduFault.{PduFault}
 use Rattle.std.specs.Prelude.{Result}
 use Rattle.oca_device.specs.Rooms.{shortened_answers}
-use Rattle.oca_device.specs.PrivateServing.{ServesMessages, IsShort, most_answers}
-use Rattle.oca_device.proofs.Bounds.{answers_counted, commands_counted, all_short, few_packets, no_packets}
+use Rattle.oca_device.specs.PrivateServing.{ServesMessages, IsShort}
+use Rattle.oca_device.proofs.Bounds.{most_answers, answers_counted, commands_counted, all_short, few_packets, no_packets}
 use Rattle.oca_device.proofs.Steps.{refused_whole, taken_whole, admitted_now}
 use Rattle.oca_device.proofs.device.DeviceOf.receive.Goals as goal
 

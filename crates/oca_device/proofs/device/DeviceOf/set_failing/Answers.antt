@@ -1,6 +1,13 @@
-use Rattle.std.proofs.Common.{ap, ◌∙◌, List}
+use Rattle.std.proofs.Common.{◌≡◌, ℕ, Bool, cond, refl, ap, ◌∙◌, List}
+use Rattle.std.specs.Prelude.{Option, Some, None, is_none}
+use Rattle.std.specs.Option.{option_map}
+use Rattle.oca_model.specs.declared.request.Request.TheVariants as asked
+use Rattle.oca_tree.specs.declared.front.FrontFault.TheVariants as faults
 use Rattle.oca_tree.specs.declared.object.Object.{Object}
-use Rattle.oca_tree.specs.LocalChanges.{after_change, ToFailing}
+use Rattle.oca_tree.specs.LocalChanges.{after_change, front_fault, front_fault_in, ToFailing}
+use Rattle.oca_tree.specs.Readers.{failing_at}
+use Rattle.oca_tree.specs.Objects.{object_of}
+use Rattle.oca_device.specs.Devices.{DeviceState}
 use Rattle.oca_device.specs.States.{state_after}
 use Rattle.oca_device.proofs.Opened.{parts_in, written_in, effects_in}
 use Rattle.oca_device.proofs.device.DeviceOf.set_failing.Goals as goal
@@ -13,3 +20,18 @@ returns-clause-represents g c = λ w T E h.
       written = written_in c.self.view_is ∙ h.written;
       effects = effects_in c.self.view_is ∙ h.effects;
     }
+
+missing_in : (o : Option Object) (truth : Bool) →
+    front_fault_in o (asked.SetEnabled truth) ≡ cond (is_none (option_map (λ (x : Object). x.failing) o)) (Some faults.NoObject) None
+missing_in None truth = refl
+missing_in (Some o) truth = refl
+
+missing : (tree : List Object) (number : ℕ) (truth : Bool) →
+    front_fault tree number (asked.SetEnabled truth) ≡ cond (is_none (failing_at tree number)) (Some faults.NoObject) None
+unfolding front_fault
+missing tree number truth = missing_in (object_of tree number) truth
+
+pub returns-clause-missing : goal.returns-clause-missing
+returns-clause-missing g c =
+    c.set_failing.ensures.fault ∙ missing c.self.inside.tree c.args.ono.0 c.args.failing
+    ∙ ap (λ (t : List Object). cond (is_none (failing_at t c.args.ono.0)) (Some faults.NoObject) None) (ap (λ (d : DeviceState). d.tree) c.self.view_is)
