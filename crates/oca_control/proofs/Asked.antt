@@ -17,7 +17,7 @@ use Rattle.oca_control.specs.Answering.{last_asked, IsAskedEvery, IsWaiting, IsS
 use Rattle.oca_control.specs.Driving.{goes_on, link_from, HearsDelivery, DrivesTurn}
 use Rattle.oca_control.specs.Turning.{TurnsInTime}
 use Rattle.oca_control.specs.Asking.{beginning}
-use Rattle.oca_control.specs.Running.{NothingIsLeft, HasTimeLeft, HaveTimeLeft, HasTimeAt, delivered_at, AreWithin, IsRun, NothingDone, DroveATurn, TookATurn, Began, Took, BecomesBy, IsAsked, CommandIsInTime}
+use Rattle.oca_control.specs.Running.{NothingIsLeft, HasTimeLeft, HaveTimeLeft, HasTimeAt, delivered_at, AreWithin, IsRun, NothingDone, DroveATurn, TookATurn, SentAllDue, SentAllInTime, Began, Took, BecomesBy, IsAsked, CommandIsInTime}
 use Rattle.oca_control.proofs.Following.{is_at_most, each_map}
 use Rattle.oca_control.proofs.Calls.{is_given, each_without}
 use Rattle.oca_control.proofs.Dues.{Rises}
@@ -453,6 +453,8 @@ module _ (device : Peer) (first opened s : ℕ) (some : 0 < s) (ms : ℕ) (short
       same n = omega arith
   run_on (DroveATurn {ts = ts} {old = old} {l = l} {new = new} {decisions = ds} {n = n} d run turn) g within going = drove_on d old l new ts ds n turn (run_on run g) within going
   run_on (TookATurn {ts = ts} {old = old} {l = l} {new = new} {decisions = ds} {n = n} d run turn) g within going = took_on d old l new ts ds n turn (run_on run g) within going
+  run_on (SentAllDue {ts = ts} {old = old} {l = l} {new = new} now run made) g within going = turn_at old l l new ts (Quiet now) now 0 refl (refl, refl) made (run_on run g) within going
+  run_on (SentAllInTime {ts = ts} {old = old} {l = l} {new = new} now run made) g within going = took_at (Quiet now) now old l l new ts 0 refl (refl, refl) made (run_on run g) within going
   run_on (Began {ts = ts} {old = old} {l = l} {new = new} request now h run is made) g within going = began_on old l new ts request now h is made (run_on run g) within going
   run_on (Took {ts = ts} {old = old} {l = l} {new = new} h run made) g within going =
       let r = run_on run g within (sym (ap (λ (k : LinkState). k.lost) made) ∙ going) in
@@ -492,6 +494,12 @@ lost_before_run (TookATurn {l = l} {new = new} {n = n} d run turn) going = lost_
     by (Datagram from bytes now) x going = given (Datagram from bytes now) now n x.between x.hears x.gives.1 going
     by (Quiet now) x going = given (Quiet now) now n x.between x.hears x.gives.1 going
     by Failed x going = sym (ap (λ (k : LinkState). k.lost) (x.gives.1 ∙ x.hears.0)) ∙ going
+lost_before_run (SentAllDue {l = l} now run made) going = lost_before_run run (not_lost_before (l.span + 1) now l (sym (ap (λ (k : LinkState). k.lost) made) ∙ going))
+lost_before_run (SentAllInTime {l = l} now run made) going = lost_before_run run (lost_of (late_at now l) (sym (ap (λ (k : LinkState). k.lost) made) ∙ going))
+  where
+    lost_of : (b : Bool) → (cond b l (link_from now (l.span + 1) l)).lost ≡ false → l.lost ≡ false
+    lost_of true e = e
+    lost_of false e = not_lost_before (l.span + 1) now l e
 lost_before_run (Began {l = l} request now h run is made) going =
     lost_before_run run (sym (lost_submitted request now l h (accepted_now request now l h is))
     ∙ not_lost_before ((submitted request now l).span + 1) now (submitted request now l) (sym (ap (λ (k : LinkState). k.lost) made) ∙ going))

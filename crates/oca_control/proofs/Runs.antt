@@ -1,5 +1,5 @@
 -- What is done with a link over an end is a run.
-use Rattle.std.proofs.Common.{◌≡◌, ℕ, ◌+◌, ◌*◌, ◌<◌, ◌≤◌, Bool, false, max, List, [], ◌∷◌, ◌++◌, Result, Ok, Err, refl, sym, ap, ◌∙◌, subst, inl, inr, append_assoc, append-nil}
+use Rattle.std.proofs.Common.{◌≡◌, ℕ, ◌+◌, ◌*◌, ◌<◌, ◌≤◌, Bool, true, false, cond, max, List, [], ◌∷◌, ◌++◌, Result, Ok, Err, refl, sym, ap, ◌∙◌, subst, inl, inr, append_assoc, append-nil}
 use Rattle.std.specs.Prelude.{IsTrue}
 use Rattle.std.proofs.lemmas.Grind.{flat_map-append}
 use Rattle.oca_types.specs.declared.words.Peer.{Peer}
@@ -12,14 +12,14 @@ use Rattle.oca_control.specs.declared.fault.ControlFault.{ControlFault}
 use Rattle.oca_control.specs.declared.outcome.Outcome.{Outcome}
 use Rattle.oca_control.specs.declared.outcome.Outcome.TheVariants as outcomes
 use Rattle.oca_control.specs.declared.report.DriveReport.{DriveReport}
-use Rattle.oca_control.specs.Links.{LinkState, Decision}
+use Rattle.oca_control.specs.Links.{LinkState, Decision, late_at}
 use Rattle.oca_control.specs.Histories.{Call, IsHistory}
-use Rattle.oca_control.specs.Driving.{Drives, NoTurn, OneMore, DrivesEnd}
-use Rattle.oca_control.specs.Turning.{Turns}
+use Rattle.oca_control.specs.Driving.{Drives, NoTurn, OneMore, DrivesEnd, SendsDue, link_from}
+use Rattle.oca_control.specs.Turning.{Turns, GivesIf, SendsInTime}
 use Rattle.oca_control.specs.Asking.{TakesTurns, NoneTaken, OneTaken, Waits, Begins, Asks, HasOutcome}
 use Rattle.oca_control.specs.Waiting.{TakesTurnsBefore, WaitsUntil}
 use Rattle.oca_control.specs.Waiting as waiting
-use Rattle.oca_control.specs.Running.{NothingIsLeft, HaveTimeLeft, delivered_at, moments_delivered, AreWithin, ReturnsWithin, IsRun, NothingDone, DroveATurn, TookATurn, Began, Took, RunsOver, begun_at, EveryCallRuns, EveryRunGoesOn, IsAsked, EveryScriptIsKept}
+use Rattle.oca_control.specs.Running.{NothingIsLeft, HaveTimeLeft, delivered_at, moments_delivered, AreWithin, ReturnsWithin, IsRun, NothingDone, DroveATurn, TookATurn, SentAllDue, SentAllInTime, Began, Took, RunsOver, begun_at, EveryCallRuns, EveryRunGoesOn, IsAsked, EveryScriptIsKept}
 use Rattle.oca_control.proofs.Asked.{run_asked}
 
 one_further : (ds : List Delivery) (d : Delivery) → moments_delivered (ds ++ d ∷ []) ≡ moments_delivered ds ++ delivered_at d
@@ -34,6 +34,8 @@ run_both : {ts us : List ℕ} {a b c : LinkState} → IsRun ts a b → IsRun us 
 run_both {ts = ts} {a = a} first (NothingDone {l = l}) = subst (λ (xs : List ℕ). IsRun xs a l) (sym (append-nil ts)) first
 run_both {ts = ts} {a = a} first (DroveATurn {ts = us} {new = c} d run turn) = subst (λ (xs : List ℕ). IsRun xs a c) (append_assoc ts us (delivered_at d)) (DroveATurn d (run_both first run) turn)
 run_both {ts = ts} {a = a} first (TookATurn {ts = us} {new = c} d run turn) = subst (λ (xs : List ℕ). IsRun xs a c) (append_assoc ts us (delivered_at d)) (TookATurn d (run_both first run) turn)
+run_both {ts = ts} {a = a} first (SentAllDue {ts = us} {new = c} now run made) = subst (λ (xs : List ℕ). IsRun xs a c) (append_assoc ts us (now ∷ [])) (SentAllDue now (run_both first run) made)
+run_both {ts = ts} {a = a} first (SentAllInTime {ts = us} {new = c} now run made) = subst (λ (xs : List ℕ). IsRun xs a c) (append_assoc ts us (now ∷ [])) (SentAllInTime now (run_both first run) made)
 run_both {ts = ts} {a = a} first (Began {ts = us} {new = c} request now h run is made) =
     subst (λ (xs : List ℕ). IsRun xs a c) (append_assoc ts us (now ∷ [])) (Began request now h (run_both first run) is made)
 run_both first (Took h run made) = Took h (run_both first run) made
@@ -67,6 +69,19 @@ turn_runs old new e f r (inl x) = record {
   delivered = x.runs.delivered;
 }
 turn_runs old new e f r (inr x) = over_none [] old new e f (subst (λ (l : LinkState). IsRun [] old l) (sym x.link) NothingDone) x.received.telling x.received.delivered
+
+send_due_runs : (now : ℕ) (old new : LinkState) (e f : EndState) (r : DriveReport) → SendsDue now (old.span + 1) old new e f r → RunsOver (now ∷ []) old new e f
+send_due_runs now old new e f r x = over_none (now ∷ []) old new e f (SentAllDue now NothingDone x.link) x.sends.telling x.sends.delivered
+
+send_in_time_runs : (now : ℕ) (old new : LinkState) (e f : EndState) (r : DriveReport) → SendsInTime now old new e f r → RunsOver (now ∷ []) old new e f
+send_in_time_runs now old new e f r k = by (late_at now old) refl k
+  where
+    run : (b : Bool) → late_at now old ≡ b → new ≡ cond b old (link_from now (old.span + 1) old) → IsRun (now ∷ []) old new
+    run b q made = SentAllInTime now NothingDone (made ∙ ap (λ c. cond c old (link_from now (old.span + 1) old)) (sym q))
+
+    by : (b : Bool) → late_at now old ≡ b → GivesIf b now old new e f r → RunsOver (now ∷ []) old new e f
+    by true q x = over_none (now ∷ []) old new e f (run true q x.0) (ap (λ (y : EndState). y.tells) x.1) (λ tells. ap (λ (y : EndState). y.delivered) x.1)
+    by false q x = over_none (now ∷ []) old new e f (run false q x.link) x.sends.telling x.sends.delivered
 
 turns_run : {h n : ℕ} {lost : Bool} {old new : LinkState} {e f : EndState} → TakesTurns h n lost old new e f → RunsOver [] old new e f
 turns_run (NoneTaken {l = l} {e = e}) = over_none [] l l e e NothingDone refl (λ tells. refl)
@@ -112,7 +127,7 @@ runs_on moments later old l new first then = run_both first then
 
 -- What each call over an end makes of a link is a run over that end.
 pub every_call : EveryCallRuns
-every_call = record { of_drive = drive_runs; of_turn = turn_runs; of_wait = wait_runs; of_wait_until = wait_until_runs; of_begin = begin_runs; of_ask = ask_runs }
+every_call = record { of_drive = drive_runs; of_turn = turn_runs; of_send_due = send_due_runs; of_send_in_time = send_in_time_runs; of_wait = wait_runs; of_wait_until = wait_until_runs; of_begin = begin_runs; of_ask = ask_runs }
 
 -- A link whose span is not 0 and that has nothing left to send, and then runs over an end that tells and whose
 -- receives return within `ms`, at most 500, is asked every `ms`, unless it is lost at the end.

@@ -19,8 +19,8 @@ use Rattle.oca_control.specs.Links.{LinkState, present_moment, Decision, GivesNo
 use Rattle.oca_control.specs.Links.{taken}
 use Rattle.oca_control.specs.Histories.{Call, Submits, IsCall, IsHistory, clock_of_calls, sendings}
 use Rattle.oca_control.specs.Answering.{last_asked, IsAskedEvery, IsWaiting, IsSentInTime}
-use Rattle.oca_control.specs.Driving.{DrivesTurn, DrivesEnd, link_from}
-use Rattle.oca_control.specs.Turning.{TurnsInTime, Turns}
+use Rattle.oca_control.specs.Driving.{DrivesTurn, DrivesEnd, SendsDue, link_from}
+use Rattle.oca_control.specs.Turning.{TurnsInTime, Turns, SendsInTime, link_in_time}
 use Rattle.oca_control.specs.Asking.{beginning, Begins, Asks, Waits}
 use Rattle.oca_control.specs.Waiting.{WaitsUntil}
 
@@ -58,22 +58,27 @@ ReturnsWithin ms since others before after =
 
 -- ---- a link that runs
 
--- A LINK WAS RUN: turns were taken, by `drive` or by `turn`, commands begun and answers taken. The moments are those of
--- the deliveries, and those at which commands were begun.
+-- A LINK WAS RUN: turns were taken, by `drive` or by `turn`, what was due was sent, by `send_due` or `send_in_time`,
+-- commands were begun and answers taken. The moments are those of the deliveries, and those at which commands were begun
+-- or what was due was sent.
 pub data IsRun : (moments : List ℕ) (old new : LinkState) → Type 0 where
   NothingDone : {l : LinkState} → IsRun [] l l
   DroveATurn : {ts : List ℕ} {old l new : LinkState} {decisions : List Decision} {n : ℕ} (d : Delivery) →
       IsRun ts old l → DrivesTurn d l new decisions n → IsRun (ts ++ delivered_at d) old new
   TookATurn : {ts : List ℕ} {old l new : LinkState} {decisions : List Decision} {n : ℕ} (d : Delivery) →
       IsRun ts old l → TurnsInTime d l new decisions n → IsRun (ts ++ delivered_at d) old new
+  SentAllDue : {ts : List ℕ} {old l new : LinkState} (now : ℕ) → IsRun ts old l →
+      new ≡ link_from now (l.span + 1) l → IsRun (ts ++ now ∷ []) old new
+  SentAllInTime : {ts : List ℕ} {old l new : LinkState} (now : ℕ) → IsRun ts old l →
+      new ≡ link_in_time now l → IsRun (ts ++ now ∷ []) old new
   Began : {ts : List ℕ} {old l new : LinkState} (request : RequestFields) (now : ℕ) (h : Handle) →
       IsRun ts old l → beginning request now l ≡ Ok h →
       new ≡ link_from now ((submitted request now l).span + 1) (submitted request now l) →
       IsRun (ts ++ now ∷ []) old new
   Took : {ts : List ℕ} {old l new : LinkState} (h : ℕ) → IsRun ts old l → new ≡ taken h l → IsRun ts old new
 
--- It was run over an end: there are deliveries of which that is so, behind these moments at which commands were begun.
--- Where the end tells, they are what it delivered.
+-- It was run over an end: there are deliveries of which that is so, behind these moments at which a command was begun or
+-- what was due was sent. Where the end tells, they are what it delivered.
 pub record RunsOver (begun : List ℕ) (old new : LinkState) (before after : EndState) : Type 0 where
   pub deliveries : List Delivery
   pub run : IsRun (begun ++ moments_delivered deliveries) old new
@@ -85,12 +90,17 @@ abbrev pub begun_at : Result Handle ControlFault → ℕ → List ℕ
 begun_at (Ok h) now = now ∷ []
 begun_at (Err fault) now = []
 
--- WHAT IS DONE BY `drive`, `turn`, `wait_for`, `wait_until`, `begin` AND `ask` is such a run; so `wait_while`.
+-- WHAT IS DONE BY `drive`, `turn`, `send_due`, `send_in_time`, `wait_for`, `wait_until`, `begin` AND `ask` is such a run;
+-- so `wait_while`.
 pub record EveryCallRuns : Type 0 where
   pub of_drive : (old new : LinkState) (before after : EndState) (report : DriveReport) →
       DrivesEnd old new before after report → RunsOver [] old new before after
   pub of_turn : (old new : LinkState) (before after : EndState) (report : DriveReport) →
       Turns old new before after report → RunsOver [] old new before after
+  pub of_send_due : (now : ℕ) (old new : LinkState) (before after : EndState) (report : DriveReport) →
+      SendsDue now (old.span + 1) old new before after report → RunsOver (now ∷ []) old new before after
+  pub of_send_in_time : (now : ℕ) (old new : LinkState) (before after : EndState) (report : DriveReport) →
+      SendsInTime now old new before after report → RunsOver (now ∷ []) old new before after
   pub of_wait : (h turns : ℕ) (old new : LinkState) (outcome : Outcome) (before after : EndState) →
       Waits h turns old outcome new before after → RunsOver [] old new before after
   pub of_wait_until : (h until : ℕ) (old new : LinkState) (outcome : Outcome) (before after : EndState) →
