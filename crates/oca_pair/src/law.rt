@@ -47,6 +47,9 @@ use oca_tree::law_of_typed_requests;
 /// The handle of each command that a link submitted is above the one before it, and by one if the link was never
 /// renewed. A link is *renewed* if a new link of the same peer takes its place, with a first handle no lower than the
 /// handle that the next command of the old link would get.
+///
+/// The clause `happened` says what the device executed: the events that came to it, which are bytes, are what
+/// [`law_by_events`](oca_device::law_by_events) says that happened.
 pub fn law_answers()
     ensures answers { EveryScheduleAnswersItsCommands }
     ensures happened { TheseHappened }
@@ -169,7 +172,11 @@ pub fn law_getting_through()
 /// - No two executions for the link's peer, which is its address and port, are of one handle.
 /// - Each answer that the link has or returned is the reply of the only execution under its handle.
 /// - If a transmission of a command that was executed comes to the device, the device has not forgotten the session in
-///   which the command was executed.
+///   which the command was executed. This coming is in time, too.
+///
+/// The clauses `renewal` and `beside` say how little *in time* asks: nothing of a renewal, at any moment, and nothing of
+/// the sending of a keep-alive beside the link, which must be in time when it comes. They hold by the definition of *in
+/// time*, and are stated so that no narrower definition can take its place.
 ///
 /// A schedule has one device from its beginning to its end. Nothing is proved of a device that is started again.
 pub fn law_once_in_time()
@@ -239,6 +246,9 @@ pub fn law_answered_in_time()
 ///   this value, with the limits that the object had.
 /// - Class: the class of the object with a number never changes in a schedule. So the answer to GetClassIdentification
 ///   stays true.
+/// - Met: each object with which the execution began has the class that the object with its number had at first, and
+///   there are no other numbers. So a caller that knows the class at first can read the answer by it, as OK and Reads
+///   ask: the laws of `oca_promise` do.
 ///
 /// OK, Reads and Sets have two more premises. The device's objects were a tree at first, with texts and numbers of
 /// their types; [`Tree::len`](oca_tree::Tree::len) ensures both of each tree. The answer is read by the object's class,
