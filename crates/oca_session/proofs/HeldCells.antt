@@ -9,9 +9,9 @@ use Rattle.std.specs.List.{All, AllPairs, find}
 use Rattle.std.specs.Prelude.{max, nat_lt, option_map}
 use Rattle.oca_types.specs.Peers.{CommandFields}
 use Rattle.oca_session.specs.declared.window.Held.{Held}
-use Rattle.oca_session.specs.Accepted.{Entry, Fresh, Duplicate, Reused, Old, asks_the_same, duplicate_or_reused, Retained, entry_under, higher_of, greatest}
+use Rattle.oca_session.specs.Accepted.{Entry, Judgement, Fresh, Duplicate, Reused, Old, asks_the_same, duplicate_or_reused, Retained, entry_under, higher_of, greatest}
 use Rattle.oca_session.specs.Judging.{judgement_by_window, judge_entry, is_above, retained_after}
-use Rattle.oca_session.specs.PrivateCells.{CellState, AreApart, AreHeld, IsCellOfOldest, judge_cell, entry_in, entries_of, floor_before, is_under}
+use Rattle.oca_session.specs.PrivateCells.{CellState, AreApart, AreHeld, IsCellOfOldest, entry_in, entries_of, floor_before, is_under}
 
 -- ---- cells
 
@@ -339,6 +339,10 @@ fresh_above above size end c hs cs held low high =
   where
     other : (a b : ℕ) → a < b → (a == b) ≡ false
     other a b lt = grind (arith, nat_tests)
+
+-- what a cell says of a command under its handle
+abbrev pub judge_cell : CellState → CommandFields → Judgement
+judge_cell a c = duplicate_or_reused (entry_in (record { 0 = c.handle }) a) c
 
 -- a command that is held is judged by its cell
 pub judged_by_cell : (k : Retained) (c : CommandFields) (a : CellState)

@@ -2,10 +2,9 @@
 use Rattle.std.specs.Prelude.{◌≡◌, ℕ, zero, suc, ◌<◌, ◌==◌, Bool, false, List, [], ◌∷◌, ◌++◌, length, slice_get}
 use Rattle.std.specs.Prelude.{filter_map, option_map, Option, Some, None, All, AllPairs}
 use Rattle.oca_types.specs.declared.words.Handle.{Handle}
-use Rattle.oca_types.specs.Peers.{CommandFields}
 use Rattle.oca_types.specs.Replies.{Reply}
 use Rattle.oca_session.specs.declared.window.Held.{Held}
-use Rattle.oca_session.specs.Accepted.{Entry, Judgement, duplicate_or_reused}
+use Rattle.oca_session.specs.Accepted.{Entry}
 
 -- what a cell holds: a command without its handle, and its reply (profile)
 pub record CellState : Type 0 where
@@ -70,7 +69,3 @@ pub record AddsCell (x : Handle) (e : Entry) (old new : List CellState) : Type 0
   pub cell : CellState
   pub holds : entry_in x cell ≡ e
   pub added : new ≡ old ++ cell ∷ []
-
--- what a cell says of a command under its handle (profile)
-abbrev pub judge_cell : CellState → CommandFields → Judgement
-judge_cell a c = duplicate_or_reused (entry_in (record { 0 = c.handle }) a) c

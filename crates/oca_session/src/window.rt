@@ -8,7 +8,7 @@ ghost use Rattle.oca_types.specs.Sizes.{most_command_parameter_bytes, most_param
 ghost use Rattle.oca_session.specs.Accepted.{Entry, retained_of, AgreesWithAccepted, judgement, Fresh, entry_under};
 ghost use Rattle.oca_session.specs.Accepted.{duplicate_or_reused};
 ghost use Rattle.oca_session.specs.Judging.{as_judgement, judgement_by_window, retained_after};
-ghost use Rattle.oca_session.specs.PrivateCells.{is_under, held_in, judge_cell, AreApart, IsCellOfOldest, AddsCell};
+ghost use Rattle.oca_session.specs.PrivateCells.{is_under, held_in, AreApart, IsCellOfOldest, AddsCell};
 
 use crate::cell::Cell;
 use circular_buffer::HeapCircularBuffer;
