@@ -36,7 +36,8 @@ LAST_LINES = 12  # so many are shown of a step that passed
 RUNNING = []
 TABLE = []  # a line for each command that has ended
 WRONG = []  # lines that say what failed
-PROVED = re.compile(r"rt: (\S+) (?:proved$|is kept: )")  # what `rt ci` says of a crate that it has proved
+EARLIER = {}  # whether an earlier run had proved it, of each crate that `rt ci` has proved
+PROVED = re.compile(r"rt: (\S+) (?:proved$|is (kept): )")  # what `rt ci` says of a crate that it has proved, now or earlier
 SAYS_WRONG = re.compile(r"WRONG: |FAILED|NOT (PROVED|REFUSED|BUILT)|: NOT TRIED|is not what its file")
 SAYS_WELL = ": rightly not refused: "  # of an edit that tries `edits.py` itself: behind it stands why, in the words of one that failed
 MOST_WRONG = 12  # so many of these lines are shown at the end
@@ -162,6 +163,16 @@ def processor_minutes():
     return (used.ru_utime + used.ru_stime) / 60
 
 
+def proved_crate(line):
+    """The crate that `rt ci` says here it has proved, if any. It is noted whether an earlier run had, by what is said of it first."""
+    proved = PROVED.match(line)
+    return proved and (EARLIER.setdefault(proved[1], bool(proved[2])), proved[1])[1]
+
+
+def of_earlier_runs():
+    return f", {sum(EARLIER.values())} of {len(EARLIER)} proofs from earlier runs" if EARLIER else ""
+
+
 def of_ci(steps, others, room):
     """Runs `rt ci`, and beside it, in this pool, the steps that begin early. Answers its counts, and the steps that have begun.
     `rt ci` is asked first for the crate that most others wait for, which several processes prove; not if RT_JOBS says the
@@ -171,15 +182,15 @@ def of_ci(steps, others, room):
     with open(f"{room}/proved", "w", buffering=1, encoding="utf-8") as file:
 
         def note(line):
-            proved = PROVED.match(line)
+            proved = proved_crate(line)
             if proved:
-                print(proved[1], file=file)
+                print(proved, file=file)
                 begun.update({step: others.submit(kept, step) for step in steps if step.is_early and step not in begun})
 
         takes_names = rt.ci_takes_names and os.environ.get("CI") != "true"
         first = waited_for() if takes_names and kit.lanes(rt) > 1 and not kit.said_lanes() else None
         if first:
-            watched(f"rt ci {first}", 1)
+            watched(f"rt ci {first}", 1, proved_crate)
         count = watched(f"RT_JOBS={kit.lanes(rt)} rt ci", least_of_ci(), note)
         print(kit.ENDED, file=file)
     print(f"gate: {processor_minutes():.1f} processor minutes for rt ci", flush=True)
@@ -238,7 +249,7 @@ def main(words):
     print("\n".join(TABLE))
     for line in WRONG[:MOST_WRONG]:
         print(f"gate: wrong: {line[:200]}")
-    print(f"gate: {(time.monotonic() - begun) / 60:.1f} minutes, {processor_minutes():.1f} processor minutes in all")
+    print(f"gate: {(time.monotonic() - begun) / 60:.1f} minutes, {processor_minutes():.1f} processor minutes in all{of_earlier_runs()}")
     print(f"{passed} passed, {failed} failed", flush=True)
     return 1 if failed or not passed else 0
 

@@ -456,6 +456,12 @@ def defined_twice(top):
     return [name for name, count in found.items() if count > 1]
 
 
+def with_own_clauses(top):
+    """The edits that bring a clause of a contract of their own, so that this may be what refuses them: a new text has one that its old text has not."""
+    changes = [(it.name, pair) for it in sorted(top.glob("crates/*/wrong/*.edit")) for pair in re.findall(r"(?m)^old: *(.*)\nnew:(.*)$", it.read_text())]
+    return [name for name, (old, new) in changes if re.search(r"\b(ensures|requires)\b", new.replace(old, ""))]
+
+
 def listed_as_edits(top):
     return [(it.name, edits.Edit(it, SimpleNamespace(folder=top)).why == "it is no edit") for it in edits.listed(top)]
 
@@ -515,6 +521,8 @@ ASKED = {
     "left out of two steps": lambda top: run.left_out([*map(run.Step, DATA.steps)], top / "tools"),
     "left out": lambda _: run.left_out(sum(run.paragraphs(run.HERE / "steps"), []), run.TOP / "tools"),
     "edits": listed_as_edits,
+    "with own clauses of these": with_own_clauses,
+    "with own clauses": lambda _: with_own_clauses(run.TOP),
     "uncalled of these": lambda top: sorted(uncalled([top])),
     "uncalled": lambda _: uncalled([run.TOP / it for it in ("tools", "gate", "bench", "examples", "examples/python")]),
     "defined twice in these": defined_twice,

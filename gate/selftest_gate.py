@@ -474,7 +474,7 @@ def tells_what_failed(folder):
     return well.count("NOT REFUSED: ") == 1 and well.count("\n") == 2 and is_same(wanted, told)
 
 
-@check("The steps that run beside `rt ci` begin once, at the first crate that it has proved, and are told of each.")
+@check("The steps that run beside `rt ci` begin once, at the first crate that it has proved, and are told of each; and so many proofs are of earlier runs.")
 def begins_early(folder):
     steps = [run.Step(line) for line in ("&&1 1 true", "&1 1 true", "1 1 true")]
     told, found, asked, pool = folder / "proved", [], [], SimpleNamespace(submit=lambda _, step: asked.append(step) or "begun")
@@ -485,8 +485,9 @@ def begins_early(folder):
             found.append((told.read_text(), asked) == (names, steps[:1] if names else []))
         return os.environ["GATE_PROVED"]
 
-    with patch.object(kit, "toolchain", lambda: fake_tools(ci_takes_names=False)), patch.object(run, "watched", watched):
+    with patch.object(kit, "toolchain", lambda: fake_tools(ci_takes_names=False)), patch.multiple(run, watched=watched, EARLIER={}):
         ended = said(run.of_ci, steps, pool, folder)[0]
+        found.append(run.of_earlier_runs() == ", 1 of 2 proofs from earlier runs")
     return all(found) and ended == (str(told), {steps[0]: "begun"}) and told.read_text().endswith(f"\n{kit.ENDED}\n")
 
 
