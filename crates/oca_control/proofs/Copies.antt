@@ -1,15 +1,17 @@
 -- No copy of a command is sent too late.
-use Rattle.std.proofs.Common.{◌≡◌, ℕ, zero, suc, ◌+◌, ◌-◌, ◌<◌, ◌≤◌, Bool, true, false, cond, ◌&&◌, ◌||◌, max, List, [], ◌∷◌, ◌++◌, length, map, Option, Some, None, Result, Ok, Err, is_none, is_some, refl, sym, ap, ◌∙◌, arith, subst, inl, inr}
-use Rattle.std.specs.Prelude.{nat_eq, nat_lt, nat_le}
-use Rattle.std.specs.List.{AllByRecursion, list_any}
+use Rattle.std.proofs.Common.{◌≡◌, ℕ, zero, suc, ◌+◌, ◌-◌, ◌<◌, ◌≤◌, Bool, true, false, cond, ◌&&◌, ◌||◌, max, List, [], ◌∷◌, ◌++◌, length, map, Option, Some, None, Result, Ok, Err, is_none, is_some, refl, sym, ap, ◌∙◌, arith, subst, inl, inr, append_assoc, append-nil}
+use Rattle.std.specs.Prelude.{◌==◌, nat_eq, nat_lt, nat_le}
+use Rattle.std.specs.List.{AllByRecursion, list_any, flat_map}
 use Rattle.std.proofs.Math.Dec.{eqb}
 use Rattle.std.proofs.lemmas.Bool.Decides.{nat_tests}
 use Rattle.std.proofs.lemmas.List.Folds.{list_any-append}
+use Rattle.std.proofs.lemmas.Grind.{flat_map-append}
 use Rattle.oca_types.specs.declared.words.Peer.{Peer}
 use Rattle.oca_types.specs.declared.words.Handle.{Handle}
 use Rattle.oca_types.specs.Peers.{RequestFields, CommandFields, same_peer}
-use Rattle.oca_net.specs.Deliveries.{Delivery, Datagram, Quiet, Failed}
-use Rattle.oca_net.specs.EndStates.{EndState}
+use Rattle.oca_net.specs.Deliveries.{Delivery, Datagram, Quiet, Failed, Sent}
+use Rattle.oca_net.specs.EndStates.{EndState, SendsAllBut, DeliversAndTakes}
+use Rattle.oca_net.proofs.Running.{runs_none, runs_more, runs_closed}
 use Rattle.oca_control.specs.declared.due.Due.{Due}
 use Rattle.oca_control.specs.declared.fault.ControlFault.{ControlFault}
 use Rattle.oca_control.specs.declared.fault.ControlFault.TheVariants as faults
@@ -19,17 +21,20 @@ use Rattle.oca_control.specs.declared.report.DriveReport.{DriveReport}
 use Rattle.oca_pdu.specs.Messages.{Msg, Command, Response, KeepAlive}
 use Rattle.oca_control.specs.Answers.{AnswerFields, answer_of_response}
 use Rattle.oca_control.specs.Untaken.{Untaken, is_late, marked_sent, new_untaken, answered, hears_all, answer_under, without_handle}
-use Rattle.oca_control.specs.Links.{LinkState, new_link, late_at, present_moment, command_under, submission, submitted, after_submission, Decision, GivesCommand, GivesKeepAlive, GivesNothing, IsLost, decision, due_answer, due_bytes, after_due, gone_on, hears_content}
+use Rattle.oca_control.specs.Links.{LinkState, new_link, late_at, present_moment, command_under, submission, submitted, after_submission, Decision, GivesCommand, GivesKeepAlive, GivesNothing, IsLost, decision, due_answer, due_bytes, after_due, gone_on, hears_content, taken}
 use Rattle.oca_control.specs.Histories.{Call, Submits, SendsDue, Receives, TakesAnswer, IsCall, IsHistory, clock_of_calls, commands, Sending, sending_of, sendings}
-use Rattle.oca_control.specs.Driving.{goes_on, link_from, HearsDelivery}
-use Rattle.oca_control.specs.Turning.{GivesIf, SendsInTime, GivesAfter, Turns}
+use Rattle.oca_control.specs.Answering.{is_among}
+use Rattle.oca_control.specs.Driving.{goes_on, decisions_from, link_from, given_to, all_given_to, HearsDelivery}
+use Rattle.oca_control.specs.Running.{delivered_at, moments_delivered}
+use Rattle.oca_control.specs.Turning.{GivesIf, SendsInTime, GivesAllInTime, GivesAfter, Turns}
 use Rattle.oca_control.specs.Asking.{TakesTurns, NoneTaken, OneTaken, Waits, Begins, Asks, HasOutcome}
 use Rattle.oca_control.specs.Waiting.{TakesTurnsBefore, WaitsUntil}
 use Rattle.oca_control.specs.Waiting as waiting
-use Rattle.oca_control.specs.Copies.{submitted_at, LeavesInTime, IsInTime, MakesInTime, IsMadeInTime, EveryStepIsInTime}
+use Rattle.oca_control.specs.Copies.{submitted_at, LeavesInTime, IsInTime, MakesInTime, EveryCallInTimeGoesOn, is_sent_out, datagrams_sent, datagrams_heard, short_datagram, IsAskedAt, IsMadeInTime, EveryStepIsInTime}
 use Rattle.oca_control.proofs.Following.{equal_is, equal_self, unequal, is_at_most, both_true, each_map, each_both, each_append, end_of, IsSent}
 use Rattle.oca_control.proofs.Calls.{is_accepted, is_given, each_first, each_without}
 use Rattle.oca_control.proofs.Histories.{Now, holds_after}
+use Rattle.oca_control.proofs.Turns.{device_stays}
 
 neither : (a b : Bool) → (a || b) ≡ false → (a ≡ false) × (b ≡ false)
 neither true b e = cc
@@ -231,14 +236,101 @@ made_more : (a b c : LinkState) (xs ys : List Call) → MakesInTime a xs b → M
 made_more a b c xs [] m n = subst (λ (l : LinkState). MakesInTime a xs l) (sym n) m
 made_more a b c xs (call ∷ ys) m n = (n.0, made_more a b n.0 xs ys m n.1, n.2, n.3)
 
-then_made : {a b c : LinkState} → IsMadeInTime a b → IsMadeInTime b c → IsMadeInTime a c
-then_made {a} {b} {c} m n = (n.0 ++ m.0, made_more a b c m.0 n.0 m.1 n.1)
+-- Calls in time after calls in time are such calls.
+pub goes_on_in_time : EveryCallInTimeGoesOn
+goes_on_in_time old l new calls later m n = made_more old l new calls later m n
 
-not_changed : {a b : LinkState} → b ≡ a → IsMadeInTime a b
-not_changed e = ([], e)
+device_called : (l new : LinkState) (call : Call) → IsCall l call new → new.device ≡ l.device
+device_called l new (Submits request now returned) k = ap (λ (x : LinkState). x.device) k.1 ∙ by (submission request l)
+  where
+    by : (a : Result Handle ControlFault) → (after_submission a request now l).device ≡ l.device
+    by (Ok h) = refl
+    by (Err fault) = refl
+device_called l new (SendsDue now returned bytes) k = ap (λ (x : LinkState). x.device) k.2 ∙ device_stays (decision now l) (present_moment now l) l
+device_called l new (Receives from bytes content now returned) k = ap (λ (x : LinkState). x.device) k.2
+device_called l new (TakesAnswer h answer) k = ap (λ (x : LinkState). x.device) k.1
 
-one_call : {l new : LinkState} (call : Call) → IsCall l call new → IsInTime l call → IsMadeInTime l new
-one_call {l} call made in_time = (call ∷ [], (l, refl, made, in_time))
+device_made : (old new : LinkState) (calls : List Call) → MakesInTime old calls new → new.device ≡ old.device
+device_made old new [] m = ap (λ (x : LinkState). x.device) m
+device_made old new (call ∷ before) m = device_called m.0 new call m.2 ∙ device_made old m.0 before m.1
+
+sent_both : (p : Peer) (xs ys : List Call) → datagrams_sent p (ys ++ xs) ≡ datagrams_sent p xs ++ datagrams_sent p ys
+sent_both p xs [] = sym (append-nil (datagrams_sent p xs))
+sent_both p xs (SendsDue now returned bytes ∷ ys) =
+    let it : List Sent = cond (is_sent_out returned) ((record { to = p; bytes = bytes }) ∷ []) [] in
+    ap (λ zs. zs ++ it) (sent_both p xs ys) ∙ append_assoc (datagrams_sent p xs) (datagrams_sent p ys) it
+sent_both p xs (Submits request now returned ∷ ys) = sent_both p xs ys
+sent_both p xs (Receives from bytes content now returned ∷ ys) = sent_both p xs ys
+sent_both p xs (TakesAnswer h answer ∷ ys) = sent_both p xs ys
+
+heard_both : (xs ys : List Call) → datagrams_heard (ys ++ xs) ≡ datagrams_heard xs ++ datagrams_heard ys
+heard_both xs [] = sym (append-nil (datagrams_heard xs))
+heard_both xs (Receives from bytes content now returned ∷ ys) =
+    ap (λ zs. zs ++ Datagram from bytes now ∷ []) (heard_both xs ys) ∙ append_assoc (datagrams_heard xs) (datagrams_heard ys) (Datagram from bytes now ∷ [])
+heard_both xs (Submits request now returned ∷ ys) = heard_both xs ys
+heard_both xs (SendsDue now returned bytes ∷ ys) = heard_both xs ys
+heard_both xs (TakesAnswer h answer ∷ ys) = heard_both xs ys
+
+asked_more : (ms ns : List ℕ) → ((x : ℕ) → is_among x ms ≡ true → is_among x ns ≡ true) → (calls : List Call) → AllByRecursion (IsAskedAt ms) calls → AllByRecursion (IsAskedAt ns) calls
+asked_more ms ns f calls = each_map one calls
+  where
+    one : (call : Call) → IsAskedAt ms call → IsAskedAt ns call
+    one (SendsDue now returned bytes) k = f now k
+    one (Submits request now returned) k = tt
+    one (Receives from bytes content now returned) k = tt
+    one (TakesAnswer h answer) k = tt
+
+among_first : (x : ℕ) (ms ns : List ℕ) → is_among x ms ≡ true → is_among x (ms ++ ns) ≡ true
+among_first x ms ns k = list_any-append (λ y. y == x) ms ns ∙ ap (λ b. b || is_among x ns) k
+
+among_last : (x : ℕ) (ms ns : List ℕ) → is_among x ns ≡ true → is_among x (ms ++ ns) ≡ true
+among_last x ms ns k = list_any-append (λ y. y == x) ms ns ∙ either (is_among x ms) (is_among x ns) k
+  where
+    either : (a b : Bool) → b ≡ true → (a || b) ≡ true
+    either true b q = refl
+    either false b q = q
+
+-- one step, and then another that is at no other moments
+then_made : {others : List ℕ} {a b c : LinkState} {d e f : EndState} → IsMadeInTime others a b d e → IsMadeInTime [] b c e f → IsMadeInTime others a c d f
+then_made {others} {a} {b} {c} {d} {e} {f} m n =
+    let same : b.device ≡ a.device = device_made a b m.calls m.made in
+    let moments : others ++ moments_delivered (m.deliveries ++ n.deliveries) ≡ (others ++ moments_delivered m.deliveries) ++ moments_delivered n.deliveries =
+    ap (λ zs. others ++ zs) (flat_map-append delivered_at m.deliveries n.deliveries) ∙ sym (append_assoc others (moments_delivered m.deliveries) (moments_delivered n.deliveries)) in
+    record {
+      calls = n.calls ++ m.calls;
+      made = made_more a b c m.calls n.calls m.made n.made;
+      deliveries = m.deliveries ++ n.deliveries;
+      failed_receives = m.failed_receives + n.failed_receives;
+      failed_sends = m.failed_sends + n.failed_sends;
+      runs = subst (λ (xs : List Sent). DeliversAndTakes (m.deliveries ++ n.deliveries) xs (m.failed_receives + n.failed_receives) (m.failed_sends + n.failed_sends) d f)
+          (sym (sent_both a.device m.calls n.calls))
+          (runs_more m.runs (subst (λ (p : Peer). DeliversAndTakes n.deliveries (datagrams_sent p n.calls) n.failed_receives n.failed_sends e f) same n.runs));
+      heard = heard_both m.calls n.calls ∙ ap (λ zs. zs ++ datagrams_heard n.calls) m.heard ∙ ap (λ zs. flat_map short_datagram m.deliveries ++ zs) n.heard
+          ∙ sym (flat_map-append short_datagram m.deliveries n.deliveries);
+      asked = subst (λ (ms : List ℕ). AllByRecursion (IsAskedAt ms) (n.calls ++ m.calls)) (sym moments)
+          (each_append (IsAskedAt ((others ++ moments_delivered m.deliveries) ++ moments_delivered n.deliveries)) n.calls m.calls
+          (asked_more (moments_delivered n.deliveries) ((others ++ moments_delivered m.deliveries) ++ moments_delivered n.deliveries) (λ x k. among_last x (others ++ moments_delivered m.deliveries) (moments_delivered n.deliveries) k) n.calls n.asked)
+          (asked_more (others ++ moments_delivered m.deliveries) ((others ++ moments_delivered m.deliveries) ++ moments_delivered n.deliveries) (λ x k. among_first x (others ++ moments_delivered m.deliveries) (moments_delivered n.deliveries) k) m.calls m.asked));
+    }
+
+not_changed : (others : List ℕ) {a b : LinkState} {d e : EndState} → b ≡ a → DeliversAndTakes [] [] 0 0 d e → IsMadeInTime others a b d e
+not_changed others same runs = record { calls = []; made = same; deliveries = []; failed_receives = 0; failed_sends = 0; runs = runs; heard = refl; asked = tt }
+
+unchanged : (others : List ℕ) {a b : LinkState} {d e : EndState} → b ≡ a → e ≡ d → IsMadeInTime others a b d e
+unchanged others {d = d} same same_end = not_changed others same (subst (λ (x : EndState). DeliversAndTakes [] [] 0 0 d x) (sym same_end) (runs_none d))
+
+-- an answer was taken, which is nothing of the end
+then_taken : {a l new : LinkState} {d e : EndState} (h : ℕ) → IsMadeInTime [] a l d e → new ≡ taken h l → IsMadeInTime [] a new d e
+then_taken {l = l} h m made = record {
+  calls = TakesAnswer h (answer_under h l.untaken) ∷ m.calls;
+  made = (l, m.made, (refl, made), tt);
+  deliveries = m.deliveries;
+  failed_receives = m.failed_receives;
+  failed_sends = m.failed_sends;
+  runs = m.runs;
+  heard = m.heard;
+  asked = (tt, m.asked);
+}
 
 again : (m now : ℕ) → max (max m now) now ≡ max m now
 again m now = omega arith
@@ -262,71 +354,162 @@ calm_after now l calm = by (decision now l)
     by GivesNothing = ap (λ k. list_any (is_late k) l.untaken) (again l.moment now) ∙ calm
     by IsLost = ap (λ k. list_any (is_late k) l.untaken) (again l.moment now) ∙ calm
 
-made_from : (n now : ℕ) (l : LinkState) → late_at now l ≡ false → IsMadeInTime l (link_from now n l)
-unfolding link_from
-made_from zero now l calm = not_changed refl
+-- what is sent by calls in time, at these moments, by what was decided
+record SentBy (moments : List ℕ) (old new : LinkState) (ds : List Decision) : Type 0 where
+  pub calls : List Call
+  pub made : MakesInTime old calls new
+  pub sent : (p : Peer) → datagrams_sent p calls ≡ all_given_to p ds
+  pub heard : datagrams_heard calls ≡ []
+  pub asked : AllByRecursion (IsAskedAt moments) calls
+
+sent_nothing : (moments : List ℕ) {old new : LinkState} {ds : List Decision} → new ≡ old → ((p : Peer) → [] ≡ all_given_to p ds) → SentBy moments old new ds
+sent_nothing moments same none = record { calls = []; made = same; sent = none; heard = refl; asked = tt }
+
+sent_out : (d : Decision) → is_sent_out (due_answer d) ≡ goes_on d
+sent_out (GivesCommand c) = refl
+sent_out GivesKeepAlive = refl
+sent_out GivesNothing = refl
+sent_out IsLost = refl
+
+made_from : (n now : ℕ) (l : LinkState) → late_at now l ≡ false → SentBy (now ∷ []) l (link_from now n l) (decisions_from now n l)
+unfolding link_from decisions_from
+made_from zero now l calm = sent_nothing (now ∷ []) refl (λ p. refl)
 made_from (suc n) now l calm = by_test (goes_on (decision now l)) (made_from n now (gone_on now l) (calm_after now l calm))
   where
-    one : IsMadeInTime l (gone_on now l)
-    one = one_call (SendsDue now (due_answer (decision now l)) (due_bytes (decision now l))) (refl, refl, refl) calm
+    d : Decision
+    d = decision now l
 
-    by_test : (b : Bool) → IsMadeInTime (gone_on now l) (link_from now n (gone_on now l)) → IsMadeInTime l (cond b (link_from now n (gone_on now l)) (gone_on now l))
-    by_test true rest = then_made one rest
-    by_test false rest = one
+    call : Call
+    call = SendsDue now (due_answer d) (due_bytes d)
 
-gives_made : (now : ℕ) (old new : LinkState) (e f : EndState) (r : DriveReport) → SendsInTime now old new e f r → IsMadeInTime old new
+    one_sent : (p : Peer) → datagrams_sent p (call ∷ []) ≡ given_to p d
+    one_sent p = ap (λ b. cond b ((record { to = p; bytes = due_bytes d }) ∷ []) []) (sent_out d)
+
+    made_one : MakesInTime l (call ∷ []) (gone_on now l)
+    made_one = (l, refl, (refl, refl, refl), calm)
+
+    at_now : is_among now (now ∷ []) ≡ true
+    at_now = ap (λ b. b || false) (equal_self now)
+
+    by_test : (b : Bool) → SentBy (now ∷ []) (gone_on now l) (link_from now n (gone_on now l)) (decisions_from now n (gone_on now l)) →
+        SentBy (now ∷ []) l (cond b (link_from now n (gone_on now l)) (gone_on now l)) (d ∷ cond b (decisions_from now n (gone_on now l)) [])
+    by_test true rest = record {
+      calls = rest.calls ++ call ∷ [];
+      made = made_more l (gone_on now l) (link_from now n (gone_on now l)) (call ∷ []) rest.calls made_one rest.made;
+      sent = λ p. sent_both p (call ∷ []) rest.calls ∙ ap (λ zs. zs ++ datagrams_sent p rest.calls) (one_sent p) ∙ ap (λ zs. given_to p d ++ zs) (rest.sent p);
+      heard = heard_both (call ∷ []) rest.calls ∙ rest.heard;
+      asked = each_append (IsAskedAt (now ∷ [])) rest.calls (call ∷ []) rest.asked (at_now, tt);
+    }
+    by_test false rest = record {
+      calls = call ∷ [];
+      made = made_one;
+      sent = λ p. one_sent p ∙ sym (append-nil (given_to p d));
+      heard = refl;
+      asked = (at_now, tt);
+    }
+
+-- what was sent is a step over an end
+step_of : {now : ℕ} {old new : LinkState} {ds : List Decision} {e f : EndState} (failed : ℕ) → SentBy (now ∷ []) old new ds → SendsAllBut failed e f (all_given_to old.device ds) →
+    IsMadeInTime (now ∷ []) old new e f
+step_of {old = old} {e = e} {f = f} failed x s = record {
+  calls = x.calls;
+  made = x.made;
+  deliveries = [];
+  failed_receives = 0;
+  failed_sends = failed;
+  runs = subst (λ (xs : List Sent). DeliversAndTakes [] xs 0 failed e f) (sym (x.sent old.device))
+      (record { telling = s.telling; delivered = λ told. s.delivered told ∙ sym (append-nil e.delivered); taken = s.taken; failures = λ below. omega (arith, s.failures below); sends = s.sends });
+  heard = x.heard;
+  asked = x.asked;
+}
+
+gives_made : (now : ℕ) (old new : LinkState) (e f : EndState) (r : DriveReport) → SendsInTime now old new e f r → IsMadeInTime (now ∷ []) old new e f
 gives_made now old new e f r k = by (late_at now old) refl k
   where
-    by : (b : Bool) → late_at now old ≡ b → GivesIf b now old new e f r → IsMadeInTime old new
-    by true q x = not_changed x.0
-    by false q x = subst (λ (l : LinkState). IsMadeInTime old l) (sym x.link) (made_from (old.span + 1) now old q)
+    by : (b : Bool) → late_at now old ≡ b → GivesIf b now old new e f r → IsMadeInTime (now ∷ []) old new e f
+    by true q x = unchanged (now ∷ []) x.0 x.1
+    by false q x =
+        step_of r.failed_sends (subst (λ (l : LinkState). SentBy (now ∷ []) old l (decisions_from now (old.span + 1) old)) (sym x.link) (made_from (old.span + 1) now old q)) x.sends
 
-all_made : (now : ℕ) (old new : LinkState) → new ≡ cond (late_at now old) old (link_from now (old.span + 1) old) → IsMadeInTime old new
-all_made now old new e = by (late_at now old) refl e
+all_made : (now : ℕ) (old new : LinkState) (ds : List Decision) → GivesAllInTime now old new ds → SentBy (now ∷ []) old new ds
+all_made now old new ds (is, link) = by (late_at now old) refl is link
   where
-    by : (b : Bool) → late_at now old ≡ b → new ≡ cond b old (link_from now (old.span + 1) old) → IsMadeInTime old new
-    by true q e = not_changed e
-    by false q e = subst (λ (l : LinkState). IsMadeInTime old l) (sym e) (made_from (old.span + 1) now old q)
+    by : (b : Bool) → late_at now old ≡ b → ds ≡ cond b (IsLost ∷ []) (decisions_from now (old.span + 1) old) → new ≡ cond b old (link_from now (old.span + 1) old) → SentBy (now ∷ []) old new ds
+    by true q is link = sent_nothing (now ∷ []) link (λ p. ap (all_given_to p) (sym is))
+    by false q is link =
+        subst (λ (xs : List Decision). SentBy (now ∷ []) old new xs) (sym is)
+        (subst (λ (l : LinkState). SentBy (now ∷ []) old l (decisions_from now (old.span + 1) old)) (sym link) (made_from (old.span + 1) now old q))
 
-heard_made : (d : Delivery) (old new : LinkState) (n : ℕ) → HearsDelivery d old new n → IsMadeInTime old new
+-- what is heard of a delivery, by calls in time
+record HeardBy (d : Delivery) (old new : LinkState) : Type 0 where
+  pub calls : List Call
+  pub made : MakesInTime old calls new
+  pub sent : (p : Peer) → datagrams_sent p calls ≡ []
+  pub heard : datagrams_heard calls ≡ short_datagram d
+  pub asked : (moments : List ℕ) → AllByRecursion (IsAskedAt moments) calls
+
+heard_nothing : {d : Delivery} {old new : LinkState} → new ≡ old → [] ≡ short_datagram d → HeardBy d old new
+heard_nothing same none = record { calls = []; made = same; sent = λ p. refl; heard = none; asked = λ ms. tt }
+
+heard_made : (d : Delivery) (old new : LinkState) (n : ℕ) → HearsDelivery d old new n → HeardBy d old new
 heard_made (Datagram from bytes now) old new n x = by (nat_le (length bytes) 1472) refl
   where
     over : (k : ℕ) → nat_le k 1472 ≡ false → 1472 < k
     over k p = grind (arith, nat_tests)
 
-    by : (b : Bool) → nat_le (length bytes) 1472 ≡ b → IsMadeInTime old new
+    by : (b : Bool) → nat_le (length bytes) 1472 ≡ b → HeardBy (Datagram from bytes now) old new
     by true q =
         let s = x.short (is_at_most (length bytes) 1472 q) in
-        one_call (Receives from bytes s.1.content now s.0) (s.1.holds, s.1.answer_is, s.1.link_is) tt
-    by false q = not_changed (x.long (over (length bytes) q)).0
-heard_made (Quiet now) old new n x = not_changed x.0
-heard_made Failed old new n x = not_changed x.0
+        record {
+          calls = Receives from bytes s.1.content now s.0 ∷ [];
+          made = (old, refl, (s.1.holds, s.1.answer_is, s.1.link_is), tt);
+          sent = λ p. refl;
+          heard = ap (λ b. cond b (Datagram from bytes now ∷ []) []) (sym q);
+          asked = λ ms. (tt, tt);
+        }
+    by false q = heard_nothing (x.long (over (length bytes) q)).0 (ap (λ b. cond b (Datagram from bytes now ∷ []) []) (sym q))
+heard_made (Quiet now) old new n x = heard_nothing x.0 refl
+heard_made Failed old new n x = heard_nothing x.0 refl
 
-after_made : (d : Delivery) (old new : LinkState) (ds : List Decision) → GivesAfter d old new ds → IsMadeInTime old new
-after_made (Datagram from bytes now) old new ds x = all_made now old new x.1
-after_made (Quiet now) old new ds x = all_made now old new x.1
-after_made Failed old new ds x = not_changed x.1
+after_made : (d : Delivery) (old new : LinkState) (ds : List Decision) → GivesAfter d old new ds → SentBy (delivered_at d) old new ds
+after_made (Datagram from bytes now) old new ds x = all_made now old new ds x
+after_made (Quiet now) old new ds x = all_made now old new ds x
+after_made Failed old new ds x = sent_nothing [] x.1 (λ p. ap (all_given_to p) (sym x.0))
 
-turn_made : (old new : LinkState) (e f : EndState) (r : DriveReport) → Turns old new e f r → IsMadeInTime old new
-turn_made old new e f r (inl x) = then_made (heard_made x.delivery old x.turns.between x.answered x.turns.hears) (after_made x.delivery x.turns.between new x.decisions x.turns.gives)
-turn_made old new e f r (inr x) = not_changed x.link
+turn_made : (old new : LinkState) (e f : EndState) (r : DriveReport) → Turns old new e f r → IsMadeInTime [] old new e f
+turn_made old new e f r (inl x) =
+    let h = heard_made x.delivery old x.turns.between x.answered x.turns.hears in
+    let g = after_made x.delivery x.turns.between new x.decisions x.turns.gives in
+    record {
+      calls = g.calls ++ h.calls;
+      made = made_more old x.turns.between new h.calls g.calls h.made g.made;
+      deliveries = x.delivery ∷ [];
+      failed_receives = r.failed_receives;
+      failed_sends = r.failed_sends;
+      runs = subst (λ (xs : List Sent). DeliversAndTakes (x.delivery ∷ []) xs r.failed_receives r.failed_sends e f)
+          (sym (sent_both old.device h.calls g.calls ∙ ap (λ zs. zs ++ datagrams_sent old.device g.calls) (h.sent old.device) ∙ g.sent old.device)) x.runs;
+      heard = heard_both h.calls g.calls ∙ ap (λ zs. zs ++ datagrams_heard g.calls) h.heard ∙ ap (λ zs. short_datagram x.delivery ++ zs) g.heard;
+      asked = subst (λ (ms : List ℕ). AllByRecursion (IsAskedAt ms) (g.calls ++ h.calls)) (sym (append-nil (delivered_at x.delivery)))
+          (each_append (IsAskedAt (delivered_at x.delivery)) g.calls h.calls g.asked (h.asked (delivered_at x.delivery)));
+    }
+turn_made old new e f r (inr x) = not_changed [] x.link (runs_closed (runs_none e) x.received)
 
-turns_made : {h n : ℕ} {lost : Bool} {old new : LinkState} {e f : EndState} → TakesTurns h n lost old new e f → IsMadeInTime old new
-turns_made NoneTaken = not_changed refl
+turns_made : {h n : ℕ} {lost : Bool} {old new : LinkState} {e f : EndState} → TakesTurns h n lost old new e f → IsMadeInTime [] old new e f
+turns_made NoneTaken = unchanged [] refl refl
 turns_made (OneTaken {l = l} {new = new} {e = e} {f = f} before none going turn) = then_made (turns_made before) (turn_made l new e f turn.report turn.turns)
 
-waits_made : (h turns : ℕ) (old new : LinkState) (o : Outcome) (e f : EndState) → Waits h turns old o new e f → IsMadeInTime old new
-waits_made h turns old new (outcomes.Answered a) e f w = then_made (turns_made w.4) (one_call (TakesAnswer h (answer_under h w.0.untaken)) (refl, w.6) tt)
+waits_made : (h turns : ℕ) (old new : LinkState) (o : Outcome) (e f : EndState) → Waits h turns old o new e f → IsMadeInTime [] old new e f
+waits_made h turns old new (outcomes.Answered a) e f w = then_taken h (turns_made w.4) w.6
 waits_made h turns old new (outcomes.Refused fault) e f w = absurd w
 waits_made h turns old new outcomes.Lost e f w = turns_made w.3
 waits_made h turns old new outcomes.Unanswered e f w = turns_made w.0
 
-turns_made_before : {h until n : ℕ} {lost closed : Bool} {old new : LinkState} {e f : EndState} → TakesTurnsBefore h until n lost closed old new e f → IsMadeInTime old new
-turns_made_before waiting.NoTurn = not_changed refl
+turns_made_before : {h until n : ℕ} {lost closed : Bool} {old new : LinkState} {e f : EndState} → TakesTurnsBefore h until n lost closed old new e f → IsMadeInTime [] old new e f
+turns_made_before waiting.NoTurn = unchanged [] refl refl
 turns_made_before (waiting.OneTurn {l = l} {new = new} {e = e} {f = f} before none going time turn) = then_made (turns_made_before before) (turn_made l new e f turn.report turn.turns)
 
-waits_made_until : (h until : ℕ) (old new : LinkState) (o : Outcome) (e f : EndState) → WaitsUntil h until old o new e f → IsMadeInTime old new
-waits_made_until h until old new (outcomes.Answered a) e f w = then_made (turns_made_before w.5) (one_call (TakesAnswer h (answer_under h w.0.untaken)) (refl, w.7) tt)
+waits_made_until : (h until : ℕ) (old new : LinkState) (o : Outcome) (e f : EndState) → WaitsUntil h until old o new e f → IsMadeInTime [] old new e f
+waits_made_until h until old new (outcomes.Answered a) e f w = then_taken h (turns_made_before w.5) w.7
 waits_made_until h until old new (outcomes.Refused fault) e f w = absurd w
 waits_made_until h until old new outcomes.Lost e f w = turns_made_before w.4
 waits_made_until h until old new outcomes.Unanswered e f w = turns_made_before w.3
@@ -341,25 +524,36 @@ calm_submitted request now h l is calm =
     no_time : (k : ℕ) → nat_lt 15000 (k - k) ≡ false
     no_time k = grind (arith, nat_tests)
 
-begins_made : (request : RequestFields) (returned : Result Handle ControlFault) (old new : LinkState) (e f : EndState) → Begins request returned old new e f → IsMadeInTime old new
-begins_made request (Err fault) old new e f b = not_changed b.gives.0
+begins_made : (request : RequestFields) (returned : Result Handle ControlFault) (old new : LinkState) (e f : EndState) (b : Begins request returned old new e f) → IsMadeInTime (b.now ∷ []) old new e f
+begins_made request (Err fault) old new e f b = unchanged (b.now ∷ []) b.gives.0 b.gives.1
 begins_made request (Ok h) old new e f b = by (late_at b.now old) refl b.answer
   where
-    by : (late : Bool) → late_at b.now old ≡ late → Ok h ≡ cond late (Err faults.Lost) (submission request old) → IsMadeInTime old new
+    by : (late : Bool) → late_at b.now old ≡ late → Ok h ≡ cond late (Err faults.Lost) (submission request old) → IsMadeInTime (b.now ∷ []) old new e f
     by true q is = cc
     by false q is =
         let first = submitted request b.now old in
-        then_made (one_call (Submits request b.now (Ok h)) (is, refl) tt)
-        (subst (λ (l : LinkState). IsMadeInTime first l) (sym b.gives.1.link) (made_from (first.span + 1) b.now first (calm_submitted request b.now h old is q)))
+        let call = Submits request b.now (Ok h) in
+        let report : DriveReport = b.gives.0 in
+        let given = b.gives.1 in
+        let x = subst (λ (l : LinkState). SentBy (b.now ∷ []) first l (decisions_from b.now (first.span + 1) first)) (sym given.link)
+        (made_from (first.span + 1) b.now first (calm_submitted request b.now h old is q)) in
+        let same : first.device ≡ old.device = device_called old first call (is, refl) in
+        step_of {now = b.now} {old = old} {new = new} {ds = decisions_from b.now (first.span + 1) first} {e = e} {f = f} report.failed_sends (record {
+          calls = x.calls ++ call ∷ [];
+          made = made_more old first new (call ∷ []) x.calls (old, refl, (is, refl), tt) x.made;
+          sent = λ p. sent_both p (call ∷ []) x.calls ∙ x.sent p;
+          heard = heard_both (call ∷ []) x.calls ∙ x.heard;
+          asked = each_append (IsAskedAt (b.now ∷ [])) x.calls (call ∷ []) x.asked (tt, tt);
+        }) (subst (λ (p : Peer). SendsAllBut report.failed_sends e f (all_given_to p (decisions_from b.now (first.span + 1) first))) same given.sends)
 
-asks_made : (request : RequestFields) (turns : ℕ) (old new : LinkState) (o : Outcome) (e f : EndState) → Asks request turns old o new e f → IsMadeInTime old new
+asks_made : (request : RequestFields) (turns : ℕ) (old new : LinkState) (o : Outcome) (e f : EndState) (a : Asks request turns old o new e f) → IsMadeInTime (a.begins.now ∷ []) old new e f
 asks_made request turns old new o e f a = then_made (begins_made request a.returned old a.link e a.end_then a.begins) (by a.returned a.outcome_is)
   where
-    by : (returned : Result Handle ControlFault) → HasOutcome turns returned a.link o new a.end_then f → IsMadeInTime a.link new
+    by : (returned : Result Handle ControlFault) → HasOutcome turns returned a.link o new a.end_then f → IsMadeInTime [] a.link new a.end_then f
     by (Ok h) w = waits_made h.0 turns a.link new o a.end_then f w
-    by (Err fault) w = not_changed w.1
+    by (Err fault) w = unchanged [] w.1 w.2
 
--- What each step over an end makes of a link, it makes by calls in time.
+-- What each step over an end makes of a link and sends, it does by calls in time.
 pub every_step : EveryStepIsInTime
 every_step = record { giving = gives_made; turning = turn_made; beginning = begins_made; waiting = waits_made; waiting_until = waits_made_until; asking = asks_made }
 

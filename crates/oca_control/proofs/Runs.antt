@@ -1,11 +1,11 @@
 -- What is done with a link over an end is a run.
-use Rattle.std.proofs.Common.{◌≡◌, ℕ, ◌+◌, ◌*◌, ◌<◌, ◌≤◌, Bool, true, false, cond, max, List, [], ◌∷◌, ◌++◌, Result, Ok, Err, refl, sym, ap, ◌∙◌, subst, inl, inr, append_assoc, append-nil}
+use Rattle.std.proofs.Common.{◌≡◌, ℕ, ◌+◌, ◌*◌, ◌<◌, ◌≤◌, Bool, true, false, cond, max, List, [], ◌∷◌, ◌++◌, length, Result, Ok, Err, refl, sym, ap, ◌∙◌, subst, inl, inr, append_assoc, append-nil, arith}
 use Rattle.std.specs.Prelude.{IsTrue}
 use Rattle.std.proofs.lemmas.Grind.{flat_map-append}
 use Rattle.oca_types.specs.declared.words.Peer.{Peer}
 use Rattle.oca_types.specs.declared.words.Handle.{Handle}
 use Rattle.oca_types.specs.Peers.{RequestFields}
-use Rattle.oca_net.specs.Deliveries.{Delivery}
+use Rattle.oca_net.specs.Deliveries.{Delivery, Datagram}
 use Rattle.oca_net.specs.EndStates.{EndState}
 use Rattle.oca_net.specs.Memory.{MemoryState, state_of_memory, after_next, after_receive}
 use Rattle.oca_control.specs.declared.fault.ControlFault.{ControlFault}
@@ -19,7 +19,7 @@ use Rattle.oca_control.specs.Turning.{Turns, GivesIf, SendsInTime}
 use Rattle.oca_control.specs.Asking.{TakesTurns, NoneTaken, OneTaken, Waits, Begins, Asks, HasOutcome}
 use Rattle.oca_control.specs.Waiting.{TakesTurnsBefore, WaitsUntil}
 use Rattle.oca_control.specs.Waiting as waiting
-use Rattle.oca_control.specs.Running.{NothingIsLeft, HaveTimeLeft, delivered_at, moments_delivered, AreWithin, ReturnsWithin, IsRun, NothingDone, DroveATurn, TookATurn, SentAllDue, SentAllInTime, Began, Took, RunsOver, begun_at, EveryCallRuns, EveryRunGoesOn, IsAsked, EveryScriptIsKept}
+use Rattle.oca_control.specs.Running.{NothingIsLeft, HaveTimeLeft, delivered_at, moments_delivered, AreWithin, ReturnsWithin, IsRun, NothingDone, DroveATurn, TookATurn, SentAllDue, SentAllInTime, Began, Took, RunsOver, begun_at, EveryCallRuns, EveryOwnReceiveRuns, EveryRunGoesOn, IsAsked, EveryScriptIsKept}
 use Rattle.oca_control.proofs.Asked.{run_asked}
 
 one_further : (ds : List Delivery) (d : Delivery) → moments_delivered (ds ++ d ∷ []) ≡ moments_delivered ds ++ delivered_at d
@@ -120,6 +120,21 @@ ask_runs request turns old new o e f a = over_both (begin_runs request a.returne
     by (Ok h) w = wait_runs h.0 turns a.link new o a.end_then f w
     by (Err fault) w =
         over_none [] a.link new a.end_then f (subst (λ (l : LinkState). IsRun [] a.link l) (sym w.1) NothingDone) (ap (λ (x : EndState). x.tells) w.2) (λ tells. ap (λ (x : EndState). x.delivered) w.2)
+
+-- What `datagram` and then `send_in_time` at the same moment make of a link is a run.
+pub own_receive_runs : EveryOwnReceiveRuns
+own_receive_runs from bytes now returned old l new e f r fits received k = TookATurn (Datagram from bytes now) NothingDone (record {
+  between = l;
+  hears = record { short = λ _. (returned, received, refl); long = λ over. absurd (never (length bytes) fits over) };
+  gives = (refl, by (late_at now l) refl k);
+})
+  where
+    never : (n : ℕ) → n ≤ 1472 → 1472 < n → ⊥
+    never n p q = omega arith
+
+    by : (b : Bool) → late_at now l ≡ b → GivesIf b now l new e f r → new ≡ cond (late_at now l) l (link_from now (l.span + 1) l)
+    by true q x = x.0 ∙ ap (λ c. cond c l (link_from now (l.span + 1) l)) (sym q)
+    by false q x = x.link ∙ ap (λ c. cond c l (link_from now (l.span + 1) l)) (sym q)
 
 -- One run and then another are a run.
 pub runs_on : EveryRunGoesOn

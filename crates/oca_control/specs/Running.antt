@@ -2,16 +2,18 @@
 -- it is asked in time where the receives of the end return in time. Moments are in milliseconds, and stand in the order
 -- of time here.
 use Rattle.std.specs.Prelude.{◌≡◌, ℕ, ◌+◌, ◌-◌, ◌*◌, ◌<◌, ◌≤◌, max, true, false, ⊤, IsTrue, List, [], ◌∷◌, ◌++◌, Result, Ok}
-use Rattle.std.specs.Prelude.{Err, is_none}
+use Rattle.std.specs.Prelude.{Err, is_none, length}
 use Rattle.std.specs.List.{flat_map, AllByRecursion}
 use Rattle.oca_types.specs.declared.words.Peer.{Peer}
 use Rattle.oca_types.specs.declared.words.Handle.{Handle}
 use Rattle.oca_types.specs.Peers.{RequestFields}
 use Rattle.oca_net.specs.Deliveries.{Delivery, Datagram, Quiet, Failed}
+use Rattle.oca_net.specs.Ends.{largest_datagram}
 use Rattle.oca_net.specs.EndStates.{EndState}
 use Rattle.oca_net.specs.Memory.{MemoryState, state_of_memory, after_receive, after_send}
 use Rattle.oca_control.specs.declared.fault.ControlFault.{ControlFault}
 use Rattle.oca_control.specs.declared.outcome.Outcome.{Outcome}
+use Rattle.oca_control.specs.declared.reception.Reception.{Reception}
 use Rattle.oca_control.specs.declared.report.DriveReport.{DriveReport}
 use Rattle.oca_control.specs.Limits.{repeat_time, most_sendings, longest_life}
 use Rattle.oca_control.specs.Untaken.{Untaken}
@@ -19,6 +21,7 @@ use Rattle.oca_control.specs.Links.{LinkState, present_moment, Decision, GivesNo
 use Rattle.oca_control.specs.Links.{taken}
 use Rattle.oca_control.specs.Histories.{Call, Submits, IsCall, IsHistory, clock_of_calls, sendings}
 use Rattle.oca_control.specs.Answering.{last_asked, IsAskedEvery, IsWaiting, IsSentInTime}
+use Rattle.oca_control.specs.Steps.{ReceivesDatagram}
 use Rattle.oca_control.specs.Driving.{DrivesTurn, DrivesEnd, SendsDue, link_from}
 use Rattle.oca_control.specs.Turning.{TurnsInTime, Turns, SendsInTime, link_in_time}
 use Rattle.oca_control.specs.Asking.{beginning, Begins, Asks, Waits}
@@ -111,6 +114,15 @@ pub record EveryCallRuns : Type 0 where
   pub of_ask : (request : RequestFields) (turns : ℕ) (old new : LinkState) (outcome : Outcome) (before after : EndState)
       (asks : Asks request turns old outcome new before after) →
       RunsOver (begun_at asks.returned asks.begins.now) old new before after
+
+-- A PROGRAM THAT RECEIVES BY ITSELF: a datagram was given to the link by `datagram`, and what was due then sent by
+-- `send_in_time` at the same moment. So that is a run, too.
+abbrev pub EveryOwnReceiveRuns : Type 0
+EveryOwnReceiveRuns =
+    (from : Peer) (bytes : List ℕ) (now : ℕ) (returned : Reception) (old l new : LinkState) (before after : EndState)
+    (report : DriveReport) →
+    length bytes ≤ largest_datagram → ReceivesDatagram from bytes now old returned l →
+    SendsInTime now l new before after report → IsRun (now ∷ []) old new
 
 -- Runs go on: the one and then the other are a run.
 abbrev pub EveryRunGoesOn : Type 0

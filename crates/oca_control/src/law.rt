@@ -2,7 +2,9 @@
 ghost use Rattle.oca_control.specs.Answering.{EveryAnswerIsKept, EveryDueCommandIsSent};
 ghost use Rattle.oca_control.specs.Answering.{EveryCommandIsSentInTime};
 ghost use Rattle.oca_control.specs.Copies.{EveryCopyIsInTime, EveryStepIsInTime, EveryLateLinkStaysLate};
+ghost use Rattle.oca_control.specs.Copies.{EveryCallInTimeGoesOn};
 ghost use Rattle.oca_control.specs.Running.{EveryCallRuns, EveryRunGoesOn, EveryRunIsAsked, EveryEndInTimeServes};
+ghost use Rattle.oca_control.specs.Running.{EveryOwnReceiveRuns};
 ghost use Rattle.oca_control.specs.Running.{EveryBegunCommandIsInTime, EveryBegunCommandHasTime, EveryCommandHasTimeSoon};
 ghost use Rattle.oca_control.specs.Running.{EveryScriptIsKept};
 ghost use Rattle.oca_control.specs.Receptions.{EveryDatagramIsCounted};
@@ -10,8 +12,9 @@ ghost use Rattle.oca_control.specs.Histories.{EveryHistoryIsLawful, EveryLinkAgr
 
 use oca_pdu::law_one_list_of_messages;
 
-/// Law: what a link returns follows from the list of its calls alone, whatever this list is. The only premise is a span
-/// of at least 1. The clauses of [`Link`](crate::Link) make the law a promise of every run of a link.
+/// Law: what a link returns follows from the list of its calls alone, whatever this list is. The premises are a span of
+/// at least 1 and, for the refusals, a first handle of 32 bits: each link has both. The clauses of
+/// [`Link`](crate::Link) make the law a promise of every run of a link.
 /// [`Link`](crate::Link) explains the words *handle*, *in flight*, *span*, *take*, *due*, *lost* and *link's clock*.
 /// The function does nothing at run time.
 ///
@@ -42,14 +45,15 @@ pub fn law_of_histories()
     law_one_list_of_messages();
 }
 
-/// Law: once an answer to a command has come, the link stores the first answer that came until the answer is taken. The
-/// function does nothing at run time.
+/// Law: once an answer to a command has come, the link stores an answer to it until the answer is taken. The function
+/// does nothing at run time.
 ///
 /// - The words: a command is *in flight* from its submit until its answer is taken. [`take`](crate::Link::take) returns
 ///   an answer and removes its command from the link.
 /// - The premise: a well-formed datagram of the device comes with a response to a command in flight. Anything else can
 ///   be in the datagram too.
-/// - The conclusion: from then on the link stores the first answer that came, until a take of its handle returns it.
+/// - The conclusion: from then on the link stores an answer to this command until a take of its handle. This take
+///   returns the first answer that came, as [`law_of_histories`] says.
 pub fn law_of_answering()
     ensures { EveryAnswerIsKept }
 {}
@@ -78,11 +82,14 @@ pub fn law_of_sending()
 /// does nothing at run time. The words:
 /// - A link is *asked* if its [`due`](crate::Link::due) is called. [`Link`](crate::Link) explains *lost*, *late* and
 ///   *in flight*.
-/// - A *run* is what [`drive`](crate::drive), [`turn`](crate::turn), [`begin`](crate::begin), [`ask`](crate::ask) and
-///   the waits do with a link. Its *moments* are those of what the end delivered, and those at which commands were
-///   begun.
+/// - A *run* is what [`drive`](crate::drive), [`turn`](crate::turn), [`send_due`](crate::send_due),
+///   [`send_in_time`](crate::send_in_time), [`begin`](crate::begin), [`ask`](crate::ask), the waits and
+///   [`take`](crate::Link::take) do with a link. Its *moments* are those of what the end delivered, and those at which
+///   commands were begun, or `send_due` or `send_in_time` was called. If a program receives by itself,
+///   [`datagram`](crate::Link::datagram) and then `send_in_time` at the same moment are a run with this moment. No other
+///   call of [`submit`](crate::Link::submit), `due` or `datagram` that a program makes itself is part of a run.
 /// - `ms` is a number of milliseconds, at most 500. A run is *steady* if each of its moments is at most `ms` after the
-///   latest one before it.
+///   latest one before it, and the first one at most `ms` after the link's clock at the start of the run.
 /// - *Nothing is left to send* if `due` returns `Nothing` at the moment of the link's clock.
 /// - A command *waits* while it is in flight and has no answer. It *has time left* if it is answered, or if the
 ///   transmissions that are left to it, `250 + ms` apart, end at most 15,000 ms after its submit.
@@ -99,9 +106,10 @@ pub fn law_of_sending()
 ///
 /// A run is steady over a recording end ([`End`](oca_net::End)) whose receives return within `ms` of one another. An end
 /// in memory ([`MemoryEnd`](oca_net::MemoryEnd)) is such an end if the moments in its list of deliveries are. An end at
-/// a socket is not a recording end: its run is steady as long as the program comes back to receive in time.
+/// a socket is not a recording end. Its run is steady if the program comes back to receive in time, which no law says.
 pub fn law_of_running()
     ensures calls { EveryCallRuns }
+    ensures own_receives { EveryOwnReceiveRuns }
     ensures goes_on { EveryRunGoesOn }
     ensures asked { EveryRunIsAsked }
     ensures over_an_end { EveryEndInTimeServes }
@@ -116,14 +124,22 @@ pub fn law_of_running()
 /// submitted more than 15,000 ms ago has no answer ([`is_late`](crate::is_late)). The function does nothing at run
 /// time.
 ///
-/// - The premise: `due` is never called at a moment at which the link is late. The other calls of the link can be any.
+/// - The premise: the list has all calls of a link since it was made, and `due` is never called at a moment at which the
+///   link is late. The other calls of the link can be any.
 /// - The conclusion: each transmission of a command leaves at most 15,000 ms after the submit of the command, by the
 ///   link's clock. This clock is the latest moment that the link was given.
 /// - [`send_in_time`](crate::send_in_time), [`turn`](crate::turn), [`begin`](crate::begin), [`ask`](crate::ask) and the
-///   waits ask the link only while it is not late.
+///   waits ask the link only while it is not late. For what such a call does there is a list of calls of the link that
+///   meets the premise and makes the same link. A recording end ([`End`](oca_net::End)) took just what these calls send,
+///   for the link's device and in this order, except for the sends that failed. They receive just the datagrams of at
+///   most 1,472 bytes that it delivered, and ask the link at moments of what it delivered, at the moment given to
+///   `send_in_time`, or at that of the begin. Of an end that does not record, the law says how often was sent.
+/// - Such lists, one behind another, are such a list. So the conclusion holds of all that these calls hand to a recording
+///   end, one call after another, from a new link on.
 /// - A link that is late at a moment is late at each later moment, if nothing is called between.
 pub fn law_copies_in_time()
     ensures copies { EveryCopyIsInTime }
     ensures steps { EveryStepIsInTime }
+    ensures goes_on { EveryCallInTimeGoesOn }
     ensures late { EveryLateLinkStaysLate }
 {}

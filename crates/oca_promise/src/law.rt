@@ -32,9 +32,12 @@ use oca_pdu::law_reading;
 /// - Get: what `get` returns is the object's value at a moment during the call.
 /// - Reading: what `reading_of` returns is the object's value with its limits at a moment during the call, if the
 ///   object is of the class that was given.
-/// - Members: the numbers are those of the block's members, if the object is a block.
+/// - Members: the numbers are those of the block's members when the device executed the question, which lies between the
+///   call and its return, if the object is a block.
 /// - Lock and unlock: the object was locked for this peer, or its lock was released.
-/// - Class, role, label, and what a walk returns of an object (its class and its role) are the object's.
+/// - Class: the class is the object's. So it is of the class that a walk returns of an object.
+/// - Role and label: the text is the object's when the device executed the question, which lies between the call and its
+///   return. So it is of the role that a walk returns of an object.
 /// - Renewal: after [`renew`](oca_panel::Panel::renew) the panel's link is the link of the same network after a step that
 ///   renews it, so all this holds of its later calls too. The new link must be to the same device, with a first handle
 ///   no lower than the handle that the next command of the old link would get.

@@ -1,6 +1,6 @@
 use Rattle.oca_control.proofs.Asked.{run_asked, begun_in_time, begun_time}
 use Rattle.oca_control.proofs.Lifetimes.{time_soon}
-use Rattle.oca_control.proofs.Runs.{every_call, runs_on, end_serves, every_script}
+use Rattle.oca_control.proofs.Runs.{every_call, own_receive_runs, runs_on, end_serves, every_script}
 use Rattle.oca_control.proofs.law.law_of_running.Goals as goal
 
 pub returns-clause-calls : goal.returns-clause-calls
@@ -26,3 +26,6 @@ returns-clause-others c = begun_time
 
 pub returns-clause-soon : goal.returns-clause-soon
 returns-clause-soon c = time_soon
+
+pub returns-clause-own_receives : goal.returns-clause-own_receives
+returns-clause-own_receives c = own_receive_runs
