@@ -30,7 +30,7 @@ use Rattle.oca_control.specs.Turning.{GivesIf, SendsInTime, GivesAllInTime, Give
 use Rattle.oca_control.specs.Asking.{TakesTurns, NoneTaken, OneTaken, Waits, Begins, Asks, HasOutcome}
 use Rattle.oca_control.specs.Waiting.{TakesTurnsBefore, WaitsUntil}
 use Rattle.oca_control.specs.Waiting as waiting
-use Rattle.oca_control.specs.Copies.{submitted_at, LeavesInTime, IsInTime, MakesInTime, EveryCallInTimeGoesOn, is_sent_out, datagrams_sent, datagrams_heard, short_datagram, IsAskedAt, IsMadeInTime, EveryStepIsInTime}
+use Rattle.oca_control.specs.Copies.{submitted_at, LeavesInTime, MakesInTime, EveryCallInTimeGoesOn, is_sent_out, datagrams_sent, datagrams_heard, short_datagram, IsAskedAt, IsMadeInTime, EveryStepIsInTime}
 use Rattle.oca_control.proofs.Following.{equal_is, equal_self, unequal, is_at_most, both_true, each_map, each_both, each_append, end_of, IsSent}
 use Rattle.oca_control.proofs.Calls.{is_accepted, is_given, each_first, each_without}
 use Rattle.oca_control.proofs.Histories.{Now, holds_after}
