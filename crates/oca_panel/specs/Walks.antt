@@ -125,3 +125,57 @@ pub record VisitsPlace (old : WalkState) (before after : PanelState) (visit : Vi
 abbrev pub StepsToPlace : WalkState → PanelState → PanelState → Option Visit → WalkState → Type 0
 StepsToPlace old before after None new = WalkEnds old before after new
 StepsToPlace old before after (Some visit) new = VisitsPlace old before after visit new
+
+-- ---- memory was refused
+
+-- Memory was refused for a member of a block: only the members behind it were put before all that wait.
+pub record PutsLastMembers (container : Ono) (members : List ℕ) (old new : List Place) : Type 0 where
+  pub left_out : List ℕ
+  pub refused : ℕ
+  pub put : List ℕ
+  pub all : members ≡ left_out ++ refused ∷ put
+  pub places : new ≡ old ++ places_of container put
+
+-- A block was asked for its members, and memory was refused for one of them.
+pub record ListsTooMany (d : Description) (ono : Ono) (rest : List Place) (old new : PanelState) (waiting : List Place)
+    : Type 0 where
+  pub block : is_block_class (class_with d.fields.items) ≡ true
+  pub members : List ℕ
+  pub reads : Reads ono.0 class.Block requests.GetMembers members_answered old new (Ok members)
+  pub puts : PutsLastMembers ono members rest waiting
+
+-- An object was asked, is a block, and memory was refused for one of its members.
+pub record FindsTooMany (again : Bool) (ono : Ono) (rest : List Place) (old new : PanelState) (waiting : List Place)
+    : Type 0 where
+  pub asked : again ≡ false
+  pub description : Description
+  pub between : PanelState
+  pub describes : Describes ono.0 old between (Ok (parts_of description))
+  pub lists : ListsTooMany description ono rest between new waiting
+
+-- Memory was refused for the place itself: its object does not count as visited, and was not asked.
+pub record LosesPlace (rest : List Place) (old : WalkState) (before after : PanelState) (new : WalkState) : Type 0 where
+  pub waiting : new.waiting ≡ rest
+  pub visited : new.visited ≡ old.visited
+  pub panel : after ≡ before
+
+-- Memory was refused for a member of the block at the place, which counts as visited.
+pub record LosesMembers (again : Bool) (ono : Ono) (rest : List Place) (old : WalkState) (before after : PanelState)
+    (new : WalkState) : Type 0 where
+  pub visited : new.visited ≡ old.visited ++ ono ∷ []
+  pub finds : FindsTooMany again ono rest before after new.waiting
+
+-- MEMORY WAS REFUSED AT THE NEXT PLACE, which waits no more: for the place, or for a member of the block there.
+pub record RefusedNext (old : WalkState) (before after : PanelState) (new : WalkState) : Type 0 where
+  pub place : Place
+  pub rest : List Place
+  pub next : old.waiting ≡ rest ++ place ∷ []
+  pub loses : LosesPlace rest old before after new
+      ⊎ LosesMembers (is_visited place.ono old.visited) place.ono rest old before after new
+
+-- the same, where an object that was visited before is asked again
+pub record RefusedPlace (old : WalkState) (before after : PanelState) (new : WalkState) : Type 0 where
+  pub place : Place
+  pub rest : List Place
+  pub next : old.waiting ≡ rest ++ place ∷ []
+  pub loses : LosesPlace rest old before after new ⊎ LosesMembers false place.ono rest old before after new

@@ -1,5 +1,6 @@
 -- An end that remembers when a peer was last heard, and what is found by that (*profile*).
-use Rattle.std.specs.Prelude.{ℕ, Bool, true, false, if◌then◌else◌, Option, Some, None}
+use Rattle.std.specs.Prelude.{◌≡◌, ℕ, Bool, true, false, if◌then◌else◌, Option, Some, None}
+use Rattle.std.specs.Option.{option_or}
 use Rattle.oca_types.specs.declared.words.Peer.{Peer}
 use Rattle.oca_types.specs.Peers.{same_peer}
 use Rattle.oca_net.specs.declared.end.Heard.{Heard}
@@ -24,6 +25,12 @@ heard_after (heards.Quiet now) peer before = before
 heard_after (heards.Oversize now) peer before = before
 heard_after heards.Failed peer before = before
 heard_after heards.Closed peer before = before
+
+-- THE WATCH GOES ON: the same peer is watched, and when it was heard stays known, unless it was heard anew.
+pub record WatchesOn (before after : WatchState) : Type 0 where
+  pub peer : after.peer ≡ before.peer
+  pub anew : Option ℕ
+  pub heard : after.heard ≡ option_or anew before.heard
 
 -- whether a device answers the commands of a port, by whether it answered one, and when it was heard
 abbrev pub found_by : Bool → Option ℕ → Probed

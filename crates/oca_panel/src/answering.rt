@@ -8,7 +8,7 @@ ghost use Rattle.oca_net.specs.EndStates.{IsPresent};
 ghost use Rattle.oca_control.specs.Links.{new_link, submission, submitted};
 ghost use Rattle.oca_panel.specs.Probes.{AsksQuestion, AsksRound, AsksRounds, KeepsAlive, Probes, handle_in};
 ghost use Rattle.oca_panel.specs.Probes.{has_answer, question};
-ghost use Rattle.oca_panel.specs.Watching.{found_by};
+ghost use Rattle.oca_panel.specs.Watching.{WatchesOn, found_by};
 
 use crate::walk::ROOT;
 use crate::watched::Watched;
@@ -51,13 +51,18 @@ pub enum Probed {
 /// - `NotAnswering` if the end has heard its peer, even before this call. Then use another port.
 /// - `NotHeard` in all other cases.
 ///
-/// A send or receive that fails is not reported, and the call goes on.
+/// The end watches the same peer after the call. If the peer was heard before, the end still knows when it was last
+/// heard ([`Watched::heard`]). A send or receive that fails is not reported, and the call goes on.
 pub fn probe<E: End>(end: &mut Watched<E>, device: Peer, handle: Handle) -> Probed
-    ensures { Probes device handle.0 end.old.end_state end.new result }
+    ensures finds { Probes device handle.0 end.old.end_state end.new result }
+    ensures watches { WatchesOn end.old end.new }
 {
     let now = end.now();
+    let peer = end.peer();
+    let before = end.heard();
     let mut link = Link::new(device, handle, now, Span::default());
     let answered = asks(&mut link, end, device, handle, now);
+    end.watch_on(peer, before);
     by_answer(answered, end.heard())
 }
 

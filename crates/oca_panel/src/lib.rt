@@ -2,14 +2,15 @@
 //! error says what happened.
 //!
 //! Begin with [`Panel::open`] over a [`UdpEnd`](oca_net::UdpEnd): then `panel.set(Ono(4097),
-//! Value::Mute(MuteState::Muted))` sends the command, repeats it until its answer comes, and returns whether it was
-//! carried out. [`Panel::get`] and [`Panel::reading`] read a value, the second with its limits; [`Walk`] lists the
-//! objects of a device; with [`InFlight`] several commands are in flight at once, and are waited for in their order.
-//! [`OwnPort`] gives a first handle that is safe. [`Trouble`] is the one error: as a text it has the name of the
-//! status.
+//! Value::Mute(MuteState::Muted))` sends the command, waits for its answer, and returns whether the answer says that it
+//! was carried out. While the call waits, it sends the command again each 250 ms. [`Panel::get`] and [`Panel::reading`]
+//! read a value, the second with its limits; [`Walk`] lists the objects of a device; with [`InFlight`] several commands
+//! are in flight at once, and are waited for in their order. [`OwnPort`] gives a first handle by the time of day.
+//! [`Trouble`] is the one error: as a text it has the name of the status.
 //!
-//! Between commands call [`Panel::turn`], which sends keep-alives too: a panel that is silent for 15 seconds loses its
-//! locks. No copy of a command is sent more than 15,000 ms after it was submitted: the command is then lost.
+//! Between commands call [`Panel::turn`], which sends keep-alives too: a device releases the locks of a panel that it
+//! did not hear for more than 15 seconds. No copy of a command is sent more than 15,000 ms after it was submitted. If
+//! the command has no answer then, the link is late, and the panel takes no command ([`Panel::is_lost`]).
 #![tactic(auto)]
 
 mod answering;

@@ -1,8 +1,9 @@
 //! A walk through the objects of a device.
-ghost use Rattle.std.specs.Prelude.{◌≡◌, ◌++◌, IfOk};
+ghost use Rattle.std.specs.Prelude.{◌≡◌, ◌++◌, IfErr, IfOk};
 ghost use Rattle.oca_model.specs.Members.{class_with};
 ghost use Rattle.oca_panel.specs.Outcomes.{on_ok};
-ghost use Rattle.oca_panel.specs.Walks.{Describes, Finds, FindsObject, StepsTo, StepsToPlace, is_block_class};
+ghost use Rattle.oca_panel.specs.Walks.{Describes, Finds, FindsObject, FindsTooMany, ListsTooMany, PutsLastMembers};
+ghost use Rattle.oca_panel.specs.Walks.{RefusedNext, RefusedPlace, StepsTo, StepsToPlace, is_block_class};
 ghost use Rattle.oca_panel.specs.Walks.{is_visited, parts_of, places_of};
 
 use crate::panel::Panel;
@@ -133,10 +134,15 @@ impl Walk {
     /// asked ([`Found::Again`]).
     ///
     /// `None` if no place is left, or 4,096 places were visited: then nothing is asked or changed. The call takes
-    /// memory for the places. Refusal: `NoMemory` if memory is refused. Questions may have been asked then, and the
-    /// walk may leave objects out from then on.
+    /// memory for the places.
+    ///
+    /// Refusal: `NoMemory` if memory is refused. The place is then left out. If memory for the place was refused,
+    /// nothing was asked, and its object does not count as visited. If memory for a member of a block was refused, the
+    /// block was asked, and counts as visited. Only the members behind that one are visited next. All other places
+    /// still wait.
     pub fn next<E: End>(&mut self, panel: &mut Panel<E>) -> Result<Option<Visit>, NoMemory>
-        ensures { IfOk result (λ found. StepsTo self.old panel.old panel.new found self.new) }
+        ensures steps { IfOk result (λ found. StepsTo self.old panel.old panel.new found self.new) }
+        ensures refused { IfErr result (λ why. RefusedNext self.old panel.old panel.new self.new) }
     {
         step(&mut self.waiting, &mut self.visited, panel)
     }
@@ -149,10 +155,15 @@ impl Walk {
     /// from this place. The next call goes on with the next place.
     ///
     /// `None` if no place is left, or 4,096 places were visited: then nothing is asked or changed. The call takes
-    /// memory for the places. Refusal: `NoMemory` if memory is refused. Questions may have been asked then, and the
-    /// walk may leave objects out from then on.
+    /// memory for the places.
+    ///
+    /// Refusal: `NoMemory` if memory is refused. The place is then left out. If memory for the place was refused,
+    /// nothing was asked, and its object does not count as visited. If memory for a member of a block was refused, the
+    /// block was asked, and counts as visited. Only the members behind that one are visited next. All other places
+    /// still wait.
     pub fn next_place<E: End>(&mut self, panel: &mut Panel<E>) -> Result<Option<Visit>, NoMemory>
-        ensures { IfOk result (λ found. StepsToPlace self.old panel.old panel.new found self.new) }
+        ensures steps { IfOk result (λ found. StepsToPlace self.old panel.old panel.new found self.new) }
+        ensures refused { IfErr result (λ why. RefusedPlace self.old panel.old panel.new self.new) }
     {
         step_to_place(&mut self.waiting, &mut self.visited, panel)
     }
@@ -172,9 +183,13 @@ fn step<E: End>(
     visited: &mut Vec<Ono>,
     panel: &mut Panel<E>,
 ) -> Result<Option<Visit>, NoMemory>
-    ensures { IfOk result
+    ensures steps { IfOk result
         (λ found. StepsTo (record { waiting = waiting.old.items; visited = visited.old.items })
         panel.old panel.new found
+        (record { waiting = waiting.new.items; visited = visited.new.items })) }
+    ensures refused { IfErr result
+        (λ why. RefusedNext (record { waiting = waiting.old.items; visited = visited.old.items })
+        panel.old panel.new
         (record { waiting = waiting.new.items; visited = visited.new.items })) }
 {
     if visited.len() >= MOST_PLACES {
@@ -199,9 +214,13 @@ fn step_to_place<E: End>(
     visited: &mut Vec<Ono>,
     panel: &mut Panel<E>,
 ) -> Result<Option<Visit>, NoMemory>
-    ensures { IfOk result
+    ensures steps { IfOk result
         (λ found. StepsToPlace
         (record { waiting = waiting.old.items; visited = visited.old.items }) panel.old panel.new found
+        (record { waiting = waiting.new.items; visited = visited.new.items })) }
+    ensures refused { IfErr result
+        (λ why. RefusedPlace
+        (record { waiting = waiting.old.items; visited = visited.old.items }) panel.old panel.new
         (record { waiting = waiting.new.items; visited = visited.new.items })) }
 {
     if visited.len() >= MOST_PLACES {
@@ -234,7 +253,8 @@ fn find<E: End>(
     again: bool,
     waiting: &mut Vec<Place>,
 ) -> Result<Found, NoMemory>
-    ensures { IfOk result (λ found. Finds again ono waiting.old.items panel.old panel.new found waiting.new.items) }
+    ensures finds { IfOk result (λ found. Finds again ono waiting.old.items panel.old panel.new found waiting.new.items) }
+    ensures refused { IfErr result (λ why. FindsTooMany again ono waiting.old.items panel.old panel.new waiting.new.items) }
 {
     if again {
         return Ok(Found::Again);
@@ -275,9 +295,11 @@ fn find_in<E: End>(
     description: Description,
     waiting: &mut Vec<Place>,
 ) -> Result<Found, NoMemory>
-    ensures { IfOk result
+    ensures finds { IfOk result
         (λ found. FindsObject (is_block_class (class_with description.fields.items)) description ono waiting.old.items
         panel.old panel.new found waiting.new.items) }
+    ensures refused { IfErr result
+        (λ why. ListsTooMany description ono waiting.old.items panel.old panel.new waiting.new.items) }
 {
     if !are_of_block(description.fields.as_slice()) {
         return Ok(Found::Object(description));
@@ -293,7 +315,8 @@ fn find_in<E: End>(
 
 /// Puts members before all that wait, in their order: the last place is visited first.
 fn put_first(container: Ono, members: &[u32], waiting: &mut Vec<Place>) -> Result<(), NoMemory>
-    ensures { IfOk result (λ u. waiting.new.items ≡ waiting.old.items ++ places_of container members.now) }
+    ensures puts { IfOk result (λ u. waiting.new.items ≡ waiting.old.items ++ places_of container members.now) }
+    ensures refused { IfErr result (λ why. PutsLastMembers container members.now waiting.old.items waiting.new.items) }
 {
     let [first, rest @ ..] = members else {
         return Ok(());

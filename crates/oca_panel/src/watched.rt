@@ -46,6 +46,7 @@ impl<E: End> fmt::Debug for Watched<E> {
 
 impl<E: End> Watched<E> {
     ghost use Rattle.std.specs.Prelude.{◌≡◌, None};
+    ghost use Rattle.std.specs.Option.{option_or};
 
     /// Makes an end of a network over the end `end`, which becomes the end inside, and watches the peer `peer`. To
     /// *watch* a peer is to store the moment of the last datagram from its address and port. [`heard`](Watched::heard)
@@ -83,6 +84,21 @@ impl<E: End> Watched<E> {
         ensures { self.new ≡ record self.old { heard = None } }
     {
         self.heard = None;
+    }
+
+    /// Goes on with the watch of a peer that was last heard at this moment, unless it was heard since.
+    pub(crate) fn watch_on(&mut self, peer: Peer, before: Option<u64>)
+        ensures { self.new ≡ record self.old { peer = peer; heard = option_or self.old.heard before } }
+    {
+        self.peer = peer;
+        self.heard = self.heard.or(before);
+    }
+
+    /// The peer that is watched.
+    pub(crate) fn peer(&self) -> Peer
+        ensures { result ≡ self.now.peer }
+    {
+        self.peer
     }
 }
 
