@@ -1,5 +1,5 @@
 //! Which object is read again next, and when.
-ghost use Rattle.std.specs.Prelude.{◌≡◌, ◌<◌, ◌+◌, IfSome, length};
+ghost use Rattle.std.specs.Prelude.{◌≡◌, ◌<◌, ◌+◌, IfSome, length, take};
 ghost use Rattle.std.specs.List.{position};
 ghost use Rattle.oca_web.specs.Polling.{KeepsPageAt, NoneEarlier, is_open_no_longer, place_for, shows_same};
 
@@ -358,7 +358,7 @@ fn keep_page(pages: &mut ArrayVec<Page, MOST_PAGES>, page: Page, place: Option<u
 fn oldest(pages: &[Page]) -> usize
     requires { 0 < length pages.now }
     ensures within { result < length pages.now }
-    ensures first { NoneEarlier (length pages.now) result pages.now }
+    ensures first { NoneEarlier result pages.now pages.now }
 {
     let mut oldest = 0usize;
     for at in 1..pages.len() {
@@ -372,7 +372,7 @@ fn oldest(pages: &[Page]) -> usize
 fn earlier_of(pages: &[Page], one: usize, other: usize) -> usize
     requires { (one < length pages.now) × (other < length pages.now) }
     ensures within { result < length pages.now }
-    ensures first { NoneEarlier one other pages.now → NoneEarlier (one + 1) result pages.now }
+    ensures first { NoneEarlier other pages.now (take one pages.now) → NoneEarlier result pages.now (take (one + 1) pages.now) }
 {
     if pages[one].until < pages[other].until {
         one
