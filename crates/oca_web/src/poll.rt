@@ -206,7 +206,8 @@ impl Poll {
 
     /// Returns the object to read next, by its place, counted from 0, and the question to ask of it (*profile*). `now`
     /// is the present moment, in milliseconds of the program's clock, and `objects` the list of objects. If a round is
-    /// due, it begins. The result is `None` if no page is open, the round ended, or the next round is not due yet. The
+    /// due, it begins. An object is read again 100 ms after it was read again last if an open page shows it, and 5,000 ms
+    /// after it otherwise, at the earliest. The result is `None` if no page is open, or nothing is to be read now. The
     /// call sends nothing and takes no memory.
     pub fn next(&mut self, now: u64, objects: &[Object]) -> Option<(usize, Ask)>
         ensures reads { ReadsAgain now result objects.now self.old.pages.items }

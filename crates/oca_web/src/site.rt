@@ -101,8 +101,8 @@ impl Site {
     /// Returns the number of HTTP requests that were let in since the service was made (*profile*). A request is let in
     /// if its host is one of the panel's names, and it brings the token, if the panel has one. A POST must also have
     /// the right origin and Content-Type, and no request may name a host in its address. The result is 0 at first, at
-    /// most 2^64 - 1. A request that was let in can still be answered with an error. One that is answered 503 may be
-    /// left out.
+    /// most 2^64 - 1. A request that was let in can still be answered with an error. It may be left out if memory
+    /// was refused: its answer is then 503 without header fields and body.
     pub fn admitted(&self) -> u64
         ensures { result ≡ self.now.admitted }
     {
