@@ -1,8 +1,8 @@
 -- Where a page is kept.
-use Rattle.std.proofs.Common.{◌≡◌, ◌<◌, ◌≤◌, ◌+◌, ℕ, Bool, List, Option, Some, None, length, sym, ap, arith, ⊎_elim}
+use Rattle.std.proofs.Common.{◌≡◌, ◌<◌, ◌≤◌, ◌+◌, ℕ, Bool, List, [], ◌∷◌, Option, Some, None, get_or, length, take, take_all, refl, sym, arith}
 use Rattle.std.specs.Prelude.{IfSome, slice_index_or}
-use Rattle.std.proofs.Math.Nat.{eq-or-lt_of_le}
-use Rattle.std.proofs.lemmas.List.{get_or_default}
+use Rattle.std.proofs.lemmas.List.Elements.{All-more, All-nil, All-same, All-weaker}
+use Rattle.std.proofs.lemmas.Option.{get_or_from_slice_get, slice_get-get_or}
 use Rattle.oca_web.specs.Polling.{NoneEarlier}
 use Rattle.std.specs.List.{position}
 use Rattle.std.proofs.lemmas.List.Quantifiers.{position-Some}
@@ -15,27 +15,34 @@ place_within p pages (Some at) e = (position-Some p pages at (record { first = 0
 
 -- ---- which page asked longest ago
 
-pub none_before_first : (pages : List Page) → NoneEarlier 1 0 pages
-none_before_first pages k d lt = let e : k ≡ 0 = omega (arith, lt) in omega (arith, ap (λ i. (slice_index_or pages i d).until) e)
+pub none_before_first : (pages : List Page) → 0 < length pages → NoneEarlier 0 pages (take 1 pages)
+none_before_first [] some = absurd (omega (arith, some))
+none_before_first (p ∷ ps) some =
+    (p, refl, All-more (λ (q : Page). p.until ≤ q.until) (p ∷ ps) 0 p some (All-nil (λ (q : Page). p.until ≤ q.until)) (omega arith))
 
-pub earlier_now : (pages : List Page) (at oldest : ℕ) (d : Page) → oldest < length pages → at < length pages
-    → NoneEarlier at oldest pages → (slice_index_or pages at d).until < (slice_index_or pages oldest d).until
-    → NoneEarlier (at + 1) at pages
-earlier_now pages at oldest d o a h less k e lt =
-    let here = ap (λ p. p.until) (get_or_default pages at e d a) in
-    let there = ap (λ p. p.until) (get_or_default pages oldest e d o) in
-    let up_to : k ≤ at = omega (arith, lt) in
-    ⊎_elim (λ same. omega (arith, ap (λ i. (slice_index_or pages i e).until) same))
-    (λ before. let m = h k e before in omega (arith, here, there, less, m)) (eq-or-lt_of_le up_to)
+pub earlier_now : (pages : List Page) (at oldest : ℕ) (d : Page) → at < length pages → NoneEarlier oldest pages (take at pages)
+    → (slice_index_or pages at d).until < (slice_index_or pages oldest d).until → NoneEarlier at pages (take (at + 1) pages)
+earlier_now pages at oldest d a h less =
+    let here : Page = get_or pages at d in
+    let there : get_or pages oldest d ≡ h.0 = get_or_from_slice_get pages oldest h.0 d h.1 in
+    let before : here.until < h.0.until = rw (sym there) less in (
+      here,
+      slice_get-get_or pages at d a,
+      All-more (λ (q : Page). here.until ≤ q.until) pages at d a
+          (All-weaker (λ (q : Page). h.0.until ≤ q.until) (λ (q : Page). here.until ≤ q.until) (λ q le. omega (arith, before, le)) (take at pages) h.2)
+          (omega arith),
+    )
 
-pub none_earlier_now : (pages : List Page) (at oldest : ℕ) (d : Page) → oldest < length pages → at < length pages
-    → NoneEarlier at oldest pages → (slice_index_or pages oldest d).until ≤ (slice_index_or pages at d).until
-    → NoneEarlier (at + 1) oldest pages
-none_earlier_now pages at oldest d o a h not_less k e lt =
-    let here = ap (λ p. p.until) (get_or_default pages at e d a) in
-    let there = ap (λ p. p.until) (get_or_default pages oldest e d o) in
-    let up_to : k ≤ at = omega (arith, lt) in
-    ⊎_elim (λ same. omega (arith, here, there, not_less, ap (λ i. (slice_index_or pages i e).until) same)) (λ before. h k e before)
-    (eq-or-lt_of_le up_to)
+pub none_earlier_now : (pages : List Page) (at oldest : ℕ) (d : Page) → at < length pages → NoneEarlier oldest pages (take at pages)
+    → (slice_index_or pages oldest d).until ≤ (slice_index_or pages at d).until → NoneEarlier oldest pages (take (at + 1) pages)
+none_earlier_now pages at oldest d a h not_less =
+    let there : get_or pages oldest d ≡ h.0 = get_or_from_slice_get pages oldest h.0 d h.1 in
+    (h.0, h.1, All-more (λ (q : Page). h.0.until ≤ q.until) pages at d a h.2 (rw (sym there) not_less))
 
-pub ruleset earlier_rules = (none_before_first, earlier_now, none_earlier_now)
+-- all pages were looked at
+pub none_earlier : (pages : List Page) (at oldest : ℕ) → length pages ≤ at → NoneEarlier oldest pages (take at pages)
+    → NoneEarlier oldest pages pages
+none_earlier pages at oldest le h =
+    (h.0, h.1, All-same (λ (q : Page). h.0.until ≤ q.until) pages (take at pages) (sym (take_all at pages le)) h.2)
+
+pub ruleset earlier_rules = (none_before_first, earlier_now, none_earlier_now, none_earlier)

@@ -84,7 +84,7 @@ opens (Some key) path query cookies = brings key path query cookies
 abbrev pub request_opens : Option Key → Request (List ℕ) → Bool
 request_opens key r = opens key (uri_path (head_of r).uri) (uri_query (head_of r).uri) (field (head_of r).headers (codes "cookie"))
 
--- WHETHER THE REQUEST IS LET IN
+-- WHETHER THE REQUEST IS LET IN, if it names no host in its address (`admits_request`)
 abbrev pub lets_request_in : Terms → Request (List ℕ) → Bool
 lets_request_in t r = lets_in t.names.items (head_of r).method (field (head_of r).headers (codes "host"))
     (field (head_of r).headers (codes "origin")) (field (head_of r).headers (codes "content-type"))

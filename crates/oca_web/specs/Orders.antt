@@ -6,6 +6,7 @@ use Rattle.oca_types.specs.declared.class.Class.{Class}
 use Rattle.oca_types.specs.declared.class.Class.TheVariants as class
 use Rattle.oca_types.specs.declared.words.Ono.{Ono}
 use Rattle.oca_types.specs.declared.words.Handle.{Handle}
+use Rattle.oca_net.specs.Ends.{last_u64}
 use Rattle.oca_control.specs.declared.fault.ControlFault.TheVariants as faults
 use Rattle.oca_control.specs.declared.outcome.Outcome.{Outcome}
 use Rattle.oca_control.specs.Asking.{IsPresent}
@@ -77,7 +78,7 @@ with_order ono action last s = record s {
 -- Where it was added, this is its ticket; where 256 wait, or no ticket is left, none was.
 abbrev pub AddsTicket : Ono → Action → ℕ → OrdersState → Option ℕ → OrdersState → Type 0
 AddsTicket ono action last old (Some ticket) new = (ticket ≡ old.tickets + 1) × (new ≡ with_order ono action last old)
-AddsTicket ono action last old None new = (new ≡ old) × ((length old.waiting ≡ 256) ⊎ (old.tickets ≡ 18446744073709551615))
+AddsTicket ono action last old None new = (new ≡ old) × ((length old.waiting ≡ 256) ⊎ (old.tickets ≡ last_u64))
 
 -- MANY ORDERS WERE ADDED, in their order, each with the same last moment and a ticket of its own.
 abbrev pub with_all : List Wanted → ℕ → OrdersState → OrdersState
@@ -86,7 +87,7 @@ with_all (w ∷ ws) last s = with_all ws last (with_order w.ono w.action last s)
 
 -- whether there is room for so many, and a ticket for each
 abbrev pub has_room_for : ℕ → OrdersState → Bool
-has_room_for n s = nat_le (length s.waiting + n) 256 && nat_lt (s.tickets + n) 18446744073709551615
+has_room_for n s = nat_le (length s.waiting + n) 256 && nat_lt (s.tickets + n) last_u64
 
 -- Where there was room for all of them they were, and this is the ticket of the first; the others have those that follow.
 -- Where there was not, none was.

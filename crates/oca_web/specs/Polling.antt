@@ -1,7 +1,7 @@
 -- Which object is read again, and when (*profile*). Moments are in milliseconds.
-use Rattle.std.specs.Prelude.{◌≡◌, ℕ, ◌+◌, ◌-◌, ◌≤◌, nat_lt, nat_le, Bool, true, ◌&&◌, not, if◌then◌else◌, List, slice_get, slice_index_or}
+use Rattle.std.specs.Prelude.{◌≡◌, ℕ, ◌+◌, ◌-◌, ◌≤◌, nat_lt, nat_le, Bool, true, ◌&&◌, not, if◌then◌else◌, List, slice_get}
 use Rattle.std.specs.Prelude.{Option, Some, None, ◌⊎◌, ◌<◌, ◌==◌, min, [], ◌∷◌, ◌++◌, length, slice_set}
-use Rattle.std.specs.List.{list_any, position}
+use Rattle.std.specs.List.{All, list_any, position}
 use Rattle.oca_net.specs.Ends.{last_u64}
 use Rattle.oca_web.specs.declared.ask.Ask.{Ask}
 use Rattle.oca_web.specs.declared.object.Object.{Object}
@@ -42,10 +42,10 @@ or_else (Some at) other = Some at
 abbrev pub place_for : ℕ → Page → List Page → Option ℕ
 place_for now page pages = or_else (position (shows_same page) pages) (position (is_open_no_longer now) pages)
 
--- none of the first pages, so many, asked before the one at this place
-abbrev pub NoneEarlier : (count at : ℕ) → List Page → Type 0
-NoneEarlier count at pages =
-    (k : ℕ) (d : Page) → k < count → (slice_index_or pages at d).until ≤ (slice_index_or pages k d).until
+-- at this place of all pages there is one, and none of these asked before it
+abbrev pub NoneEarlier : (at : ℕ) (all these : List Page) → Type 0
+NoneEarlier at all these =
+    (page : Page) × (slice_get all at ≡ Some page) × All (λ p. page.until ≤ p.until) these
 
 -- Where there is no such place it is kept behind all others while fewer than 128 are kept, else in the place of one that asked
 -- longest ago. All others stay.
@@ -53,7 +53,7 @@ abbrev pub KeepsPageAt : Option ℕ → Page → List Page → List Page → Typ
 KeepsPageAt (Some at) page old new = new ≡ slice_set old at page
 KeepsPageAt None page old new =
     ((length old < 128) × (new ≡ old ++ page ∷ []))
-    ⊎ ((128 ≤ length old) × ((at : ℕ) × (at < length old) × NoneEarlier (length old) at old × (new ≡ slice_set old at page)))
+    ⊎ ((128 ≤ length old) × ((at : ℕ) × NoneEarlier at old old × (new ≡ slice_set old at page)))
 
 -- A PAGE ASKED FOR VALUES, and is kept.
 abbrev pub OpensPage : ℕ → Page → List Page → List Page → Type 0

@@ -12,6 +12,7 @@ use Rattle.http_server.specs.Response.{IsResponse}
 use Rattle.json.specs.Token.{Token, begin_array, begin_object, end_array, end_object, key, number}
 use Rattle.json.specs.Print.{print}
 use Rattle.oca_types.specs.declared.words.Ono.{Ono}
+use Rattle.oca_net.specs.Ends.{last_u64, one_more}
 use Rattle.oca_web.specs.declared.order.Action.{Action}
 use Rattle.oca_web.specs.declared.order.Action.TheVariants as actions
 use Rattle.oca_web.specs.declared.site.Site.{Site}
@@ -39,7 +40,7 @@ IsActionFor path (actions.Rename label) = ⊥
 -- behind the one that the request gives. Where it gives none, and may have waited while the program stood still, it has
 -- passed already.
 abbrev pub latest_from : ℕ → ℕ
-latest_from now = min (now + 5000) 18446744073709551615
+latest_from now = min (now + 5000) last_u64
 
 abbrev pub last_moment_for : (now : ℕ) (given : Option ℕ) (doubts : Bool) → ℕ
 last_moment_for now (Some moment) doubts = min moment (latest_from now)
@@ -139,7 +140,7 @@ method_of r = (head_of r).method
 abbrev pub is_for_proxy : Request (List ℕ) → Bool
 is_for_proxy r = is_some (uri_authority (head_of r).uri)
 
--- whether a request is answered, and not refused
+-- whether a request is let in: it names no host in its address
 abbrev pub admits_request : Terms → Request (List ℕ) → Bool
 admits_request t r = not (is_for_proxy r) && lets_request_in t r
 
@@ -148,7 +149,7 @@ admits_request t r = not (is_for_proxy r) && lets_request_in t r
 -- status, and adds none. A body that names another run of the program adds none, and nor does any where the site is one
 -- for reading alone.
 pub record Orders (old : Site) (request : Request (List ℕ)) (response : Response) (new : Site) : Type 0 where
-  pub let_in : lets_request_in old.terms request ≡ true
+  pub let_in : admits_request old.terms request ≡ true
   pub post : bytes_eq (codes "POST") (method_of request) ≡ true
   pub adds : AddsFor (uri_path (head_of request).uri) request.body old response new
 
@@ -175,9 +176,13 @@ status_of_post t r = if has_page t.names.items (field (head_of r).headers (codes
     then 415 else 403
 
 -- the status of a request to this site that is not let in: 421 for another host, and 401 without the token
-abbrev pub status_away : Terms → Request (List ℕ) → ℕ
-status_away t r = if has_host t.names.items (field (head_of r).headers (codes "host"))
+abbrev pub status_here : Terms → Request (List ℕ) → ℕ
+status_here t r = if has_host t.names.items (field (head_of r).headers (codes "host"))
     then (if request_opens t.key r then status_of_post t r else 401) else 421
+
+-- the status of a request that is not let in: 400 where it names a host in its address
+abbrev pub status_away : Terms → Request (List ℕ) → ℕ
+status_away t r = if is_for_proxy r then 400 else status_here t r
 
 -- THE WHOLE ANSWER WITH A STATUS: with 401 where to go, and with another one no body, and no field but those of every
 -- answer.
@@ -185,12 +190,15 @@ abbrev pub TellsOnly : (status : ℕ) → Response → Type 0
 TellsOnly status response = IsResponse status (if status == 401 then protection ++ plain_text ∷ [] else protection)
     (if status == 401 then where_to_go else []) response
 
+-- MEMORY WAS REFUSED: the whole answer is 503 alone.
+abbrev pub TellsNoMemory : Response → Type 0
+TellsNoMemory response = IsResponse 503 [] [] response
+
 -- THE REQUEST IS REFUSED, and its answer has nothing of the device and nothing of the token: it is determined by whether
 -- the request names a host in its address, has a host and an origin of the panel, and brings the token. Where memory is
 -- refused it is 503 alone.
 abbrev pub IsTurnedAway : Terms → Request (List ℕ) → Response → Type 0
-IsTurnedAway t r response = TellsOnly (if is_for_proxy r then 400 else status_away t r) response
-    ⊎ IsResponse 503 [] [] response
+IsTurnedAway t r response = TellsOnly (status_away t r) response ⊎ TellsNoMemory response
 
 -- ---- what is counted
 
@@ -199,25 +207,21 @@ pub record KeepsCounts (old new : Site) : Type 0 where
   pub calls : new.calls ≡ old.calls
   pub admitted : new.admitted ≡ old.admitted
 
--- the next number; the greatest one stays
-abbrev pub count_after : ℕ → ℕ
-count_after count = min (count + 1) 18446744073709551615
-
 -- so many were let in, with this request
 abbrev pub let_in_with : Terms → Request (List ℕ) → ℕ → ℕ
-let_in_with t r count = if admits_request t r then count_after count else count
+let_in_with t r count = if admits_request t r then one_more count else count
 
 -- where memory was refused before it was looked at, the request is not counted as let in
 abbrev pub CountsLetIn : Result Unit AllocError → Site → Request (List ℕ) → Site → Type 0
 CountsLetIn (Ok u) old request new = new.admitted ≡ let_in_with old.terms request old.admitted
 CountsLetIn (Err e) old request new = (new.admitted ≡ let_in_with old.terms request old.admitted) ⊎ (new.admitted ≡ old.admitted)
 
--- THE REQUEST IS COUNTED among those that were answered; and among those that were let in exactly if it was, unless it
--- is answered 503.
+-- THE REQUEST IS COUNTED among those that were answered; and among those that were let in exactly if it was, unless
+-- memory was refused.
 pub record CountsRequest (old : Site) (request : Request (List ℕ)) (response : Response) (new : Site) : Type 0 where
-  pub calls : new.calls ≡ count_after old.calls
+  pub calls : new.calls ≡ one_more old.calls
   pub admitted : (new.admitted ≡ let_in_with old.terms request old.admitted)
-      ⊎ ((response.status ≡ 503) × (new.admitted ≡ old.admitted))
+      ⊎ (TellsNoMemory response × (new.admitted ≡ old.admitted))
 
 -- NOTHING IS ORDERED: a request that is not let in is refused, and the whole view stays as it was.
 pub record OrdersNothing (old : Site) (request : Request (List ℕ)) (response : Response) (new : Site) : Type 0 where

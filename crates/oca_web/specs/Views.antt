@@ -31,7 +31,7 @@ use Rattle.oca_web.specs.Orders.{without_waiting}
 
 -- THE PROGRAM'S CLOCK at a moment of the end, which it is so far ahead of: it never goes back.
 abbrev pub moment_noted : (ahead moment before : ℕ) → ℕ
-moment_noted ahead moment before = max before (min (ahead + moment) 18446744073709551615)
+moment_noted ahead moment before = max before (min (ahead + moment) last_u64)
 
 -- HALF OF THE HANDLES above the first one of an end are used: a link over another one is to follow.
 abbrev pub half_spent : (first next : ℕ) → Bool

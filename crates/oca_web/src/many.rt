@@ -199,7 +199,8 @@ fn naming_of(text: &str) -> Result<Action, StatusCode>
     }
 }
 
-/// What an object is set to by this word.
+/// What an object is set to by this word: the value that the word is for in the object's class. The clause `ok` only says
+/// that the word is for it in some class.
 fn setting_of(known: &View, ono: Ono, word: &str) -> Result<Action, StatusCode>
     ensures ok { IfOk result (IsSetTo word.now) }
     ensures refused { IfErr result (λ status. status ≢ 202) }

@@ -1,5 +1,5 @@
 //! Which object is read again next, and when.
-ghost use Rattle.std.specs.Prelude.{◌≡◌, ◌<◌, ◌+◌, IfSome, length};
+ghost use Rattle.std.specs.Prelude.{◌≡◌, ◌<◌, ◌+◌, IfSome, length, take};
 ghost use Rattle.std.specs.List.{position};
 ghost use Rattle.oca_web.specs.Polling.{KeepsPageAt, NoneEarlier, is_open_no_longer, place_for, shows_same};
 
@@ -206,7 +206,8 @@ impl Poll {
 
     /// Returns the object to read next, by its place, counted from 0, and the question to ask of it (*profile*). `now`
     /// is the present moment, in milliseconds of the program's clock, and `objects` the list of objects. If a round is
-    /// due, it begins. The result is `None` if no page is open, the round ended, or the next round is not due yet. The
+    /// due, it begins. An object is read again 100 ms after it was read again last if an open page shows it, and 5,000 ms
+    /// after it otherwise, at the earliest. The result is `None` if no page is open, or nothing is to be read now. The
     /// call sends nothing and takes no memory.
     pub fn next(&mut self, now: u64, objects: &[Object]) -> Option<(usize, Ask)>
         ensures reads { ReadsAgain now result objects.now self.old.pages.items }
@@ -358,7 +359,7 @@ fn keep_page(pages: &mut ArrayVec<Page, MOST_PAGES>, page: Page, place: Option<u
 fn oldest(pages: &[Page]) -> usize
     requires { 0 < length pages.now }
     ensures within { result < length pages.now }
-    ensures first { NoneEarlier (length pages.now) result pages.now }
+    ensures first { NoneEarlier result pages.now pages.now }
 {
     let mut oldest = 0usize;
     for at in 1..pages.len() {
@@ -372,7 +373,7 @@ fn oldest(pages: &[Page]) -> usize
 fn earlier_of(pages: &[Page], one: usize, other: usize) -> usize
     requires { (one < length pages.now) × (other < length pages.now) }
     ensures within { result < length pages.now }
-    ensures first { NoneEarlier one other pages.now → NoneEarlier (one + 1) result pages.now }
+    ensures first { NoneEarlier other pages.now (take one pages.now) → NoneEarlier result pages.now (take (one + 1) pages.now) }
 {
     if pages[one].until < pages[other].until {
         one

@@ -4,7 +4,7 @@ ghost use Rattle.serde_json.specs.View.{view};
 ghost use Rattle.oca_web.specs.Bodies.{last_in, names_run, ono_in, run_in};
 ghost use Rattle.http_header.specs.FieldValue.{is_visible_text};
 ghost use Rattle.http_server.specs.Response.{fields_of};
-ghost use Rattle.oca_web.specs.Sites.{last_moment_for, protection};
+ghost use Rattle.oca_web.specs.Sites.{is_for_proxy, last_moment_for, protection};
 
 use crate::admission::{Key, Terms, field, has_host, has_page, lets_in, opens};
 use crate::answers::{MOST_RANGES, Range, Told, tickets_json, tree_json, values_json};
@@ -44,7 +44,7 @@ impl Site {
     ghost use Rattle.oca_web.specs.Bodies.{IsOrderIn, IsOrderOf, IsValueIn, last_in, ono_in};
     ghost use Rattle.http_server.specs.Response.{IsBlank, fields_of};
     ghost use Rattle.oca_web.specs.Admission.{lets_request_in, request_opens};
-    ghost use Rattle.oca_web.specs.Sites.{AnswersOrFails, CountsLetIn, IsActionFor, IsSetting, KeepsCounts, KeepsOrders, PostsMany};
+    ghost use Rattle.oca_web.specs.Sites.{admits_request, AnswersOrFails, CountsLetIn, IsActionFor, IsSetting, KeepsCounts, KeepsOrders, PostsMany};
     ghost use Rattle.oca_web.specs.Sites.{PostsOne, PostsOrder, TakesOrder, TakesOrders, TellsOnly, protection, status_away};
     ghost use Rattle.std.specs.Borrow.{sem};
     ghost use Rattle.oca_web.specs.Lending.{LendsView};
@@ -101,8 +101,8 @@ impl Site {
     /// Returns the number of HTTP requests that were let in since the service was made (*profile*). A request is let in
     /// if its host is one of the panel's names, and it brings the token, if the panel has one. A POST must also have
     /// the right origin and Content-Type, and no request may name a host in its address. The result is 0 at first, at
-    /// most 2^64 - 1. A request that was let in can still be answered with an error. One that is answered 503 may be
-    /// left out.
+    /// most 2^64 - 1. A request that was let in can still be answered with an error. It may be left out if memory
+    /// was refused: its answer is then 503 without header fields and body.
     pub fn admitted(&self) -> u64
         ensures { result ≡ self.now.admitted }
     {
@@ -118,7 +118,14 @@ impl Site {
         opens(self.terms.key.as_ref(), uri.path(), uri.query(), cookies)
     }
 
-    /// Whether a request is let in.
+    /// Whether a request is let in. One to a proxy is not.
+    fn admits(&self, request: &Request<Bytes>) -> bool
+        ensures { result ≡ admits_request self.now.terms request.now }
+    {
+        !is_for_proxy(request) && self.lets_in(request)
+    }
+
+    /// Whether a request that names no host in its address is let in.
     fn lets_in(&self, request: &Request<Bytes>) -> bool
         ensures { result ≡ lets_request_in self.now.terms request.now }
     {
@@ -130,12 +137,15 @@ impl Site {
         lets_in(self.terms.names.as_slice(), method, host, origin, kind) && self.opens(request)
     }
 
-    /// The status of a request that is not let in: for another host, without the token, from another page, or of another
-    /// kind.
+    /// The status of a request that is not let in: to a proxy, for another host, without the token, from another page, or
+    /// of another kind.
     fn refusal(&self, request: &Request<Bytes>) -> StatusCode
         ensures status { result ≡ status_away self.now.terms request.now }
         ensures other { result ≢ 202 }
     {
+        if is_for_proxy(request) {
+            return StatusCode::BAD_REQUEST;
+        }
         let headers = request.headers();
         let host = field(headers, header::HOST);
         if !has_host(self.terms.names.as_slice(), host) {
@@ -182,11 +192,7 @@ impl Site {
         ensures let_in { CountsLetIn result self.old request.now self.new }
     {
         put_protection(response)?;
-        if request.uri().host().is_some() {
-            response.status = StatusCode::BAD_REQUEST;
-            return Ok(());
-        }
-        if !self.lets_in(request) {
+        if !self.admits(request) {
             return self.turn_away(request, response);
         }
         self.admitted = self.admitted.saturating_add(1);
@@ -445,7 +451,8 @@ impl Site {
         }
     }
 
-    /// What an object is to be set to by this word.
+    /// What an object is to be set to by this word: the value that the word is for in the object's class. The clause `body`
+    /// only says that the word is for it in some class.
     fn setting_of(&self, ono: Ono, word: &str) -> Result<(Ono, Action), StatusCode>
         ensures action { IfOk result (λ o. IsSetting o.1) }
         ensures body { IfOk result (λ o. (o.0 ≡ ono) × IsValueIn (Some word.now) o.1) }
@@ -505,6 +512,13 @@ impl Service for Site {
         }
         Ok(())
     }
+}
+
+/// Whether a request names a host in its address, as one to a proxy does.
+fn is_for_proxy(request: &Request<Bytes>) -> bool
+    ensures { result ≡ is_for_proxy request.now }
+{
+    request.uri().host().is_some()
 }
 
 /// Whether a body is for this run of the program: it names it, or none.
@@ -621,7 +635,8 @@ fn place_in(digits: &str) -> usize {
     digits.parse::<u64>().unwrap_or(0).min(65_535) as usize
 }
 
-/// Gives the token in a cookie that scripts can't read, and that no other page's requests carry.
+/// Gives the token in a cookie. Scripts can't read it, and a browser sends it only with requests that a page of the same
+/// host makes (the port does not count).
 fn put_cookie(alloc: Global, key: &Key, response: &mut Response) -> Result<(), AllocError>
     ensures status { response.new.status ≡ response.old.status }
     ensures body { response.new.body ≡ response.old.body }
