@@ -1,11 +1,13 @@
 //! How the objects of a device are written over a file: a new file takes the place of the old one.
-ghost use Rattle.std.specs.Prelude.{◌≡◌, ◌↔◌, ◌++◌, IfOk, IfSome, IsSome, None, codes, decimal, is_ok, string_bytes};
+ghost use Rattle.std.specs.Prelude.{◌≡◌, ◌↔◌, ◌++◌, IfOk, IfSome, IsSome, None, is_ok, string_bytes};
 ghost use Rattle.std.specs.Fs.{metadata_mode};
+ghost use Rattle.oca_script.specs.Printing.{WritesOut, WritesWhole};
+ghost use Rattle.oca_textree.specs.Written.{text_of};
 ghost use Rattle.ocadev_cli.specs.Storing.{ArePlain, DiskState, IsSaidPlain, Replaces, StoresBy, SyncsFolder, SyncsNew, Tries};
-ghost use Rattle.ocadev_cli.specs.Storing.{WritesNew};
+ghost use Rattle.ocadev_cli.specs.Storing.{WritesNew, last_line_text, folder_text, state_text};
 
-use super::show::show_text;
-use oca_script::{Printer, Sink, ToWriter};
+use oca_script::{Printer, Sink, ToWriter, WriteFailed};
+use oca_textree::print_tree;
 use oca_tree::Tree;
 use std::alloc::Global;
 use std::fs::{Metadata, OpenFile, OpenOptions, Permissions};
@@ -191,7 +193,9 @@ fn attributes_in(found: io::Result<Metadata>) -> Option<Attributes>
 }
 
 /// The folder in which a file stands.
-fn folder_of(path: &str) -> &str {
+fn folder_of(path: &str) -> &str
+    ensures { result.now ≡ folder_text path.now }
+{
     match Path::new(path).parent() {
         Some(folder) if !folder.as_str().is_empty() => folder.as_str(),
         _ => ".",
@@ -214,21 +218,34 @@ fn make_alike<F: Files, O: OpenFile>(
 
 /// The last line of a file that lists `count` objects, with its line feed. `None` if memory was refused.
 pub fn end_line(alloc: Global, count: usize) -> Option<String>
-    ensures { IfSome result (λ line. string_bytes line ≡ codes "# end of " ++ decimal count ++ codes " objects\n") }
+    ensures { IfSome result (λ line. string_bytes line ≡ last_line_text count) }
 {
     format!(in alloc; "# end of {count} objects\n").ok()
 }
 
-/// Prints the objects, and a last line that says how many they are.
-fn print_state<W: Sink>(alloc: Global, tree: &Tree, printer: &mut Printer<W>) -> io::Result<()> {
+/// Prints the objects, and a last line that says how many they are, and writes all that the printer holds.
+fn print_state<W: Sink>(alloc: Global, tree: &Tree, printer: &mut Printer<W>) -> io::Result<()>
+    ensures { IfOk result (λ _. WritesWhole printer.old printer.new (state_text tree.now)) }
+{
     let Some(line) = end_line(alloc, tree.len()) else {
         return Err(io::Error::new(ErrorKind::OutOfMemory, "memory was refused"));
     };
-    if show_text(tree, printer).is_err()
-        || printer.print(line.as_bytes()).is_err()
-        || printer.flush().is_err()
-    {
-        return Err(io::Error::new(ErrorKind::Other, "a write failed"));
+    match print_ended(tree, line.as_bytes(), printer) {
+        Ok(()) => Ok(()),
+        Err(_) => Err(io::Error::new(ErrorKind::Other, "a write failed")),
     }
-    Ok(())
+}
+
+/// Prints the objects and behind them this line, and writes all that the printer holds.
+#[tactic(auto, using(oca_script::proofs::PrintLemmas::writing))]
+fn print_ended<W: Sink>(
+    tree: &Tree,
+    line: &[u8],
+    printer: &mut Printer<W>,
+) -> Result<(), WriteFailed>
+    ensures { WritesOut result printer.old printer.new (text_of tree.now ++ line.now) }
+{
+    print_tree(tree, printer)?;
+    printer.print(line)?;
+    printer.flush()
 }

@@ -1,13 +1,14 @@
 //! The state of a device, kept in a file: it is read when the device starts, and written before what wrote something is
 //! answered. Reply windows and sessions are not kept.
-ghost use Rattle.std.specs.Prelude.{◌≡◌, ◌↔◌, ◌++◌, false, IfErr, IfNone, IfOk, IfSome, IsNone, IsOk, IsTrue};
-ghost use Rattle.std.specs.Prelude.{Some as some, codes, is_some, string_bytes};
+ghost use Rattle.std.specs.Prelude.{◌≡◌, ◌↔◌, ◌++◌, ◌≤◌, false, IfErr, IfNone, IfOk, IfSome, IsNone, IsOk, IsTrue, length};
+ghost use Rattle.std.specs.Prelude.{Err as err, Some as some, codes, is_some, string_bytes};
 ghost use Rattle.std.specs.Fs.{IsFile, file_type};
 ghost use Rattle.std.specs.Option.{option_copied};
 ghost use Rattle.oca_program.specs.declared.fault.RunFault.TheVariants.{NoMemory as no_memory, Read as read_failed};
 ghost use Rattle.ocadev_cli.specs.Words.{object_source};
 ghost use Rattle.oca_program.specs.Faults.{fault_in};
-ghost use Rattle.ocadev_cli.specs.Keeping.{IsPlainOrMissing, is_said_there, moment_heard, starting_objects};
+ghost use Rattle.ocadev_cli.specs.Keeping.{IsClaimed, IsPlainOrMissing, IsSaidEnded, ReadsLine, is_said_there, moment_heard};
+ghost use Rattle.ocadev_cli.specs.Keeping.{starting_objects, starting_refusal};
 ghost use Rattle.ocadev_cli.specs.Makings.{MakesObjects};
 
 use super::disk::{Attributes, Disk, end_line, plain_attributes, write_over};
@@ -80,8 +81,9 @@ pub fn start_objects<F: Files>(
     refusal: Option<Failure>,
 ) -> Result<Tree, Failure>
     requires { IfSome refusal (λ failure. failure.fault ≡ read_failed) }
-    ensures { MakesObjects (starting_objects (option_copied keep.entry) there (object_source asked.entry))
+    ensures made { MakesObjects (starting_objects (option_copied keep.entry) there (object_source asked.entry))
         (fault_in result) }
+    ensures refused { IfSome (starting_refusal (option_copied keep.entry) there refusal) (λ failure. result ≡ err failure) }
 {
     match keep {
         Some(path) if there => match refusal {
@@ -112,7 +114,15 @@ fn check_end<F: Files>(alloc: Global, files: &F, path: &str, count: usize) -> Re
     let Some(line) = end_line(alloc, count) else {
         return Err(Failure::from(RunFault::Read));
     };
-    match ends_with(files, path, line.as_bytes()) {
+    ended(alloc, path, ends_with(files, path, line.as_bytes()))
+}
+
+/// Refuses a file that does not end with its last line, by what the system says of it.
+fn ended(alloc: Global, path: &str, found: io::Result<bool>) -> Result<(), Failure>
+    ensures ended { IsOk result ↔ IsSaidEnded found }
+    ensures fault { IfErr result (λ failure. failure.fault ≡ read_failed) }
+{
+    match found {
         Ok(true) => Ok(()),
         Ok(false) => Err(refused(
             alloc,
@@ -127,11 +137,19 @@ fn check_end<F: Files>(alloc: Global, files: &F, path: &str, count: usize) -> Re
 fn ends_with<F: Files>(files: &F, path: &str, line: &[u8]) -> io::Result<bool> {
     let mut file = fs::open(files, path)?;
     let size = file.metadata()?.len();
-    let mut end = [0u8; END_ROOM];
     if line.len() > END_ROOM || size < line.len() as u64 {
         return Ok(false);
     }
     let _ = file.seek(SeekFrom::Start(size - line.len() as u64))?;
+    reads_line(&mut file, line)
+}
+
+/// Reads as many bytes as the line has, and returns whether they are the line.
+fn reads_line<R: Read>(file: &mut R, line: &[u8]) -> io::Result<bool>
+    requires { length line.now ≤ 40 }
+    ensures { IfOk result (λ same. ReadsLine same line.now (R.remaining file.old) (R.remaining file.new)) }
+{
+    let mut end = [0u8; END_ROOM];
     let end = &mut end[..line.len()];
     file.read_exact(end)?;
     Ok(*end == *line)
@@ -156,7 +174,8 @@ pub fn claimed<F: Files<File = File>>(
     files: &F,
     keep: Option<&str>,
 ) -> (Option<File>, Option<Failure>)
-    ensures { IfSome result.1 (λ failure. failure.fault ≡ read_failed) }
+    ensures claimed { IsClaimed (option_copied keep.entry) result.0 result.1 }
+    ensures fault { IfSome result.1 (λ failure. failure.fault ≡ read_failed) }
 {
     match keep {
         Some(path) => match claim(alloc, files, path) {
