@@ -59,6 +59,7 @@ pub record PanelFields : Type 0 where
   pub span : ℕ
   pub ip : ℕ
   pub port : ℕ
+  pub verbose : Bool
   pub no_token : Bool
   pub read_only : Bool
 
@@ -70,6 +71,7 @@ panel_fields s =
       span = span_size s.span;
       ip = s.ip;
       port = s.port;
+      verbose = s.verbose;
       no_token = s.no_token;
       read_only = s.read_only;
     }
@@ -88,6 +90,7 @@ panel_in words =
       span = span;
       ip = ip;
       port = port;
+      verbose = is_said words (codes "verbose");
       no_token = is_said words (codes "no-token");
       read_only = is_said words (codes "read-only");
     }))))))
