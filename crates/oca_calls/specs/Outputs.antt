@@ -29,11 +29,11 @@ WritesWords words old new count number =
     (new ≡ put_words words old) × (count ≡ length words)
     × (number ≡ (if nat_le (length words) (length old) then 0 else 14))
 
--- Bytes are written: they stand at the front of the place, where it has room for them, and else it is as it was; and
--- how many they are.
+-- Bytes are written: they stand at the front of the place, where it has room for them, and the bytes behind them are as
+-- they were; else the place is as it was. And it is written how many they are.
 abbrev pub WritesToBuffer : List ℕ → List ℕ → List ℕ → ℕ → ℕ → Type 0
 WritesToBuffer bytes old new size number =
-    (size ≡ length bytes) × (((length bytes ≤ length old) × (number ≡ 0) × (take (length bytes) new ≡ bytes))
+    (size ≡ length bytes) × (((length bytes ≤ length old) × (number ≡ 0) × (new ≡ bytes ++ drop (length bytes) old))
     ⊎ ((length old < length bytes) × (number ≡ 14) × (new ≡ old)))
 
 -- the words of a verdict

@@ -1,8 +1,9 @@
 //! What answers give, as C has it.
-ghost use Rattle.std.specs.Prelude.{◌≡◌, ◌≤◌, length, map, take};
+ghost use Rattle.std.specs.Prelude.{◌≡◌, ◌≤◌, [], length, map, replicate, take};
 ghost use Rattle.oca_model.specs.Members.{class_with};
 ghost use Rattle.oca_calls.specs.AnswerCalls.{number_of_class};
 ghost use Rattle.oca_calls.specs.Calls.{name_bytes, name_sizes};
+ghost use Rattle.oca_calls.specs.Outputs.{put_words};
 
 use crate::name::{Name, names_with};
 use crate::words::{class_number, put_words};
@@ -45,6 +46,7 @@ impl Names {
         ensures count { result.count ≡ length texts.now }
         ensures names { map name_bytes (take (length texts.now) result.names) ≡ texts.now }
         ensures sizes { name_sizes (take (length texts.now) result.names) ≡ map length texts.now }
+        ensures others { map name_bytes result.names ≡ put_words texts.now (replicate 16 []) }
     {
         Names {
             count: texts.len() as u32,
@@ -60,6 +62,7 @@ impl Members {
         requires { length onos.now ≤ 181 }
         ensures count { result.count ≡ length onos.now }
         ensures onos { take (length onos.now) result.onos ≡ onos.now }
+        ensures others { result.onos ≡ put_words onos.now (replicate 181 0) }
     {
         let mut place = [0; MOST_MEMBERS];
         put_words(onos, &mut place);
@@ -77,6 +80,7 @@ impl ClassId {
         requires { length fields.now ≤ 16 }
         ensures count { result.count ≡ length fields.now }
         ensures fields { take (length fields.now) result.fields ≡ fields.now }
+        ensures others { result.fields ≡ put_words fields.now (replicate 16 0) }
         ensures class { result.class_number ≡ number_of_class (class_with fields.now) }
     {
         let mut place = [0; MOST_FIELDS];

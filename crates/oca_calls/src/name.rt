@@ -1,7 +1,8 @@
 //! The names of a switch's positions, as C hands them over.
-ghost use Rattle.std.specs.Prelude.{◌≡◌, ◌≤◌, [], length, map, take, IfNone, IfSome};
+ghost use Rattle.std.specs.Prelude.{◌≡◌, ◌≤◌, [], length, map, replicate, take, IfNone, IfSome};
 ghost use Rattle.std.specs.List.{AllByRecursion};
 ghost use Rattle.oca_calls.specs.Calls.{IsName, name_bytes, name_sizes};
+ghost use Rattle.oca_calls.specs.Outputs.{put_words};
 
 use crate::words::{put_front, put_words};
 use arrayvec::ArrayVec;
@@ -55,6 +56,7 @@ pub fn names_with(texts: &[Text]) -> [Name; MOST_POSITIONS]
     requires { length texts.now ≤ 16 }
     ensures texts { map name_bytes (take (length texts.now) result) ≡ texts.now }
     ensures sizes { name_sizes (take (length texts.now) result) ≡ map length texts.now }
+    ensures others { map name_bytes result ≡ put_words texts.now (replicate 16 []) }
 {
     let mut names: ArrayVec<Name, MOST_POSITIONS> = ArrayVec::new();
     for text in texts {

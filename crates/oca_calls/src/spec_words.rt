@@ -1,5 +1,5 @@
 //! What an object is to be, and what it is, as C has it: one struct.
-ghost use Rattle.std.specs.Prelude.{◌≡◌, ◌≤◌, ◌↔◌, IsTrue, length, map, take};
+ghost use Rattle.std.specs.Prelude.{◌≡◌, ◌≤◌, ◌↔◌, IsTrue, drop, length, map, replicate, take};
 ghost use Rattle.std.specs.Option.{option_copied};
 ghost use Rattle.oca_calls.specs.CSpecs.{GivesKind, IsKindOf, IsOfThisVersion, flags_for, is_yes};
 
@@ -59,9 +59,11 @@ pub fn flags_of(bytes: &[u8]) -> ArrayVec<bool, MOST_POSITIONS>
 
 /// Returns these flags as bytes, at the front of an array of 16: 0 is false and 1 is true. The bytes after them are 0.
 /// There must be at most 16 (a premise).
+#[tactic(auto, using(crate::proofs::PutLemmas::put_behind))]
 pub fn bytes_of(flags: &[bool]) -> [u8; MOST_POSITIONS]
     requires { length flags.now ≤ 16 }
-    ensures { map is_yes (take (length flags.now) result) ≡ flags.now }
+    ensures flags { map is_yes (take (length flags.now) result) ≡ flags.now }
+    ensures others { drop (length flags.now) result ≡ drop (length flags.now) (replicate 16 0) }
 {
     let mut bytes: ArrayVec<u8, MOST_POSITIONS> = ArrayVec::new();
     for flag in flags {

@@ -1,5 +1,5 @@
 //! A value in words of fixed size, as C has it.
-ghost use Rattle.std.specs.Prelude.{◌≡◌, ◌≤ℤ◌, ◌<ℤ◌, ◌^◌, if◌then◌else◌, neg_ℤ, pos};
+ghost use Rattle.std.specs.Prelude.{◌≡◌, ◌≤ℤ◌, ◌<ℤ◌, ◌++◌, ◌^◌, if◌then◌else◌, drop, length, neg_ℤ, pos, replicate};
 ghost use Rattle.std.specs.Int.{w64, cast_signed, cast_unsigned};
 ghost use Rattle.oca_calls.specs.CValues.{AreWordsOf, HasClass, HasRequestWords};
 
@@ -159,7 +159,8 @@ impl RequestWords {
     /// Returns this request as a struct for C: its method, ParamCount, and its parameters, at most 8 bytes. The other
     /// bytes of `params` are 0.
     pub fn of(request: &ValueRequest) -> RequestWords
-        ensures { HasRequestWords request.now result }
+        ensures words { HasRequestWords request.now result }
+        ensures others { result.params ≡ request.now.params.items ++ drop (length request.now.params.items) (replicate 8 0) }
     {
         let bytes = request.params.as_slice();
         let mut params = [0; 8];

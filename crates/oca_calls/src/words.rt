@@ -1,5 +1,5 @@
 //! What C reads of a verdict and of an object: words, so that a later version can tell more to those who ask for it.
-ghost use Rattle.std.specs.Prelude.{◌≡◌, ◌≤◌, ◌<◌, ◌⊎◌, length};
+ghost use Rattle.std.specs.Prelude.{◌≡◌, ◌≤◌, ◌<◌, ◌⊎◌, ◌++◌, drop, length};
 ghost use Rattle.oca_device.specs.Written.{numbers_of};
 ghost use Rattle.oca_calls.specs.LinkCalls.{LiesIn};
 ghost use Rattle.oca_calls.specs.declared.answer.Answer.TheVariants.{Done, TooSmall};
@@ -117,15 +117,16 @@ pub fn put_numbers(onos: &[Ono], place: &mut [u32])
 /// The rest of `place` stays as it is.
 pub fn put_front(bytes: &[u8], place: &mut [u8]) -> usize
     requires { length bytes.now ≤ length place.old }
-    ensures { LiesIn bytes.now place.new result }
+    ensures lies { LiesIn bytes.now place.new result }
+    ensures place { place.new ≡ bytes.now ++ drop (length bytes.now) place.old }
 {
     let (front, _) = place.split_at_mut(bytes.len());
     front.copy_from_slice(bytes);
     bytes.len()
 }
 
-/// Copies bytes to the front of `place`, and writes to `len` how many they are. Returns `Done`. `TooSmall` if `place`
-/// has fewer bytes: then only `len` is written.
+/// Copies bytes to the front of `place`, and writes to `len` how many they are. The rest of `place` stays as it is.
+/// Returns `Done`. `TooSmall` if `place` has fewer bytes: then only `len` is written.
 pub fn put_bytes(bytes: &[u8], place: &mut [u8], len: &mut usize) -> Answer
     ensures writes { WritesToBuffer bytes.now place.old place.new len.new (answer_number result) }
     ensures refused { (result ≡ Done) ⊎ ((result ≡ TooSmall) × (place.new ≡ place.old)) }
