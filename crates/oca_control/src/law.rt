@@ -124,18 +124,18 @@ pub fn law_of_running()
 /// submitted more than 15,000 ms ago has no answer ([`is_late`](crate::is_late)). The function does nothing at run
 /// time.
 ///
-/// - The premise: the list has all calls of a link since it was made, and `due` is never called at a moment at which the
-///   link is late. The other calls of the link can be any.
+/// - The premise: a list has all calls of a link from some moment on, and `due` is never called at a moment at which the
+///   link is late. The other calls can be any. For the conclusion the link was new when the list begins.
 /// - The conclusion: each transmission of a command leaves at most 15,000 ms after the submit of the command, by the
 ///   link's clock. This clock is the latest moment that the link was given.
 /// - [`send_in_time`](crate::send_in_time), [`turn`](crate::turn), [`begin`](crate::begin), [`ask`](crate::ask) and the
 ///   waits ask the link only while it is not late. For what such a call does there is a list of calls of the link that
 ///   meets the premise and makes the same link. A recording end ([`End`](oca_net::End)) took just what these calls send,
 ///   for the link's device and in this order, except for the sends that failed. They receive just the datagrams of at
-///   most 1,472 bytes that it delivered, and ask the link at moments of what it delivered, at the moment given to
+///   most 1,472 bytes that it delivered. They ask the link at moments of what it delivered, at the moment given to
 ///   `send_in_time`, or at that of the begin. Of an end that does not record, the law says how often was sent.
-/// - Such lists, one behind another, are such a list. So the conclusion holds of all that these calls hand to a recording
-///   end, one call after another, from a new link on.
+/// - Two lists that meet the premise, the second from where the first ends, meet it together. So the conclusion holds of
+///   all that these calls hand to a recording end, one call after another, from a new link on.
 /// - A link that is late at a moment is late at each later moment, if nothing is called between.
 pub fn law_copies_in_time()
     ensures copies { EveryCopyIsInTime }

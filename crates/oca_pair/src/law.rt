@@ -48,8 +48,8 @@ use oca_tree::law_of_typed_requests;
 /// renewed. A link is *renewed* if a new link of the same peer takes its place, with a first handle no lower than the
 /// handle that the next command of the old link would get.
 ///
-/// The clause `happened` says what the device executed: the events that came to it, which are bytes, are what
-/// [`law_by_events`](oca_device::law_by_events) says that happened.
+/// The clause `happened` says what happens at a device by its events: for any list of events whose datagrams are bytes,
+/// that is what [`law_by_events`](oca_device::law_by_events) calls so.
 pub fn law_answers()
     ensures answers { EveryScheduleAnswersItsCommands }
     ensures happened { TheseHappened }

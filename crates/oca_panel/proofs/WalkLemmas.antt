@@ -11,7 +11,7 @@ use Rattle.oca_panel.specs.declared.walk.Place.{Place}
 use Rattle.oca_panel.specs.Panels.{PanelState}
 use Rattle.oca_panel.specs.Outcomes.{members_answered}
 use Rattle.oca_panel.specs.Objects.{Reads}
-use Rattle.oca_panel.specs.Walks.{Describes, FindsObject, FindsTooMany, ListsTooMany, PutsLastMembers, parts_of, places_of}
+use Rattle.oca_panel.specs.Walks.{Describes, FindsObject, FindsRefused, ListsRefused, PutsLastMembers, parts_of, places_of}
 
 not-true : false ≡ true → ⊥
 not-true x = cc x
@@ -60,7 +60,7 @@ if-err (Err e) h = h
 -- an object that was asked, is a block, and has too many members
 pub finds-too-many : {A E : Type 0} → (again : Bool) (ono : Ono) (rest : List Place) (old between new : PanelState) (waiting : List Place)
     (d : Description) (r : Result A E) → again ≡ false → Describes ono.0 old between (Ok (parts_of d))
-    → IfErr r (λ why. ListsTooMany d ono rest between new waiting) → IfErr r (λ why. FindsTooMany again ono rest old new waiting)
+    → IfErr r (λ why. ListsRefused d ono rest between new waiting) → IfErr r (λ why. FindsRefused again ono rest old new waiting)
 finds-too-many again ono rest old between new waiting d (Ok a) first asked h = tt
 finds-too-many again ono rest old between new waiting d (Err e) first asked h =
     record { asked = first; description = d; between = between; describes = asked; lists = h }

@@ -137,7 +137,7 @@ pub record PutsLastMembers (container : Ono) (members : List ℕ) (old new : Lis
   pub places : new ≡ old ++ places_of container put
 
 -- A block was asked for its members, and memory was refused for one of them.
-pub record ListsTooMany (d : Description) (ono : Ono) (rest : List Place) (old new : PanelState) (waiting : List Place)
+pub record ListsRefused (d : Description) (ono : Ono) (rest : List Place) (old new : PanelState) (waiting : List Place)
     : Type 0 where
   pub block : is_block_class (class_with d.fields.items) ≡ true
   pub members : List ℕ
@@ -145,13 +145,13 @@ pub record ListsTooMany (d : Description) (ono : Ono) (rest : List Place) (old n
   pub puts : PutsLastMembers ono members rest waiting
 
 -- An object was asked, is a block, and memory was refused for one of its members.
-pub record FindsTooMany (again : Bool) (ono : Ono) (rest : List Place) (old new : PanelState) (waiting : List Place)
+pub record FindsRefused (again : Bool) (ono : Ono) (rest : List Place) (old new : PanelState) (waiting : List Place)
     : Type 0 where
   pub asked : again ≡ false
   pub description : Description
   pub between : PanelState
   pub describes : Describes ono.0 old between (Ok (parts_of description))
-  pub lists : ListsTooMany description ono rest between new waiting
+  pub lists : ListsRefused description ono rest between new waiting
 
 -- Memory was refused for the place itself: its object does not count as visited, and was not asked.
 pub record LosesPlace (rest : List Place) (old : WalkState) (before after : PanelState) (new : WalkState) : Type 0 where
@@ -163,7 +163,7 @@ pub record LosesPlace (rest : List Place) (old : WalkState) (before after : Pane
 pub record LosesMembers (again : Bool) (ono : Ono) (rest : List Place) (old : WalkState) (before after : PanelState)
     (new : WalkState) : Type 0 where
   pub visited : new.visited ≡ old.visited ++ ono ∷ []
-  pub finds : FindsTooMany again ono rest before after new.waiting
+  pub finds : FindsRefused again ono rest before after new.waiting
 
 -- MEMORY WAS REFUSED AT THE NEXT PLACE, which waits no more: for the place, or for a member of the block there.
 pub record RefusedNext (old : WalkState) (before after : PanelState) (new : WalkState) : Type 0 where

@@ -26,7 +26,8 @@ heard_after (heards.Oversize now) peer before = before
 heard_after heards.Failed peer before = before
 heard_after heards.Closed peer before = before
 
--- THE WATCH GOES ON: the same peer is watched, and when it was heard stays known, unless it was heard anew.
+-- THE WATCH GOES ON: the same peer is watched. If it was heard before, some moment is known still: that one, or another
+-- one, at which it was heard anew.
 pub record WatchesOn (before after : WatchState) : Type 0 where
   pub peer : after.peer ≡ before.peer
   pub anew : Option ℕ

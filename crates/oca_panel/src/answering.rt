@@ -51,8 +51,8 @@ pub enum Probed {
 /// - `NotAnswering` if the end has heard its peer, even before this call. Then use another port.
 /// - `NotHeard` in all other cases.
 ///
-/// The end watches the same peer after the call. If the peer was heard before, the end still knows when it was last
-/// heard ([`Watched::heard`]). A send or receive that fails is not reported, and the call goes on.
+/// The end watches the same peer after the call. If the peer was heard before, [`Watched::heard`] still returns a
+/// moment. A send or receive that fails is not reported, and the call goes on.
 pub fn probe<E: End>(end: &mut Watched<E>, device: Peer, handle: Handle) -> Probed
     ensures finds { Probes device handle.0 end.old.end_state end.new result }
     ensures watches { WatchesOn end.old end.new }

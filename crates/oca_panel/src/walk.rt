@@ -2,7 +2,7 @@
 ghost use Rattle.std.specs.Prelude.{◌≡◌, ◌++◌, IfErr, IfOk};
 ghost use Rattle.oca_model.specs.Members.{class_with};
 ghost use Rattle.oca_panel.specs.Outcomes.{on_ok};
-ghost use Rattle.oca_panel.specs.Walks.{Describes, Finds, FindsObject, FindsTooMany, ListsTooMany, PutsLastMembers};
+ghost use Rattle.oca_panel.specs.Walks.{Describes, Finds, FindsObject, FindsRefused, ListsRefused, PutsLastMembers};
 ghost use Rattle.oca_panel.specs.Walks.{RefusedNext, RefusedPlace, StepsTo, StepsToPlace, is_block_class};
 ghost use Rattle.oca_panel.specs.Walks.{is_visited, parts_of, places_of};
 
@@ -254,7 +254,7 @@ fn find<E: End>(
     waiting: &mut Vec<Place>,
 ) -> Result<Found, NoMemory>
     ensures finds { IfOk result (λ found. Finds again ono waiting.old.items panel.old panel.new found waiting.new.items) }
-    ensures refused { IfErr result (λ why. FindsTooMany again ono waiting.old.items panel.old panel.new waiting.new.items) }
+    ensures refused { IfErr result (λ why. FindsRefused again ono waiting.old.items panel.old panel.new waiting.new.items) }
 {
     if again {
         return Ok(Found::Again);
@@ -299,7 +299,7 @@ fn find_in<E: End>(
         (λ found. FindsObject (is_block_class (class_with description.fields.items)) description ono waiting.old.items
         panel.old panel.new found waiting.new.items) }
     ensures refused { IfErr result
-        (λ why. ListsTooMany description ono waiting.old.items panel.old panel.new waiting.new.items) }
+        (λ why. ListsRefused description ono waiting.old.items panel.old panel.new waiting.new.items) }
 {
     if !are_of_block(description.fields.as_slice()) {
         return Ok(Found::Object(description));

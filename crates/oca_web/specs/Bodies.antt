@@ -39,8 +39,8 @@ names_run run (Some text) = bytes_eq (decimal run) text
 abbrev pub IsForWord : List ℕ → Value → Type 0
 IsForWord word value = (class : Class) × IsRead class word (Some value)
 
--- what is set is a value that the word is for, in an object of some class; `NamesValue` says what a word is for in the class
--- of an object
+-- what is set is a value that the word is for, in an object of some class; `NamesValue` says what a word is for in the
+-- class of an object
 abbrev pub IsValueIn : Option (List ℕ) → Action → Type 0
 IsValueIn word (actions.Set value) = (text : List ℕ) × (word ≡ Some text) × IsForWord text value
 IsValueIn word actions.Lock = Unit {0}
@@ -52,7 +52,8 @@ pub record IsOrderOf (d : Data) (ono : Ono) (action : Action) : Type 0 where
   pub object : ono_in d ≡ Some ono.0
   pub value : IsValueIn (word_for_value d) action
 
--- THE ORDER IS THE ONE THAT THE BODY SAYS (its value is one that the word is for in some class), with the last moment that it gives, where it gives one; it names no other run.
+-- THE ORDER IS THE ONE THAT THE BODY SAYS (its value is one that the word is for in some class), with the last moment
+-- that it gives, where it gives one; it names no other run.
 pub record IsOrderIn (run : ℕ) (body : List ℕ) (ono : Ono) (action : Action) (given : Option ℕ) : Type 0 where
   pub parsed : Data
   pub text : read body ≡ Some parsed

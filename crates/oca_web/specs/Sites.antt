@@ -140,7 +140,7 @@ method_of r = (head_of r).method
 abbrev pub is_for_proxy : Request (List ℕ) → Bool
 is_for_proxy r = is_some (uri_authority (head_of r).uri)
 
--- whether a request is let in: it names no host in its address
+-- whether a request is let in: it names no host in its address, and is let in by host, origin, kind and token
 abbrev pub admits_request : Terms → Request (List ℕ) → Bool
 admits_request t r = not (is_for_proxy r) && lets_request_in t r
 

@@ -50,6 +50,7 @@ pub fn is_there_where<E: End>(asks: bool, panel: &mut Panel<Watched<E>>, device:
     ensures same { IsSameBeside panel.old panel.new }
     ensures asked { asks ≡ true → FindsIfThere device result panel.old.end_state panel.new.end_state }
     ensures unasked { asks ≡ false → panel.new.end_state ≡ panel.old.end_state }
+    ensures none { asks ≡ false → result ≡ false }
 {
     if !asks {
         return false;

@@ -27,7 +27,7 @@ abbrev pub starting_objects : Option (List ℕ) → Bool → ObjectSource → Ob
 starting_objects None there asked = asked
 starting_objects (Some path) there asked = if there then Listed path else asked
 
--- Why the device does not start, if the file can't be kept: the file is not read if it is there.
+-- Why the device does not start: the file is there and can't be kept.
 abbrev pub starting_refusal : {X : Type 0} → Option (List ℕ) → Bool → Option X → Option X
 starting_refusal None there refusal = None
 starting_refusal (Some path) there refusal = if there then refusal else None
@@ -38,7 +38,8 @@ IsClaimed None lock refusal = (lock ≡ None) × (refusal ≡ None)
 IsClaimed (Some path) None refusal = is_some refusal ≡ true
 IsClaimed (Some path) (Some lock) refusal = refusal ≡ None
 
--- As many bytes as a line has were read, and this is whether they are the line.
+-- As many bytes as a line has were read, and this is whether they are the line. Of a file the bytes are not known, and
+-- this says nothing.
 pub record ReadsLine (same : Bool) (line : List ℕ) (had has : Option (List ℕ)) : Type 0 where
   pub read : List ℕ
   pub consumes : Consumes had has read
