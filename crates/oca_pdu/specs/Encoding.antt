@@ -76,7 +76,7 @@ abbrev pub FormFits : Form → Type 0
 FormFits (Seconds n) = n < 2 ^ 16
 FormFits (Millis n) = n < 2 ^ 32
 
--- A PDU has at least one message, and a keep-alive PDU has one (profile); the counts and sizes fit their fields.
+-- A PDU has at least one message, and a keep-alive PDU has one (*profile*); the counts and sizes fit their fields.
 abbrev pub PduFits : Pdu → Type 0
 PduFits (Commands respond cs) = (0 < length cs) × (length cs < 2 ^ 16) × AllByRecursion CommandFits cs
     × (9 + length (flat_map command_encoding cs) < 2 ^ 32)
@@ -84,7 +84,7 @@ PduFits (Responses rs) = (0 < length rs) × (length rs < 2 ^ 16) × AllByRecursi
     × (9 + length (flat_map response_encoding rs) < 2 ^ 32)
 PduFits (OneKeepAlive form) = FormFits form
 
--- The bytes are the encodings of these PDUs, one or more (AES70-3), and at most 1,472 (profile).
+-- The bytes are the encodings of these PDUs, one or more (AES70-3), and at most 1,472 (*profile*).
 pub record IsDatagram (ps : List Pdu) (bytes : List ℕ) : Type 0 where
   pub nonempty : 0 < length ps
   pub well_formed : AllByRecursion PduFits ps

@@ -1,4 +1,4 @@
--- The faults of a datagram (profile).
+-- The faults of a datagram.
 use Rattle.std.specs.Prelude.{◌≡◌, ℕ}
 use Rattle.oca_pdu.specs.declared.fault.PduFault.{PduFault}
 use Rattle.oca_pdu.specs.declared.fault.PduFaultKind.{PduFaultKind}

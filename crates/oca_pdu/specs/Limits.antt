@@ -1,5 +1,5 @@
 -- How many messages a datagram has: at least one, since each PDU has one; and at most so many as 1,472 bytes have room
--- for (profile).
+-- for (*profile*).
 use Rattle.std.specs.Prelude.{ℕ, ◌<◌, ◌≤◌, Bool, true, false, not, List, length, count_by}
 use Rattle.oca_pdu.specs.Messages.{Msg, Command, Response, KeepAlive}
 

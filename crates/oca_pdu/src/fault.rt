@@ -5,7 +5,7 @@ ghost use Rattle.oca_pdu.specs.Faults.{fault_number};
 use std::fmt::{self, Display, Formatter};
 use thiserror::Error;
 
-/// The check at which a datagram failed (*profile*).
+/// The check at which a datagram failed.
 #[derive(Clone, Copy, Debug, PartialEq, Eq)]
 pub enum PduFaultKind {
     /// The datagram has no bytes.
@@ -30,8 +30,8 @@ pub enum PduFaultKind {
 }
 
 impl PduFaultKind {
-    /// Returns the number of the fault (*profile*): from 1 for `Empty` to 9 for `Truncated`. Each kind has a number of
-    /// its own. The call refuses nothing.
+    /// Returns the number of the fault: from 1 for `Empty` to 9 for `Truncated`. Each kind has a number of its own. The
+    /// call refuses nothing.
     pub fn number(self) -> u8
         ensures { result ≡ fault_number self }
     {
@@ -65,7 +65,7 @@ impl Display for PduFaultKind {
 
 impl std::error::Error for PduFaultKind {}
 
-/// Why a datagram is refused: the first check that fails, and the offset in bytes where it fails (*profile*).
+/// Why a datagram is refused: the first check that fails, and the offset in bytes where it fails.
 #[derive(Clone, Copy, Debug, PartialEq, Eq, Error)]
 #[error("{kind}, at offset {at}")]
 pub struct PduFault {
@@ -75,7 +75,7 @@ pub struct PduFault {
     pub at: u16,
 }
 
-/// Why a PDU was not appended to a packet, which is then unchanged. The number is promised (*profile*).
+/// Why a PDU was not appended to a packet, which is then unchanged. The number is promised.
 #[derive(Clone, Copy, Debug, PartialEq, Eq, Error)]
 pub enum WriteFault {
     /// The packet would have more than 1,472 bytes.

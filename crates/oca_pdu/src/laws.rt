@@ -9,7 +9,7 @@ pub fn law_one_list_of_messages()
     ensures { OneListOfMessages }
 {}
 
-/// Law: no bytes have two different first faults (*profile*). The *first fault* of bytes is the first check of
+/// Law: no bytes have two different first faults. The *first fault* of bytes is the first check of
 /// [`check`](crate::check) that fails, with the offset in bytes where it fails. The law holds for all bytes. The
 /// function states this law as its contract, and does nothing at run time.
 pub fn law_one_first_fault()

@@ -1,4 +1,4 @@
--- The limits of sessions (profile). Times are in milliseconds.
+-- The limits of sessions (*profile*). Times are in milliseconds.
 use Rattle.std.specs.Prelude.{ℕ, max, min}
 
 -- a session is forgotten once its silence passes this

@@ -2,7 +2,7 @@
 use Rattle.std.specs.Prelude.{ℕ, ◌+◌, ◌*◌, ◌≤◌, min, List, [], ◌∷◌, All}
 use Rattle.oca_session.specs.Table.{Session}
 
--- No session lapses at this moment or before it, and so none is forgotten (profile).
+-- No session lapses at this moment or before it, and so none is forgotten.
 abbrev pub IsQuietUntil : ℕ → List Session → Type 0
 IsQuietUntil moment ss = All (λ s. moment ≤ s.heard + 3 * s.heartbeat) ss
 

@@ -37,9 +37,9 @@ impl<const COMMAND: usize, const ANSWER: usize> Model for Cell<COMMAND, ANSWER> 
 }
 
 impl<const COMMAND: usize, const ANSWER: usize> Cell<COMMAND, ANSWER> {
-    /// Returns a cell with copies of this command, without its handle, and of its reply (*profile*). The command must
-    /// have at most `COMMAND` bytes of parameters, and the reply at most `ANSWER` (premises, which the caller must
-    /// prove). The call refuses nothing and takes no memory.
+    /// Returns a cell with copies of this command, without its handle, and of its reply. The command must have at most
+    /// `COMMAND` bytes of parameters, and the reply at most `ANSWER` (premises, which the caller must prove). The call
+    /// refuses nothing and takes no memory.
     pub fn new(command: &Command<'_>, reply: ReplyParts<'_>) -> Self
         requires command { length command.now.params.now ≤ COMMAND }
         requires reply { length reply.params.now ≤ ANSWER }
@@ -62,9 +62,9 @@ impl<const COMMAND: usize, const ANSWER: usize> Cell<COMMAND, ANSWER> {
         cell
     }
 
-    /// Replaces the command and the reply in the cell by copies of these (*profile*). The handle is not stored. The
-    /// command must have at most `COMMAND` bytes of parameters, and the reply at most `ANSWER` (premises, which the
-    /// caller must prove). The call refuses nothing and takes no memory.
+    /// Replaces the command and the reply in the cell by copies of these. The handle is not stored. The command must
+    /// have at most `COMMAND` bytes of parameters, and the reply at most `ANSWER` (premises, which the caller must
+    /// prove). The call refuses nothing and takes no memory.
     pub fn set(&mut self, command: &Command<'_>, reply: ReplyParts<'_>)
         requires command { length command.now.params.now ≤ COMMAND }
         requires reply { length reply.params.now ≤ ANSWER }
@@ -104,7 +104,7 @@ impl<const COMMAND: usize, const ANSWER: usize> Cell<COMMAND, ANSWER> {
     }
 
     /// Returns whether this command and the command in the cell ask the same: the same target, DefLevel, MethodIndex,
-    /// ParamCount and parameter bytes (*profile*). The handle is not compared.
+    /// ParamCount and parameter bytes. The handle is not compared.
     pub fn asks_the_same(&self, command: &Command<'_>) -> bool
         ensures { result ≡ asks_the_same (entry_in command.now.handle self.now).command (fields_of command.now) }
     {
@@ -115,7 +115,7 @@ impl<const COMMAND: usize, const ANSWER: usize> Cell<COMMAND, ANSWER> {
             && are_same(self.params.as_slice(), command.params)
     }
 
-    /// Returns the reply in the cell, without copying it (*profile*).
+    /// Returns the reply in the cell, without copying it.
     pub fn reply(&self) -> &ReplyOf<ANSWER>
         ensures { result.now ≡ self.now.reply }
     {

@@ -1,4 +1,4 @@
-//! Sessions of peers over UDP, 1 to 64 as chosen (profile): who was heard when, and which heartbeat each set. Each
+//! Sessions of peers over UDP, 1 to 64 as chosen (*profile*): who was heard when, and which heartbeat each set. Each
 //! session has a reply window, which distinguishes a fresh command from a duplicate, from another command under a
 //! handle that it retains, and from one that is too old.
 //!

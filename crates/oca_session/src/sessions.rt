@@ -89,11 +89,11 @@ impl<const COMMAND: usize, const ANSWER: usize> SessionsOf<COMMAND, ANSWER> {
     ghost use Rattle.oca_session.specs.Table.{with_heartbeat, with_entry, with_accepted, Hears, IsKnownAfter, AgreesAt};
     ghost use Rattle.oca_session.specs.Sound.{IsTable};
 
-    /// Returns a table without sessions, at the moment 0, with room for the sessions of 16 peers (*profile*). `window`
-    /// is the size of the reply window of each session: 1 to 64 commands, with the default 32. The reply window
-    /// contains the last accepted commands of the peer with their replies. The call takes from `alloc` all the memory
-    /// that the sessions will need: no later call takes any. The only refusal is `NoMemory` if the allocator refused
-    /// memory. No table is then returned.
+    /// Returns a table without sessions, at the moment 0, with room for the sessions of 16 peers. `window` is the size
+    /// of the reply window of each session: 1 to 64 commands, with the default 32. The reply window contains the last
+    /// accepted commands of the peer with their replies. The call takes from `alloc` all the memory that the sessions
+    /// will need: no later call takes any. The only refusal is `NoMemory` if the allocator refused memory. No table is
+    /// then returned.
     pub fn new(alloc: Global, window: Window) -> Result<Self, NoMemory>
         ensures { IfOk result (λ t. t ≡ record {
           sizes = record { window = window_size window; peers = 16 };
@@ -110,7 +110,7 @@ impl<const COMMAND: usize, const ANSWER: usize> SessionsOf<COMMAND, ANSWER> {
         )
     }
 
-    /// Returns a table without sessions, at the moment 0, with the sizes in `sizes` (*profile*):
+    /// Returns a table without sessions, at the moment 0, with the sizes in `sizes`:
     /// - The table has room for the sessions of 1 to 64 peers, with the default 16.
     /// - Each session has a reply window of 1 to 64 commands, with the default 32. The reply window contains the last
     ///   accepted commands of the peer with their replies.
@@ -143,8 +143,8 @@ impl<const COMMAND: usize, const ANSWER: usize> SessionsOf<COMMAND, ANSWER> {
     }
 
     /// Returns the number of sessions: from 0, as at first, to the number of peers for which the table was made, at
-    /// most 64 (*profile*). A session that is due to be forgotten counts until the next
-    /// [`advance`](SessionsOf::advance) or [`advance_into`](SessionsOf::advance_into). The call refuses nothing.
+    /// most 64. A session that is due to be forgotten counts until the next [`advance`](SessionsOf::advance) or
+    /// [`advance_into`](SessionsOf::advance_into). The call refuses nothing.
     pub fn len(&self) -> usize
         ensures len { result ≡ length self.now.sessions }
         ensures sound { IsTable self.now }
@@ -152,16 +152,15 @@ impl<const COMMAND: usize, const ANSWER: usize> SessionsOf<COMMAND, ANSWER> {
         self.count
     }
 
-    /// Returns `true` if there is no session, as at first, and `false` otherwise (*profile*). The call refuses nothing.
+    /// Returns `true` if there is no session, as at first, and `false` otherwise. The call refuses nothing.
     pub fn is_empty(&self) -> bool
         ensures { result ≡ (length self.now.sessions == 0) }
     {
         self.count == 0
     }
 
-    /// Returns the peer of the session at an index, counted from 0 in order of opening (*profile*). The result is
-    /// `None` if `index` is the number of sessions or above. When a session is forgotten, the sessions after it move
-    /// down by one.
+    /// Returns the peer of the session at an index, counted from 0 in order of opening. The result is `None` if `index`
+    /// is the number of sessions or above. When a session is forgotten, the sessions after it move down by one.
     pub fn peer_at(&self, index: usize) -> Option<Peer>
         ensures { result ≡ slice_get (peers_of self.now.sessions) index }
     {
@@ -173,7 +172,7 @@ impl<const COMMAND: usize, const ANSWER: usize> SessionsOf<COMMAND, ANSWER> {
 
     /// Returns whether the peer (the same address and port) has a session. A session begins when
     /// [`hear`](SessionsOf::hear) opens it, and ends when [`advance`](SessionsOf::advance) or
-    /// [`advance_into`](SessionsOf::advance_into) forgets it (*profile*). The table is unchanged.
+    /// [`advance_into`](SessionsOf::advance_into) forgets it. The table is unchanged.
     #[tactic(auto, using(crate::proofs::Tables::known_by_place))]
     pub fn is_known(&self, peer: Peer) -> bool
         ensures { result ≡ is_some (session_of peer self.now.sessions) }
@@ -181,13 +180,13 @@ impl<const COMMAND: usize, const ANSWER: usize> SessionsOf<COMMAND, ANSWER> {
         index_of(&self.slots[..self.count], self.recent, peer).is_some()
     }
 
-    /// Moves the table's clock to `now`, and returns the peers that were silent for too long (*profile*). `now` is in
-    /// milliseconds of the caller's clock; an earlier moment than the present one counts as the present one. The result
-    /// is the peers whose silence is more than three of their heartbeats, in order of opening. Sessions with a silence
-    /// of more than 120,000 ms are then forgotten; their peers are in the result too. The result has at most the first
-    /// 16 peers: these are all if the table has room for at most 16 sessions.
-    /// [`advance_into`](SessionsOf::advance_into) returns all. Each later call returns the peer again, until the peer
-    /// is heard or forgotten. The call refuses nothing and takes no memory.
+    /// Moves the table's clock to `now`, and returns the peers that were silent for too long. `now` is in milliseconds
+    /// of the caller's clock; an earlier moment than the present one counts as the present one. The result is the peers
+    /// whose silence is more than three of their heartbeats, in order of opening. Sessions with a silence of more than
+    /// 120,000 ms are then forgotten; their peers are in the result too. The result has at most the first 16 peers:
+    /// these are all if the table has room for at most 16 sessions. [`advance_into`](SessionsOf::advance_into) returns
+    /// all. Each later call returns the peer again, until the peer is heard or forgotten. The call refuses nothing and
+    /// takes no memory.
     pub fn advance(&mut self, now: u64) -> ArrayVec<Peer, 16>
         ensures lapsed { result.items ≡ take 16 (lapsed (present self.old now) self.old.sessions) }
         ensures all { self.old.sizes.peers ≤ 16 → result.items ≡ lapsed (present self.old now) self.old.sessions }
@@ -205,12 +204,12 @@ impl<const COMMAND: usize, const ANSWER: usize> SessionsOf<COMMAND, ANSWER> {
         peers
     }
 
-    /// Moves the table's clock to `now`, and writes into `peers` all peers that were silent for too long (*profile*).
-    /// `now` is in milliseconds of the caller's clock; an earlier moment than the present one counts as the present
-    /// one. `peers` becomes the peers whose silence is more than three of their heartbeats, in order of opening; its
-    /// old items are lost. Sessions with a silence of more than 120,000 ms are then forgotten; their peers are in
-    /// `peers` too. Each later call writes the peer again, until the peer is heard or forgotten. The call refuses
-    /// nothing and takes no memory.
+    /// Moves the table's clock to `now`, and writes into `peers` all peers that were silent for too long. `now` is in
+    /// milliseconds of the caller's clock; an earlier moment than the present one counts as the present one. `peers`
+    /// becomes the peers whose silence is more than three of their heartbeats, in order of opening; its old items are
+    /// lost. Sessions with a silence of more than 120,000 ms are then forgotten; their peers are in `peers` too. Each
+    /// later call writes the peer again, until the peer is heard or forgotten. The call refuses nothing and takes no
+    /// memory.
     pub fn advance_into(&mut self, now: u64, peers: &mut ArrayVec<Peer, MOST_PEERS>)
         ensures lapsed { peers.new.items ≡ lapsed (present self.old now) self.old.sessions }
         ensures staying { self.new ≡ with_moment_and_sessions self.old (present self.old now)
@@ -240,9 +239,9 @@ impl<const COMMAND: usize, const ANSWER: usize> SessionsOf<COMMAND, ANSWER> {
         self.recent = self.recent.min(self.count.saturating_sub(1));
     }
 
-    /// Notes that a peer was heard at the moment `now`, and opens a session if the peer has none (*profile*). `now` is
-    /// in milliseconds of the caller's clock; an earlier moment than the present one counts as the present one. The
-    /// call takes no memory. The result is:
+    /// Notes that a peer was heard at the moment `now`, and opens a session if the peer has none. `now` is in
+    /// milliseconds of the caller's clock; an earlier moment than the present one counts as the present one. The call
+    /// takes no memory. The result is:
     /// - `Known` if the peer has a session: its silence ends.
     /// - `Opened` if a session was opened for it, as the last in order. Its reply window is empty, and its heartbeat is
     ///   5,000 ms.
@@ -290,15 +289,15 @@ impl<const COMMAND: usize, const ANSWER: usize> SessionsOf<COMMAND, ANSWER> {
     }
 
     /// Returns the present moment of the table, in milliseconds of the caller's clock: the latest moment that a call
-    /// was given, and 0 at first (*profile*). The call refuses nothing.
+    /// was given, and 0 at first. The call refuses nothing.
     pub fn moment(&self) -> u64
         ensures { result ≡ self.now.moment }
     {
         self.moment
     }
 
-    /// Returns the first moment at which a session is forgotten, if no peer is heard before (*profile*). The moment is
-    /// in milliseconds of the caller's clock: a peer was then silent for more than 120,000 ms. The moment can be past,
+    /// Returns the first moment at which a session is forgotten, if no peer is heard before. The moment is in
+    /// milliseconds of the caller's clock: a peer was then silent for more than 120,000 ms. The moment can be past,
     /// since only [`advance`](SessionsOf::advance) and [`advance_into`](SessionsOf::advance_into) forget sessions. The
     /// result is `None` if there is no session, or the moment does not fit 64 bits. The table is unchanged.
     pub fn forgotten_from(&self) -> Option<u64>
@@ -308,8 +307,8 @@ impl<const COMMAND: usize, const ANSWER: usize> SessionsOf<COMMAND, ANSWER> {
     }
 
     /// Returns the first moment at which the peer was silent for more than three of its heartbeats, if the peer is not
-    /// heard before (*profile*). The moment is in milliseconds of the caller's clock, and can be past. The result is
-    /// `None` if the peer has no session, or the moment does not fit 64 bits. The table is unchanged.
+    /// heard before. The moment is in milliseconds of the caller's clock, and can be past. The result is `None` if the
+    /// peer has no session, or the moment does not fit 64 bits. The table is unchanged.
     pub fn lapsed_from(&self, peer: Peer) -> Option<u64>
         ensures { HoldsFrom (lapses peer self.now.sessions) result }
     {
@@ -319,9 +318,9 @@ impl<const COMMAND: usize, const ANSWER: usize> SessionsOf<COMMAND, ANSWER> {
         }
     }
 
-    /// Judges a command of a known peer by the reply window of its session (*profile*). The window contains the last
-    /// accepted commands of the session with their replies. The call changes nothing and takes no memory. The peer must
-    /// be known (a premise, which the caller must prove; [`is_known`](SessionsOf::is_known)). The result is:
+    /// Judges a command of a known peer by the reply window of its session. The window contains the last accepted
+    /// commands of the session with their replies. The call changes nothing and takes no memory. The peer must be known
+    /// (a premise, which the caller must prove; [`is_known`](SessionsOf::is_known)). The result is:
     /// - `Kept` with the reply, if the window has a command with this handle that asks the same: the same target,
     ///   DefLevel, MethodIndex, ParamCount and parameter bytes. The command is a duplicate.
     /// - `Reused` if the window has a command with this handle that asks something else.
@@ -338,12 +337,12 @@ impl<const COMMAND: usize, const ANSWER: usize> SessionsOf<COMMAND, ANSWER> {
         self.slots[self.index_of_known(peer)].judge(command)
     }
 
-    /// Stores a fresh command of a known peer, with its reply, in the reply window of its session (*profile*). A full
-    /// window pushes its oldest command out. From then on [`judge`](SessionsOf::judge) says `Old` for each handle up to
-    /// that command's, if the handle is not in the window. The command and the reply are copied. Premises, which the
-    /// caller must prove: the peer is known ([`is_known`](SessionsOf::is_known)), [`judge`](SessionsOf::judge) says
-    /// `Fresh` for the command, and the command has at most `COMMAND` bytes of parameters: in [`Sessions`] at most
-    /// 1,445. The call refuses nothing and takes no memory.
+    /// Stores a fresh command of a known peer, with its reply, in the reply window of its session. A full window pushes
+    /// its oldest command out. From then on [`judge`](SessionsOf::judge) says `Old` for each handle up to that
+    /// command's, if the handle is not in the window. The command and the reply are copied. Premises, which the caller
+    /// must prove: the peer is known ([`is_known`](SessionsOf::is_known)), [`judge`](SessionsOf::judge) says `Fresh`
+    /// for the command, and the command has at most `COMMAND` bytes of parameters: in [`Sessions`] at most 1,445. The
+    /// call refuses nothing and takes no memory.
     pub fn keep(&mut self, peer: Peer, command: &Command<'_>, reply: &ReplyOf<ANSWER>)
         requires known { IsSome (session_of peer self.old.sessions) }
         requires fresh { IfSome (session_of peer self.old.sessions)
@@ -365,8 +364,8 @@ impl<const COMMAND: usize, const ANSWER: usize> SessionsOf<COMMAND, ANSWER> {
     }
 
     /// Stores a fresh command of a known peer, as [`keep`](SessionsOf::keep) does, with a reply whose parameters lie
-    /// elsewhere (*profile*). Beside the premises of `keep`, the reply must have at most `ANSWER` bytes of parameters
-    /// (a premise, which the caller must prove). The call refuses nothing and takes no memory.
+    /// elsewhere. Beside the premises of `keep`, the reply must have at most `ANSWER` bytes of parameters (a premise,
+    /// which the caller must prove). The call refuses nothing and takes no memory.
     pub fn keep_parts(&mut self, peer: Peer, command: &Command<'_>, reply: ReplyParts<'_>)
         requires known { IsSome (session_of peer self.old.sessions) }
         requires fresh { IfSome (session_of peer self.old.sessions)

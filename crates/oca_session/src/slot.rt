@@ -54,9 +54,9 @@ impl<const COMMAND: usize, const ANSWER: usize> Model for Slot<COMMAND, ANSWER> 
 
 impl<const COMMAND: usize, const ANSWER: usize> Slot<COMMAND, ANSWER> {
     /// Returns a slot that no session has had yet, with an empty reply window of `size` commands, 1 to 64 (a premise,
-    /// which the caller must prove; *profile*). `COMMAND` must be at most 1,445, and `ANSWER` at most 1,452 (premises,
-    /// too). The call takes from `alloc` the memory for the window. The only refusal is `AllocError`, if the allocator
-    /// refused memory.
+    /// which the caller must prove). `COMMAND` must be at most 1,445, and `ANSWER` at most 1,452 (premises, too). The
+    /// call takes from `alloc` the memory for the window. The only refusal is `AllocError`, if the allocator refused
+    /// memory.
     pub fn spare(alloc: Global, size: usize) -> Result<Self, AllocError>
         requires size { (0 < size) × (size ≤ 64) }
         requires rooms { (COMMAND ≤ most_command_parameter_bytes) × (ANSWER ≤ most_parameter_bytes) }
@@ -73,7 +73,7 @@ impl<const COMMAND: usize, const ANSWER: usize> Slot<COMMAND, ANSWER> {
     }
 
     /// Begins a session of the peer at a moment, in milliseconds: with an empty reply window, and a heartbeat of 5,000
-    /// ms (*profile*). The earlier session of the slot is lost. The call refuses nothing and takes no memory.
+    /// ms. The earlier session of the slot is lost. The call refuses nothing and takes no memory.
     pub fn open(&mut self, peer: Peer, moment: u64)
         ensures { self.new ≡ opened_session self.old.retained.size peer moment }
     {
@@ -84,24 +84,23 @@ impl<const COMMAND: usize, const ANSWER: usize> Slot<COMMAND, ANSWER> {
         self.window.clear();
     }
 
-    /// Returns the peer whose session the slot has, or had last (*profile*). It is 0.0.0.0 with port 0 if no session
-    /// had the slot yet.
+    /// Returns the peer whose session the slot has, or had last. It is 0.0.0.0 with port 0 if no session had the slot
+    /// yet.
     pub fn peer(&self) -> Peer
         ensures { result ≡ self.now.peer }
     {
         self.peer
     }
 
-    /// Returns whether the slot has the session of this peer: the same address and port (*profile*). The call does not
-    /// check that the session still stays.
+    /// Returns whether the slot has the session of this peer: the same address and port. The call does not check that
+    /// the session still stays.
     pub fn is_of(&self, peer: Peer) -> bool
         ensures { result ≡ is_of peer self.now }
     {
         self.key == key_of(peer)
     }
 
-    /// Returns whether the peer was not heard for more than three of its heartbeats at this moment, in milliseconds
-    /// (*profile*).
+    /// Returns whether the peer was not heard for more than three of its heartbeats at this moment, in milliseconds.
     pub fn is_lapsed(&self, moment: u64) -> bool
         ensures { result ≡ is_lapsed moment self.now }
     {
@@ -109,7 +108,7 @@ impl<const COMMAND: usize, const ANSWER: usize> Slot<COMMAND, ANSWER> {
     }
 
     /// Returns the latest moment, in milliseconds, at which the peer is not yet silent for more than three of its
-    /// heartbeats, if the peer is not heard before (*profile*). The moment can be past.
+    /// heartbeats, if the peer is not heard before. The moment can be past.
     pub fn quiet_until(&self) -> u64
         ensures { result ≡ latest_of self.now }
     {
@@ -117,7 +116,7 @@ impl<const COMMAND: usize, const ANSWER: usize> Slot<COMMAND, ANSWER> {
     }
 
     /// Returns whether the session still stays at this moment, in milliseconds: its peer was heard at most 120,000 ms
-    /// before (*profile*).
+    /// before.
     pub fn stays(&self, moment: u64) -> bool
         ensures { result ≡ stays moment self.now }
     {
@@ -125,8 +124,8 @@ impl<const COMMAND: usize, const ANSWER: usize> Slot<COMMAND, ANSWER> {
     }
 
     /// Returns the first moment, in milliseconds, at which the peer was silent for more than three of its heartbeats,
-    /// if the peer is not heard before (*profile*). The moment can be past. The result is `None` if the moment does not
-    /// fit 64 bits.
+    /// if the peer is not heard before. The moment can be past. The result is `None` if the moment does not fit 64
+    /// bits.
     pub fn lapsed_from(&self) -> Option<u64>
         ensures { HoldsFrom (λ t. is_lapsed t self.now) result }
     {
@@ -134,30 +133,28 @@ impl<const COMMAND: usize, const ANSWER: usize> Slot<COMMAND, ANSWER> {
     }
 
     /// Returns the first moment, in milliseconds, at which the peer was silent for more than 120,000 ms, if the peer is
-    /// not heard before (*profile*). The moment can be past. The result is `None` if the moment does not fit 64 bits.
+    /// not heard before. The moment can be past. The result is `None` if the moment does not fit 64 bits.
     pub fn forgotten_from(&self) -> Option<u64>
         ensures { HoldsFrom (λ t. not (stays t self.now)) result }
     {
         passes_from(self.heard, LONGEST_SILENCE)
     }
 
-    /// Notes that the peer was heard at a moment, in milliseconds: its silence ends (*profile*). Nothing else is
-    /// changed.
+    /// Notes that the peer was heard at a moment, in milliseconds: its silence ends. Nothing else is changed.
     pub fn note(&mut self, moment: u64)
         ensures { self.new ≡ heard_at moment self.old }
     {
         self.heard = moment;
     }
 
-    /// Sets the heartbeat to `ms` milliseconds (*profile*): to 250 if `ms` is below 250, and to 30,000 if `ms` is above
-    /// 30,000.
+    /// Sets the heartbeat to `ms` milliseconds: to 250 if `ms` is below 250, and to 30,000 if `ms` is above 30,000.
     pub fn set_heartbeat(&mut self, ms: u64)
         ensures { self.new ≡ with_heartbeat ms self.old }
     {
         self.heartbeat = ms.min(GREATEST_HEARTBEAT).max(LEAST_HEARTBEAT) as u32;
     }
 
-    /// Judges a command by the session's reply window (*profile*). Nothing is changed. The result is:
+    /// Judges a command by the session's reply window. Nothing is changed. The result is:
     /// - `Kept` with the reply, if the window has a command with this handle that asks the same: the same target,
     ///   DefLevel, MethodIndex, ParamCount and parameter bytes.
     /// - `Reused` if the window has a command with this handle that asks something else.
@@ -172,10 +169,10 @@ impl<const COMMAND: usize, const ANSWER: usize> Slot<COMMAND, ANSWER> {
         self.window.judge(command)
     }
 
-    /// Stores a fresh command, with its reply, in the session's reply window (*profile*). A full window pushes its
-    /// oldest command out. Handles up to the handle of that command, which are not in the window, then count as `Old`.
-    /// The command must be fresh ([`judge`](Slot::judge)) and have at most `COMMAND` bytes of parameters, and the reply
-    /// at most `ANSWER` (premises, which the caller must prove). The call refuses nothing and takes no memory.
+    /// Stores a fresh command, with its reply, in the session's reply window. A full window pushes its oldest command
+    /// out. Handles up to the handle of that command, which are not in the window, then count as `Old`. The command
+    /// must be fresh ([`judge`](Slot::judge)) and have at most `COMMAND` bytes of parameters, and the reply at most
+    /// `ANSWER` (premises, which the caller must prove). The call refuses nothing and takes no memory.
     pub fn keep(&mut self, command: &Command<'_>, reply: ReplyParts<'_>)
         requires fresh { judgement_by_window self.old.retained (fields_of command.now) ≡ Fresh }
         requires room { length command.now.params.now ≤ COMMAND }

@@ -16,8 +16,8 @@ use oca_types::{Command, Handle, Reply, ReplyOf, ReplyParts};
 use std::alloc::{AllocError, Global};
 use std::marker::Model;
 
-/// What the reply window of a session says of a command (*profile*). The window contains the last accepted commands of
-/// the session, each with its reply, of type `R`: a [`ReplyOf`] with the room that the table of sessions has for it.
+/// What the reply window of a session says of a command. The window contains the last accepted commands of the session,
+/// each with its reply, of type `R`: a [`ReplyOf`] with the room that the table of sessions has for it.
 #[derive(Debug)]
 pub enum JudgedOf<'a, R: 'a> {
     /// No command in the window has this handle, and the handle is above all handles that the window pushed out:
@@ -40,8 +40,8 @@ impl<'a, R: 'a> Clone for JudgedOf<'a, R> {
 
 impl<'a, R: 'a> Copy for JudgedOf<'a, R> {}
 
-/// What the reply window of a session of [`Sessions`](crate::Sessions) says of a command (*profile*): the replies have
-/// room for 1,452 bytes of parameters ([`JudgedOf`]).
+/// What the reply window of a session of [`Sessions`](crate::Sessions) says of a command: the replies have room for
+/// 1,452 bytes of parameters ([`JudgedOf`]).
 pub type Judged<'a> = JudgedOf<'a, Reply>;
 
 /// A command in a window: its handle, and the index of the cell with the rest of the command and its reply.
@@ -103,9 +103,9 @@ impl<const COMMAND: usize, const ANSWER: usize> Model for ReplyWindow<COMMAND, A
 }
 
 impl<const COMMAND: usize, const ANSWER: usize> ReplyWindow<COMMAND, ANSWER> {
-    /// Returns an empty reply window of `size` commands, 1 to 64 (a premise, which the caller must prove; *profile*).
-    /// `COMMAND` must be at most 1,445, and `ANSWER` at most 1,452 (premises, too). The call takes from `alloc` the
-    /// memory for all that the window will contain. The only refusal is `AllocError`, if the allocator refused memory.
+    /// Returns an empty reply window of `size` commands, 1 to 64 (a premise, which the caller must prove). `COMMAND`
+    /// must be at most 1,445, and `ANSWER` at most 1,452 (premises, too). The call takes from `alloc` the memory for
+    /// all that the window will contain. The only refusal is `AllocError`, if the allocator refused memory.
     pub fn new(alloc: Global, size: usize) -> Result<Self, AllocError>
         requires size { (0 < size) × (size ≤ 64) }
         requires rooms { (COMMAND ≤ most_command_parameter_bytes) × (ANSWER ≤ most_parameter_bytes) }
@@ -121,8 +121,8 @@ impl<const COMMAND: usize, const ANSWER: usize> ReplyWindow<COMMAND, ANSWER> {
         })
     }
 
-    /// Empties the window for another session: it then contains no command, and no handle is old (*profile*). Its size
-    /// stays. The call refuses nothing.
+    /// Empties the window for another session: it then contains no command, and no handle is old. Its size stays. The
+    /// call refuses nothing.
     pub fn clear(&mut self)
         ensures { self.new ≡ retained_of self.old.size [] }
     {
@@ -132,7 +132,7 @@ impl<const COMMAND: usize, const ANSWER: usize> ReplyWindow<COMMAND, ANSWER> {
         self.above = 0;
     }
 
-    /// Judges a command by the window (*profile*). Nothing is changed. The result is:
+    /// Judges a command by the window. Nothing is changed. The result is:
     /// - `Kept` with the reply, if the window has a command with this handle that asks the same: the same target,
     ///   DefLevel, MethodIndex, ParamCount and parameter bytes.
     /// - `Reused` if the window has a command with this handle that asks something else.
@@ -176,10 +176,10 @@ impl<const COMMAND: usize, const ANSWER: usize> ReplyWindow<COMMAND, ANSWER> {
         JudgedOf::Fresh
     }
 
-    /// Stores a fresh command, with its reply, in the window (*profile*). A full window pushes its oldest command out.
-    /// Handles up to the handle of that command, which are not in the window, then count as `Old`. The command must be
-    /// fresh ([`judge`](ReplyWindow::judge)) and have at most `COMMAND` bytes of parameters, and the reply at most
-    /// `ANSWER` (premises, which the caller must prove). The call refuses nothing and takes no memory.
+    /// Stores a fresh command, with its reply, in the window. A full window pushes its oldest command out. Handles up
+    /// to the handle of that command, which are not in the window, then count as `Old`. The command must be fresh
+    /// ([`judge`](ReplyWindow::judge)) and have at most `COMMAND` bytes of parameters, and the reply at most `ANSWER`
+    /// (premises, which the caller must prove). The call refuses nothing and takes no memory.
     pub fn keep(&mut self, command: &Command<'_>, reply: ReplyParts<'_>)
         requires fresh { judgement_by_window self.old (fields_of command.now) ≡ Fresh }
         requires room { length command.now.params.now ≤ COMMAND }

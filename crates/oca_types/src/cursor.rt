@@ -53,9 +53,9 @@ fn split(bytes: &[u8], n: usize) -> Result<(&[u8], &[u8]), ReadFault>
 }
 
 impl<'a> Cursor<'a> {
-    /// Returns a cursor at the first byte of `bytes`, with all these bytes left to read (*profile*). An empty slice is
-    /// allowed: each `take` call is then refused with `Short`, and `finish` returns `Ok`. The call copies no byte and
-    /// takes no memory.
+    /// Returns a cursor at the first byte of `bytes`, with all these bytes left to read. An empty slice is allowed:
+    /// each `take` call is then refused with `Short`, and `finish` returns `Ok`. The call copies no byte and takes no
+    /// memory.
     pub fn new(bytes: &'a [u8]) -> Cursor<'a>
         ensures { bytes_left result ≡ bytes.now }
     {
@@ -229,8 +229,8 @@ impl<'a> Cursor<'a> {
         Ok(text)
     }
 
-    /// Returns `Ok` if no byte is left in the cursor. The only refusal is `Trailing`, if at least one byte is left
-    /// (*profile*). The cursor is unchanged in both cases.
+    /// Returns `Ok` if no byte is left in the cursor. The only refusal is `Trailing`, if at least one byte is left. The
+    /// cursor is unchanged in both cases.
     pub fn finish(&self) -> Result<(), ReadFault>
         ensures variant { IsOk result ↔ (bytes_left self.now ≡ []) }
         ensures err { IfErr result (λ e. e ≡ Trailing) }

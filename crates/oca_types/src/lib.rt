@@ -3,6 +3,8 @@
 //!
 //! Begin with [`Cursor`], which reads values from the front of a slice, and with the `put_` calls,
 //! which append them to parameters. Nothing here takes memory, and nothing reads a clock.
+//!
+//! In the comments of all crates, *profile* marks a choice of this project where the standard leaves one.
 #![tactic(auto)]
 
 mod bytes;

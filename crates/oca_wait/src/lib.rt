@@ -27,13 +27,13 @@ pub struct Ready {
     pub beside: bool,
 }
 
-/// Waits for at most `milliseconds` until the descriptor `input` or `beside` is ready, and returns which of them are
-/// (*profile*). More than 2,147,483,647 ms (some 24 days) waits for 2,147,483,647 ms. A descriptor is ready if a read
-/// of it would not wait, or the system reports its end or an error. A descriptor of a file or of the null device is
-/// always ready. A descriptor that is `None` is not waited for, and is never ready; if both are `None`, the call waits
-/// for the whole time. If a signal ends the wait early, or the time is over, neither is ready. The call reads nothing.
-/// The only refusal is the error of the operating system, for example if the limit on open descriptors (RLIMIT_NOFILE)
-/// is below 2.
+/// Waits for at most `milliseconds` until the descriptor `input` or `beside` is ready, and returns which of them are.
+/// More than 2,147,483,647 ms (some 24 days) waits for 2,147,483,647 ms. A descriptor is ready if a read of it would
+/// not wait, or the system reports its end or an error. A descriptor of a file or of the null device is always ready. A
+/// descriptor that is `None` is not waited for, and is never ready; if both are `None`, the call waits for the whole
+/// time. If a signal ends the wait early, or the time is over, neither is ready. The call reads nothing. The only
+/// refusal is the error of the operating system, for example if the limit on open descriptors (RLIMIT_NOFILE) is below
+/// 2.
 pub fn wait_for(input: Option<RawFd>, beside: Option<RawFd>, milliseconds: u64) -> io::Result<Ready>
     ensures input { IfOk result (λ ready. input ≡ None → ready.input ≡ false) }
     ensures beside { IfOk result (λ ready. beside ≡ None → ready.beside ≡ false) }
@@ -50,15 +50,15 @@ pub fn wait_for(input: Option<RawFd>, beside: Option<RawFd>, milliseconds: u64) 
     })
 }
 
-/// Returns whether this descriptor is a terminal, as the operating system says (*profile*). The result is `false` also
-/// if the descriptor is not open. The call refuses nothing and waits for nothing.
+/// Returns whether this descriptor is a terminal, as the operating system says. The result is `false` also if the
+/// descriptor is not open. The call refuses nothing and waits for nothing.
 pub fn is_terminal(descriptor: RawFd) -> bool {
     libc::isatty(descriptor) == 1
 }
 
-/// Returns whether the program is in the foreground of this terminal, as the operating system says (*profile*). The
-/// system stops a program in the background when it reads from the terminal. The result is `false` also if the
-/// descriptor is not a terminal or not open. The call refuses nothing and waits for nothing.
+/// Returns whether the program is in the foreground of this terminal, as the operating system says. The system stops a
+/// program in the background when it reads from the terminal. The result is `false` also if the descriptor is not a
+/// terminal or not open. The call refuses nothing and waits for nothing.
 pub fn is_in_foreground(terminal: RawFd) -> bool {
     libc::tcgetpgrp(terminal) == libc::getpgrp()
 }
