@@ -1,6 +1,6 @@
 -- Deliveries, what is sent for them, and reports of one turn and of several.
 use Rattle.std.proofs.Common.{◌≡◌, ℕ, ◌+◌, ◌≤◌, ◌<◌, Bool, cond, List, [], ◌∷◌, ◌++◌, length, refl, sym, ap, ◌∙◌, subst, arith, length-append}
-use Rattle.std.specs.Prelude.{take, slice_index_or, IsTrue}
+use Rattle.std.specs.Prelude.{take, slice_index_or, IsTrue, min}
 use Rattle.std.proofs.lemmas.Bool.{lt-ltb, le-ltb, le-leb, lt-leb}
 use Rattle.std.proofs.lemmas.List.{append_assoc, append-nil, map-append, take_more, get_or-map, length-map, take_all}
 use Rattle.arrayvec.specs.ArrayVec.{ArrayVec}
@@ -9,7 +9,7 @@ use Rattle.oca_types.specs.Sizes.{DeviceSizes}
 use Rattle.oca_net.specs.declared.end.Heard.{Heard}
 use Rattle.oca_net.specs.declared.end.Heard.TheVariants as heard
 use Rattle.oca_net.specs.Deliveries.{Delivery, Datagram, Quiet, Failed, Sent}
-use Rattle.oca_net.specs.Ends.{is_failed, largest_datagram, TakesAllBut}
+use Rattle.oca_net.specs.Ends.{is_failed, largest_datagram, last_u64, TakesAllBut}
 use Rattle.oca_net.specs.EndStates.{EndState, Receives, Sends, SendsAllBut}
 use Rattle.oca_net.proofs.Sending.{takes_none, takes_more, sends_none, sends_more, sends_one}
 use Rattle.oca_net.proofs.Hearing.{oversize_heard}
@@ -22,12 +22,12 @@ use Rattle.oca_device.specs.Events.{Event}
 use Rattle.oca_device.specs.Events as event
 use Rattle.oca_device.specs.Answers.{packets, verdict}
 use Rattle.oca_device.specs.Devices.{DeviceState, Represents}
-use Rattle.oca_device.specs.Reports.{no_turns, one_turn, verdict_turn, added, turn_report, events_after, events_after_all, report_of, receives_of}
+use Rattle.oca_device.specs.Reports.{no_turns, one_turn, verdict_turn, added, capped, turn_report, events_after, events_after_all, report_of, receives_of}
 use Rattle.oca_device.specs.Replies.{Serves, ServesEnd, sent_in_all, sent_for, sent_to}
 use Rattle.oca_device.specs.Outboxes.{bytes_of_packets}
 use Rattle.oca_device.specs.States.{state_after}
 use Rattle.oca_device.specs.Written as effects
-use Rattle.oca_device.specs.Following.{Followed, ElectronicsState, Follows, ServesEndWith, handed, handed_of}
+use Rattle.oca_device.specs.Following.{Followed, ElectronicsState, Follows, ServesEndWith, ServesLongWith, handed, handed_of}
 use Rattle.oca_device.specs.PrivateTotals.{IsAtMostEach, ServesTurn, IsClosed}
 
 -- ---- sums of reports
@@ -342,17 +342,62 @@ module _ {old new : DeviceState} {before mid : EndState} {idle : ElectronicsStat
       ∙ ap (λ (ns : List ℕ). idle.followed ++ (let x : Followed = record { tree = (state_after w tree after).tree; written = ns } in x) ∷ []) (written_is ∙ there.written)
       ∙ ap (λ b. idle.followed ++ cond b ((let x : Followed = record { tree = (state_after w tree after).tree; written = effects.written w tree after } in x) ∷ []) []) (sym fits))
 
+-- what the electronics were told changes nothing
+pub told_turn : {old new : DeviceState} {before after : EndState} {idle moved told : ElectronicsState} {r : Report} → told ≡ moved →
+    ServesTurn old new before after idle moved r → ServesTurn old new before after idle told r
+told_turn {old} {new} {before} {after} {idle} {r = r} is h = subst (λ (m : ElectronicsState). ServesTurn old new before after idle m r) (sym is) h
+
 -- ---- numbers of reports
+
+cap_more : (t b : ℕ) → min (min t last_u64 + b) last_u64 ≡ min (t + b) last_u64
+cap_more t b = omega arith
+
+pub capped_more : (t b : Report) → capped (added (capped t) b) ≡ capped (added t b)
+capped_more t b = simp cap_more
+
+-- no turn of a long run, and one more
+pub long_none : (d : DeviceState) (e : EndState) (x : ElectronicsState) (r : Report) → r ≡ no_turns → ServesLongWith d d e e x x r
+long_none d e x r is = record { report = no_turns; serves = with_none d e x; returns = is }
+
+pub long_more : {a b c : DeviceState} {e f g : EndState} {x y z : ElectronicsState} {p n : Report} (s : Report) →
+    ServesLongWith a b e f x y p → ServesEndWith b c f g y z n → s ≡ capped (added p n) → ServesLongWith a c e g x z s
+long_more {n = n} s h k is = record {
+  report = added h.report n;
+  serves = with_more h.serves k;
+  returns = is ∙ ap (λ (q : Report). capped (added q n)) h.returns ∙ capped_more h.report n;
+}
+
+pub long_closed : {a b c : DeviceState} {e f g : EndState} {x y z : ElectronicsState} {r : Report} → ServesLongWith a b e f x y r →
+    IsClosed b c f g y z → ServesLongWith a c e g x z r
+long_closed h k = record { report = h.report; serves = with_closed h.serves k; returns = h.returns }
 
 pub none_within : (r : Report) (m : ℕ) → r ≡ no_turns → IsAtMostEach m r
 none_within r m e =
     let here : IsAtMostEach m no_turns = record { turns = omega arith; executed = omega arith; kept = omega arith; old = omega arith; reused = omega arith; malformed = omega arith; no_room = omega arith; oversize = omega arith; quiet = omega arith; failed_receives = omega arith; failed_sends = omega arith } in
     subst (λ (x : Report). IsAtMostEach m x) (sym e) here
 
-pub more_within : (m k n : ℕ) (a b r : Report) → r ≡ added a b → IsAtMostEach m a → IsAtMostEach k b → m + k ≤ n → IsAtMostEach n r
-more_within m k n a b r e x y le =
-    let both : IsAtMostEach n (added a b) = record { turns = omega (arith, x.turns, y.turns); executed = omega (arith, x.executed, y.executed); kept = omega (arith, x.kept, y.kept); old = omega (arith, x.old, y.old); reused = omega (arith, x.reused, y.reused); malformed = omega (arith, x.malformed, y.malformed); no_room = omega (arith, x.no_room, y.no_room); oversize = omega (arith, x.oversize, y.oversize); quiet = omega (arith, x.quiet, y.quiet); failed_receives = omega (arith, x.failed_receives, y.failed_receives); failed_sends = omega (arith, x.failed_sends, y.failed_sends) } in
-    subst (λ (q : Report). IsAtMostEach n q) (sym e) both
+within_both : (m k n : ℕ) (a b : Report) → IsAtMostEach m a → IsAtMostEach k b → m + k ≤ n → IsAtMostEach n (added a b)
+within_both m k n a b x y le = record { turns = omega (arith, x.turns, y.turns); executed = omega (arith, x.executed, y.executed); kept = omega (arith, x.kept, y.kept); old = omega (arith, x.old, y.old); reused = omega (arith, x.reused, y.reused); malformed = omega (arith, x.malformed, y.malformed); no_room = omega (arith, x.no_room, y.no_room); oversize = omega (arith, x.oversize, y.oversize); quiet = omega (arith, x.quiet, y.quiet); failed_receives = omega (arith, x.failed_receives, y.failed_receives); failed_sends = omega (arith, x.failed_sends, y.failed_sends) }
+
+capped_within : (n : ℕ) (r : Report) → IsAtMostEach n r → IsAtMostEach n (capped r)
+capped_within n r x = record { turns = omega (arith, x.turns); executed = omega (arith, x.executed); kept = omega (arith, x.kept); old = omega (arith, x.old); reused = omega (arith, x.reused); malformed = omega (arith, x.malformed); no_room = omega (arith, x.no_room); oversize = omega (arith, x.oversize); quiet = omega (arith, x.quiet); failed_receives = omega (arith, x.failed_receives); failed_sends = omega (arith, x.failed_sends) }
+
+pub more_within : (m k n : ℕ) (a b r : Report) → r ≡ capped (added a b) → IsAtMostEach m a → IsAtMostEach k b → m + k ≤ n → IsAtMostEach n r
+more_within m k n a b r e x y le = subst (λ (q : Report). IsAtMostEach n q) (sym e) (capped_within n _ (within_both m k n a b x y le))
+
+below : (n : ℕ) → n ≤ last_u64 → min n last_u64 ≡ n
+below n h = omega (arith, h)
+
+-- short of the last value nothing is cut off
+uncapped : (r : Report) → IsAtMostEach last_u64 r → capped r ≡ r
+uncapped r x = rw (below r.turns x.turns) (rw (below r.executed x.executed) (rw (below r.kept x.kept) (rw (below r.old x.old) (rw (below r.reused x.reused) (rw (below r.malformed x.malformed) (rw (below r.no_room x.no_room) (rw (below r.oversize x.oversize) (rw (below r.quiet x.quiet) (rw (below r.failed_receives x.failed_receives) (rw (below r.failed_sends x.failed_sends) refl))))))))))
+
+-- a turn more of a run that is not long
+pub exact_more : {a b c : DeviceState} {e f g : EndState} {x y z : ElectronicsState} {p n : Report} (m : ℕ) (s : Report) →
+    ServesEndWith a b e f x y p → ServesEndWith b c f g y z n → s ≡ capped (added p n) → IsAtMostEach m p → IsAtMostEach 4294967295 n →
+    m + 4294967295 ≤ last_u64 → ServesEndWith a c e g x z s
+exact_more {a} {b} {c} {e} {f} {g} {x} {y} {z} {p} {n} m s h k is few one le =
+    subst (ServesEndWith a c e g x z) (sym (is ∙ uncapped (added p n) (within_both m 4294967295 last_u64 p n few one le))) (with_more h k)
 
 -- ---- receives, short of their last value
 

@@ -1,5 +1,5 @@
--- A device represents an opening tree and events where it is what they say (profile).
-use Rattle.std.specs.Prelude.{◌≡◌, ℕ, List, map}
+-- A device represents an opening tree and events where it is what they say.
+use Rattle.std.specs.Prelude.{◌≡◌, ℕ, List, ◌∷◌, map}
 use Rattle.oca_types.specs.declared.words.Peer.{Peer}
 use Rattle.oca_types.specs.Sizes.{DeviceSizes, most_parameter_bytes}
 use Rattle.oca_tree.specs.declared.object.Object.{Object}
@@ -62,3 +62,17 @@ pub record RepresentsWithin (room : ℕ) (w : DeviceSizes) (d : DeviceState) (tr
 -- and where there is room for each reply
 abbrev pub Represents : DeviceSizes → DeviceState → List Object → List Event → Type 0
 Represents w d tree events = RepresentsWithin most_parameter_bytes w d tree events
+
+-- THE EVENT IS APPENDED: whatever the device represented before a call, it represents after it with this event, the
+-- latest.
+abbrev pub Appends : ℕ → DeviceState → DeviceState → Event → Type 0
+Appends room old new e =
+    (w : DeviceSizes) (tree : List Object) (events : List Event) →
+    RepresentsWithin room w old tree events → RepresentsWithin room w new tree (e ∷ events)
+
+-- This is so of the sizes, the opening tree and the events, whichever the device represents.
+abbrev pub WhateverItRepresents
+    : ℕ → DeviceState → (DeviceSizes → List Object → List Event → Type 0) → Type 0
+WhateverItRepresents room d IsSo =
+    (w : DeviceSizes) (tree : List Object) (events : List Event) →
+    RepresentsWithin room w d tree events → IsSo w tree events

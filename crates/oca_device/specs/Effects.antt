@@ -1,4 +1,4 @@
--- What became of each command of the last datagram (profile).
+-- What became of each command of the last datagram.
 use Rattle.std.specs.Prelude.{max, Bool, if◌then◌else◌, List, [], ◌∷◌, ◌++◌, Result, Ok, Err}
 use Rattle.oca_types.specs.declared.words.Peer.{Peer}
 use Rattle.oca_types.specs.Peers.{CommandFields}

@@ -1,6 +1,6 @@
--- What happens to a device: datagrams, of any bytes and from any peer, clock readings, and changes at its own front
--- (profile). Moments are in milliseconds. In a list of events the latest stands first. A moment earlier than one already
--- seen counts as the one already seen: the clock is in States and in LawByEvents.
+-- What happens to a device: datagrams, of any bytes and from any peer, clock readings, and changes at its own front.
+-- Moments are in milliseconds. In a list of events the latest stands first. A moment earlier than one already seen
+-- counts as the one already seen: the clock is in States and in LawByEvents.
 use Rattle.std.specs.Prelude.{ℕ, List}
 use Rattle.oca_types.specs.declared.words.Peer.{Peer}
 use Rattle.oca_tree.specs.LocalChanges.{LocalChange}

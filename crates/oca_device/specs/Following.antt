@@ -1,4 +1,4 @@
--- What the electronics of a device are handed (profile).
+-- What the electronics of a device are handed.
 use Rattle.std.specs.Prelude.{◌≡◌, ℕ, Bool, IsTrue, nat_le, if◌then◌else◌, List, [], ◌∷◌, ◌++◌, length}
 use Rattle.oca_types.specs.Sizes.{DeviceSizes}
 use Rattle.oca_net.specs.Deliveries.{Delivery, Datagram, Quiet, Failed}
@@ -11,7 +11,7 @@ use Rattle.oca_device.specs.Events as event
 use Rattle.oca_device.specs.States.{state_after}
 use Rattle.oca_device.specs.Written.{written}
 use Rattle.oca_device.specs.Devices.{DeviceState, Represents}
-use Rattle.oca_device.specs.Reports.{events_after}
+use Rattle.oca_device.specs.Reports.{capped, events_after}
 use Rattle.oca_device.specs.Replies.{ServesEnd}
 
 -- what a datagram did: the objects as it left them, and the numbers of those that it wrote to
@@ -56,3 +56,11 @@ pub record ServesEndWith (old new : DeviceState) (before after : EndState) (idle
   pub followed : IsTrue idle.tells → (w : DeviceSizes) (tree : List Object) (events : List Event) →
       Represents w old tree events →
       moved.followed ≡ idle.followed ++ handed w tree events serves.deliveries
+
+-- A DEVICE SERVED AN END WITH ELECTRONICS FOR LONG: what is returned is the report of that, but for numbers that would
+-- pass 64 bits.
+pub record ServesLongWith (old new : DeviceState) (before after : EndState) (idle moved : ElectronicsState)
+    (returned : Report) : Type 0 where
+  pub report : Report
+  pub serves : ServesEndWith old new before after idle moved report
+  pub returns : returned ≡ capped report

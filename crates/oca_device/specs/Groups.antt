@@ -1,5 +1,5 @@
 -- How the answers to a datagram are grouped: neighbouring responses leave in one PDU, and a keep-alive in one of its
--- own. Each group is the one PDU of a datagram (profile). In each list the first one stands first.
+-- own. Each group is the one PDU of a datagram (*profile*). In each list the first one stands first.
 use Rattle.std.specs.Prelude.{◌≡◌, ℕ, ◌<◌, ◌≤◌, nat_le, ⊤, if◌then◌else◌, List, [], ◌∷◌, ◌++◌, map, length}
 use Rattle.std.specs.List.{flat_map, AllByRecursion}
 use Rattle.oca_types.specs.Sizes.{most_parameter_bytes}

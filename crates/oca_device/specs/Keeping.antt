@@ -1,4 +1,4 @@
--- What was answered is stored: which answers wait until the objects are stored, and when they leave (profile).
+-- What was answered is stored: which answers wait until the objects are stored, and when they leave.
 use Rattle.std.specs.Prelude.{◌≡◌, ◌+◌, ◌<◌, IsTrue, Bool, false, ◌&&◌, ◌||◌, ◌==◌, not, nat_le, if◌then◌else◌, List}
 use Rattle.std.specs.Prelude.{[], ◌∷◌, ◌++◌, length}
 use Rattle.oca_types.specs.Sizes.{DeviceSizes}

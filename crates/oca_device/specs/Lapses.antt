@@ -1,4 +1,4 @@
--- When a clock reading next changes something (profile). Moments are in milliseconds.
+-- When a clock reading next changes something. Moments are in milliseconds.
 use Rattle.std.specs.Prelude.{◌≡◌, ℕ, ◌<◌, ◌≤◌, ◌^◌}
 use Rattle.oca_types.specs.Sizes.{DeviceSizes}
 use Rattle.oca_device.specs.Events.{Tick}

@@ -1,5 +1,5 @@
 -- Everything that is noted of the peers of a device. Nothing is ever taken away from the notes; a session is what the
--- notes of its peer say (profile). In a list of notes the latest stands first, and in a list of peers or commands last.
+-- notes of its peer say. In a list of notes the latest stands first, and in a list of peers or commands last.
 use Rattle.std.specs.Prelude.{ℕ, ◌*◌, ◌-◌, nat_le, nat_lt, Bool, false, not, if◌then◌else◌, List, [], ◌∷◌, ◌++◌, filter}
 use Rattle.oca_types.specs.declared.words.Peer.{Peer}
 use Rattle.oca_types.specs.Replies.{Reply}

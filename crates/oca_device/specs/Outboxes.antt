@@ -1,4 +1,4 @@
--- The packets of an outbox, as their bytes; and what an outbox keeps that has room for some of them only (profile).
+-- The packets of an outbox, as their bytes; and what an outbox keeps that has room for some of them only.
 use Rattle.std.specs.Prelude.{ℕ, nat_lt, Bool, not, List, map, take, length, count_by}
 use Rattle.arrayvec.specs.ArrayVec.{ArrayVec}
 use Rattle.oca_pdu.specs.Limits.{is_response}

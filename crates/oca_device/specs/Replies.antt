@@ -1,4 +1,4 @@
--- What the loop sends: the packets of each datagram, to its sender (profile).
+-- What the loop sends: the packets of each datagram, to its sender.
 use Rattle.std.specs.Prelude.{◌≡◌, ℕ, ◌+◌, ◌<◌, IsTrue, nat_le, if◌then◌else◌, List, [], ◌∷◌, ◌++◌, map, length}
 use Rattle.oca_types.specs.declared.words.Peer.{Peer}
 use Rattle.oca_types.specs.Sizes.{DeviceSizes}

@@ -1,4 +1,4 @@
--- What a report says of the turns of the loop: a turn is one delivery of the end (profile).
+-- What a report says of the turns of the loop: a turn is one delivery of the end.
 use Rattle.std.specs.Prelude.{ℕ, ◌+◌, min, nat_le, nat_lt, if◌then◌else◌, List, [], ◌∷◌, length}
 use Rattle.oca_types.specs.Sizes.{DeviceSizes}
 use Rattle.oca_net.specs.Deliveries.{Delivery, Datagram, Quiet, Failed}

@@ -1,4 +1,4 @@
--- What a device answers, retains and takes that has room for so many bytes of parameters (profile).
+-- What a device answers, retains and takes that has room for so many bytes of parameters.
 use Rattle.std.specs.Prelude.{ℕ, ◌+◌, nat_lt, nat_le, ◌&&◌, ◌||◌, Bool, if◌then◌else◌, List, [], map, length}
 use Rattle.oca_types.specs.declared.words.Peer.{Peer}
 use Rattle.oca_types.specs.declared.status.Status.TheVariants as status

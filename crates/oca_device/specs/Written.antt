@@ -1,4 +1,4 @@
--- Which objects the last datagram wrote to (profile).
+-- Which objects the last datagram wrote to.
 use Rattle.std.specs.Prelude.{ℕ, max, if◌then◌else◌, List, [], ◌∷◌, ◌++◌, map, Result, Ok, Err}
 use Rattle.oca_types.specs.declared.words.Ono.{Ono}
 use Rattle.oca_types.specs.declared.words.Peer.{Peer}

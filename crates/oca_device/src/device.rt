@@ -7,9 +7,8 @@ ghost use Rattle.std.specs.List.{AllByRecursion};
 ghost use Rattle.oca_pdu.specs.Messages.{Msg, Command as Commands, msg_of};
 ghost use Rattle.oca_pdu.specs.Limits.{most_answered, most_commands};
 ghost use Rattle.oca_pdu.specs.Datagrams.{messages_left};
-ghost use Rattle.oca_tree.specs.declared.object.Object.{Object};
 ghost use Rattle.oca_session.specs.Table.{session_of, peers_of};
-ghost use Rattle.oca_device.specs.Events.{Event, Datagram as DatagramEvent, Tick, Local};
+ghost use Rattle.oca_device.specs.Events.{Datagram as DatagramEvent, Tick, Local};
 ghost use Rattle.oca_device.specs.Notes.{Admitted, run, last_noted};
 ghost use Rattle.oca_device.specs.States.{State, state_after, known_after, noted, moved_to, admits, released_all};
 ghost use Rattle.oca_device.specs.States.{reply_of, time_of};
@@ -128,14 +127,14 @@ impl<const COMMAND: usize, const ANSWER: usize> Model for DeviceOf<COMMAND, ANSW
 }
 
 impl<const COMMAND: usize, const ANSWER: usize> DeviceOf<COMMAND, ANSWER> {
-    ghost use Rattle.oca_device.specs.Devices.{RepresentsWithin, IsIn};
+    ghost use Rattle.oca_device.specs.Devices.{RepresentsWithin, Appends, WhateverItRepresents, IsIn};
     ghost use Rattle.oca_device.specs.Lapses.{IsNextLapse, NeverLapses};
     ghost use Rattle.oca_device.specs.PrivateServing.{ServesMessage, ServesMessages, TakesDatagram, AreGrouped};
     ghost use Rattle.oca_device.specs.PrivateServing.{IsShort, commands_in, commands_of, all_commands};
 
     /// Makes a device of the objects in `tree`, with sessions of at most 16 peers. `window` is the size of the reply
-    /// window: for 1 to 64 commands of each peer the replies are kept (*profile*). No peer has a session yet, and the
-    /// device's clock is at 0.
+    /// window: for 1 to 64 commands of each peer the replies are kept. No peer has a session yet, and the device's
+    /// clock is at 0.
     ///
     /// The call takes all the memory that the device will need beside `tree` and an outbox. Refusal: `NoMemory` if that
     /// memory is refused, or for a [`DeviceOf`] with `COMMAND` above 1,445 or `ANSWER` above 1,452; the objects are
@@ -157,7 +156,7 @@ impl<const COMMAND: usize, const ANSWER: usize> DeviceOf<COMMAND, ANSWER> {
     }
 
     /// Makes a device of the objects in `tree`, with the sizes in `sizes`: reply windows of 1 to 64 commands, and
-    /// sessions of 1 to 64 peers (*profile*). No peer has a session yet, and the device's clock is at 0.
+    /// sessions of 1 to 64 peers. No peer has a session yet, and the device's clock is at 0.
     ///
     /// The call takes all the memory that the device will need beside `tree` and an outbox. Refusal: `NoMemory` if that
     /// memory is refused, or for a [`DeviceOf`] with `COMMAND` above 1,445 or `ANSWER` above 1,452; the objects are
@@ -199,15 +198,11 @@ impl<const COMMAND: usize, const ANSWER: usize> DeviceOf<COMMAND, ANSWER> {
     /// [`Device::written`] and [`Device::effects`] are empty. Neighbouring responses share a PDU of at most 1,472 bytes
     /// (*profile*).
     pub fn datagram(&mut self, from: Peer, bytes: &[u8], now: u64, outbox: &mut Outbox) -> Verdict
-        ensures represents { (w : DeviceSizes) (T : List Object) (E : List Event) →
-            RepresentsWithin ANSWER w self.old T E →
-            RepresentsWithin ANSWER w self.new T (DatagramEvent from (told COMMAND bytes.now) now ∷ E) }
-        ensures packets { (w : DeviceSizes) (T : List Object) (E : List Event) →
-            RepresentsWithin ANSWER w self.old T E →
-            outbox.new ≡ packets_within ANSWER w T E (DatagramEvent from (told COMMAND bytes.now) now) }
-        ensures verdict { (w : DeviceSizes) (T : List Object) (E : List Event) →
-            RepresentsWithin ANSWER w self.old T E →
-            result ≡ verdict_within COMMAND w T E from bytes.now now }
+        ensures represents { Appends ANSWER self.old self.new (DatagramEvent from (told COMMAND bytes.now) now) }
+        ensures packets { WhateverItRepresents ANSWER self.old (λ w T E.
+            outbox.new ≡ packets_within ANSWER w T E (DatagramEvent from (told COMMAND bytes.now) now)) }
+        ensures verdict { WhateverItRepresents ANSWER self.old (λ w T E.
+            result ≡ verdict_within COMMAND w T E from bytes.now now) }
     {
         self.datagram_within(from, bytes, now, &mut outbox.first)
     }
@@ -229,21 +224,18 @@ impl<const COMMAND: usize, const ANSWER: usize> DeviceOf<COMMAND, ANSWER> {
         now: u64,
         outbox: &mut BoundedOutbox,
     ) -> Verdict
-        ensures represents { (w : DeviceSizes) (T : List Object) (E : List Event) →
-            RepresentsWithin ANSWER w self.old T E →
-            RepresentsWithin ANSWER w self.new T (DatagramEvent from (told COMMAND bytes.now) now ∷ E) }
-        ensures packets { (w : DeviceSizes) (T : List Object) (E : List Event) →
-            RepresentsWithin ANSWER w self.old T E →
-            outbox.new ≡ first_packets outbox.old.room (packets_within ANSWER w T E (DatagramEvent from
-            (told COMMAND bytes.now) now)) }
-        ensures verdict { (w : DeviceSizes) (T : List Object) (E : List Event) →
-            RepresentsWithin ANSWER w self.old T E →
-            result ≡ verdict_within COMMAND w T E from bytes.now now }
-        ensures few { (w : DeviceSizes) (T : List Object) (E : List Event) → RepresentsWithin ANSWER w self.old T E →
-            length (packets_within ANSWER w T E (DatagramEvent from (told COMMAND bytes.now) now)) ≤ most_answered }
-        ensures each { (w : DeviceSizes) (T : List Object) (E : List Event) → RepresentsWithin ANSWER w self.old T E →
-            length (packets_within ANSWER w T E (DatagramEvent from
-            (told COMMAND bytes.now) now)) ≤ may_be_answered bytes.now }
+        ensures represents { Appends ANSWER self.old self.new (DatagramEvent from (told COMMAND bytes.now) now) }
+        ensures packets { WhateverItRepresents ANSWER self.old (λ w T E.
+            outbox.new
+            ≡ first_packets outbox.old.room
+            (packets_within ANSWER w T E (DatagramEvent from (told COMMAND bytes.now) now))) }
+        ensures verdict { WhateverItRepresents ANSWER self.old (λ w T E.
+            result ≡ verdict_within COMMAND w T E from bytes.now now) }
+        ensures few { WhateverItRepresents ANSWER self.old (λ w T E.
+            length (packets_within ANSWER w T E (DatagramEvent from (told COMMAND bytes.now) now)) ≤ most_answered) }
+        ensures each { WhateverItRepresents ANSWER self.old (λ w T E.
+            length (packets_within ANSWER w T E (DatagramEvent from (told COMMAND bytes.now) now))
+            ≤ may_be_answered bytes.now) }
         ensures room { outbox.new.room ≡ outbox.old.room }
     {
         outbox.clear();
@@ -262,8 +254,7 @@ impl<const COMMAND: usize, const ANSWER: usize> DeviceOf<COMMAND, ANSWER> {
     /// All locks of a peer are released if the device heard nothing from the peer for more than three of its heartbeats
     /// (AES70-3 has the heartbeat). A session is forgotten if its peer was silent for more than 120,000 ms (*profile*).
     pub fn tick(&mut self, now: u64)
-        ensures { (w : DeviceSizes) (T : List Object) (E : List Event) → RepresentsWithin ANSWER w self.old T E →
-            RepresentsWithin ANSWER w self.new T (Tick now ∷ E) }
+        ensures { Appends ANSWER self.old self.new (Tick now) }
     {
         self.move_clock(now);
     }
@@ -279,13 +270,10 @@ impl<const COMMAND: usize, const ANSWER: usize> DeviceOf<COMMAND, ANSWER> {
     /// - `OutOfRange` if a switch has no such position or the position is disabled, or a number is outside the object's
     ///   limits.
     pub fn set(&mut self, ono: Ono, value: Value) -> Result<(), SetFault>
-        ensures represents { (w : DeviceSizes) (T : List Object) (E : List Event) →
-            RepresentsWithin ANSWER w self.old T E →
-            RepresentsWithin ANSWER w self.new T (Local ono.0 (ToValue value) ∷ E) }
+        ensures represents { Appends ANSWER self.old self.new (Local ono.0 (ToValue value)) }
         ensures fault { result_err result ≡ set_fault self.old.tree ono.0 value }
-        ensures represented { (w : DeviceSizes) (T : List Object) (E : List Event) →
-            RepresentsWithin ANSWER w self.old T E →
-            result_err result ≡ set_fault (state_after w T E).tree ono.0 value }
+        ensures represented { WhateverItRepresents ANSWER self.old (λ w T E.
+            result_err result ≡ set_fault (state_after w T E).tree ono.0 value) }
         ensures refused { OnErr result (self.new ≡ self.old) }
     {
         self.tree.set(ono, value)
@@ -298,13 +286,10 @@ impl<const COMMAND: usize, const ANSWER: usize> DeviceOf<COMMAND, ANSWER> {
     /// Refusals, the first that applies, which change nothing: `NoObject` if no object has the number `ono`. `BadLabel`
     /// if the label has more than 64 bytes.
     pub fn set_label(&mut self, ono: Ono, label: &str) -> Result<(), FrontFault>
-        ensures represents { (w : DeviceSizes) (T : List Object) (E : List Event) →
-            RepresentsWithin ANSWER w self.old T E →
-            RepresentsWithin ANSWER w self.new T (Local ono.0 (ToLabel label.now) ∷ E) }
+        ensures represents { Appends ANSWER self.old self.new (Local ono.0 (ToLabel label.now)) }
         ensures fault { result_err result ≡ front_fault self.old.tree ono.0 (asked.SetLabel label.now) }
-        ensures represented { (w : DeviceSizes) (T : List Object) (E : List Event) →
-            RepresentsWithin ANSWER w self.old T E →
-            result_err result ≡ front_fault (state_after w T E).tree ono.0 (asked.SetLabel label.now) }
+        ensures represented { WhateverItRepresents ANSWER self.old (λ w T E.
+            result_err result ≡ front_fault (state_after w T E).tree ono.0 (asked.SetLabel label.now)) }
         ensures refused { OnErr result (self.new ≡ self.old) }
     {
         self.tree.set_label(ono, label)
@@ -315,13 +300,10 @@ impl<const COMMAND: usize, const ANSWER: usize> DeviceOf<COMMAND, ANSWER> {
     /// [`set_failing`](Device::set_failing). The clock and the sessions stay as they are, and no peer gets a message.
     /// Refusal: `NoObject` if no object has the number `ono`; then nothing is changed.
     pub fn set_enabled(&mut self, ono: Ono, enabled: bool) -> Result<(), FrontFault>
-        ensures represents { (w : DeviceSizes) (T : List Object) (E : List Event) →
-            RepresentsWithin ANSWER w self.old T E →
-            RepresentsWithin ANSWER w self.new T (Local ono.0 (ToEnabled enabled) ∷ E) }
+        ensures represents { Appends ANSWER self.old self.new (Local ono.0 (ToEnabled enabled)) }
         ensures fault { result_err result ≡ front_fault self.old.tree ono.0 (asked.SetEnabled enabled) }
-        ensures represented { (w : DeviceSizes) (T : List Object) (E : List Event) →
-            RepresentsWithin ANSWER w self.old T E →
-            result_err result ≡ front_fault (state_after w T E).tree ono.0 (asked.SetEnabled enabled) }
+        ensures represented { WhateverItRepresents ANSWER self.old (λ w T E.
+            result_err result ≡ front_fault (state_after w T E).tree ono.0 (asked.SetEnabled enabled)) }
         ensures refused { OnErr result (self.new ≡ self.old) }
     {
         self.tree.set_enabled(ono, enabled)
@@ -334,13 +316,10 @@ impl<const COMMAND: usize, const ANSWER: usize> DeviceOf<COMMAND, ANSWER> {
     /// Refusals, the first that applies, which change nothing: `NoObject` if no object has the number `ono`.
     /// `NotLocked` if the object is not locked.
     pub fn unlock(&mut self, ono: Ono) -> Result<(), FrontFault>
-        ensures represents { (w : DeviceSizes) (T : List Object) (E : List Event) →
-            RepresentsWithin ANSWER w self.old T E →
-            RepresentsWithin ANSWER w self.new T (Local ono.0 ToUnlocked ∷ E) }
+        ensures represents { Appends ANSWER self.old self.new (Local ono.0 ToUnlocked) }
         ensures fault { result_err result ≡ front_fault self.old.tree ono.0 asked.Unlock }
-        ensures represented { (w : DeviceSizes) (T : List Object) (E : List Event) →
-            RepresentsWithin ANSWER w self.old T E →
-            result_err result ≡ front_fault (state_after w T E).tree ono.0 asked.Unlock }
+        ensures represented { WhateverItRepresents ANSWER self.old (λ w T E.
+            result_err result ≡ front_fault (state_after w T E).tree ono.0 asked.Unlock) }
         ensures refused { OnErr result (self.new ≡ self.old) }
     {
         self.tree.unlock(ono)
@@ -355,15 +334,12 @@ impl<const COMMAND: usize, const ANSWER: usize> DeviceOf<COMMAND, ANSWER> {
     /// do the calls of the local front panel. The setting is not saved to a store. The clock and the sessions stay as
     /// they are. Refusal: `NoObject` if no object has the number `ono`; then nothing is changed.
     pub fn set_failing(&mut self, ono: Ono, failing: bool) -> Result<(), FrontFault>
-        ensures represents { (w : DeviceSizes) (T : List Object) (E : List Event) →
-            RepresentsWithin ANSWER w self.old T E →
-            RepresentsWithin ANSWER w self.new T (Local ono.0 (ToFailing failing) ∷ E) }
+        ensures represents { Appends ANSWER self.old self.new (Local ono.0 (ToFailing failing)) }
         ensures fault { result_err result ≡ front_fault self.old.tree ono.0 (asked.SetEnabled failing) }
         ensures missing { result_err result
             ≡ (if is_none (failing_at self.old.tree ono.0) then Some front_faults.NoObject else None) }
-        ensures represented { (w : DeviceSizes) (T : List Object) (E : List Event) →
-            RepresentsWithin ANSWER w self.old T E →
-            result_err result ≡ front_fault (state_after w T E).tree ono.0 (asked.SetEnabled failing) }
+        ensures represented { WhateverItRepresents ANSWER self.old (λ w T E.
+            result_err result ≡ front_fault (state_after w T E).tree ono.0 (asked.SetEnabled failing)) }
         ensures refused { OnErr result (self.new ≡ self.old) }
     {
         self.tree.set_failing(ono, failing)
@@ -373,9 +349,8 @@ impl<const COMMAND: usize, const ANSWER: usize> DeviceOf<COMMAND, ANSWER> {
     /// before the first such call. `None` if no object has the number `ono`. Nothing is changed.
     pub fn is_failing(&self, ono: Ono) -> Option<bool>
         ensures failing { result ≡ failing_at self.now.tree ono.0 }
-        ensures represented { (w : DeviceSizes) (T : List Object) (E : List Event) →
-            RepresentsWithin ANSWER w self.now T E →
-            result ≡ failing_at (state_after w T E).tree ono.0 }
+        ensures represented { WhateverItRepresents ANSWER self.now (λ w T E.
+            result ≡ failing_at (state_after w T E).tree ono.0) }
     {
         self.tree.is_failing(ono)
     }
@@ -384,9 +359,7 @@ impl<const COMMAND: usize, const ANSWER: usize> DeviceOf<COMMAND, ANSWER> {
     /// was given. They change only by commands of datagrams, by locks that are released, and at the local front panel.
     pub fn tree(&self) -> &Tree
         ensures tree { result.now ≡ self.now.tree }
-        ensures represented { (w : DeviceSizes) (T : List Object) (E : List Event) →
-            RepresentsWithin ANSWER w self.now T E →
-            result.now ≡ (state_after w T E).tree }
+        ensures represented { WhateverItRepresents ANSWER self.now (λ w T E. result.now ≡ (state_after w T E).tree) }
     {
         &self.tree
     }
@@ -398,9 +371,8 @@ impl<const COMMAND: usize, const ANSWER: usize> DeviceOf<COMMAND, ANSWER> {
     pub fn sessions(&self) -> usize
         ensures sessions { result ≡ length self.now.sessions.sessions }
         ensures few { result ≤ self.now.sessions.sizes.peers }
-        ensures represented { (w : DeviceSizes) (T : List Object) (E : List Event) →
-            RepresentsWithin ANSWER w self.now T E →
-            result ≡ length (known_after (state_after w T E)) }
+        ensures represented { WhateverItRepresents ANSWER self.now (λ w T E.
+            result ≡ length (known_after (state_after w T E))) }
     {
         self.sessions.len()
     }
@@ -411,9 +383,8 @@ impl<const COMMAND: usize, const ANSWER: usize> DeviceOf<COMMAND, ANSWER> {
     #[tactic(auto, using(crate::proofs::Steps::known_at))]
     pub fn peer_at(&self, index: usize) -> Option<Peer>
         ensures peer { result ≡ slice_get (peers_of self.now.sessions.sessions) index }
-        ensures represented { (w : DeviceSizes) (T : List Object) (E : List Event) →
-            RepresentsWithin ANSWER w self.now T E →
-            result ≡ slice_get (known_after (state_after w T E)) index }
+        ensures represented { WhateverItRepresents ANSWER self.now (λ w T E.
+            result ≡ slice_get (known_after (state_after w T E)) index) }
     {
         self.sessions.peer_at(index)
     }
@@ -428,9 +399,7 @@ impl<const COMMAND: usize, const ANSWER: usize> DeviceOf<COMMAND, ANSWER> {
     pub fn written(&self) -> &[Ono]
         ensures written { numbers_of result.now ≡ self.now.written }
         ensures most { length result.now ≤ most_commands }
-        ensures represented { (w : DeviceSizes) (T : List Object) (E : List Event) →
-            RepresentsWithin ANSWER w self.now T E →
-            numbers_of result.now ≡ written w T E }
+        ensures represented { WhateverItRepresents ANSWER self.now (λ w T E. numbers_of result.now ≡ written w T E) }
     {
         self.written.as_slice()
     }
@@ -442,9 +411,7 @@ impl<const COMMAND: usize, const ANSWER: usize> DeviceOf<COMMAND, ANSWER> {
     pub fn effects(&self) -> &[Effect]
         ensures effects { result.now ≡ self.now.effects }
         ensures most { length result.now ≤ most_commands }
-        ensures represented { (w : DeviceSizes) (T : List Object) (E : List Event) →
-            RepresentsWithin ANSWER w self.now T E →
-            result.now ≡ effects w T E }
+        ensures represented { WhateverItRepresents ANSWER self.now (λ w T E. result.now ≡ effects w T E) }
     {
         self.effects.as_slice()
     }
@@ -454,8 +421,8 @@ impl<const COMMAND: usize, const ANSWER: usize> DeviceOf<COMMAND, ANSWER> {
     /// the device's present moment. `None` if there is no such moment within 64 bits, as without sessions. Nothing is
     /// changed.
     pub fn next_lapse(&self) -> Option<u64>
-        ensures { (w : DeviceSizes) (T : List Object) (E : List Event) → RepresentsWithin ANSWER w self.now T E →
-            let s = state_after w T E in MatchOption result (NeverLapses w s) (λ t. IsNextLapse w s t) }
+        ensures { WhateverItRepresents ANSWER self.now (λ w T E.
+            let s = state_after w T E in MatchOption result (NeverLapses w s) (λ t. IsNextLapse w s t)) }
     {
         match sooner(
             self.sessions.forgotten_from(),

@@ -1,7 +1,12 @@
 //! What the electronics of a device are handed.
+ghost use Rattle.std.specs.Prelude.{◌≡◌};
 ghost use Rattle.oca_device.specs.Following.{ElectronicsState, Follows};
 ghost use Rattle.oca_device.specs.Written.{numbers_of};
 
+use crate::device::Device;
+use crate::outbox::Outbox;
+use crate::report::Report;
+use oca_net::Heard;
 use oca_tree::Tree;
 use oca_types::Ono;
 
@@ -20,6 +25,23 @@ pub trait Electronics {
     /// long here delays the next receive.
     fn follow(&mut self, tree: &Tree, written: &[Ono])
         ensures { Follows tree.now (numbers_of written.now) (state self.old) (state self.new) };
+
+    /// Is called at the end of each turn of [`serve_with`](crate::serve_with), so that the program can write a log. It
+    /// does nothing if the electronics do not define it. [`serve_keeping`](crate::serve_keeping) tells its store
+    /// instead ([`Store::tell`](crate::Store::tell)).
+    ///
+    /// `_heard` is what was received, `_bytes` and `_answers` are the datagram and its answers, `_turn` is what the turn
+    /// did, and `_device` is the device after it.
+    fn tell(
+        &mut self,
+        _heard: Heard,
+        _bytes: &[u8],
+        _answers: &Outbox,
+        _turn: &Report,
+        _device: &Device,
+    )
+        ensures { state self.new ≡ state self.old }
+    {}
 }
 
 /// Electronics that do nothing, for a device without hardware.

@@ -14,7 +14,7 @@ use crate::device::Device;
 use crate::electronics::Electronics;
 use crate::outbox::Outbox;
 use crate::report::Report;
-use crate::serving::{a_turn, nothing, of_verdict, send_all, sum};
+use crate::serving::{a_turn, nothing, of_verdict, send_all};
 use crate::store::Store;
 use oca_net::{End, Heard};
 use oca_types::{NoMemory, Packet, Peer};
@@ -23,7 +23,7 @@ use std::fmt;
 use std::marker::Model;
 
 /// The most turns before the objects are stored once.
-const MOST_TURNS: u32 = 64;
+const MOST_TURNS: u64 = 64;
 
 /// For how many packets that wait there is room: three times as many as answer one datagram at most.
 const ROOM: usize = 366;
@@ -204,7 +204,7 @@ pub fn serve_keeping<E: End, S: Store, L: Electronics>(
     keeping: &mut Keeping,
     store: &mut S,
     electronics: &mut L,
-    turns: u32,
+    turns: u64,
 ) -> Report
     ensures served { ServesKeeping keeping.old.is_behind keeping.new.is_behind device.old device.new (E.state end.old)
         (E.state end.new) (L.state electronics.old) (L.state electronics.new) (S.state store.old) (S.state store.new)
@@ -245,8 +245,8 @@ pub fn serve_keeping<E: End, S: Store, L: Electronics>(
 }
 
 /// What was done, and a group more, of at most so many turns that are left.
-fn with_group(report: Report, group: Taken, left: u32) -> Report
-    requires fits { report.turns + left < 2 ^ 32 }
+fn with_group(report: Report, group: Taken, left: u64) -> Report
+    requires fits { report.turns + left < 2 ^ 64 }
     requires most { group.turns ≤ left }
     requires same { group.report.turns ≡ group.turns }
     ensures report { result ≡ capped (added report group.report) }
@@ -270,7 +270,7 @@ fn answer_of(to: Peer, packet: &Packet) -> Answer
 #[derive(Clone, Copy)]
 struct Taken {
     report: Report,
-    turns: u32,
+    turns: u64,
     is_due: bool,
     is_closed: bool,
 }
@@ -284,7 +284,7 @@ fn serve_group<E: End, S: Store, L: Electronics>(
     store: &mut S,
     electronics: &mut L,
     packet: &mut Packet,
-    most: u32,
+    most: u64,
 ) -> Taken
     requires outbox { outbox.old ≡ [] }
     requires none { keeping.old.held ≡ [] }
@@ -372,7 +372,7 @@ fn take_in<E: End, S: Store, L: Electronics>(
     store: &mut S,
     electronics: &mut L,
     packet: &mut Packet,
-    most: u32,
+    most: u64,
 ) -> Taken
     requires outbox { outbox.old ≡ [] }
     requires none { keeping.old.held ≡ [] }

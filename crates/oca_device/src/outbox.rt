@@ -54,7 +54,7 @@ impl Outbox {
         self.packets().len()
     }
 
-    /// Whether the outbox has no packet, so that the last datagram gets no answer. `true` for a new outbox, and after
+    /// Whether the outbox has no packet: after a datagram that gets no answer, in a new outbox, and after
     /// [`clear`](Outbox::clear).
     pub fn is_empty(&self) -> bool
         ensures { result ≡ (length self.now == 0) }

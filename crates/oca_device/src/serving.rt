@@ -3,9 +3,9 @@ ghost use Rattle.std.specs.Prelude.{◌≡◌, ◌+◌, ◌<◌, ◌≤◌, ◌^
 ghost use Rattle.oca_pdu.specs.Limits.{most_answered};
 ghost use Rattle.oca_net.specs.Ends.{last_u64};
 ghost use Rattle.oca_net.specs.EndStates.{SendsAllBut};
-ghost use Rattle.oca_device.specs.Reports.{added, no_turns, one_turn, verdict_turn, receives_of};
+ghost use Rattle.oca_device.specs.Reports.{no_turns, one_turn, verdict_turn, receives_of};
 ghost use Rattle.oca_device.specs.Replies.{ServesEnd, sent_to};
-ghost use Rattle.oca_device.specs.Following.{ServesEndWith};
+ghost use Rattle.oca_device.specs.Following.{ServesEndWith, ServesLongWith};
 ghost use Rattle.oca_device.specs.PrivateTotals.{IsAtMostEach, TakesTurn};
 
 use crate::device::Device;
@@ -47,7 +47,7 @@ pub fn serve<E: End>(device: &mut Device, end: &mut E, outbox: &mut Outbox, turn
     ensures outbox { outbox.new ≡ [] }
 {
     let mut none = NoElectronics;
-    serve_with(device, end, outbox, &mut none, turns)
+    serve_with(device, end, outbox, &mut none, u64::from(turns))
 }
 
 /// Serves an end for at most `turns` turns, and calls `electronics` after each datagram. *Electronics* are the
@@ -62,8 +62,8 @@ pub fn serve<E: End>(device: &mut Device, end: &mut E, outbox: &mut Outbox, turn
 /// - No datagram came, or one of more than 1,472 bytes: the device's clock moves on. The electronics are not called.
 /// - The receive failed: the failure is counted. The electronics are not called.
 ///
-/// The loop ends after `turns` turns. It ends earlier if the end is closed, which does not count as a turn. With 0
-/// turns nothing is received.
+/// At its end a turn is told to the electronics ([`Electronics::tell`]). The loop ends after `turns` turns. It ends
+/// earlier if the end is closed, which does not count as a turn. With 0 turns nothing is received.
 ///
 /// All sends come first. Failed sends delay the electronics, each for as long as the end takes. At a `UdpEnd` that is
 /// up to a millisecond a packet, and there are at most 122 packets.
@@ -72,10 +72,12 @@ pub fn serve_with<E: End, L: Electronics>(
     end: &mut E,
     outbox: &mut Outbox,
     electronics: &mut L,
-    turns: u32,
+    turns: u64,
 ) -> Report
-    ensures served { ServesEndWith device.old device.new (E.state end.old) (E.state end.new) (L.state electronics.old)
+    ensures served { ServesLongWith device.old device.new (E.state end.old) (E.state end.new) (L.state electronics.old)
         (L.state electronics.new) result }
+    ensures exact { turns < 4294967296 → ServesEndWith device.old device.new (E.state end.old) (E.state end.new)
+        (L.state electronics.old) (L.state electronics.new) result }
     ensures turns { result.turns ≤ turns }
     ensures closed { result.turns < turns → IsTrue (E.state end.new).closed }
     ensures receives { (E.state end.new).receives < last_u64 →
@@ -87,7 +89,7 @@ pub fn serve_with<E: End, L: Electronics>(
     let mut packet = Packet::new();
     for _turn in 0..turns {
         match take_turn(device, end, outbox, electronics, &mut packet) {
-            Some(turn) => report = sum(report, turn),
+            Some(turn) => report = report + turn,
             None => return report,
         }
     }
@@ -112,31 +114,42 @@ fn take_turn<E: End, L: Electronics>(
         Heard::Datagram { from, now } => {
             let verdict = device.datagram(from, packet.as_slice(), now, outbox);
             let failed_sends = send_all(end, from, outbox);
-            outbox.clear();
             electronics.follow(device.tree(), device.written());
-            Some(Report {
+            let turn = Report {
                 failed_sends,
                 ..of_verdict(verdict)
-            })
+            };
+            let heard = Heard::Datagram { from, now };
+            electronics.tell(heard, packet.as_slice(), outbox, &turn, device);
+            outbox.clear();
+            Some(turn)
         }
         Heard::Quiet { now } => {
             device.tick(now);
-            Some(Report {
+            let turn = Report {
                 quiet: 1,
                 ..a_turn()
-            })
+            };
+            electronics.tell(Heard::Quiet { now }, &[], outbox, &turn, device);
+            Some(turn)
         }
         Heard::Oversize { now } => {
             device.tick(now);
-            Some(Report {
+            let turn = Report {
                 oversize: 1,
                 ..a_turn()
-            })
+            };
+            electronics.tell(Heard::Oversize { now }, &[], outbox, &turn, device);
+            Some(turn)
         }
-        Heard::Failed => Some(Report {
-            failed_receives: 1,
-            ..a_turn()
-        }),
+        Heard::Failed => {
+            let turn = Report {
+                failed_receives: 1,
+                ..a_turn()
+            };
+            electronics.tell(Heard::Failed, &[], outbox, &turn, device);
+            Some(turn)
+        }
         Heard::Closed => None,
     }
 }
@@ -153,15 +166,6 @@ pub(crate) fn send_all<E: End>(end: &mut E, to: Peer, outbox: &Outbox) -> u64
         }
     }
     failed
-}
-
-/// What both did, where the numbers fit.
-pub(crate) fn sum(a: Report, b: Report) -> Report
-    requires a { IsAtMostEach (2 ^ 64 - 2 ^ 32) a }
-    requires b { IsAtMostEach (2 ^ 32 - 1) b }
-    ensures { result ≡ added a b }
-{
-    a + b
 }
 
 /// No turns.

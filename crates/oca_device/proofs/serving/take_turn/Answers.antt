@@ -2,26 +2,26 @@ use Rattle.std.proofs.Common.{refl, ap, subst, List, ℕ}
 use Rattle.oca_net.specs.declared.end.Heard.TheVariants as heard
 use Rattle.oca_net.specs.EndStates.{Receives}
 use Rattle.oca_device.specs.declared.report.Report.{Report}
-use Rattle.oca_device.proofs.Turns.{quiet_turn, oversize_turn, failed_turn, datagram_turn}
+use Rattle.oca_device.proofs.Turns.{quiet_turn, oversize_turn, failed_turn, datagram_turn, told_turn}
 use Rattle.oca_device.proofs.serving.take_turn.Goals as goal
 
 pub returns-in-Datagram-clause-turn : goal.returns-in-Datagram-clause-turn
 returns-in-Datagram-clause-turn g c =
-    datagram_turn _ c.as_slice.result.now c.datagram-verdict.result c.of_verdict.result refl c.of_verdict.ensures c.as_slice.ensures.fits c.as_slice.ensures.value c.in-Datagram.ensures
+    told_turn c.tell.ensures (datagram_turn _ c.as_slice.result.now c.datagram-verdict.result c.of_verdict.result refl c.of_verdict.ensures c.as_slice.ensures.fits c.as_slice.ensures.value c.in-Datagram.ensures
     c.datagram-verdict.ensures.represents c.datagram-verdict.ensures.packets c.datagram-verdict.ensures.verdict c.send_all-failed_sends.ensures.sends
-    c.tree.ensures.tree c.written.ensures.written c.follow.ensures
+    c.tree.ensures.tree c.written.ensures.written c.follow.ensures)
 
 pub returns-in-Quiet-clause-turn : goal.returns-in-Quiet-clause-turn
 returns-in-Quiet-clause-turn g c =
-    quiet_turn _ (ap (λ (q : Report). let r : Report = record q { quiet = 1 } in r) c.a_turn.ensures) c.in-Quiet.ensures c.tick.ensures
+    told_turn c.tell-in-Quiet.ensures (quiet_turn _ (ap (λ (q : Report). let r : Report = record q { quiet = 1 } in r) c.a_turn.ensures) c.in-Quiet.ensures c.tick.ensures)
 
 pub returns-in-Oversize-clause-turn : goal.returns-in-Oversize-clause-turn
 returns-in-Oversize-clause-turn g c =
-    oversize_turn _ (ap (λ (q : Report). let r : Report = record q { oversize = 1 } in r) c.a_turn-in-Oversize.ensures) c.in-Oversize.ensures c.tick-in-Oversize.ensures
+    told_turn c.tell-in-Oversize.ensures (oversize_turn _ (ap (λ (q : Report). let r : Report = record q { oversize = 1 } in r) c.a_turn-in-Oversize.ensures) c.in-Oversize.ensures c.tick-in-Oversize.ensures)
 
 pub returns-in-Failed-clause-turn : goal.returns-in-Failed-clause-turn
 returns-in-Failed-clause-turn g c =
-    failed_turn _ (ap (λ (q : Report). let r : Report = record q { failed_receives = 1 } in r) c.a_turn-in-Failed.ensures) c.in-Failed.ensures refl
+    told_turn c.tell-in-Failed.ensures (failed_turn _ (ap (λ (q : Report). let r : Report = record q { failed_receives = 1 } in r) c.a_turn-in-Failed.ensures) c.in-Failed.ensures refl)
 
 pub returns-in-Closed-clause-turn : goal.returns-in-Closed-clause-turn
 returns-in-Closed-clause-turn g c = record {
