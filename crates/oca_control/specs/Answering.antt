@@ -1,5 +1,5 @@
--- WHAT COMES OF A COMMAND over histories of calls (*profile*): each that is due is sent, again and again where the
--- link is asked often enough, and what was answered stays so. As in Histories the latest call stands first.
+-- WHAT COMES OF A COMMAND over histories of calls: each that is due is sent, again and again where the link is asked
+-- often enough, and what was answered stays so. As in Histories the latest call stands first.
 use Rattle.std.specs.Prelude.{◌≡◌, ◌⊎◌, ℕ, ◌+◌, ◌*◌, ◌==◌, ◌<◌, ◌≤◌, max, Bool, true, false, ⊤, if◌then◌else◌, List, []}
 use Rattle.std.specs.Prelude.{◌∷◌, ◌++◌, length, Some, None, is_some, Ok}
 use Rattle.std.specs.List.{AllByRecursion, list_any}

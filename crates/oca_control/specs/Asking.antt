@@ -1,4 +1,4 @@
--- The outcome of a command that is asked of a link over an end (*profile*).
+-- The outcome of a command that is asked of a link over an end.
 use Rattle.std.specs.Prelude.{◌≡◌, ℕ, ◌+◌, ◌≤◌, Bool, true, false, ◌||◌, if◌then◌else◌, Some, None, Result, Ok}
 use Rattle.std.specs.Prelude.{Err}
 use Rattle.oca_types.specs.declared.words.Handle.{Handle}

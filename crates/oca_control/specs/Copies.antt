@@ -1,5 +1,5 @@
--- COPIES IN TIME (*profile*), over whole histories of the calls of a link. As in Histories the latest call and the
--- latest sending stand first.
+-- COPIES IN TIME, over whole histories of the calls of a link. As in Histories the latest call and the latest sending
+-- stand first.
 use Rattle.std.specs.Prelude.{◌≡◌, ℕ, ◌+◌, ◌==◌, ◌<◌, ◌≤◌, nat_le, max, Bool, true, false, ⊤, if◌then◌else◌, List, []}
 use Rattle.std.specs.Prelude.{◌∷◌, ◌++◌, length, Option, Some, None, Result, Ok, Err}
 use Rattle.std.specs.List.{flat_map, AllByRecursion}

@@ -1,4 +1,4 @@
--- Why a command is not submitted, in words (*profile*).
+-- Why a command is not submitted, in words.
 use Rattle.std.specs.Prelude.{ℕ, List, codes}
 use Rattle.oca_control.specs.declared.fault.ControlFault.{ControlFault}
 use Rattle.oca_control.specs.declared.fault.ControlFault.TheVariants.{Lost, HandlesSpent, SpanFull, TooLong}

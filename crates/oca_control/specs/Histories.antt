@@ -1,6 +1,6 @@
--- THE LAW OF A LINK over whole histories of its calls (profile). Of calls, commands and sendings the LATEST STANDS
--- FIRST, so that what stands after a member (`before`) came before it. Messages and answers stand in order, the first
--- one first. Moments are in milliseconds.
+-- THE LAW OF A LINK over whole histories of its calls. Of calls, commands and sendings the LATEST STANDS FIRST, so that
+-- what stands after a member (`before`) came before it. Messages and answers stand in order, the first one first.
+-- Moments are in milliseconds.
 use Rattle.std.specs.Prelude.{◌≡◌, ◌⊎◌, ℕ, ◌+◌, ◌-◌, ◌==◌, ◌<◌, ◌≤◌, nat_le, max, Bool, true, false, not, ◌&&◌, ◌||◌, ⊤}
 use Rattle.std.specs.Prelude.{if◌then◌else◌, List, [], ◌∷◌, ◌++◌, length, Option, Some, None, is_none, is_some, Result}
 use Rattle.std.specs.Prelude.{Ok, Err}

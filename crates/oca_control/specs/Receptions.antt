@@ -1,4 +1,4 @@
--- WHAT BECAME OF EACH DATAGRAM over histories of calls (*profile*). As in Histories the latest call stands first.
+-- WHAT BECAME OF EACH DATAGRAM over histories of calls. As in Histories the latest call stands first.
 use Rattle.std.specs.Prelude.{◌≡◌, ℕ, ◌==◌, ◌<◌, Bool, true, false, ◌&&◌, ⊤, List, [], ◌∷◌, length, Option, Some, None}
 use Rattle.std.specs.Prelude.{is_none, is_some}
 use Rattle.std.specs.List.{AllByRecursion, list_any}

@@ -1,6 +1,6 @@
--- A LINK THAT RUNS OVER AN END (*profile*): what is done with it by the calls of this crate, at which moments, and that
--- it is asked in time where the receives of the end return in time. Moments are in milliseconds, and stand in the order
--- of time here.
+-- A LINK THAT RUNS OVER AN END: what is done with it by the calls of this crate, at which moments, and that it is asked
+-- in time where the receives of the end return in time. Moments are in milliseconds, and stand in the order of time
+-- here.
 use Rattle.std.specs.Prelude.{◌≡◌, ℕ, ◌+◌, ◌-◌, ◌*◌, ◌<◌, ◌≤◌, max, true, false, ⊤, IsTrue, List, [], ◌∷◌, ◌++◌, Result, Ok}
 use Rattle.std.specs.Prelude.{Err, is_none, length}
 use Rattle.std.specs.List.{flat_map, AllByRecursion}

@@ -1,4 +1,4 @@
--- Answers that a link has no room for (*profile*): such an answer is shortened to its handle and a status.
+-- Answers that a link has no room for: such an answer is shortened to its handle and a status.
 use Rattle.std.specs.Prelude.{ℕ, nat_lt, nat_le, if◌then◌else◌, List, [], map, length, Option}
 use Rattle.std.specs.Option.{option_map}
 use Rattle.oca_types.specs.Sizes.{most_parameter_bytes}

@@ -1,12 +1,12 @@
--- What is sent in time, and a turn (*profile*): a copy of a command is sent at most 15,000 ms after its submit,
--- or never. Where the link is late, nothing is sent, and it counts as lost.
-use Rattle.std.specs.Prelude.{◌≡◌, ◌⊎◌, ℕ, ◌+◌, Bool, true, false, if◌then◌else◌, List, [], ◌∷◌}
+-- What is sent in time, and a turn: a copy of a command is sent at most 15,000 ms after its submit, or never. Where the
+-- link is late, nothing is sent, and it counts as lost.
+use Rattle.std.specs.Prelude.{◌≡◌, ◌⊎◌, ℕ, ◌+◌, ◌≤◌, min, Bool, true, false, if◌then◌else◌, List, [], ◌∷◌}
 use Rattle.oca_net.specs.declared.end.Heard.TheVariants as heard
 use Rattle.oca_net.specs.Deliveries.{Delivery, Datagram, Quiet, Failed}
-use Rattle.oca_net.specs.Ends.{one_more}
-use Rattle.oca_net.specs.EndStates.{EndState, Receives, DeliversAndTakes}
+use Rattle.oca_net.specs.Ends.{last_u64, one_more}
+use Rattle.oca_net.specs.EndStates.{EndState, IsPresent, Receives, DeliversAndTakes}
 use Rattle.oca_control.specs.declared.report.DriveReport.{DriveReport}
-use Rattle.oca_control.specs.Links.{LinkState, Decision, IsLost, late_at}
+use Rattle.oca_control.specs.Links.{LinkState, Decision, GivesNothing, IsLost, decision, late_at}
 use Rattle.oca_control.specs.Driving.{HearsDelivery, SendsDue, decisions_from, link_from, all_given_to, drive_report_of}
 
 -- What is sent where the link is late, and where it is not: nothing, which changes neither the link nor the end,
@@ -63,3 +63,25 @@ pub record FindsClosed (old new : LinkState) (before after : EndState) (report :
 -- a turn, or a closed end
 abbrev pub Turns : LinkState → LinkState → EndState → EndState → DriveReport → Type 0
 Turns old new before after report = TurnsLinkOnce old new before after report ⊎ FindsClosed old new before after report
+
+-- ---- the wait of a turn
+
+-- something is due at a moment
+abbrev pub IsDueAt : LinkState → ℕ → Type 0
+IsDueAt l t = (decision t l ≡ GivesNothing) → ⊥
+
+-- A TURN THAT BEGINS NOW RECEIVES UNTIL THEN: for 50 ms at most, and no longer than until something is due; and less
+-- than 50 ms only where something is due, or the clock ends.
+pub record IsEndOfTurn (l : LinkState) (now until : ℕ) : Type 0 where
+  pub most : until ≤ now + 50
+  pub due : (t : ℕ) → l.moment ≤ t → IsDueAt l t → until ≤ t
+  pub least : (until ≡ min (now + 50) last_u64) ⊎ IsDueAt l until
+
+-- THE RECEIVE OF A TURN: at a present moment of the end it is asked to wait as a turn does, and this is what the end
+-- then says of its wait until that moment.
+pub record ReceivesInTurn (l : LinkState) (before : EndState) (waited : ℕ → Type 0) : Type 0 where
+  pub now : ℕ
+  pub until : ℕ
+  pub present : IsPresent now before
+  pub ends : IsEndOfTurn l now until
+  pub waits : waited until

@@ -1,4 +1,4 @@
--- The commands whose answers have not been taken (*profile*). In a list of them the lowest handle stands first.
+-- The commands whose answers have not been taken. In a list of them the lowest handle stands first.
 use Rattle.std.specs.Prelude.{ℕ, ◌+◌, ◌-◌, ◌==◌, nat_lt, nat_le, Bool, not, ◌&&◌, ◌||◌, if◌then◌else◌, List, [], ◌∷◌}
 use Rattle.std.specs.Prelude.{map, filter, Option, Some, None, is_none, is_some}
 use Rattle.std.specs.List.{list_any, list_all}

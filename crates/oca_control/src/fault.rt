@@ -6,7 +6,7 @@ use std::error::Error;
 use std::fmt::{self, Display, Formatter};
 
 /// Why a link refuses a command, in the order of the tests: the first that applies is returned. The numbers are
-/// promised (*profile*).
+/// promised.
 #[derive(Clone, Copy, Debug, PartialEq, Eq)]
 pub enum ControlFault {
     /// The link is lost: a command got no answer to 20 transmissions. Calls over an end also return it for a link that

@@ -37,7 +37,7 @@ const KEEP_ALIVE_MS: u64 = 2500;
 
 /// A controller's link to one device: it decides what is sent and when, and stores the answers. No call takes memory.
 /// The commands, at most 32, lie in the link itself, each with its answer. So what the link takes in bytes follows from
-/// the longest command and the longest answer (*profile*):
+/// the longest command and the longest answer:
 /// - `COMMAND` is the number of bytes of parameters that a command may have, and at most 1,445 count. A longer command
 ///   is refused.
 /// - `ANSWER` is the number of bytes of parameters that an answer may have. An answer with more is stored with the

@@ -119,9 +119,9 @@ impl<const COMMAND: usize, const ANSWER: usize> Slot<COMMAND, ANSWER> {
             && (self.times == 0 || now.saturating_sub(self.last) >= REPEAT_MS)
     }
 
-    /// Whether the slot has a command that is late at the moment `now` (*profile*), in milliseconds of the link's
-    /// clock: the command is unanswered, and was submitted more than 15,000 ms before. `false` for an empty slot.
-    /// Nothing is changed.
+    /// Whether the slot has a command that is late at the moment `now`, in milliseconds of the link's clock: the
+    /// command is unanswered, and was submitted more than 15,000 ms before. `false` for an empty slot. Nothing is
+    /// changed.
     pub fn is_late(&self, now: u64) -> bool
         ensures { result ≡ held_is_late now self.now }
     {

@@ -112,9 +112,9 @@ impl<const COMMAND: usize, const ANSWER: usize> Table<COMMAND, ANSWER> {
         Some(Due::Send(handle))
     }
 
-    /// Whether a command of the table is late at the moment `now` (*profile*), in milliseconds of the link's clock: the
-    /// command is unanswered, and was submitted more than 15,000 ms before. `false` for a table without commands.
-    /// Nothing is changed.
+    /// Whether a command of the table is late at the moment `now`, in milliseconds of the link's clock: the command is
+    /// unanswered, and was submitted more than 15,000 ms before. `false` for a table without commands. Nothing is
+    /// changed.
     pub fn is_late(&self, now: u64) -> bool
         ensures { result ≡ list_any (is_late now) self.now.untaken }
     {

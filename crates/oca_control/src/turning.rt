@@ -1,9 +1,10 @@
 //! A turn of a link over an end, in which no command is sent too late.
 ghost use Rattle.std.specs.Prelude.{◌≡◌, false};
+ghost use Rattle.oca_net.specs.Ends.{one_more};
 ghost use Rattle.oca_control.specs.Links.{late_at};
-ghost use Rattle.oca_control.specs.Turning.{SendsInTime, Turns};
+ghost use Rattle.oca_control.specs.Turning.{IsEndOfTurn, ReceivesInTurn, SendsInTime, Turns};
 ghost use Rattle.oca_control.specs.Running.{NothingIsLeft, LeavesNothing};
-ghost use Rattle.oca_control.specs.PrivateTurning.{IsEndOfTurn, lost_report};
+ghost use Rattle.oca_control.specs.PrivateTurning.{lost_report};
 
 use crate::driving::{count_of, nothing, send_due};
 use crate::link::{Link, LinkOf};
@@ -15,9 +16,9 @@ use oca_types::Packet;
 const WAIT_MS: u64 = 50;
 
 /// Returns whether a link is late at the moment `now`: a command was submitted more than 15,000 ms before and has no
-/// answer (*profile*). `now` is in milliseconds of the link's clock. A moment earlier than the latest one that the link
-/// was given is treated as that latest one. Whether the command was sent does not matter. The result is `false` for a
-/// link without commands. Nothing is changed.
+/// answer. `now` is in milliseconds of the link's clock. A moment earlier than the latest one that the link was given
+/// is treated as that latest one. Whether the command was sent does not matter. The result is `false` for a link
+/// without commands. Nothing is changed.
 ///
 /// A link becomes late only if the program paused. A link that is asked in time has its answer by then, or is lost. A
 /// late link must send nothing, for these reasons:
@@ -79,6 +80,8 @@ pub fn send_in_time<E: End, const COMMAND: usize, const ANSWER: usize>(
 pub fn turn<E: End>(link: &mut Link, end: &mut E) -> DriveReport
     ensures turns { Turns link.old link.new (E.state end.old) (E.state end.new) result }
     ensures left { LeavesNothing result link.new }
+    ensures waits { (behind : E) × ((E.state behind).receives ≡ one_more (E.state end.old).receives)
+        × ReceivesInTurn link.old (E.state end.old) (E.waited end.old behind) }
 {
     let mut packet = Packet::new();
     let until = end_of_turn(link, end.now());

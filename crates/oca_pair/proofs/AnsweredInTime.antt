@@ -15,7 +15,8 @@ use Rattle.oca_pdu.specs.Reading.{read_datagram}
 use Rattle.oca_pdu.specs.Laws.{WrittenIsReadBack}
 use Rattle.oca_tree.specs.declared.object.Object.{Object}
 use Rattle.oca_session.specs.Accepted.{Entry}
-use Rattle.oca_device.specs.Events.{Datagram}
+use Rattle.oca_device.specs.Events.{Event, Datagram}
+use Rattle.oca_device.specs.Events as events
 use Rattle.oca_control.specs.declared.fault.ControlFault.{ControlFault}
 use Rattle.oca_control.specs.Answers.{AnswerFields}
 use Rattle.oca_control.specs.Untaken.{Untaken, new_untaken, first_due, marked_sent, answer_under, without_handle}
@@ -23,7 +24,7 @@ use Rattle.oca_control.specs.Answering.{IsAskedEvery}
 use Rattle.oca_control.specs.Links.{LinkState, Request, command_under, submission, after_submission, handle_after, Decision, GivesCommand, GivesKeepAlive, GivesNothing, IsLost, decision_among, decision, after_due, gone_on, received, taken, present_moment}
 use Rattle.oca_pair.specs.declared.outcome.Outcome.TheVariants as outcomes
 use Rattle.oca_pair.specs.declared.start.Start.{Start}
-use Rattle.oca_pair.specs.Networks.{Network, PeerLink, SentDatagram, Renewal, Setup, started, opening, zero_after, zero_of, left_by}
+use Rattle.oca_pair.specs.Networks.{Network, PeerLink, SentDatagram, Renewal, Setup, started, opening, zero_after, zero_of, left_by, all_left_out, device_zero_of}
 use Rattle.oca_pair.specs.Steps.{Step, Submit, Due, ToDevice, ToLink, Other, Take, Renew, Beside, has_link, given_by, on_link, submit_outcome, after_submit, after_due_step, after_delivery, content_read, hears_datagram, after_reception, after_take, after_beside, with_link, is_no_lower, renewed_link, renewal_of, after_renewal, after_step, after_steps, outcome_of_step}
 use Rattle.oca_pair.specs.Steps as steps
 use Rattle.oca_pair.specs.Premises.{are_apart, StepFits, Fit, FindsRoom}
@@ -48,9 +49,9 @@ use Rattle.oca_pair.proofs.Networks.{one_or, LinkSound, Sound, out_read, sound_s
 use Rattle.oca_pair.proofs.Lawful.{delivered}
 use Rattle.oca_pair.proofs.RoundTrip.{to_device_steps, to_device_opening, comes_back}
 use Rattle.oca_pair.proofs.GettingThrough.{TripsOf, after_more, took, gets_through_by}
-use Rattle.oca_pair.proofs.Timed.{TimedBytes, TimedDeparture, Timed, first_due_in}
-use Rattle.oca_pair.proofs.Stragglers.{stamps, stamps_marked_sent, stamps_received, stamps_more, in_stamps, each_stamp, without_stamps, Left, LeftSo, Straggling, straggling_later, straggling_taken, straggling_submit, straggling_more, leaves_now, straggling_renewed, straggling_other, straggling_passes, straggling_accepted}
-use Rattle.oca_pair.proofs.InTime.{zeros, TimedAt, at_put, apart_at, sendable_untaken, clock_is, departed, timed_step, timed_steps, timed_opening}
+use Rattle.oca_pair.proofs.Timed.{TimedBytes, TimedDeparture, Timed, Zeros, first_due_in}
+use Rattle.oca_pair.proofs.Stragglers.{stamps, stamps_marked_sent, stamps_received, stamps_more, in_stamps, each_stamp, without_stamps, Left, LeftSo, Straggling, straggling_later, straggling_behind, straggling_taken, straggling_submit, straggling_more, leaves_now, straggling_renewed, straggling_other, straggling_passes, straggling_accepted}
+use Rattle.oca_pair.proofs.InTime.{zeros, TimedAt, at_put, apart_at, sendable_untaken, clock_is, falls_behind, departed, timed_step, timed_steps, timed_opening}
 
 -- ---- the network
 
@@ -234,7 +235,7 @@ step_renewal s i k first span now origin left n sound g (Some x) e = by_test (is
     others : (l : PeerLink) → nat_eq k i ≡ false → slice_get n.links i ≡ Some l → StragglingOf s left m l
     others l other own =
         let apart : same_peer x.peer l.peer ≡ false = other_is x.peer l.peer (apart_at n.links k i x l sound.apart e own other) in
-        subst (λ (z : ℕ). Straggling s l.peer (record { link = z; device = s.device_zero }) l.link.moment (stamps l.link.untaken) (renewal_of x origin ∷ n.renewed) left (state_of (past n)).moment (accepted_by l.peer (past n)))
+        subst (λ (z : ℕ). Straggling s l.peer (record { link = z; device = device_zero_of s n }) l.link.moment (stamps l.link.untaken) (renewal_of x origin ∷ n.renewed) left (state_of (past n)).moment (accepted_by l.peer (past n)))
         (sym (ap (λ c. cond c origin (zero_of s l.peer n)) apart))
         (straggling_other s l.peer (zeros s n l.peer) l.link.moment (stamps l.link.untaken) n.renewed left (state_of (past n)).moment (accepted_by l.peer (past n)) (renewal_of x origin) apart (g l own))
 
@@ -255,12 +256,21 @@ step_reception s i now left n g (Some d) = λ l own. let z = mapped_at (hears_da
 
 -- ---- a datagram comes to the device
 
+-- the zeros of the clocks with an event more
+abbrev behind : Setup → Network → Peer → Event → Zeros
+behind s n p e = record { link = zero_of s p n; device = s.device_zero + all_left_out s.left_out (e ∷ n.events) }
+
+straggling_event : (s : Setup) (n : Network) (p : Peer) (e : Event) (m : ℕ) (K : List (ℕ × ℕ)) (left : List Departure) (moment : ℕ) (A : List Entry) → Straggling s p (zeros s n p) m K n.renewed left moment A →
+    Straggling s p (behind s n p e) m K n.renewed left moment A
+straggling_event s n p e m K left moment A g = straggling_behind s p (zeros s n p) (s.device_zero + all_left_out s.left_out (e ∷ n.events)) m K n.renewed left moment A (falls_behind s n e) g
+
 -- of another peer
 elsewhere : (s : Setup) (left : List Departure) (n : Network) (q : Peer) (bytes : List ℕ) (now : ℕ) (l : PeerLink) → same_peer q l.peer ≡ false → StragglingOf s left n l →
-    Straggling s l.peer (zeros s n l.peer) l.link.moment (stamps l.link.untaken) n.renewed left (state_of (and_then (Datagram q bytes now) (past n))).moment (accepted_by l.peer (and_then (Datagram q bytes now) (past n)))
-elsewhere s left n q bytes now l other g = straggling_passes s l.peer (zeros s n l.peer) l.link.moment (stamps l.link.untaken) n.renewed left (state_of (past n)).moment
+    Straggling s l.peer (behind s n l.peer (Datagram q bytes now)) l.link.moment (stamps l.link.untaken) n.renewed left (state_of (and_then (Datagram q bytes now) (past n))).moment (accepted_by l.peer (and_then (Datagram q bytes now) (past n)))
+elsewhere s left n q bytes now l other g = straggling_event s n l.peer (Datagram q bytes now) l.link.moment (stamps l.link.untaken) left (state_of (and_then (Datagram q bytes now) (past n))).moment (accepted_by l.peer (and_then (Datagram q bytes now) (past n)))
+    (straggling_passes s l.peer (zeros s n l.peer) l.link.moment (stamps l.link.untaken) n.renewed left (state_of (past n)).moment
     (state_of (and_then (Datagram q bytes now) (past n))).moment (accepted_by l.peer (past n)) (accepted_by l.peer (and_then (Datagram q bytes now) (past n)))
-    (later ((state_of (and_then (Datagram q bytes now) (past n))).moment) (moment_reading n.sizes q (read_datagram bytes) (looked_at now (past n)))) (accepted_other l.peer q bytes now (past n) other) g
+    (later ((state_of (and_then (Datagram q bytes now) (past n))).moment) (moment_reading n.sizes q (read_datagram bytes) (looked_at now (past n)))) (accepted_other l.peer q bytes now (past n) other) g)
   where
     later : (t : ℕ) → t ≡ max (state_of (past n)).moment now → (state_of (past n)).moment ≤ t
     later t e = omega arith
@@ -285,8 +295,9 @@ step_delivery law s i k now left n sound in_time timed (Some d) e then g = λ l 
     m = after_delivery now (Some d) n
 
     mine : (l : PeerLink) → slice_get n.links i ≡ Some l → d.peer ≡ l.peer → StragglingOf s left m l
-    mine l own same = subst (λ (q : Peer). Straggling s p (zeros s n p) l.link.moment (stamps l.link.untaken) n.renewed left (state_of (and_then (Datagram q d.bytes now) (past n))).moment (accepted_by p (and_then (Datagram q d.bytes now) (past n)))) (sym same)
-        (by_grown (grows_once p read.0 d.bytes now (past n) read.1 read.2 (subst (λ (q : Peer). IsDistinct eqb (handles_for p (state_of (and_then (Datagram q d.bytes now) (past n))).notes)) same (then l own).once)))
+    mine l own same = straggling_event s n l.peer (Datagram d.peer d.bytes now) l.link.moment (stamps l.link.untaken) left (state_of (past m)).moment (accepted_by l.peer (past m))
+        (subst (λ (q : Peer). Straggling s p (zeros s n p) l.link.moment (stamps l.link.untaken) n.renewed left (state_of (and_then (Datagram q d.bytes now) (past n))).moment (accepted_by p (and_then (Datagram q d.bytes now) (past n)))) (sym same)
+        (by_grown (grows_once p read.0 d.bytes now (past n) read.1 read.2 (subst (λ (q : Peer). IsDistinct eqb (handles_for p (state_of (and_then (Datagram q d.bytes now) (past n))).notes)) same (then l own).once))))
       where
         p : Peer
         p = l.peer
@@ -321,8 +332,8 @@ step_delivery law s i k now left n sound in_time timed (Some d) e then g = λ l 
         clock : moment' ≡ clock_at now n
         clock = moment_reading n.sizes p (read_datagram d.bytes) (looked_at now (past n)) ∙ clock_is now n
 
-        came : ArrivesInTime at.0.at (s.device_zero + moment')
-        came = subst (λ (t : ℕ). ArrivesInTime at.0.at (s.device_zero + t)) (sym clock) (in_time l at.0 own at.1 its)
+        came : ArrivesInTime at.0.at (device_zero_of s n + moment')
+        came = subst (λ (t : ℕ). ArrivesInTime at.0.at (device_zero_of s n + t)) (sym clock) (in_time l at.0 own at.1 its)
 
         later : (t : ℕ) → t ≡ max (state_of (past n)).moment now → (state_of (past n)).moment ≤ t
         later t q = omega arith
@@ -350,8 +361,8 @@ step_straggling law s i left step n sound in_time timed then g = one step in_tim
     none m f l own = rw append-nil (f l own)
 
     passes : (now : ℕ) (l : PeerLink) → StragglingOf s left n l → StragglingOf s left (after_step (steps.Tick now) n) l
-    passes now l f = straggling_passes s l.peer (zeros s n l.peer) l.link.moment (stamps l.link.untaken) n.renewed left (state_of (past n)).moment (max (state_of (past n)).moment now) (accepted_by l.peer (past n)) (accepted_by l.peer (past n))
-        (later_moment (state_of (past n)).moment now) refl f
+    passes now l f = straggling_event s n l.peer (events.Tick now) l.link.moment (stamps l.link.untaken) left (max (state_of (past n)).moment now) (accepted_by l.peer (past n)) (straggling_passes s l.peer (zeros s n l.peer) l.link.moment (stamps l.link.untaken) n.renewed left (state_of (past n)).moment (max (state_of (past n)).moment now) (accepted_by l.peer (past n)) (accepted_by l.peer (past n))
+        (later_moment (state_of (past n)).moment now) refl f)
 
     one : (step : Step) → StepIsInTime s i left step n → TimedAt s i (left ++ departures_in s step n) (after_step step n) → StragglingAt s i (left ++ departures_in s step n) (after_step step n)
     one (Submit k r now) t then = none (after_step (Submit k r now) n) (step_submit s i k r now left n sound timed g (slice_get n.links k) refl)
@@ -360,7 +371,8 @@ step_straggling law s i left step n sound in_time timed then g = one step in_tim
     one (ToLink k now) t then = none (after_step (ToLink k now) n) (step_reception s i now left n g (slice_get n.to_links k))
     one (Other from bytes now) t then = none (after_step (Other from bytes now) n) (step_other s i from bytes now left n g)
     one (steps.Tick now) t then = none (after_step (steps.Tick now) n) (λ l own. passes now l (g l own))
-    one (steps.Local ono change) t then = none (after_step (steps.Local ono change) n) (λ l own. let f = g l own in f)
+    one (steps.Local ono change) t then = none (after_step (steps.Local ono change) n)
+        (λ l own. straggling_event s n l.peer (events.Local ono change) l.link.moment (stamps l.link.untaken) left (state_of (past n)).moment (accepted_by l.peer (past n)) (g l own))
     one (Take k h) t then = none (after_step (Take k h) n) (step_take s i k h left n g (slice_get n.links k) refl)
     one (Renew k first span now origin) t then = none (after_step (Renew k first span now origin) n) (step_renewal s i k first span now origin left n sound g (slice_get n.links k) refl)
     one (Beside k now) t then = step_beside law s i now left n g (slice_get n.links k)

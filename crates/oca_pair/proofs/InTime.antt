@@ -14,7 +14,8 @@ use Rattle.oca_pdu.specs.Reading.{read_datagram}
 use Rattle.oca_pdu.specs.Laws.{WrittenIsReadBack}
 use Rattle.oca_tree.specs.declared.object.Object.{Object}
 use Rattle.oca_session.specs.Accepted.{Entry}
-use Rattle.oca_device.specs.Events.{Datagram}
+use Rattle.oca_device.specs.Events.{Event, Datagram}
+use Rattle.oca_device.specs.Events as events
 use Rattle.oca_device.specs.Notes.{Admitted, Note, run, accepted}
 use Rattle.oca_device.specs.States.{State, noted}
 use Rattle.oca_device.specs.LawByEvents.{Passes, admitted, accepted_by}
@@ -26,7 +27,7 @@ use Rattle.oca_control.specs.Limits.{longest_life}
 use Rattle.oca_control.specs.Untaken.{Untaken, answer_under}
 use Rattle.oca_control.specs.Links.{Request, submission, after_submission, decision, gone_on, received, taken, present_moment}
 use Rattle.oca_pair.specs.declared.start.Start.{Start}
-use Rattle.oca_pair.specs.Networks.{Network, PeerLink, SentDatagram, SubmittedCommand, TakenAnswer, Setup, started, opening, zero_of}
+use Rattle.oca_pair.specs.Networks.{Network, PeerLink, SentDatagram, SubmittedCommand, TakenAnswer, Setup, started, opening, zero_of, all_left_out, device_zero_of}
 use Rattle.oca_pair.specs.Steps.{Step, Submit, Due, ToDevice, ToLink, Other, Take, has_link, after_submit, after_due_step, after_delivery, content_read, hears_datagram, after_reception, after_take, after_step, after_steps, Renew, Beside, after_beside, with_link, is_no_lower, renewal_of, renewed_link, after_renewal}
 use Rattle.oca_pair.specs.Steps as steps
 use Rattle.oca_pair.specs.Happenings.{happenings}
@@ -48,13 +49,17 @@ use Rattle.oca_pair.proofs.Keeping.{handles_for}
 use Rattle.oca_pair.proofs.Networks.{LinkSound, Sound, Apart, sound_step, sound_opening, sound_after}
 use Rattle.oca_pair.proofs.Lawful.{only_one}
 use Rattle.oca_pair.proofs.GettingThrough.{put_here, put_elsewhere}
-use Rattle.oca_pair.proofs.Timed.{TimedBytes, TimedDeparture, Zeros, Timed, timed_due, timed_due_other, timed_beside, timed_submit, timed_received, timed_taken, timed_renewed, timed_elsewhere, accepted_then, timed_own}
+use Rattle.oca_pair.proofs.Timed.{TimedBytes, TimedDeparture, Zeros, Timed, timed_behind, timed_due, timed_due_other, timed_beside, timed_submit, timed_received, timed_taken, timed_renewed, timed_elsewhere, accepted_then, timed_own}
 
 -- ---- the network
 
 -- the zeros of the clock of a peer's link and of the device's clock
 abbrev pub zeros : Setup → Network → Peer → Zeros
-zeros s n p = record { link = zero_of s p n; device = s.device_zero }
+zeros s n p = record { link = zero_of s p n; device = device_zero_of s n }
+
+-- with an event more the device's clock shows no more
+pub falls_behind : (s : Setup) (n : Network) (e : Event) → device_zero_of s n ≤ s.device_zero + all_left_out s.left_out (e ∷ n.events)
+falls_behind s n e = omega arith
 
 -- the link of this number is so
 abbrev pub TimedAt : Setup → ℕ → List Departure → Network → Type 0
@@ -127,12 +132,12 @@ timed_step_renewal s i k first span now origin left n sound g (Some x) e = by_te
 
     mine : end_of x.link.next ≤ first → slice_get n.links i ≡ Some x → Timed (zeros s m x.peer) x.peer first now [] left n.to_device (state_of (past n)).notes
     mine above own =
-        subst (λ (z : ℕ). Timed (record { link = z; device = s.device_zero }) x.peer first now [] left n.to_device (state_of (past n)).notes) (sym (zero_by x.peer true (same_self x.peer)))
+        subst (λ (z : ℕ). Timed (record { link = z; device = device_zero_of s n }) x.peer first now [] left n.to_device (state_of (past n)).notes) (sym (zero_by x.peer true (same_self x.peer)))
         (timed_renewed (zeros s n x.peer) x.peer origin (end_of x.link.next) first x.link.moment now x.link.untaken left n.to_device (state_of (past n)).notes above (g x own))
 
     others : (l : PeerLink) → nat_eq k i ≡ false → slice_get n.links i ≡ Some l → Timed (zeros s m l.peer) l.peer (end_of l.link.next) l.link.moment l.link.untaken left n.to_device (state_of (past n)).notes
     others l other own =
-        subst (λ (z : ℕ). Timed (record { link = z; device = s.device_zero }) l.peer (end_of l.link.next) l.link.moment l.link.untaken left n.to_device (state_of (past n)).notes)
+        subst (λ (z : ℕ). Timed (record { link = z; device = device_zero_of s n }) l.peer (end_of l.link.next) l.link.moment l.link.untaken left n.to_device (state_of (past n)).notes)
         (sym (zero_by l.peer false (other_is x.peer l.peer (apart_at n.links k i x l sound.apart e own other)))) (g l own)
 
     by_test : (b : Bool) → is_no_lower first x.link.next ≡ b → TimedAt s i left (cond b m n)
@@ -173,8 +178,15 @@ clock_is now n = let stands1 : Stands n.sizes n.tree (looked_at now (past n)) (P
 timed_step_delivery : (s : Setup) (i k now : ℕ) (left : List Departure) (n : Network) → StepIsInTime s i left (ToDevice k now) n → TimedAt s i left n → (o : Option SentDatagram) → slice_get n.to_device k ≡ o →
     TimedAt s i left (after_delivery now o n)
 timed_step_delivery s i k now left n in_time g None e = g
-timed_step_delivery s i k now left n in_time g (Some d) e = λ l own. by_test l own (same_peer d.peer l.peer) refl
+timed_step_delivery s i k now left n in_time g (Some d) e = λ l own. behind l (by_test l own (same_peer d.peer l.peer) refl)
   where
+    m : Network
+    m = after_delivery now (Some d) n
+
+    behind : (l : PeerLink) → Timed (zeros s n l.peer) l.peer (end_of l.link.next) l.link.moment l.link.untaken left n.to_device (state_of (past m)).notes →
+        Timed (zeros s m l.peer) l.peer (end_of l.link.next) l.link.moment l.link.untaken left m.to_device (state_of (past m)).notes
+    behind l f = timed_behind (zeros s n l.peer) (device_zero_of s m) l.peer (end_of l.link.next) l.link.moment l.link.untaken left n.to_device (state_of (past m)).notes (falls_behind s n (Datagram d.peer d.bytes now)) f
+
     by_test : (l : PeerLink) → slice_get n.links i ≡ Some l → (b : Bool) → same_peer d.peer l.peer ≡ b →
         Timed (zeros s n l.peer) l.peer (end_of l.link.next) l.link.moment l.link.untaken left n.to_device (state_of (and_then (Datagram d.peer d.bytes now) (past n))).notes
     by_test l own true q =
@@ -183,11 +195,11 @@ timed_step_delivery s i k now left n in_time g (Some d) e = λ l own. by_test l 
         let at = mapped_at (λ (x : Departure). x.datagram) left k d (ap (λ (xs : List SentDatagram). slice_get xs k) f.are ∙ e) in
         let its : at.0.datagram.peer ≡ l.peer = ap (λ (x : SentDatagram). x.peer) at.2 ∙ same in
         let timed : TimedBytes f.born (end_of l.link.next) at.0.at at.0.datagram.bytes = each_at (TimedDeparture f.born (end_of l.link.next) l.peer) left k at.0 f.departures at.1 its in
-        let came : ArrivesInTime at.0.at (s.device_zero + clock_at now n) = in_time l at.0 own at.1 its in
+        let came : ArrivesInTime at.0.at (device_zero_of s n + clock_at now n) = in_time l at.0 own at.1 its in
         subst (λ (p : Peer). Timed (zeros s n l.peer) l.peer (end_of l.link.next) l.link.moment l.link.untaken left n.to_device (state_of (and_then (Datagram p d.bytes now) (past n))).notes) (sym same)
         (timed_own (zeros s n l.peer) l.peer (end_of l.link.next) l.link.moment l.link.untaken left n.to_device (past n) d.bytes now at.0.at f
         (subst (λ (bytes : List ℕ). TimedBytes f.born (end_of l.link.next) at.0.at bytes) (ap (λ (x : SentDatagram). x.bytes) at.2) timed)
-        (subst (λ (t : ℕ). ArrivesInTime at.0.at (s.device_zero + t)) (sym (clock_is now n)) came))
+        (subst (λ (t : ℕ). ArrivesInTime at.0.at (device_zero_of s n + t)) (sym (clock_is now n)) came))
     by_test l own false q = timed_elsewhere (zeros s n l.peer) l.peer d.peer (end_of l.link.next) l.link.moment l.link.untaken left n.to_device (past n) d.bytes now q (g l own)
 
 timed_step_other : (s : Setup) (i : ℕ) (from : Peer) (bytes : List ℕ) (now : ℕ) (left : List Departure) (n : Network) → TimedAt s i left n → TimedAt s i left (after_step (Other from bytes now) n)
@@ -195,8 +207,10 @@ timed_step_other s i from bytes now left n g = by_test (has_link from n.links) r
   where
     by_test : (b : Bool) → has_link from n.links ≡ b → TimedAt s i left (cond b n (record n { events = Datagram from bytes now ∷ n.events }))
     by_test true q = g
-    by_test false q = λ l own. timed_elsewhere (zeros s n l.peer) l.peer from (end_of l.link.next) l.link.moment l.link.untaken left n.to_device (past n) bytes now
-        (same_turned from l.peer ∙ each_at (λ (z : PeerLink). same_peer z.peer from ≡ false) n.links i l (none_passes (λ (z : PeerLink). same_peer z.peer from) n.links q) own) (g l own)
+    by_test false q = λ l own. timed_behind (zeros s n l.peer) (s.device_zero + all_left_out s.left_out (Datagram from bytes now ∷ n.events)) l.peer (end_of l.link.next) l.link.moment l.link.untaken left n.to_device
+        (state_of (and_then (Datagram from bytes now) (past n))).notes (falls_behind s n (Datagram from bytes now))
+        (timed_elsewhere (zeros s n l.peer) l.peer from (end_of l.link.next) l.link.moment l.link.untaken left n.to_device (past n) bytes now
+        (same_turned from l.peer ∙ each_at (λ (z : PeerLink). same_peer z.peer from ≡ false) n.links i l (none_passes (λ (z : PeerLink). same_peer z.peer from) n.links q) own) (g l own))
 
 pub timed_step : WrittenIsReadBack → (s : Setup) (i : ℕ) (left : List Departure) (step : Step) (n : Network) → Sound s.span n → StepIsInTime s i left step n → TimedAt s i left n → TimedAt s i (left ++ departures_in s step n) (after_step step n)
 timed_step law s i left step n sound in_time g = one step in_time
@@ -204,14 +218,18 @@ timed_step law s i left step n sound in_time g = one step in_time
     none : (m : Network) → TimedAt s i left m → TimedAt s i (left ++ []) m
     none m f l own = no_more (zeros s m l.peer) l.peer (end_of l.link.next) l.link.moment l.link.untaken left m.to_device (state_of (past m)).notes (f l own)
 
+    behind : (e : Event) (l : PeerLink) → Timed (zeros s n l.peer) l.peer (end_of l.link.next) l.link.moment l.link.untaken left n.to_device (state_of (past n)).notes →
+        Timed (record { link = zero_of s l.peer n; device = s.device_zero + all_left_out s.left_out (e ∷ n.events) }) l.peer (end_of l.link.next) l.link.moment l.link.untaken left n.to_device (state_of (past n)).notes
+    behind e l f = timed_behind (zeros s n l.peer) (s.device_zero + all_left_out s.left_out (e ∷ n.events)) l.peer (end_of l.link.next) l.link.moment l.link.untaken left n.to_device (state_of (past n)).notes (falls_behind s n e) f
+
     one : (step : Step) → StepIsInTime s i left step n → TimedAt s i (left ++ departures_in s step n) (after_step step n)
     one (Submit k r now) t = none (after_step (Submit k r now) n) (timed_step_submit s i k r now left n g (slice_get n.links k) refl)
     one (Due k now) t = timed_step_due law s i k now left n sound t g (slice_get n.links k) refl
     one (ToDevice k now) t = none (after_step (ToDevice k now) n) (timed_step_delivery s i k now left n t g (slice_get n.to_device k) refl)
     one (ToLink k now) t = none (after_step (ToLink k now) n) (timed_step_reception s i now left n g (slice_get n.to_links k))
     one (Other from bytes now) t = none (after_step (Other from bytes now) n) (timed_step_other s i from bytes now left n g)
-    one (steps.Tick now) t = none (after_step (steps.Tick now) n) (λ l own. let f = g l own in f)
-    one (steps.Local ono change) t = none (after_step (steps.Local ono change) n) (λ l own. let f = g l own in f)
+    one (steps.Tick now) t = none (after_step (steps.Tick now) n) (λ l own. behind (events.Tick now) l (g l own))
+    one (steps.Local ono change) t = none (after_step (steps.Local ono change) n) (λ l own. behind (events.Local ono change) l (g l own))
     one (Take k h) t = none (after_step (Take k h) n) (timed_step_take s i k h left n g (slice_get n.links k) refl)
     one (Renew k first span now origin) t = none (after_step (Renew k first span now origin) n) (timed_step_renewal s i k first span now origin left n sound g (slice_get n.links k) refl)
     one (Beside k now) t = timed_step_beside law s i now left n g (slice_get n.links k)
@@ -315,8 +333,8 @@ session_in_time law w s tree starts es i k now l c apart fit in_time own submitt
     timed : TimedBytes f.born (end_of l.link.next) x.0.at (copy_of l.peer c).bytes
     timed = subst (λ (d : SentDatagram). TimedBytes f.born (end_of l.link.next) x.0.at d.bytes) x.2 (each_at (TimedDeparture f.born (end_of l.link.next) l.peer) left k x.0 f.departures x.1 its)
 
-    came : ArrivesInTime x.0.at (s.device_zero + s1.moment)
-    came = subst (λ (t : ℕ). ArrivesInTime x.0.at (s.device_zero + t)) (sym (clock_is now n)) (parts.1 l x.0 own x.1 its)
+    came : ArrivesInTime x.0.at (device_zero_of s n + s1.moment)
+    came = subst (λ (t : ℕ). ArrivesInTime x.0.at (device_zero_of s n + t)) (sym (clock_is now n)) (parts.1 l x.0 own x.1 its)
 
     read : read_datagram (copy_of l.peer c).bytes ≡ Ok (Command true c ∷ [])
     read = read_command law c (each_in (λ (y : SubmittedCommand). y.peer ≡ l.peer → IsSendable y.command × (y.command.handle < end_of l.link.next)) _ n.submitted of.fair.sendable (contains_in _ n.submitted submitted) refl).0

@@ -264,6 +264,18 @@ trails_more : (h : ℕ) (late few : List ℕ) (A : List Entry) (e : Entry) → T
 trails_more h late few [] e t a = ((λ above. tt), tt)
 trails_more h late few (y ∷ A) e t a = ((λ above. each_append _ A (e ∷ []) (t.0 above) (a.0 above, tt)), trails_more h late few A e t.1 a.1)
 
+-- its clock falls behind
+pub straggling_behind : (s : Setup) (p : Peer) (zs : Zeros) (d m : ℕ) (K : List (ℕ × ℕ)) (rs : List Renewal) (left : List Departure) (moment : ℕ) (A : List Entry) → zs.device ≤ d →
+    Straggling s p zs m K rs left moment A → Straggling s p (record { link = zs.link; device = d }) m K rs left moment A
+straggling_behind s p zs d m K rs left moment A le g = record {
+  sent = g.sent;
+  heard = each_map (λ q a. each_map (λ e f above. later q.1 (f above)) A a) K g.heard;
+  trails = g.trails;
+}
+  where
+    later : (x : ℕ) → zs.link + x ≤ zs.device + moment → zs.link + x ≤ d + moment
+    later x q = omega arith
+
 -- a command is accepted, which left at this moment and came at most 100,000 ms later
 pub straggling_accepted : (s : Setup) (p : Peer) (zs : Zeros) (m : ℕ) (K : List (ℕ × ℕ)) (rs : List Renewal) (left : List Departure) (moment moment' : ℕ) (A A' : List Entry) (e : Entry) (at : ℕ) → moment ≤ moment' → A' ≡ A ++ e ∷ [] →
     Left s p zs.link m K rs at e.command.handle → at ≤ zs.device + moment' → zs.device + moment' ≤ at + longest_delay → Straggling s p zs m K rs left moment A → Straggling s p zs m K rs left moment' A'

@@ -88,6 +88,25 @@ pub record Timed (zs : Zeros) (p : Peer) (end m : ℕ) (us : List Untaken) (left
   pub executed : AllByRecursion (TimedNote (λ h. by_device zs (born h)) end p) ns
   pub once : IsDistinct eqb (handles_for p ns)
 
+-- the device's clock falls behind
+pub timed_behind : (zs : Zeros) (d : ℕ) (p : Peer) (end m : ℕ) (us : List Untaken) (left : List Departure) (out : List SentDatagram) (ns : List Note) → zs.device ≤ d → Timed zs p end m us left out ns → Timed (record { link = zs.link; device = d }) p end m us left out ns
+timed_behind zs d p end m us left out ns le g = record {
+  born = g.born;
+  are = g.are;
+  untaken = g.untaken;
+  departures = g.departures;
+  executed = each_map (λ n a same. still n.what n.at (a same)) ns g.executed;
+  once = g.once;
+}
+  where
+    earlier : (b at : ℕ) → b - zs.device ≤ at → b - d ≤ at
+    earlier b at q = omega arith
+
+    still : (what : Noted) (at : ℕ) → TimedNoted (λ h. by_device zs (g.born h)) end at what → TimedNoted (λ h. by_device (record { link = zs.link; device = d }) (g.born h)) end at what
+    still (Executed objects c r) at a = (earlier (g.born c.handle) at a.0, a.1)
+    still (Admitted ms) at a = tt
+    still (Heartbeat ms) at a = tt
+
 -- ---- untaken commands
 
 untaken_later : (origin : ℕ) (born : ℕ → ℕ) (end m m' : ℕ) (us : List Untaken) → m ≤ m' → AllByRecursion (TimedUntaken origin born end m) us → AllByRecursion (TimedUntaken origin born end m') us

@@ -1,7 +1,6 @@
--- THE LAW OF ANSWERS IN TIME (profile), over every schedule: where a link and the network are in time, each command in
--- flight is answered when a copy of it finds room, whatever the device forgot meanwhile. Of the commands that earlier
--- links of the peer left behind, only those take room in the window whose link left off at most 100,000 ms before the
--- submit.
+-- THE LAW OF ANSWERS IN TIME, over every schedule: where a link and the network are in time, each command in flight is
+-- answered when a copy of it finds room, whatever the device forgot meanwhile. Of the commands that earlier links of
+-- the peer left behind, only those take room in the window whose link left off at most 100,000 ms before the submit.
 use Rattle.std.specs.Prelude.{◌≡◌, ℕ, ◌+◌, ◌*◌, ◌<◌, ◌≤◌, nat_le, true, ◌&&◌, if◌then◌else◌}
 use Rattle.std.specs.Prelude.{false, is_none, List, [], ◌∷◌, ◌++◌, length, Some}
 use Rattle.std.specs.List.{slice_get, AllByRecursion}

@@ -1,6 +1,6 @@
--- THE LAW OF GETTING THROUGH (profile), over every schedule: a link that is asked often enough gives each command out
--- to the device until it has the command's answer or is lost; and one copy that arrives, and the one response that
--- comes back, are enough.
+-- THE LAW OF GETTING THROUGH, over every schedule: a link that is asked often enough gives each command out to the
+-- device until it has the command's answer or is lost; and one copy that arrives, and the one response that comes back,
+-- are enough.
 use Rattle.std.specs.Prelude.{◌≡◌, ◌⊎◌, ℕ, ◌==◌, true, if◌then◌else◌, List, [], ◌∷◌, ◌++◌}
 use Rattle.std.specs.Prelude.{Option, Some, None}
 use Rattle.std.specs.List.{slice_get, AllByRecursion, Contains}

@@ -1,5 +1,5 @@
--- WHAT HAPPENED TO THE DEVICE of a network (profile), in the words of the device's law by events. Of events and
--- happenings the latest stands first.
+-- WHAT HAPPENED TO THE DEVICE of a network, in the words of the device's law by events. Of events and happenings the
+-- latest stands first.
 use Rattle.std.specs.Prelude.{List, [], ◌∷◌, ◌++◌, Result, Ok, Err}
 use Rattle.oca_types.specs.declared.words.Peer.{Peer}
 use Rattle.oca_pdu.specs.declared.fault.PduFault.{PduFault}

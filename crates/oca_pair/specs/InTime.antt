@@ -1,6 +1,6 @@
--- THE LAW OF COPIES IN TIME (profile), over every schedule: where a link is not asked what is due while it is late, and
--- none of its datagrams is on its way for longer than 100,000 ms, each of its commands is executed at most once,
--- whatever the device forgets meanwhile.
+-- THE LAW OF COPIES IN TIME, over every schedule: where a link is not asked what is due while it is late, and none of
+-- its datagrams is on its way for longer than 100,000 ms, each of its commands is executed at most once, whatever the
+-- device forgets meanwhile.
 use Rattle.std.specs.Prelude.{◌≡◌, ◌⊎◌, ◌==◌, ℕ, ◌+◌, ◌≤◌, true, false, List, [], ◌∷◌, ◌++◌, map, Option, Some, None}
 use Rattle.std.specs.List.{slice_get, list_any, IsDistinct}
 use Rattle.oca_types.specs.declared.words.Peer.{Peer}
@@ -12,7 +12,7 @@ use Rattle.oca_control.specs.Answers.{AnswerFields}
 use Rattle.oca_control.specs.Untaken.{answer_under}
 use Rattle.oca_control.specs.Links.{GivesKeepAlive, present_moment, late_at, decision}
 use Rattle.oca_pair.specs.declared.start.Start.{Start}
-use Rattle.oca_pair.specs.Networks.{Network, PeerLink, SentDatagram, Setup, opening, zero_of}
+use Rattle.oca_pair.specs.Networks.{Network, PeerLink, SentDatagram, Setup, device_zero_of, opening, zero_of}
 use Rattle.oca_pair.specs.Steps.{Step, Submit, Due, ToDevice, ToLink, Other, Tick, Local, Take, Renew, Beside, given_by}
 use Rattle.oca_pair.specs.Steps.{after_step, after_steps}
 use Rattle.oca_pair.specs.Happenings.{happenings}
@@ -78,7 +78,7 @@ StepIsInTime s i left (Due link now) n =
 StepIsInTime s i left (ToDevice k now) n =
     (l : PeerLink) (x : Departure) → slice_get n.links i ≡ Some l → slice_get left k ≡ Some x →
     x.datagram.peer ≡ l.peer →
-    ArrivesInTime x.at (s.device_zero + clock_at now n)
+    ArrivesInTime x.at (device_zero_of s n + clock_at now n)
 StepIsInTime s i left _ n = Unit {0}
 
 -- Renewing a link is always in time.

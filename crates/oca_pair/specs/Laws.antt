@@ -1,4 +1,4 @@
--- THE LAWS OF A NETWORK (profile), over every schedule.
+-- THE LAWS OF A NETWORK, over every schedule.
 use Rattle.std.specs.Prelude.{◌≡◌, ◌==◌, ◌⊎◌, ℕ, ◌+◌, ◌<◌, true, false, if◌then◌else◌, List, [], ◌∷◌, ◌++◌}
 use Rattle.std.specs.Prelude.{map, filter, Some}
 use Rattle.std.specs.List.{slice_get, AllByRecursion, Contains, IsDistinct}

@@ -1,8 +1,7 @@
--- Both ends over a network (profile): a device, links to it, each of a peer of its own, and every datagram that was
--- sent between them. No list of a network ever loses a member, so a datagram can be delivered late, again, in any
--- order, or never. Of events the latest stands first; of datagrams, submitted commands and taken answers the latest
--- stands last.
-use Rattle.std.specs.Prelude.{ℕ, Bool, if◌then◌else◌, List, [], ◌∷◌, ◌++◌, map, filter, length}
+-- Both ends over a network: a device, links to it, each of a peer of its own, and every datagram that was sent between
+-- them. No list of a network ever loses a member, so a datagram can be delivered late, again, in any order, or never.
+-- Of events the latest stands first; of datagrams, submitted commands and taken answers the latest stands last.
+use Rattle.std.specs.Prelude.{ℕ, ◌+◌, Bool, if◌then◌else◌, List, [], ◌∷◌, ◌++◌, map, filter, length}
 use Rattle.std.specs.List.{list_any}
 use Rattle.oca_types.specs.declared.words.Peer.{Peer}
 use Rattle.oca_types.specs.Peers.{CommandFields, same_peer}
@@ -14,13 +13,15 @@ use Rattle.oca_control.specs.Links.{LinkState, new_link}
 use Rattle.oca_pair.specs.declared.start.Start.{Start}
 
 -- HOW A NETWORK IS SET UP: the device's address; and for the first link of each peer its span, and the moment at which it was
--- made, in ms by the link's clock. The clocks of the device and of each link run alike: `device_zero` and `zero` are the
--- moments of one common clock at which they showed 0.
+-- made, in ms by the link's clock. The clocks of the links run alike: `zero` is the moment of one common clock at which
+-- a link's clock showed 0, and `device_zero` that of the device's clock. The device's clock is never faster, and may
+-- fall behind: before its event of this number, counted from 0, it leaves out so much time (`left_out`).
 pub record Setup : Type 0 where
   pub address : Peer
   pub span : Peer → ℕ
   pub made : Peer → ℕ
   pub device_zero : ℕ
+  pub left_out : ℕ → ℕ
   pub zero : Peer → ℕ
 
 -- a link, and the peer whose it is
@@ -110,6 +111,15 @@ opening sizes s tree starts =
       renewed = [];
     }
 
+-- how much time the device's clock has left out when the event behind these comes
+abbrev pub all_left_out : (ℕ → ℕ) → List Event → ℕ
+all_left_out left_out [] = left_out 0
+all_left_out left_out (e ∷ events) = all_left_out left_out events + left_out (length (e ∷ events))
+
+-- the moment of the common clock at which the device's clock showed 0, had it left that time out before
+abbrev pub device_zero_of : Setup → Network → ℕ
+device_zero_of s n = s.device_zero + all_left_out s.left_out n.events
+
 -- ---- the setup of `run_pair`: its device is at 127.0.0.1:65000, each link has this span and is made at moment 0, and
 -- all clocks show one time
 abbrev pub device_address : Peer
@@ -117,4 +127,4 @@ device_address = record { ip = 0x7F000001; port = 65000 }
 
 abbrev pub run_setup : ℕ → Setup
 run_setup span =
-    record { address = device_address; span = λ p. span; made = λ p. 0; device_zero = 0; zero = λ p. 0 }
+    record { address = device_address; span = λ p. span; made = λ p. 0; device_zero = 0; left_out = λ k. 0; zero = λ p. 0 }

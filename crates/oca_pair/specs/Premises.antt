@@ -1,4 +1,4 @@
--- WHAT THE LAWS ASK of a schedule (profile), by the steps and by the datagrams that came to the device.
+-- WHAT THE LAWS ASK of a schedule, by the steps and by the datagrams that came to the device.
 use Rattle.std.specs.Prelude.{◌≡◌, ℕ, ◌+◌, ◌-◌, ◌*◌, ◌<◌, ◌≤◌, ◌^◌, Bool, true, not, ◌&&◌, List, [], ◌∷◌, filter, length}
 use Rattle.std.specs.List.{list_any, list_all, AllByRecursion}
 use Rattle.oca_types.specs.declared.words.Peer.{Peer}

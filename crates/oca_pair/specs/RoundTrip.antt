@@ -1,6 +1,6 @@
--- THE LAW OF THE ROUND TRIP (profile), over every schedule: a command that a link holds untaken comes to the device,
--- what the device sends comes to the link, and the link has the command's answer, whatever happens in between but a
--- renewal of the link.
+-- THE LAW OF THE ROUND TRIP, over every schedule: a command that a link holds untaken comes to the device, what the
+-- device sends comes to the link, and the link has the command's answer, whatever happens in between but a renewal of
+-- the link.
 use Rattle.std.specs.Prelude.{◌≡◌, ◌⊎◌, ℕ, true, List, [], ◌∷◌, ◌++◌, length, Some}
 use Rattle.std.specs.List.{slice_get, AllByRecursion, Contains}
 use Rattle.oca_types.specs.declared.words.Peer.{Peer}

@@ -1,6 +1,6 @@
--- THE LAW OF WHAT A PANEL SAYS OF A DEVICE (profile), over every schedule: where a link and the network are in time, each
--- answer to a command of the link is that of one execution, which lies between the call and its answer; and what it says
--- is what the device then held.
+-- THE LAW OF WHAT A PANEL SAYS OF A DEVICE, over every schedule: where a link and the network are in time, each answer
+-- to a command of the link is that of one execution, which lies between the call and its answer; and what it says is
+-- what the device then held.
 use Rattle.std.specs.Prelude.{◌≡◌, ◌≢◌, ◌⊎◌, ℕ, Bool, true, false, List, [], ◌∷◌, ◌++◌, Some}
 use Rattle.std.specs.List.{All, slice_get}
 use Rattle.oca_types.specs.declared.class.Class.{Class}

@@ -1,4 +1,4 @@
--- THE STEPS OF A NETWORK (profile). A schedule is any list of steps, of which the first comes first.
+-- THE STEPS OF A NETWORK. A schedule is any list of steps, of which the first comes first.
 use Rattle.std.specs.Prelude.{ℕ, ◌+◌, Bool, true, false, not, if◌then◌else◌, nat_le, List, [], ◌∷◌, ◌++◌, map}
 use Rattle.std.specs.Prelude.{filter, length, Option, Some, None, is_none, is_some, Result, Ok, Err}
 use Rattle.std.specs.List.{list_any, slice_get, slice_set}

@@ -1,4 +1,4 @@
--- WHAT RUNNING A SCHEDULE ANSWERS (profile).
+-- WHAT RUNNING A SCHEDULE ANSWERS.
 use Rattle.std.specs.Prelude.{◌≡◌, ℕ, true, false, List, map, Result, Ok, Err, Some, None}
 use Rattle.oca_types.specs.Sizes.{DeviceSizes, span_size}
 use Rattle.oca_tree.specs.declared.object.Object.{Object}

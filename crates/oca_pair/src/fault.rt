@@ -5,7 +5,7 @@ ghost use Rattle.oca_pair.specs.Transcripts.{pair_fault_number};
 use std::error::Error;
 use std::fmt;
 
-/// Why a schedule does not run to its end. The numbers are promised (*profile*).
+/// Why a schedule does not run to its end. The numbers are promised.
 #[derive(Clone, Copy, Debug, PartialEq, Eq)]
 pub enum PairFault {
     /// Number 1: memory was refused.
@@ -19,7 +19,7 @@ pub enum PairFault {
 
 impl PairFault {
     /// Returns the number of the fault, for a program that reports numbers: 1 for `NoMemory`, 2 for `BadStep`, 3 for
-    /// `SamePeer`. The numbers are promised (*profile*).
+    /// `SamePeer`. The numbers are promised.
     pub fn number(&self) -> u8
         ensures { result ≡ pair_fault_number self.now }
     {

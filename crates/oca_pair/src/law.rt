@@ -163,10 +163,11 @@ pub fn law_getting_through()
 /// - The link is never asked what is due while it is late. It is *asked* if its [`due`](oca_control::Link::due) is
 ///   called. It is *late* while a command that was submitted more than 15,000 ms ago has no answer.
 /// - Each of the link's datagrams that comes to the device comes no earlier than it left, and at most 100,000 ms later.
-///   The moment of leaving is by the link's clock, and that of coming is by the device's clock. The premise says that
-///   these clocks run alike, and that the network holds nothing longer than 100,000 ms. The clocks may have counted
-///   from different moments. A datagram that never comes does not matter. A keep-alive that was sent beside the link,
-///   from its address and port, counts as one of its datagrams.
+///   The moment of leaving is by the link's clock. That of coming is by the device's clock and the time that this clock
+///   has left out: before each event it may leave out any time, such as a standstill. So the premise says that the
+///   network holds nothing longer than 100,000 ms, and that the device's clock is never faster than the link's. The
+///   clocks may have counted from different moments. A datagram that never comes does not matter. A keep-alive that was
+///   sent beside the link, from its address and port, counts as one of its datagrams.
 ///
 /// The conclusions:
 /// - No two executions for the link's peer, which is its address and port, are of one handle.

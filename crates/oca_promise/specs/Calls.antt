@@ -1,5 +1,4 @@
--- WHAT A CALL OF A PANEL IS IN A NETWORK (profile): what was done with its link, and what then holds where a schedule
--- plays that.
+-- WHAT A CALL OF A PANEL IS IN A NETWORK: what was done with its link, and what then holds where a schedule plays that.
 use Rattle.std.specs.Prelude.{◌≡◌, ℕ, true, false, List, [], ◌∷◌, ◌++◌, Some, Ok}
 use Rattle.std.specs.List.{filter, list_any, slice_get}
 use Rattle.oca_types.specs.declared.words.Peer.{Peer}

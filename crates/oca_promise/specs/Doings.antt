@@ -1,4 +1,4 @@
--- WHAT IS DONE WITH A LINK (profile), and a schedule of a network in which that is done. Of doings the first stands first;
+-- WHAT IS DONE WITH A LINK, and a schedule of a network in which that is done. Of doings the first stands first;
 -- moments are in milliseconds.
 use Rattle.std.specs.Prelude.{◌≡◌, ◌⊎◌, ℕ, ◌+◌, ◌<◌, ◌≤◌, Bool, true, false, IsTrue, if◌then◌else◌, nat_le, ◌==◌, List, [], ◌∷◌, ◌++◌, length, Some}
 use Rattle.std.specs.List.{filter, flat_map, slice_get, AllByRecursion}

@@ -1,5 +1,5 @@
--- COMMANDS IN FLIGHT (profile): one call of a panel begins a command, another one takes its answer, and other calls lie
--- between: for other commands, or earlier waits for this one.
+-- COMMANDS IN FLIGHT: one call of a panel begins a command, another one takes its answer, and other calls lie between:
+-- for other commands, or earlier waits for this one.
 use Rattle.std.specs.Prelude.{◌≡◌, ◌⊎◌, ℕ, Bool, true, List, [], ◌∷◌, ◌++◌, Some, Result, Ok, Err}
 use Rattle.oca_types.specs.declared.class.Class.{Class}
 use Rattle.oca_types.specs.declared.class.Method.{Method}

@@ -1,6 +1,6 @@
--- WHAT A PANEL SAYS, in its own words (profile): what `set`, `get`, `reading_of`, `class`, `role`, `label`, `members`,
--- `lock` and `unlock` tell, and what a walk finds of an object, is so of the device's objects, in each network in which
--- the call is made.
+-- WHAT A PANEL SAYS, in its own words: what `set`, `get`, `reading_of`, `class`, `role`, `label`, `members`, `lock` and
+-- `unlock` tell, and what a walk finds of an object, is so of the device's objects, in each network in which the call
+-- is made.
 use Rattle.std.specs.Prelude.{◌≡◌, ℕ, true, List, [], ◌++◌, map, Some, None, Ok, Err}
 use Rattle.std.specs.List.{All, slice_get}
 use Rattle.oca_types.specs.declared.class.Class.{Class}

@@ -1,4 +1,4 @@
--- A PANEL IS RENEWED, or sends a keep-alive beside its link (profile), and goes on in the same network.
+-- A PANEL IS RENEWED, or sends a keep-alive beside its link, and goes on in the same network.
 use Rattle.std.specs.Prelude.{◌≡◌, ℕ, ◌+◌, ◌≤◌, Bool, List, [], ◌∷◌, ◌++◌, Some}
 use Rattle.std.specs.List.{slice_get}
 use Rattle.oca_types.specs.declared.words.Peer.{Peer}
