@@ -1,4 +1,4 @@
--- What an end of a link delivered and took (*profile*).
+-- What an end of a link delivered and took.
 use Rattle.std.specs.Prelude.{ℕ, List}
 use Rattle.oca_types.specs.declared.words.Peer.{Peer}
 

@@ -1,4 +1,4 @@
--- What an end says of itself, and what its calls do to that (*profile*).
+-- What an end says of itself, and what its calls do to that.
 use Rattle.std.specs.Prelude.{◌≡◌, ℕ, ◌+◌, ◌<◌, Bool, ◌||◌, List, ◌++◌, length, IsTrue, IfSome}
 use Rattle.std.specs.Prelude.{◌≤◌, Option}
 use Rattle.oca_types.specs.declared.words.Peer.{Peer}

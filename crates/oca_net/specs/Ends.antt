@@ -1,5 +1,5 @@
--- What the calls of an end do to what it delivered, what it took, whether it is closed and its count of failures
--- (*profile*); and what many sends do to what it took.
+-- What the calls of an end do to what it delivered, what it took, whether it is closed and its count of failures; and
+-- what many sends do to what it took.
 use Rattle.std.specs.Prelude.{◌≡◌, ℕ, ◌+◌, ◌<◌, ◌≤◌, min, Option, Some, None, Bool, true, false, if◌then◌else◌, List}
 use Rattle.std.specs.Prelude.{[], ◌∷◌, ◌++◌, length}
 use Rattle.oca_types.specs.declared.words.Peer.{Peer}

@@ -4,4 +4,5 @@ pub mod EndStates
 pub mod Memory
 pub mod Moments
 pub mod Sockets
+pub mod Stale
 pub mod PrivateMoments

@@ -1,4 +1,4 @@
--- An end in memory: a script that it delivers, and room for what it takes (*profile*).
+-- An end in memory: a script that it delivers, and room for what it takes.
 use Rattle.std.specs.Prelude.{ℕ, ◌==◌, nat_le, nat_lt, Bool, true, false, not, ◌&&◌, if◌then◌else◌, List, [], ◌∷◌, ◌++◌}
 use Rattle.std.specs.Prelude.{length, map, Option, Some, None}
 use Rattle.oca_types.specs.declared.words.Peer.{Peer}

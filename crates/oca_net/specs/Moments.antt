@@ -1,4 +1,4 @@
--- Moments of an end that keeps time, and until when a receive waits (*profile*).
+-- Moments of an end that keeps time, and until when a receive waits.
 use Rattle.std.specs.Prelude.{ℕ, ◌+◌, ◌/◌, min}
 use Rattle.std.specs.Duration.{as_nanos}
 use Rattle.std.specs.declared.time.Duration.{Duration}

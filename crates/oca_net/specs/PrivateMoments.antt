@@ -1,4 +1,4 @@
--- For private contracts: what a look at the clock gives, and how long a wait is that is asked of the system (*profile*).
+-- For private contracts: what a look at the clock gives, and how long a wait is that is asked of the system.
 use Rattle.std.specs.Prelude.{◌≡◌, ℕ, max, Bool, if◌then◌else◌}
 
 -- how long a receive of a socket waits: as long as its timeout, and in a mode that does not block not at all

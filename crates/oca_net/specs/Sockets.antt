@@ -1,4 +1,4 @@
--- An end at a UDP socket (*profile*). It tells neither what it delivered nor what it took, and is never closed.
+-- An end at a UDP socket. It tells neither what it delivered nor what it took, and is never closed.
 use Rattle.std.specs.Prelude.{◌≡◌, ◌≢◌, ◌<◌, ◌+◌, ◌==◌, ℕ, zero, suc, max, Bool, true, false, if◌then◌else◌, []}
 use Rattle.std.specs.Prelude.{Option, None, Some}
 use Rattle.std.specs.Prelude.{Result, Ok, Err, IsSome, IsSomeAnd}

@@ -1,5 +1,5 @@
 //! What the loops of device and controller ask of an end.
-ghost use Rattle.std.specs.Prelude.{◌≤◌, length};
+ghost use Rattle.std.specs.Prelude.{ℕ, ⊤, ◌≤◌, length};
 ghost use Rattle.oca_net.specs.Ends.{largest_datagram};
 ghost use Rattle.oca_net.specs.EndStates.{EndState, IsPresent, Receives, Sends};
 
@@ -36,6 +36,10 @@ pub trait End {
     /// What the end says of itself.
     ghost state: { Self → EndState };
 
+    /// What the end says of a receive that was to wait until a moment: of the end before it, and after it. An end that
+    /// does not define it says nothing.
+    ghost waited: { Self → Self → ℕ → Type 0 } = { λ _ _ _. ⊤ };
+
     /// Receives once, and waits for as long as the end chooses: a socket waits for at most 50 ms. `packet` is emptied
     /// first.
     ///
@@ -52,11 +56,8 @@ pub trait End {
     /// datagram of more than 1,472 bytes came: it is dropped. `Failed` if receiving failed. `Closed` if nothing more
     /// will come.
     fn receive_by(&mut self, packet: &mut Packet, moment: u64) -> Heard
-        ensures { Receives result packet.new.items (state self.old) (state self.new) }
-    {
-        let _ = moment;
-        self.receive(packet)
-    }
+        ensures heard { Receives result packet.new.items (state self.old) (state self.new) }
+        ensures waits { waited self.old self.new moment };
 
     /// The present moment of the end's clock, in milliseconds. It is not before any moment that a receive has returned.
     /// 0 if the end keeps no time. Nothing is received or sent.

@@ -157,6 +157,15 @@ impl End for MemoryEnd {
         heard
     }
 
+    /// As `receive`: it keeps no time.
+    fn receive_by(&mut self, packet: &mut Packet, _moment: u64) -> Heard
+        ensures heard { result ≡ next_heard self.old.to_come }
+        ensures packet { packet.new.items ≡ next_bytes self.old.to_come }
+        ensures end { self.new ≡ after_receive self.old }
+    {
+        self.receive(packet)
+    }
+
     /// 0: it keeps no time.
     fn now(&self) -> u64
         ensures { result ≡ 0 }

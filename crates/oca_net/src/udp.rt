@@ -37,7 +37,7 @@ const LONGEST_WAIT_MS: u64 = 3_600_000;
 /// How often at most a call is begun again that signals interrupt, so that it ends even where the clock stops.
 const TRIES: u32 = 65_536;
 
-/// Why no end was bound. The numbers are promised (*profile*).
+/// Why no end was bound. The numbers are promised.
 #[derive(Clone, Copy, Debug, Drop, PartialEq, Eq, Error)]
 pub enum BindFault {
     /// The system refused the socket: the address is not this machine's, or the port is in use or not open to the
@@ -383,6 +383,8 @@ impl<'a, C: Clock> UdpEnd<'a, C> {
 
 impl<'a, C: Clock> End for UdpEnd<'a, C> {
     ghost state = { state_of_socket };
+
+    ghost waited = { λ old new moment. new.until ≡ until_at_most new.begun moment };
 
     /// Waits up to 50 ms for a datagram. It never returns `Closed`.
     #[tactic(auto, using(crate::proofs::Waiting::pause_later))]

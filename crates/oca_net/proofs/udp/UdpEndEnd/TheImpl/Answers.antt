@@ -20,15 +20,18 @@ receive-tells g c = record {
 
 pub receive_by-tells : goal.receive_by-tells
 receive_by-tells g c = record {
-  telling = refl;
-  delivered = λ told. absurd (false≢true told);
-  taken = λ told. absurd (false≢true told);
-  packet = c.ensures.packet;
-  closed = search sym;
-  failures = ap (λ (e : SocketState). e.failures) c.ensures.end;
-  receives = ap (λ (e : SocketState). e.receives) c.ensures.end;
-  sends = ap (λ (e : SocketState). e.sends) c.ensures.end;
-  moment = (_, refl, c.ensures.later, heard_by _ _ c.ensures.said);
+  heard = record {
+    telling = refl;
+    delivered = λ told. absurd (false≢true told);
+    taken = λ told. absurd (false≢true told);
+    packet = c.ensures.packet;
+    closed = search sym;
+    failures = ap (λ (e : SocketState). e.failures) c.ensures.end;
+    receives = ap (λ (e : SocketState). e.receives) c.ensures.end;
+    sends = ap (λ (e : SocketState). e.sends) c.ensures.end;
+    moment = (_, refl, c.ensures.later, heard_by _ _ c.ensures.said);
+  };
+  waits = c.ensures.until;
 }
 
 pub send-tells : goal.send-tells
