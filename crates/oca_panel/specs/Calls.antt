@@ -1,4 +1,4 @@
--- A keep-alive that is sent beside a panel's link (*profile*).
+-- A keep-alive that is sent beside a panel's link.
 use Rattle.std.specs.Prelude.{◌≡◌, ℕ, List}
 use Rattle.oca_types.specs.declared.words.Peer.{Peer}
 use Rattle.oca_net.specs.declared.end.Heard.{Heard}

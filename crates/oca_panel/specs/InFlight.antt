@@ -1,5 +1,5 @@
--- Commands in flight on a panel, in the order in which they were begun (*profile*). Of each there is its handle, and
--- what its caller says of it.
+-- Commands in flight on a panel, in the order in which they were begun. Of each there is its handle, and what its
+-- caller says of it.
 use Rattle.std.specs.Prelude.{◌≡◌, ℕ, ◌==◌, Bool, true, false, List, [], ◌∷◌, ◌++◌, length, Option, Some, None}
 use Rattle.std.specs.Prelude.{Result, Ok, Err}
 use Rattle.oca_types.specs.declared.words.Handle.{Handle}

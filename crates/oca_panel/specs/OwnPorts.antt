@@ -1,4 +1,4 @@
--- A port of one's own and a first handle, by the time of day (*profile*).
+-- A port of one's own and a first handle, by the time of day.
 use Rattle.std.specs.Prelude.{◌≡◌, ◌≤◌, ◌<◌, ◌+◌, ◌*◌, ◌/◌, ◌%◌, ◌==◌, ℕ, if◌then◌else◌}
 use Rattle.std.specs.Time.{FitsClock}
 use Rattle.oca_panel.specs.declared.own_port.OwnPort.{OwnPort}

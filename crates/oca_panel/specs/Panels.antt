@@ -1,4 +1,4 @@
--- A panel: its link, the end that it is driven over, and what its calls do (*profile*).
+-- A panel: its link, the end that it is driven over, and what its calls do.
 use Rattle.std.specs.Prelude.{◌≡◌, ℕ, Bool, true, false, ◌==◌, ◌||◌, ◌&&◌, not, None, Option, Some, Result, Ok, Err}
 use Rattle.oca_types.specs.declared.words.Handle.{Handle}
 use Rattle.oca_types.specs.declared.words.Peer.{Peer}

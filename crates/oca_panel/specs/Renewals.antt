@@ -1,4 +1,4 @@
--- A panel that goes on with a new link over the same end, and a turn with its report (*profile*).
+-- A panel that goes on with a new link over the same end, and a turn with its report.
 use Rattle.std.specs.Prelude.{◌≡◌, ℕ, Bool, ◌||◌}
 use Rattle.oca_types.specs.declared.words.Peer.{Peer}
 use Rattle.oca_control.specs.declared.report.DriveReport.{DriveReport}

@@ -1,4 +1,4 @@
--- An end that remembers when a peer was last heard, and what is found by that (*profile*).
+-- An end that remembers when a peer was last heard, and what is found by that.
 use Rattle.std.specs.Prelude.{◌≡◌, ℕ, Bool, true, false, if◌then◌else◌, Option, Some, None}
 use Rattle.std.specs.Option.{option_or}
 use Rattle.oca_types.specs.declared.words.Peer.{Peer}

@@ -24,6 +24,7 @@ mod panel;
 mod trouble;
 mod walk;
 mod watched;
+mod way;
 
 pub use answering::{Probed, keep_alive, probe};
 pub use beginning::answer_of;
@@ -34,3 +35,4 @@ pub use panel::Panel;
 pub use trouble::Trouble;
 pub use walk::{Description, Found, MOST_PLACES, Place, ROOT, Visit, Walk};
 pub use watched::Watched;
+pub use way::{LocalPort, Reached, Unreached, Way};
