@@ -1,4 +1,4 @@
--- What is read from and written to (profile).
+-- What is read from and written to.
 use Rattle.std.specs.Prelude.{◌≡◌, Bool, true, Result, Ok, Err, ℕ, List, Option}
 
 -- a failure is remembered

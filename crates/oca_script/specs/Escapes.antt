@@ -1,5 +1,5 @@
 -- How a text of a peer is printed, so that no character of it ends a line, moves a cursor or changes the direction of
--- what stands beside it (*profile*).
+-- what stands beside it.
 use Rattle.std.specs.Prelude.{◌≡◌, ℕ, ◌+◌, ◌*◌, ◌/◌, ◌%◌, ◌==◌, ◌&&◌, ◌||◌, nat_le, nat_lt, Bool, if◌then◌else◌, List}
 use Rattle.std.specs.Prelude.{[], ◌∷◌, ◌++◌, codes, Option, Some, None, encode_utf8_all, IsUtf8}
 use Rattle.std.specs.List.{flat_map, list_any}

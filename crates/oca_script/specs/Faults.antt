@@ -1,4 +1,4 @@
--- How the faults of a script are printed and numbered (profile).
+-- How the faults of a script are printed and numbered.
 use Rattle.std.specs.Prelude.{ℕ, List, codes}
 use Rattle.oca_script.specs.declared.fault.LineFault.{LineFault}
 use Rattle.oca_script.specs.declared.fault.LineFault.TheVariants.{TooLong, Form, Moment, Number, Peer, Hex}

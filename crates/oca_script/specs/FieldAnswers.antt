@@ -1,4 +1,4 @@
--- What the readers of fields return, without where it lies in memory (profile).
+-- What the readers of fields return, without where it lies in memory.
 use Rattle.std.specs.Prelude.{ℕ, List, Option}
 use Rattle.std.specs.Option.{option_map}
 use denote.Ref.{Bor}

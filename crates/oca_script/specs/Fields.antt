@@ -1,4 +1,4 @@
--- The fields of a script's line, and the values that they encode (profile).
+-- The fields of a script's line, and the values that they encode.
 use Rattle.std.specs.Prelude.{ℕ, ◌+◌, ◌-◌, ◌*◌, ◌^◌, ◌==◌, ◌&&◌, ◌||◌, nat_le, nat_lt, if◌then◌else◌, List, [], ◌∷◌}
 use Rattle.std.specs.Prelude.{length, codes, Option, Some, None}
 use Rattle.std.specs.Option.{option_map}

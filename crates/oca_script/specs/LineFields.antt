@@ -1,4 +1,4 @@
--- The fields that a line must have, or the fault that the line has (*profile*).
+-- The fields that a line must have, or the fault that the line has.
 use Rattle.std.specs.Prelude.{ℕ, List, Option, Some, None, Result, Err}
 use Rattle.oca_script.specs.Fields.{number_of}
 use Rattle.oca_script.specs.declared.fault.LineFault.{LineFault}

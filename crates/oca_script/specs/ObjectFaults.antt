@@ -1,4 +1,4 @@
--- The faults of a line that lists an object, by their words (*profile*).
+-- The faults of a line that lists an object, by their words.
 use Rattle.std.specs.Prelude.{List, codes, ℕ}
 use Rattle.oca_script.specs.declared.object_fault.ObjectFault.{ObjectFault}
 use Rattle.oca_script.specs.declared.object_fault.ObjectFault.TheVariants.{Form, Number, Class, Value, Lockable, Text, Full}

@@ -1,4 +1,4 @@
--- What is printed through a buffer (profile).
+-- What is printed through a buffer.
 use Rattle.std.specs.Prelude.{◌≡◌, ℕ, List, [], ◌++◌, true, Option, Result, Ok, Err}
 use Rattle.std.specs.Io.KnownBytes.{Appends}
 use Rattle.oca_script.specs.declared.fault.WriteFailed.{WriteFailed}

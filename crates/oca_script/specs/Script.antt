@@ -1,4 +1,4 @@
--- What a script asks for, as a function of its bytes (profile).
+-- What a script asks for, as a function of its bytes.
 use Rattle.std.specs.Prelude.{ℕ, ◌+◌, ◌==◌, Bool, true, false, if◌then◌else◌, nat_le, nat_lt, List, [], ◌∷◌, ◌++◌}
 use Rattle.std.specs.Prelude.{length, take, Option, Some, None, Result, Ok, Err}
 use Rattle.std.specs.List.{list_all}

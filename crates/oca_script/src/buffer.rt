@@ -23,7 +23,7 @@ impl<const CAP: usize> Model for Buffer<CAP> {
 }
 
 impl<const CAP: usize> Buffer<CAP> {
-    /// Returns a buffer without bytes, with room for `CAP` bytes (*profile*). The call takes no memory from the heap.
+    /// Returns a buffer without bytes, with room for `CAP` bytes. The call takes no memory from the heap.
     pub fn new() -> Self
         ensures { result ≡ [] }
     {
@@ -33,7 +33,7 @@ impl<const CAP: usize> Buffer<CAP> {
         }
     }
 
-    /// Returns the number of bytes in the buffer: from 0, as at first, to `CAP` (*profile*).
+    /// Returns the number of bytes in the buffer: from 0, as at first, to `CAP`.
     pub fn len(&self) -> usize
         ensures len { result ≡ length self.now }
         ensures most { result ≤ CAP }
@@ -41,14 +41,14 @@ impl<const CAP: usize> Buffer<CAP> {
         self.len
     }
 
-    /// Returns whether there are no bytes in the buffer, as at first (*profile*).
+    /// Returns whether there are no bytes in the buffer, as at first.
     pub fn is_empty(&self) -> bool
         ensures { result ≡ (length self.now == 0) }
     {
         self.len == 0
     }
 
-    /// Returns the bytes in the buffer, in the order in which they were appended: from 0 to `CAP` bytes (*profile*).
+    /// Returns the bytes in the buffer, in the order in which they were appended: from 0 to `CAP` bytes.
     pub fn as_slice(&self) -> &[u8]
         ensures value { result.now ≡ self.now }
         ensures most { length self.now ≤ CAP }
@@ -56,15 +56,15 @@ impl<const CAP: usize> Buffer<CAP> {
         &self.bytes[..self.len]
     }
 
-    /// Removes all bytes from the buffer; then there is room for `CAP` bytes again (*profile*).
+    /// Removes all bytes from the buffer; then there is room for `CAP` bytes again.
     pub fn clear(&mut self)
         ensures { self.new ≡ [] }
     {
         self.len = 0;
     }
 
-    /// Appends the bytes to the buffer (*profile*). There must be room for these bytes (a premise, which the caller
-    /// must prove): all bytes together are at most `CAP`.
+    /// Appends the bytes to the buffer. There must be room for these bytes (a premise, which the caller must prove):
+    /// all bytes together are at most `CAP`.
     #[inline]
     pub fn put(&mut self, bytes: &[u8])
         requires { length self.old + length bytes.now ≤ CAP }
@@ -76,8 +76,8 @@ impl<const CAP: usize> Buffer<CAP> {
         self.len = start + bytes.len();
     }
 
-    /// Appends one byte to the buffer (*profile*). There must be room for this byte (a premise, which the caller must
-    /// prove): the buffer has fewer than `CAP` bytes.
+    /// Appends one byte to the buffer. There must be room for this byte (a premise, which the caller must prove): the
+    /// buffer has fewer than `CAP` bytes.
     #[inline]
     pub fn push(&mut self, byte: u8)
         requires { length self.old + 1 ≤ CAP }
@@ -89,8 +89,8 @@ impl<const CAP: usize> Buffer<CAP> {
         self.len = start + 1;
     }
 
-    /// Appends the bytes as lower-case hexadecimal digits, two for each byte (*profile*). There must be room for the
-    /// digits (a premise, which the caller must prove): all bytes together are at most `CAP`.
+    /// Appends the bytes as lower-case hexadecimal digits, two for each byte. There must be room for the digits (a
+    /// premise, which the caller must prove): all bytes together are at most `CAP`.
     #[inline]
     pub fn put_digits(&mut self, bytes: &[u8])
         requires { length self.old + 2 * length bytes.now ≤ CAP }

@@ -10,7 +10,7 @@ use std::io;
 use std::io::{Read, Write};
 use std::os::fd::{AsRawFd, RawFd};
 
-/// Something from which a script is read, such as a file or the standard input (*profile*).
+/// Something from which a script is read, such as a file or the standard input.
 pub trait Source {
     // The bytes that reads will give from here on, where they are known.
     ghost remaining: { Self → Option (List ℕ) };
@@ -21,23 +21,23 @@ pub trait Source {
     // Whether it is known that a read does not wait: since there are bytes, or the end is reached, or it never waits.
     ghost ready: { Self → Bool } = { λ _. true };
 
-    /// Waits for at most `milliseconds` until a read would not wait, or until the descriptor `beside` can be read
-    /// (*profile*). If `beside` is `None`, there is no such descriptor. The call reads nothing. Returns `true` if a
-    /// read would not wait: there are bytes, or the end is reached. Returns `false` otherwise.
+    /// Waits for at most `milliseconds` until a read would not wait, or until the descriptor `beside` can be read. If
+    /// `beside` is `None`, there is no such descriptor. The call reads nothing. Returns `true` if a read would not
+    /// wait: there are bytes, or the end is reached. Returns `false` otherwise.
     fn await_input(&mut self, beside: Option<RawFd>, milliseconds: u64) -> bool
         ensures ready { ready self.new ≡ result }
         ensures source { input (remaining self.new) (failed self.new) ≡ input (remaining self.old) (failed self.old) };
 
     /// Reads the next bytes into the front of `buf`, and returns how many they are: at most the length of `buf`. 0
-    /// means that the end is reached, or that `buf` has no room (*profile*). The only refusal is `ReadFailed`, if
-    /// reading failed; what `buf` then contains is not known.
+    /// means that the end is reached, or that `buf` has no room. The only refusal is `ReadFailed`, if reading failed;
+    /// what `buf` then contains is not known.
     fn read(&mut self, buf: &mut [u8]) -> Result<usize, ReadFailed>
         ensures within { ReadsAtMost result buf.new }
         ensures bytes { ReadConsumes (remaining self.old) (remaining self.new) result buf.new }
         ensures failed { Remembers result (failed self.old) (failed self.new) };
 }
 
-/// Something to which the text that a script prints is written, such as a file or the standard output (*profile*).
+/// Something to which the text that a script prints is written, such as a file or the standard output.
 pub trait Sink {
     // The bytes that it has taken, where they are known.
     ghost contents: { Self → Option (List ℕ) };
@@ -46,8 +46,8 @@ pub trait Sink {
     ghost failed: { Self → Bool };
 
     /// Writes some bytes from the beginning of `bytes`, and returns how many: at least one, and 0 only if `bytes` is
-    /// empty (*profile*). The caller writes the rest. The only refusal is `WriteFailed`, if writing failed; then no
-    /// byte was written.
+    /// empty. The caller writes the rest. The only refusal is `WriteFailed`, if writing failed; then no byte was
+    /// written.
     fn write(&mut self, bytes: &[u8]) -> Result<usize, WriteFailed>
         ensures within { WritesAtMost result bytes.now }
         ensures some { IfOk result (λ n. 0 < length bytes.now → 0 < n) }
@@ -55,8 +55,8 @@ pub trait Sink {
         ensures failed { Remembers result (failed self.old) (failed self.new) };
 }
 
-/// A [`Source`] over any reader of the standard library (*profile*). It has a flag for whether a read has failed. That
-/// the flag is set only if the reader failed is shown by tests, not proved.
+/// A [`Source`] over any reader of the standard library. It has a flag for whether a read has failed. That the flag is
+/// set only if the reader failed is shown by tests, not proved.
 pub struct FromReader<R> {
     reader: R,
     failed: bool,
@@ -66,9 +66,9 @@ pub struct FromReader<R> {
 }
 
 impl<R: Read> FromReader<R> {
-    /// Returns a source over the reader `reader`, of which no read has failed yet (*profile*). A source gives a script
-    /// its text. The source assumes that no read waits, as is true for files and memory. The call reads nothing and
-    /// takes no memory.
+    /// Returns a source over the reader `reader`, of which no read has failed yet. A source gives a script its text.
+    /// The source assumes that no read waits, as is true for files and memory. The call reads nothing and takes no
+    /// memory.
     pub fn new(reader: R) -> FromReader<R>
         ensures reader { result.reader ≡ reader }
         ensures unfailed { result.failed ≡ false }
@@ -83,7 +83,7 @@ impl<R: Read> FromReader<R> {
         }
     }
 
-    /// Returns a source over this reader, of which no read has failed yet (*profile*). A read of it may wait, so
+    /// Returns a source over this reader, of which no read has failed yet. A read of it may wait, so
     /// [`await_input`](Source::await_input) asks the operating system whether the reader's descriptor is ready. If the
     /// system cannot answer, the source assumes that a read would not wait. The call itself reads nothing and takes no
     /// memory.
@@ -170,17 +170,17 @@ fn readable(descriptor: RawFd, is_terminal: bool) -> Option<RawFd>
     Some(descriptor)
 }
 
-/// A [`Sink`] over any writer of the standard library (*profile*). It has a flag for whether a write has failed. A
-/// write of at least one byte that takes no byte has failed too. That the flag is set only after such a write is shown
-/// by tests, not proved.
+/// A [`Sink`] over any writer of the standard library. It has a flag for whether a write has failed. A write of at
+/// least one byte that takes no byte has failed too. That the flag is set only after such a write is shown by tests,
+/// not proved.
 pub struct ToWriter<W> {
     writer: W,
     failed: bool,
 }
 
 impl<W: Write> ToWriter<W> {
-    /// Returns a sink over the writer `writer`, to which no write has failed yet (*profile*). A sink gets the text that
-    /// a script prints. The call writes nothing and takes no memory.
+    /// Returns a sink over the writer `writer`, to which no write has failed yet. A sink gets the text that a script
+    /// prints. The call writes nothing and takes no memory.
     pub fn new(writer: W) -> ToWriter<W>
         ensures writer { result.writer ≡ writer }
         ensures unfailed { result.failed ≡ false }

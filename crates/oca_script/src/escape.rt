@@ -1,5 +1,5 @@
 //! Texts of peers as they are printed: no character of them ends a line, moves a cursor or changes the direction of
-//! what stands beside it (profile).
+//! what stands beside it.
 ghost use Rattle.std.specs.Prelude.{◌≡◌, ◌≤◌, ◌+◌, ◌++◌, length, encode_utf8_all, IsTrue};
 ghost use Rattle.std.specs.Char.{digit_char};
 ghost use Rattle.oca_script.specs.Escapes.{is_hidden as is_hidden_char, letter_for, two_digits, digits_of, escape};
@@ -11,10 +11,10 @@ use std::marker::Model;
 /// The most bytes that are printed of a text of 64 bytes.
 const MOST: usize = 512;
 
-/// A text of at most 64 bytes as the programs print it (*profile*). A line feed, a carriage return, a tab and a
-/// backslash are `\n`, `\r`, `\t` and `\\`. Any other control character, U+061C, U+200E, U+200F, U+2028 to U+202E and
-/// U+2066 to U+2069 are `\u{..}`, with two hexadecimal digits below U+0100 and otherwise four. Any other character is
-/// printed as it is. Contracts see it as its bytes.
+/// A text of at most 64 bytes as the programs print it. A line feed, a carriage return, a tab and a backslash are `\n`,
+/// `\r`, `\t` and `\\`. Any other control character, U+061C, U+200E, U+200F, U+2028 to U+202E and U+2066 to U+2069 are
+/// `\u{..}`, with two hexadecimal digits below U+0100 and otherwise four. Any other character is printed as it is.
+/// Contracts see it as its bytes.
 #[derive(Drop)]
 pub struct Escaped {
     bytes: Buffer<MOST>,
@@ -29,9 +29,9 @@ impl Model for Escaped {
 }
 
 impl Escaped {
-    /// Returns the text as the programs print it: 0 to 512 bytes (*profile*). The bytes have no character that ends a
-    /// line, moves a cursor or changes the direction of a text. `text` must have at most 64 bytes (a premise, which the
-    /// caller must prove). The call prints nothing, refuses nothing and takes no memory.
+    /// Returns the text as the programs print it: 0 to 512 bytes. The bytes have no character that ends a line, moves a
+    /// cursor or changes the direction of a text. `text` must have at most 64 bytes (a premise, which the caller must
+    /// prove). The call prints nothing, refuses nothing and takes no memory.
     pub fn of(text: &str) -> Escaped
         requires { length text.now ≤ 64 }
         ensures { result ≡ escaped text.now }
@@ -41,7 +41,7 @@ impl Escaped {
         }
     }
 
-    /// Returns the bytes to print, without copying them: from 0 to 512 bytes of UTF-8 (*profile*).
+    /// Returns the bytes to print, without copying them: from 0 to 512 bytes of UTF-8.
     pub fn as_bytes(&self) -> &[u8]
         ensures value { result.now ≡ self.now }
         ensures most { length self.now ≤ 512 }
@@ -50,9 +50,8 @@ impl Escaped {
     }
 }
 
-/// Returns whether a text has a character that the programs print as `\n`, `\r`, `\t` or `\u{..}` (*profile*). A
-/// backslash does not count, although it is printed as two. The text can have any length. The result is `false` for an
-/// empty text.
+/// Returns whether a text has a character that the programs print as `\n`, `\r`, `\t` or `\u{..}`. A backslash does not
+/// count, although it is printed as two. The text can have any length. The result is `false` for an empty text.
 pub fn has_hidden(text: &str) -> bool
     ensures { result ≡ has_hidden_char text.now }
 {
@@ -149,8 +148,8 @@ fn digit(value: u8) -> u8
     }
 }
 
-/// Law: each text can be read back from what is printed of it (*profile*). The function states this law as its
-/// contract, and does nothing at run time.
+/// Law: each text can be read back from what is printed of it. The function states this law as its contract, and does
+/// nothing at run time.
 pub fn law_of_escapes()
     ensures { LawOfEscapes }
 {}

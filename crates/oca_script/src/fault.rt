@@ -5,7 +5,7 @@ ghost use Rattle.oca_script.specs.Faults.{fault_word, script_fault_number};
 use std::fmt::{self, Display, Formatter};
 use thiserror::Error;
 
-/// What is wrong with a line of a script (*profile*). Each fault is looked for in the whole line before the next.
+/// What is wrong with a line of a script. Each fault is looked for in the whole line before the next.
 #[derive(Clone, Copy, PartialEq, Eq, Debug)]
 pub enum LineFault {
     /// The line has more than 4,096 bytes before its line feed.
@@ -23,8 +23,8 @@ pub enum LineFault {
 }
 
 impl LineFault {
-    /// Returns the word that is printed for the fault (*profile*), by the variant: `too long`, `form`, `moment`,
-    /// `number`, `peer` or `hex`. The call refuses nothing.
+    /// Returns the word that is printed for the fault, by the variant: `too long`, `form`, `moment`, `number`, `peer`
+    /// or `hex`. The call refuses nothing.
     pub fn word(self) -> &'static str
         ensures { result.now ≡ fault_word self }
     {
@@ -48,7 +48,7 @@ impl Display for LineFault {
 
 impl std::error::Error for LineFault {}
 
-/// Why a replay ended before its script did (*profile*).
+/// Why a replay ended before its script did.
 #[derive(Clone, Copy, PartialEq, Eq, Debug, Error)]
 pub enum ReplayFault {
     /// A line has a fault: its number, counted from 1 with the skipped lines, and the fault.
@@ -66,8 +66,8 @@ pub enum ReplayFault {
 }
 
 impl ReplayFault {
-    /// Returns the number of the fault (*profile*): 1 for a bad line, 2 for a failed read, 3 for a failed write, and 4
-    /// for too much input. The call refuses nothing.
+    /// Returns the number of the fault: 1 for a bad line, 2 for a failed read, 3 for a failed write, and 4 for too much
+    /// input. The call refuses nothing.
     pub fn number(self) -> u8
         ensures { result ≡ script_fault_number self }
     {

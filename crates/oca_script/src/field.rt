@@ -10,9 +10,9 @@ use oca_types::Peer;
 /// Whatever digit follows a number of at most this, the result has 64 bits.
 const MOST_TENTH: u64 = (u64::MAX - 9) / 10;
 
-/// Returns the number that a text of 1 to `most` decimal digits gives (*profile*). Leading zeros count as digits. The
-/// result is `None` if the text is empty, has more than `most` bytes or a byte that is not a digit, or if the number is
-/// above `largest`. The call takes no memory.
+/// Returns the number that a text of 1 to `most` decimal digits gives. Leading zeros count as digits. The result is
+/// `None` if the text is empty, has more than `most` bytes or a byte that is not a digit, or if the number is above
+/// `largest`. The call takes no memory.
 #[tactic(auto, unfolding(crate::specs::Fields::number_of, crate::specs::Fields::at_most), using(crate::proofs::FieldLemmas::number_rules))]
 pub fn number(digits: &[u8], most: usize, largest: u64) -> Option<u64>
     ensures value { result ≡ number_of most largest digits.now }
@@ -36,10 +36,10 @@ pub fn number(digits: &[u8], most: usize, largest: u64) -> Option<u64>
     if value <= largest { Some(value) } else { None }
 }
 
-/// Returns the number before the first byte `end` of a text, and the text after that byte (*profile*). The number has 1
-/// to `most` decimal digits. `end` must not be a digit (a premise, which the caller must prove). The result is `None`
-/// if the text has no byte `end`, or the text before it is not such a number, or the number is above `largest`. The
-/// call takes no memory.
+/// Returns the number before the first byte `end` of a text, and the text after that byte. The number has 1 to `most`
+/// decimal digits. `end` must not be a digit (a premise, which the caller must prove). The result is `None` if the text
+/// has no byte `end`, or the text before it is not such a number, or the number is above `largest`. The call takes no
+/// memory.
 #[tactic(auto, using(crate::proofs::NumberLemmas::number_before_rules))]
 pub fn number_before(text: &[u8], end: u8, most: usize, largest: u64) -> Option<(u64, &[u8])>
     requires { (end < 48) ⊎ (57 < end) }
@@ -101,16 +101,16 @@ fn octet_before(text: &[u8], end: u8) -> Option<(u64, &[u8])>
     Some((three, &text[4..]))
 }
 
-/// Returns the moment, in milliseconds, that a text of 1 to 20 decimal digits gives (*profile*). The result is `None`
-/// if the text is anything else, or the number does not fit 64 bits. The call takes no memory.
+/// Returns the moment, in milliseconds, that a text of 1 to 20 decimal digits gives. The result is `None` if the text
+/// is anything else, or the number does not fit 64 bits. The call takes no memory.
 pub fn moment(text: &[u8]) -> Option<u64>
     ensures { result ≡ moment_of text.now }
 {
     number(text, 20, u64::MAX)
 }
 
-/// Returns the text before the first byte `separator`, and the text after that byte (*profile*). Both can be empty. The
-/// result is `None` if the text has no such byte. Nothing is copied, and no memory is taken.
+/// Returns the text before the first byte `separator`, and the text after that byte. Both can be empty. The result is
+/// `None` if the text has no such byte. Nothing is copied, and no memory is taken.
 pub fn split_at_byte(text: &[u8], separator: u8) -> Option<(&[u8], &[u8])>
     ensures value { split_view result ≡ split_at separator text.now }
     ensures within { IfSome result (λ p. length p.0.now + length p.1.now + 1 ≡ length text.now) }
@@ -121,9 +121,8 @@ pub fn split_at_byte(text: &[u8], separator: u8) -> Option<(&[u8], &[u8])>
     }
 }
 
-/// Returns the text before its first space, and the text after that space (*profile*). If the text has no space, the
-/// whole text is the first part, and the second part is `None`. Both can be empty. Nothing is copied, and no memory is
-/// taken.
+/// Returns the text before its first space, and the text after that space. If the text has no space, the whole text is
+/// the first part, and the second part is `None`. Both can be empty. Nothing is copied, and no memory is taken.
 #[tactic(auto, using(crate::proofs::FieldLemmas::field_rules))]
 pub fn first_field(text: &[u8]) -> (&[u8], Option<&[u8]>)
     ensures value { fields text.now ≡ result.0.now ∷ fields_after (option_copied result.1) }
@@ -136,9 +135,9 @@ pub fn first_field(text: &[u8]) -> (&[u8], Option<&[u8]>)
     }
 }
 
-/// Returns the IPv4 address that a text `a.b.c.d` gives, as a number with `a` in the highest byte (*profile*). The four
-/// decimal numbers have 1 to 3 digits each, and are at most 255. The result is `None` if the text is anything else. The
-/// call takes no memory.
+/// Returns the IPv4 address that a text `a.b.c.d` gives, as a number with `a` in the highest byte. The four decimal
+/// numbers have 1 to 3 digits each, and are at most 255. The result is `None` if the text is anything else. The call
+/// takes no memory.
 #[tactic(auto, unfolding(crate::specs::Fields::address_of))]
 pub fn address(text: &[u8]) -> Option<u32>
     ensures { result ≡ address_of text.now }
@@ -167,9 +166,9 @@ fn address_before(text: &[u8], end: u8) -> Option<(u64, &[u8])>
     Some((((a * 256 + b) * 256 + c) * 256 + d, rest))
 }
 
-/// Returns the peer that a text `a.b.c.d:port` gives (*profile*). The four decimal numbers have 1 to 3 digits each, and
-/// are at most 255. The port has 1 to 5 digits, and is at most 65,535. The result is `None` if the text is anything
-/// else. The call takes no memory.
+/// Returns the peer that a text `a.b.c.d:port` gives. The four decimal numbers have 1 to 3 digits each, and are at most
+/// 255. The port has 1 to 5 digits, and is at most 65,535. The result is `None` if the text is anything else. The call
+/// takes no memory.
 #[tactic(auto, unfolding(crate::specs::Fields::peer_of))]
 pub fn peer(text: &[u8]) -> Option<Peer>
     ensures { result ≡ peer_of text.now }
@@ -182,9 +181,9 @@ pub fn peer(text: &[u8]) -> Option<Peer>
     })
 }
 
-/// Returns the peer `a.b.c.d:port` before the first space of a text, and the text after that space (*profile*). The
-/// numbers are as in [`peer`]. The result is `None` if the text has no space, or the text before it is not such a peer.
-/// The call takes no memory.
+/// Returns the peer `a.b.c.d:port` before the first space of a text, and the text after that space. The numbers are as
+/// in [`peer`]. The result is `None` if the text has no space, or the text before it is not such a peer. The call takes
+/// no memory.
 #[tactic(auto, using(crate::proofs::AddressLemmas::peer_rules))]
 pub fn peer_before(text: &[u8]) -> Option<(Peer, &[u8])>
     ensures value { read_view result ≡ read_before peer_of 32 text.now }
@@ -199,10 +198,10 @@ pub fn peer_before(text: &[u8]) -> Option<(Peer, &[u8])>
     Some((peer, rest))
 }
 
-/// Returns the bytes that a field of a line gives (*profile*): none for `-`, otherwise one byte for each two
-/// hexadecimal digits, of either case. The bytes are written to the front of `room`, which must have at least half as
-/// many bytes as the text (a premise, which the caller must prove). The result is `None` if the text is anything else,
-/// also if it is empty; discard what `room` contains then. The call takes no memory.
+/// Returns the bytes that a field of a line gives: none for `-`, otherwise one byte for each two hexadecimal digits, of
+/// either case. The bytes are written to the front of `room`, which must have at least half as many bytes as the text
+/// (a premise, which the caller must prove). The result is `None` if the text is anything else, also if it is empty;
+/// discard what `room` contains then. The call takes no memory.
 #[tactic(auto, unfolding(crate::specs::Fields::hex_of), using(crate::proofs::HexLemmas::hex_field_rules))]
 pub fn hex_bytes<'a>(text: &[u8], room: &'a mut [u8]) -> Option<&'a [u8]>
     requires { length text.now ≤ 2 * length room.old }

@@ -10,8 +10,8 @@ use super::ends::{Sink, Source};
 use super::fault::{LineFault, Stop, WriteFailed};
 use super::printer::Printer;
 
-/// The rules of a kind of script: what the fields of a line ask for, and what serving a line changes and prints
-/// (*profile*). [`serve_lines`](crate::lines::serve_lines) reads a script by these rules.
+/// The rules of a kind of script: what the fields of a line ask for, and what serving a line changes and prints.
+/// [`serve_lines`](crate::lines::serve_lines) reads a script by these rules.
 pub trait Language {
     /// What the requests act on.
     type State;
@@ -33,10 +33,10 @@ pub trait Language {
     // From a state a request leads to a state, and prints a text.
     ghost serves: { Self.State → Self.Request → Self.State → List ℕ → Type 0 };
 
-    /// Serves one line of a script, and prints its text to `printer` (*profile*). `state` is what the request acts on.
-    /// `room` is memory for serving, whose old content does not matter. The line has at most 4,096 bytes (a premise,
-    /// which the caller must prove). The call is made for no line that is empty, begins with `#` or is not ASCII.
-    /// Refusals, the first that applies:
+    /// Serves one line of a script, and prints its text to `printer`. `state` is what the request acts on. `room` is
+    /// memory for serving, whose old content does not matter. The line has at most 4,096 bytes (a premise, which the
+    /// caller must prove). The call is made for no line that is empty, begins with `#` or is not ASCII. Refusals, the
+    /// first that applies:
     /// - `Line` with the fault of the line's fields; then nothing is done or printed.
     /// - `Write` if a write failed; then the request was carried out, and perhaps only the beginning of the text was
     ///   written.
@@ -50,10 +50,10 @@ pub trait Language {
         ensures { ServesLine (asked (fields line.now)) serves state.old state.new result printer.old printer.new };
 
     /// Prepares for the next read of the source; [`serve_lines`](crate::lines::serve_lines) calls it before each read,
-    /// when the printer has no bytes waiting (a premise, which the caller must prove; *profile*). It sends and receives
-    /// for the commands in flight, and prints what becomes of them. It stops as soon as a read would not wait, or no
-    /// command is in flight. All that was printed is then written. If nothing is in flight, it does nothing. It reads
-    /// nothing from the source. The only refusal is `WriteFailed`, if a write failed.
+    /// when the printer has no bytes waiting (a premise, which the caller must prove). It sends and receives for the
+    /// commands in flight, and prints what becomes of them. It stops as soon as a read would not wait, or no command is
+    /// in flight. All that was printed is then written. If nothing is in flight, it does nothing. It reads nothing from
+    /// the source. The only refusal is `WriteFailed`, if a write failed.
     fn before_read<R: Source, W: Sink>(
         state: &mut Self::State,
         reader: &mut R,

@@ -1,5 +1,4 @@
-//! Lines of text that are read in any pieces, each asking for one thing, and the lines that are printed in return
-//! (profile).
+//! Lines of text that are read in any pieces, each asking for one thing, and the lines that are printed in return.
 //!
 //! [`lines::serve_lines`] reads lines from a [`Source`] and serves what they ask for one after another. What a line
 //! asks for, and what that does, is a [`Language`]: the device's program has one and the controller's two. What is

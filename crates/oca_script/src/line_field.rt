@@ -7,7 +7,7 @@ ghost use Rattle.oca_script.specs.LineFields.{u32_of, u16_of, u8_of};
 use super::fault::LineFault;
 use super::field::{self, number};
 
-/// Returns the moment, in milliseconds, that a text of 1 to 20 decimal digits gives (*profile*). The only refusal is
+/// Returns the moment, in milliseconds, that a text of 1 to 20 decimal digits gives. The only refusal is
 /// [`LineFault::Moment`], if the text is anything else, or the number does not fit 64 bits.
 pub fn moment(text: &[u8]) -> Result<u64, LineFault>
     ensures { result ≡ ok_or (moment_of text.now) LineFault.Moment }
@@ -15,8 +15,8 @@ pub fn moment(text: &[u8]) -> Result<u64, LineFault>
     field::moment(text).ok_or(LineFault::Moment)
 }
 
-/// Returns the number that a text of 1 to 10 decimal digits gives, from 0 to 4,294,967,295 (*profile*). The only
-/// refusal is [`LineFault::Number`], if the text is anything else, or the number is larger.
+/// Returns the number that a text of 1 to 10 decimal digits gives, from 0 to 4,294,967,295. The only refusal is
+/// [`LineFault::Number`], if the text is anything else, or the number is larger.
 pub fn u32_in(text: &[u8]) -> Result<u32, LineFault>
     ensures { result ≡ ok_or (u32_of text.now) LineFault.Number }
 {
@@ -26,7 +26,7 @@ pub fn u32_in(text: &[u8]) -> Result<u32, LineFault>
     }
 }
 
-/// Returns the number that a text of 1 to 5 decimal digits gives, from 0 to 65,535 (*profile*). The only refusal is
+/// Returns the number that a text of 1 to 5 decimal digits gives, from 0 to 65,535. The only refusal is
 /// [`LineFault::Number`], if the text is anything else, or the number is larger.
 pub fn u16_in(text: &[u8]) -> Result<u16, LineFault>
     ensures { result ≡ ok_or (u16_of text.now) LineFault.Number }
@@ -37,7 +37,7 @@ pub fn u16_in(text: &[u8]) -> Result<u16, LineFault>
     }
 }
 
-/// Returns the number that a text of 1 to 3 decimal digits gives, from 0 to 255 (*profile*). The only refusal is
+/// Returns the number that a text of 1 to 3 decimal digits gives, from 0 to 255. The only refusal is
 /// [`LineFault::Number`], if the text is anything else, or the number is larger.
 pub fn u8_in(text: &[u8]) -> Result<u8, LineFault>
     ensures { result ≡ ok_or (u8_of text.now) LineFault.Number }

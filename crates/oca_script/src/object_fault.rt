@@ -4,8 +4,8 @@ ghost use Rattle.oca_script.specs.ObjectFaults.{object_fault_word};
 
 use std::fmt::{self, Display, Formatter};
 
-/// What is wrong with a line that lists an object (*profile*). It is the first fault of the line from the left. If all
-/// fields can be read, it is the reason for which the object is not added.
+/// What is wrong with a line that lists an object. It is the first fault of the line from the left. If all fields can
+/// be read, it is the reason for which the object is not added.
 #[derive(Clone, Copy, PartialEq, Eq, Debug)]
 pub enum ObjectFault {
     /// A field is missing, there are too many fields, a quote is left open, or there is a control character.
@@ -39,9 +39,9 @@ pub enum ObjectFault {
 }
 
 impl ObjectFault {
-    /// Returns the word that is printed for the fault, as PROTOCOL.md lists it (*profile*): `form`, `number`, `class`,
-    /// `value`, `lockable`, `text`, `full`, `reserved`, `taken`, `container`, `depth`, `range` or `no memory`. The call
-    /// refuses nothing.
+    /// Returns the word that is printed for the fault, as PROTOCOL.md lists it: `form`, `number`, `class`, `value`,
+    /// `lockable`, `text`, `full`, `reserved`, `taken`, `container`, `depth`, `range` or `no memory`. The call refuses
+    /// nothing.
     pub fn word(self) -> &'static str
         ensures { result.now ≡ object_fault_word self }
     {

@@ -12,9 +12,9 @@ use std::marker::Model;
 /// The most bytes that are held.
 const CAPACITY: usize = 8192;
 
-/// A printer over a sink: it stores up to 8,192 bytes that are printed and wait to be written to the sink (*profile*).
-/// If a printer is dropped, the bytes that wait are lost; call [`flush`](Printer::flush) before. After a write that
-/// failed use the printer no longer: a later call may write bytes a second time.
+/// A printer over a sink: it stores up to 8,192 bytes that are printed and wait to be written to the sink. If a printer
+/// is dropped, the bytes that wait are lost; call [`flush`](Printer::flush) before. After a write that failed use the
+/// printer no longer: a later call may write bytes a second time.
 pub struct Printer<W: Sink> {
     sink: W,
     held: Buffer<CAPACITY>,
@@ -36,8 +36,8 @@ impl<W: Sink + Drop> Drop for Printer<W> {
 }
 
 impl<W: Sink> Printer<W> {
-    /// Returns a printer over the sink `sink`, in which no bytes wait (*profile*). A printer stores up to 8,192 bytes
-    /// before it writes them to its sink. The call writes nothing and takes no memory from the heap.
+    /// Returns a printer over the sink `sink`, in which no bytes wait. A printer stores up to 8,192 bytes before it
+    /// writes them to its sink. The call writes nothing and takes no memory from the heap.
     pub fn new(sink: W) -> Printer<W>
         ensures { result ≡ output (W.contents sink) [] (W.failed sink) }
     {
@@ -47,7 +47,7 @@ impl<W: Sink> Printer<W> {
         }
     }
 
-    /// Returns the sink of the printer (*profile*). Bytes that still wait in the printer are not yet written to it
+    /// Returns the sink of the printer. Bytes that still wait in the printer are not yet written to it
     /// ([`flush`](Printer::flush)).
     pub fn sink(&self) -> &W
         ensures contents { W.contents result.now ≡ self.now.contents }
@@ -56,9 +56,9 @@ impl<W: Sink> Printer<W> {
         &self.sink
     }
 
-    /// Writes all bytes that wait in the printer to the sink; then no bytes wait (*profile*). If none wait, nothing is
-    /// written. The only refusal is `WriteFailed`, if a write failed. Then perhaps only the beginning of the bytes was
-    /// written, and what still waits is not known.
+    /// Writes all bytes that wait in the printer to the sink; then no bytes wait. If none wait, nothing is written. The
+    /// only refusal is `WriteFailed`, if a write failed. Then perhaps only the beginning of the bytes was written, and
+    /// what still waits is not known.
     pub fn flush(&mut self) -> Result<(), WriteFailed>
         ensures prints { Prints result self.old self.new [] }
         ensures empty { OnOk result (self.new.held ≡ []) }
@@ -67,8 +67,8 @@ impl<W: Sink> Printer<W> {
     }
 
     /// Makes room for `room` more bytes, from 0 to 8,192 (a premise, which the caller must prove): if fewer are free,
-    /// all bytes that wait are written to the sink (*profile*). The only refusal is `WriteFailed`, if a write failed.
-    /// Then perhaps only the beginning of the bytes was written, and what still waits is not known.
+    /// all bytes that wait are written to the sink. The only refusal is `WriteFailed`, if a write failed. Then perhaps
+    /// only the beginning of the bytes was written, and what still waits is not known.
     pub fn make_room(&mut self, room: usize) -> Result<(), WriteFailed>
         requires { room ≤ 8192 }
         ensures prints { Prints result self.old self.new [] }
@@ -77,18 +77,18 @@ impl<W: Sink> Printer<W> {
         free(&mut self.sink, &mut self.held, room)
     }
 
-    /// Prints the bytes, of any number (*profile*). They wait in the printer, or are written to the sink after the
-    /// bytes that waited before. The only refusal is `WriteFailed`, if a write failed. Then perhaps only the beginning
-    /// of all these bytes was written, and what still waits is not known.
+    /// Prints the bytes, of any number. They wait in the printer, or are written to the sink after the bytes that
+    /// waited before. The only refusal is `WriteFailed`, if a write failed. Then perhaps only the beginning of all
+    /// these bytes was written, and what still waits is not known.
     pub fn print(&mut self, bytes: &[u8]) -> Result<(), WriteFailed>
         ensures { Prints result self.old self.new bytes.now }
     {
         hold_or_write(&mut self.sink, &mut self.held, bytes)
     }
 
-    /// Adds the bytes to those that wait in the printer, and writes nothing to the sink (*profile*). There must be room
-    /// for these bytes: with those that wait already they are at most 8,192 bytes. That is a premise, which the caller
-    /// must prove; [`make_room`](Printer::make_room) makes room. The call refuses nothing.
+    /// Adds the bytes to those that wait in the printer, and writes nothing to the sink. There must be room for these
+    /// bytes: with those that wait already they are at most 8,192 bytes. That is a premise, which the caller must
+    /// prove; [`make_room`](Printer::make_room) makes room. The call refuses nothing.
     #[inline]
     pub fn put(&mut self, bytes: &[u8])
         requires { length self.old.held + length bytes.now ≤ 8192 }
@@ -98,7 +98,7 @@ impl<W: Sink> Printer<W> {
     }
 
     /// Adds the number in decimal digits, from 1 to 20 of them, to the bytes that wait in the printer, and writes
-    /// nothing to the sink (*profile*). There must be room for 20 bytes (a premise, which the caller must prove;
+    /// nothing to the sink. There must be room for 20 bytes (a premise, which the caller must prove;
     /// [`make_room`](Printer::make_room)). The call refuses nothing.
     pub fn put_number(&mut self, n: u64)
         requires { length self.old.held ≤ 8172 }
@@ -109,8 +109,8 @@ impl<W: Sink> Printer<W> {
     }
 
     /// Adds the bytes as lower-case hexadecimal digits, two for each byte, or `-` for no bytes, to the bytes that wait
-    /// in the printer (*profile*). It writes nothing to the sink. There must be room for the digits and one byte more
-    /// (a premise, which the caller must prove; [`make_room`](Printer::make_room)). The call refuses nothing.
+    /// in the printer. It writes nothing to the sink. There must be room for the digits and one byte more (a premise,
+    /// which the caller must prove; [`make_room`](Printer::make_room)). The call refuses nothing.
     pub fn put_hex(&mut self, bytes: &[u8])
         requires { length self.old.held + 2 * length bytes.now + 1 ≤ 8192 }
         ensures value { self.new ≡ output self.old.contents (self.old.held ++ hex_text bytes.now) self.old.failed }
@@ -120,9 +120,9 @@ impl<W: Sink> Printer<W> {
     }
 }
 
-/// Writes all of the bytes to the sink, with as many writes as needed (*profile*). If there are none, nothing is
-/// written. The only refusal is `WriteFailed`, if a write failed; then perhaps only the beginning of the bytes was
-/// written. The call takes no memory.
+/// Writes all of the bytes to the sink, with as many writes as needed. If there are none, nothing is written. The only
+/// refusal is `WriteFailed`, if a write failed; then perhaps only the beginning of the bytes was written. The call
+/// takes no memory.
 pub fn write_bytes<W: Sink>(sink: &mut W, bytes: &[u8]) -> Result<(), WriteFailed>
     ensures { WritesBytes result (output (W.contents sink.old) [] (W.failed sink.old))
         (output (W.contents sink.new) [] (W.failed sink.new)) bytes.now }

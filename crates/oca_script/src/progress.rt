@@ -14,8 +14,8 @@ pub struct Progress {
 }
 
 impl Progress {
-    /// Returns the progress at the start of a script: no byte was read, and the first line has the number 1
-    /// (*profile*). The call takes no memory from the heap.
+    /// Returns the progress at the start of a script: no byte was read, and the first line has the number 1. The call
+    /// takes no memory from the heap.
     pub fn new() -> Progress
         ensures line { result.line ≡ [] }
         ensures number { result.number ≡ 1 }

@@ -1,4 +1,4 @@
--- The fault of a line whose object the tree refuses (*profile*).
+-- The fault of a line whose object the tree refuses.
 use Rattle.oca_tree.specs.declared.builder.AddFault.{AddFault}
 use Rattle.oca_tree.specs.declared.builder.AddFault.TheVariants as adds
 use Rattle.oca_tree.specs.declared.start.StartFault.{StartFault}

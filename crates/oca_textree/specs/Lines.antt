@@ -1,4 +1,4 @@
--- What a line of a text lists: an object, or a fault (*profile*).
+-- What a line of a text lists: an object, or a fault.
 use Rattle.std.specs.Prelude.{ℕ, ◌+◌, ◌-◌, ◌*◌, ◌^◌, ◌==◌, ◌&&◌, ◌||◌, not, nat_lt, nat_le, Bool, true, false}
 use Rattle.std.specs.Prelude.{List, [], ◌∷◌, ◌++◌, length, codes, Option, Some, None, is_some, Result, Ok, Err, ℤ, pos}
 use Rattle.std.specs.Prelude.{if◌then◌else◌, negsuc, neg_ℤ, nat_abs, int_le, find}

@@ -1,5 +1,5 @@
--- How the objects of a device come to be: a builder adds them or a text lists them, and the tree's calls change them
--- (profile). Such objects are read back from the text that is written of them.
+-- How the objects of a device come to be: a builder adds them or a text lists them, and the tree's calls change them.
+-- Such objects are read back from the text that is written of them.
 use Rattle.std.specs.Prelude.{◌≡◌, ◌<◌, ◌^◌, IsUtf8, ℕ, List, [], ◌∷◌, ◌++◌, None, Ok}
 use Rattle.std.specs.List.{All}
 use Rattle.oca_types.specs.declared.words.Peer.{Peer}

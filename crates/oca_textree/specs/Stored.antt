@@ -1,5 +1,5 @@
--- What a line says of an object with all that was stored of it (*profile*): as another line, behind the word `object`,
--- with texts of any characters, the flags of a switch's positions, whether the object is enabled, and its label.
+-- What a line says of an object with all that was stored of it: as another line, behind the word `object`, with texts
+-- of any characters, the flags of a switch's positions, whether the object is enabled, and its label.
 use Rattle.std.specs.Prelude.{ℕ, ◌==◌, nat_lt, nat_le, Bool, true, false, if◌then◌else◌, List, [], ◌∷◌, ◌++◌, length}
 use Rattle.std.specs.Prelude.{codes, Option, Some, None, Result, Ok, Err}
 use Rattle.std.specs.Option.{option_map, option_or}

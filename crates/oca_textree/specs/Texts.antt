@@ -1,4 +1,4 @@
--- A device's objects as a text (*profile*).
+-- A device's objects as a text.
 use Rattle.std.specs.Prelude.{ℕ, ◌+◌, if◌then◌else◌, List, [], ◌∷◌, codes, Option, Some, None, Result, Ok, Err}
 use Rattle.oca_script.specs.Fields.{split_at, split_on}
 use Rattle.oca_tree.specs.declared.object.Object.{Object}

@@ -1,4 +1,4 @@
--- How a tree is written as a text: a line an object, with everything of it but its lock (*profile*).
+-- How a tree is written as a text: a line an object, with everything of it but its lock.
 use Rattle.std.specs.Prelude.{◌≡◌, ◌<◌, ◌≤◌, ◌^◌, length, IsUtf8, Ok, ℕ, ◌==◌, ◌&&◌, ◌||◌, not, nat_lt, Bool, true}
 use Rattle.std.specs.Prelude.{false, if◌then◌else◌, List, [], ◌∷◌, ◌++◌, map, codes, decimal, Option, Some, None, ℤ}
 use Rattle.std.specs.Fmt.{signed_decimal}

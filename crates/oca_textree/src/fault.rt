@@ -6,9 +6,9 @@ use oca_script::ObjectFault;
 use oca_tree::{AddFault, StartFault};
 use thiserror::Error;
 
-/// Returns the fault of a line whose object the tree refuses (*profile*). `NoSuchBlock` becomes `Container`, `TooDeep`
-/// becomes `Depth`, `BadText` becomes `Text`, and `BadRange` becomes `Range`. The other faults keep their names. The
-/// call refuses nothing.
+/// Returns the fault of a line whose object the tree refuses. `NoSuchBlock` becomes `Container`, `TooDeep` becomes
+/// `Depth`, `BadText` becomes `Text`, and `BadRange` becomes `Range`. The other faults keep their names. The call
+/// refuses nothing.
 pub fn fault_of(fault: AddFault) -> ObjectFault
     ensures { result ≡ object_fault_of fault }
 {
@@ -24,9 +24,9 @@ pub fn fault_of(fault: AddFault) -> ObjectFault
     }
 }
 
-/// Returns the fault of a line whose object the tree refuses together with its stored label and flags (*profile*).
-/// `BadLabel` becomes `Text`, `BadFlags` becomes `Value`, and a fault in `Add` becomes what [`fault_of`] returns for
-/// it. The call refuses nothing.
+/// Returns the fault of a line whose object the tree refuses together with its stored label and flags. `BadLabel`
+/// becomes `Text`, `BadFlags` becomes `Value`, and a fault in `Add` becomes what [`fault_of`] returns for it. The call
+/// refuses nothing.
 pub fn fault_of_stored(fault: StartFault) -> ObjectFault
     ensures { result ≡ stored_fault_of fault }
 {
@@ -37,7 +37,7 @@ pub fn fault_of_stored(fault: StartFault) -> ObjectFault
     }
 }
 
-/// Why a text is not a tree of objects (*profile*). No tree is returned.
+/// Why a text is not a tree of objects. No tree is returned.
 #[derive(Clone, Copy, PartialEq, Eq, Debug, Error)]
 pub enum TreeFault {
     /// The first line with a fault: its number, counted from 1 with the skipped lines, and the fault.

@@ -14,8 +14,8 @@ use oca_script::field::{number, split_at_byte};
 use oca_types::Class;
 use std::str::from_utf8;
 
-/// Reads the next field of a line, and returns the field and the rest of the line after it (*profile*). `rest` is the
-/// rest of the line before the call. `None` means that no field is left. The field is the first of these that applies:
+/// Reads the next field of a line, and returns the field and the rest of the line after it. `rest` is the rest of the
+/// line before the call. `None` means that no field is left. The field is the first of these that applies:
 /// - A field that begins with a quote (`"`) ends at the next quote, and is returned without its quotes.
 /// - Any other field ends at the next space or at the line's end. An empty `rest` is one empty field.
 ///
@@ -73,7 +73,7 @@ fn quoted(inside: &[u8]) -> Result<(&[u8], Option<&[u8]>), ObjectFault>
 }
 
 /// Returns the bytes as a text. The result is `None` if they are not UTF-8, or have a character that the programs print
-/// as an escape, such as a control character (*profile*). A backslash is allowed. The text can be of any length.
+/// as an escape, such as a control character. A backslash is allowed. The text can be of any length.
 pub fn text_of(bytes: &[u8]) -> Option<&str>
     ensures { MatchOption result (is_text bytes.now ≡ false) (λ t. (t.now ≡ bytes.now) × (is_text bytes.now ≡ true)) }
 {
@@ -105,9 +105,9 @@ fn next_ono(rest: Option<&[u8]>) -> Result<(u32, Option<&[u8]>), ObjectFault>
     }
 }
 
-/// Reads the next three fields of a line: the number of an object, the number of its container and its class
-/// (*profile*). Returns them and the rest of the line. `rest` is the rest of the line before; `None` means that no
-/// field is left. Refusals, the first from the left:
+/// Reads the next three fields of a line: the number of an object, the number of its container and its class. Returns
+/// them and the rest of the line. `rest` is the rest of the line before; `None` means that no field is left. Refusals,
+/// the first from the left:
 /// - `Form` if no field is left, or a quote is not closed, or is not followed by a space or the line's end.
 /// - `Number` if a number does not have 1 to 10 digits, or is above 4,294,967,295.
 /// - `Class` if the word is not the name of a class.
@@ -124,7 +124,7 @@ pub fn placed(rest: Option<&[u8]>) -> Result<(u32, u32, Class, Option<&[u8]>), O
     }
 }
 
-/// Returns whether the line has a control character: a byte below 32 (*profile*). `false` for an empty line.
+/// Returns whether the line has a control character: a byte below 32. `false` for an empty line.
 pub fn has_control(line: &[u8]) -> bool
     ensures { result ≡ has_control_byte line.now }
 {

@@ -5,8 +5,8 @@ ghost use Rattle.oca_textree.specs.Made.{MadeIsReadBack, ListedIsReadBack};
 use oca_tree::Tree;
 
 /// Laws: the text that [`print_tree`](crate::print_tree) prints of the objects of `tree` is read back by
-/// [`tree_from_text`](crate::tree_from_text) as the same objects (*profile*). The function states these laws as its
-/// contract, and does nothing at run time. Each law is about trees that were made in one way:
+/// [`tree_from_text`](crate::tree_from_text) as the same objects. The function states these laws as its contract, and
+/// does nothing at run time. Each law is about trees that were made in one way:
 /// - Calls of a builder or a text added the objects. Commands, the local front panel (the device's own controls) and
 ///   the release of locks may have changed the objects since. Reading gives the same objects, with two differences: no
 ///   object is locked, and no hardware refuses changes.

@@ -1,4 +1,4 @@
-//! A device's objects as a text: one object a line, as a maker writes it (*profile*).
+//! A device's objects as a text: one object a line, as a maker writes it.
 //!
 //! [`tree_from_text`] builds the tree of a text, or names the first line with a fault. A line is
 //!

@@ -120,8 +120,8 @@ fn is_skipped(line: &[u8]) -> bool
     }
 }
 
-/// Returns the part of a line after a word and one space (*profile*). The word must have no space. The result is `None`
-/// if the line does not begin with the word and a space.
+/// Returns the part of a line after a word and one space. The word must have no space. The result is `None` if the line
+/// does not begin with the word and a space.
 pub fn behind<'a>(word: &[u8], line: &'a [u8]) -> Option<&'a [u8]>
     ensures { option_copied result ≡ behind_word word.now line.entry.now }
 {
@@ -131,11 +131,11 @@ pub fn behind<'a>(word: &[u8], line: &'a [u8]) -> Option<&'a [u8]>
     }
 }
 
-/// Adds the object that a line lists to the builder, after all others ([`crate`] describes a line; *profile*). An empty
-/// line and a line that begins with `#` add nothing. The builder must have room for 4,096 objects (a premise, which the
-/// caller must prove). A refusal leaves the builder unchanged. It is the fault of the first field, from the left, that
-/// cannot be read. If all fields can be read, it is the reason for which the tree refuses the object. [`ObjectFault`]
-/// says when each fault comes. The call takes no memory.
+/// Adds the object that a line lists to the builder, after all others ([`crate`] describes a line). An empty line and a
+/// line that begins with `#` add nothing. The builder must have room for 4,096 objects (a premise, which the caller
+/// must prove). A refusal leaves the builder unchanged. It is the fault of the first field, from the left, that cannot
+/// be read. If all fields can be read, it is the reason for which the tree refuses the object. [`ObjectFault`] says
+/// when each fault comes. The call takes no memory.
 #[tactic(auto, unfolding(crate::specs::Stored::after_line))]
 pub fn add_line(builder: &mut TreeBuilder, line: &[u8]) -> Result<(), ObjectFault>
     requires { builder.old.room ≡ 4096 }

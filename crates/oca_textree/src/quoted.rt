@@ -14,8 +14,8 @@ use std::str::from_utf8;
 /// The most digits of a text of 64 bytes.
 const MOST_DIGITS: usize = 128;
 
-/// Returns whether the next field of a line begins with a quote (*profile*). `rest` is the rest of the line. The result
-/// is `false` if `rest` is empty, or is `None`, which means that no field is left.
+/// Returns whether the next field of a line begins with a quote. `rest` is the rest of the line. The result is `false`
+/// if `rest` is empty, or is `None`, which means that no field is left.
 pub fn is_quoted(rest: Option<&[u8]>) -> bool
     ensures { result ≡ stands_quoted (option_copied rest.entry) }
 {
@@ -60,10 +60,10 @@ fn text_of_digits(digits: &[u8]) -> Option<Text>
     short_text_of(bytes)
 }
 
-/// Returns the text that a field of a line gives (*profile*). If the field was in quotes (`quoted`), `bytes` are the
-/// text itself, without the quotes. Otherwise they are the text's bytes in hexadecimal digits, or `-` for the empty
-/// text. The result is `None` if `bytes` should be such digits and are not, or the text is not UTF-8 of at most 64
-/// bytes. It is `None` also if a text in quotes has a character that is printed as an escape (a backslash is allowed).
+/// Returns the text that a field of a line gives. If the field was in quotes (`quoted`), `bytes` are the text itself,
+/// without the quotes. Otherwise they are the text's bytes in hexadecimal digits, or `-` for the empty text. The result
+/// is `None` if `bytes` should be such digits and are not, or the text is not UTF-8 of at most 64 bytes. It is `None`
+/// also if a text in quotes has a character that is printed as an escape (a backslash is allowed).
 pub fn field_text(quoted: bool, bytes: &[u8]) -> Option<Text>
     ensures { result ≡ field_text_of quoted bytes.now }
 {
@@ -76,8 +76,8 @@ pub fn field_text(quoted: bool, bytes: &[u8]) -> Option<Text>
     }
 }
 
-/// Reads the next field of a line as a text; returns the text and the rest of the line (*profile*). `rest` is `None` if
-/// no field is left. The field is the text in quotes, or its bytes in hexadecimal digits, or `-` for the empty text
+/// Reads the next field of a line as a text; returns the text and the rest of the line. `rest` is `None` if no field is
+/// left. The field is the text in quotes, or its bytes in hexadecimal digits, or `-` for the empty text
 /// ([`field_text`]). Refusals, the first that applies:
 /// - `Form` if no field is left, or a quote is not closed, or is not followed by a space or the line's end.
 /// - `Text` if the field has none of these forms, or the text is longer than 64 bytes or is not UTF-8, or a text in

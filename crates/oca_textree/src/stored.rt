@@ -126,8 +126,8 @@ fn positions<'a>(
     }
 }
 
-/// Reads the last two fields of a line: whether the object is enabled (`on` or `off`), and its label (*profile*).
-/// `rest` is the rest of the line; `None` means that no field is left. Refusals, the first from the left:
+/// Reads the last two fields of a line: whether the object is enabled (`on` or `off`), and its label. `rest` is the
+/// rest of the line; `None` means that no field is left. Refusals, the first from the left:
 /// - `Form` if no field is left, or a quote is not closed, or is not followed by a space or the line's end.
 /// - `Value` if the word is neither `on` nor `off`.
 /// - `Text` if the label is not a text of at most 64 bytes ([`text_at`](crate::quoted::text_at)).
@@ -294,10 +294,10 @@ fn add_of_class(
 }
 
 /// Adds the object that the fields of a line list to the builder, with its stored label and flags, after all others
-/// ([`crate`] describes the fields; *profile*). The builder must have room for 4,096 objects (a premise, which the
-/// caller must prove). A refusal leaves the builder unchanged. It is the fault of the first field, from the left, that
-/// cannot be read. If all fields can be read, it is the reason for which the tree refuses the object. [`ObjectFault`]
-/// says when each fault comes. The call takes no memory.
+/// ([`crate`] describes the fields). The builder must have room for 4,096 objects (a premise, which the caller must
+/// prove). A refusal leaves the builder unchanged. It is the fault of the first field, from the left, that cannot be
+/// read. If all fields can be read, it is the reason for which the tree refuses the object. [`ObjectFault`] says when
+/// each fault comes. The call takes no memory.
 #[tactic(auto, using(crate::proofs::OrderLemmas::placed_rules))]
 pub fn add_stored(builder: &mut TreeBuilder, line: &[u8]) -> Result<(), ObjectFault>
     requires { builder.old.room ≡ 4096 }

@@ -60,7 +60,7 @@ fn polarity(word: &[u8]) -> Option<PolarityState>
     one_of!(word, b"non-inverted" => PolarityState::NonInverted, b"inverted" => PolarityState::Inverted)
 }
 
-/// Returns the Boolean that a word means: true for `on`, false for `off`, and `None` for any other word (*profile*).
+/// Returns the Boolean that a word means: true for `on`, false for `off`, and `None` for any other word.
 #[tactic(auto, unfolding(crate::specs::Lines::one_of))]
 pub fn truth(word: &[u8]) -> Option<bool>
     ensures { result ≡ one_of (codes "on") true (codes "off") false word.now }
@@ -69,7 +69,7 @@ pub fn truth(word: &[u8]) -> Option<bool>
 }
 
 /// Returns whether an object can be locked, by a word: true for `lockable`, false for `no-lock`, and `None` for any
-/// other word (*profile*).
+/// other word.
 #[tactic(auto, unfolding(crate::specs::Lines::one_of))]
 pub fn lockable(word: &[u8]) -> Option<bool>
     ensures { result ≡ one_of (codes "lockable") true (codes "no-lock") false word.now }
@@ -182,10 +182,10 @@ fn place(name: &[u8], names: &[&str]) -> Option<u16>
 }
 
 /// Reads the two fields of a switch's positions from a line; returns the index of the current position, counted from 0,
-/// and the rest of the line (*profile*). The first field has the names of the positions, separated by commas, which are
-/// written into `names`. The second field is the name of the current position. `rest` is `None` if no field is left.
-/// `names` must be empty before (a premise, which the caller must prove). Refusals, the first from the left; discard
-/// `names` then:
+/// and the rest of the line. The first field has the names of the positions, separated by commas, which are written
+/// into `names`. The second field is the name of the current position. `rest` is `None` if no field is left. `names`
+/// must be empty before (a premise, which the caller must prove). Refusals, the first from the left; discard `names`
+/// then:
 /// - `Form` if a field is missing, or a quote is not closed, or is not followed by a space or the line's end.
 /// - `Text` if a name is not UTF-8 or has a character that is printed as an escape.
 /// - `Range` at a seventeenth name.
@@ -245,10 +245,10 @@ fn boolean_at(rest: Option<&[u8]>) -> Read<'_>
 }
 
 /// Reads the value of an object of this class from the next fields of a line; returns the value and the rest of the
-/// line (*profile*). `rest` is `None` if no field is left. A mute, a polarity or a Boolean has one word. An integer has
-/// three fields: the least, the greatest and the setting. The call does not check that the setting is between the
-/// limits. A block has no value: nothing is read. The class must not be that of a switch (a premise, which the caller
-/// must prove). Refusals, the first from the left:
+/// line. `rest` is `None` if no field is left. A mute, a polarity or a Boolean has one word. An integer has three
+/// fields: the least, the greatest and the setting. The call does not check that the setting is between the limits. A
+/// block has no value: nothing is read. The class must not be that of a switch (a premise, which the caller must
+/// prove). Refusals, the first from the left:
 /// - `Form` if a field is missing, or a quote is not closed, or is not followed by a space or the line's end.
 /// - `Value` if the word is not one of the class's words.
 /// - `Number` if a field is not a decimal integer of at most 20 digits, with `-` before it if it is negative, or does

@@ -511,9 +511,9 @@ fn print_line<W: Sink>(
 }
 
 /// Prints a tree as a text that [`tree_from_text`](crate::tree_from_text) reads: one line for each object, in order of
-/// adding (*profile*). The line of the root is `root ENABLED LABEL`. The line of any other object is
-/// `object NUMBER CONTAINER CLASS .. LOCKABLE ROLE ENABLED LABEL`. The text does not contain the locks of objects, and
-/// does not say whose hardware refuses changes. `tree` is unchanged. The call takes no memory.
+/// adding. The line of the root is `root ENABLED LABEL`. The line of any other object is `object NUMBER CONTAINER CLASS
+/// .. LOCKABLE ROLE ENABLED LABEL`. The text does not contain the locks of objects, and does not say whose hardware
+/// refuses changes. `tree` is unchanged. The call takes no memory.
 ///
 /// `printer` gets the text. It stores up to 8,192 bytes before it writes them to its sink. A part of the text can still
 /// wait in the printer when the call returns. [`Printer::flush`] writes this part.

@@ -1,4 +1,4 @@
--- The bench device (profile): a desk with one object of each form.
+-- The bench device: a desk with one object of each form.
 use Rattle.std.specs.Prelude.{ℕ, zero, suc, ◌+◌, ◌*◌, true, false, List, [], ◌∷◌, ◌++◌, codes, pos, negsuc}
 use Rattle.oca_model.specs.declared.value.MuteState.TheVariants.{Muted}
 use Rattle.oca_model.specs.declared.value.PolarityState.TheVariants.{NonInverted}

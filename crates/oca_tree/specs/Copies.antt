@@ -1,4 +1,4 @@
--- What is read of an object so that the same object can be added again (profile).
+-- What is read of an object so that the same object can be added again.
 use Rattle.std.specs.Prelude.{◌≡◌, ℕ, Bool, false, List, [], map, Option, Some, None}
 use Rattle.std.specs.Option.{option_map}
 use Rattle.oca_tree.specs.declared.object.Object.{Object}

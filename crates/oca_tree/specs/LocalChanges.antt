@@ -1,5 +1,5 @@
 -- What the device's own front changes: how an object is set, its label, whether it is enabled, its lock, or whether its
--- hardware refuses to be changed. No lock and no hardware refuses it (profile).
+-- hardware refuses to be changed. No lock and no hardware refuses it (*profile*).
 use Rattle.std.specs.Prelude.{ℕ, ◌||◌, Bool, not, if◌then◌else◌, List, Option, Some, None, is_none}
 use Rattle.std.specs.Str.{is_utf8}
 use Rattle.oca_model.specs.declared.request.Request.{Request}

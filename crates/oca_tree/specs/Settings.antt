@@ -1,5 +1,5 @@
 -- A change at the device's own front: an object is set as its class's own set method sets it, and neither a lock nor
--- its hardware refuses it (profile).
+-- its hardware refuses it.
 use Rattle.std.specs.Prelude.{◌≡◌, ℕ, Bool, true, false, not, if◌then◌else◌, List, Option, Some, None, is_some, Ok}
 use Rattle.oca_types.specs.declared.words.Peer.{Peer}
 use Rattle.oca_types.specs.declared.status.Status.{Status}

@@ -1,4 +1,4 @@
--- What was stored of an object and is handed back when the object is added (profile).
+-- What was stored of an object and is handed back when the object is added.
 use Rattle.std.specs.Prelude.{◌≡◌, ℕ, ◌==◌, not, Bool, true, false, if◌then◌else◌, List, [], ◌∷◌, ◌++◌, length, Option}
 use Rattle.std.specs.Prelude.{Some, None, Result, Ok, Err}
 use Rattle.std.specs.Option.{option_copied, option_map, option_or}

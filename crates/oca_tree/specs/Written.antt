@@ -1,4 +1,4 @@
--- Whether a command wrote to its object (profile).
+-- Whether a command wrote to its object.
 use Rattle.std.specs.Prelude.{Bool, true, false, ◌&&◌, List}
 use Rattle.oca_types.specs.declared.words.Peer.{Peer}
 use Rattle.oca_types.specs.declared.status.Status.{Status}

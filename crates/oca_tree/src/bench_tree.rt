@@ -1,4 +1,4 @@
-//! The bench device (profile): a desk with one object of each form.
+//! The bench device: a desk with one object of each form.
 ghost use Rattle.std.specs.Prelude.{◌≡◌, ◌≤◌, ◌<◌, ◌^◌, [], ◌∷◌, ◌++◌, take, None, OnOk, IfOk, IfErr, IsErrOf};
 ghost use Rattle.oca_tree.specs.Bench.{bench_objects, strip, bench_with};
 ghost use Rattle.oca_tree.specs.Room.{room_size};
@@ -119,11 +119,11 @@ fn desk(alloc: Global, room: Room) -> Result<TreeBuilder, AddFault>
     Ok(builder)
 }
 
-/// Returns a small tree of objects for tests, called the bench device (*profile*). Under the root is the block 4096,
-/// `desk`, with six objects. The mute is 4097 (muted), the polarity 4098 (non-inverted), and the switch 4099 (at Line,
-/// with the positions Line, Mic and Off). The Int16 actuator is 4100 (0, from -600 to 600), the Boolean actuator 4101
-/// (off), and the Uint8 actuator 4102 (10, from 0 to 100). All of them except 4102 can be locked. The call takes the
-/// memory for 128 objects from `alloc`. The only refusal is `NoMemory`, if the allocator refused memory.
+/// Returns a small tree of objects for tests, called the bench device. Under the root is the block 4096, `desk`, with
+/// six objects. The mute is 4097 (muted), the polarity 4098 (non-inverted), and the switch 4099 (at Line, with the
+/// positions Line, Mic and Off). The Int16 actuator is 4100 (0, from -600 to 600), the Boolean actuator 4101 (off), and
+/// the Uint8 actuator 4102 (10, from 0 to 100). All of them except 4102 can be locked. The call takes the memory for
+/// 128 objects from `alloc`. The only refusal is `NoMemory`, if the allocator refused memory.
 pub fn bench(alloc: Global) -> Result<Tree, AddFault>
     ensures ok { IfOk result (λ tree. tree ≡ bench_objects) }
     ensures err { IfErr result (λ e. e ≡ NoMemory) }
@@ -169,12 +169,12 @@ fn add_strip(builder: &mut TreeBuilder, first: u32) -> Result<(), AddFault>
     Ok(())
 }
 
-/// Returns the tree of [`bench`] with `channels` more blocks under its root, the channel strips (*profile*). A strip is
-/// a block with the role `strip` that contains a mute (muted), a polarity (non-inverted) and an Int16 actuator `trim`
-/// (0, from -600 to 600). All four can be locked. Their numbers follow each other from 4103 on. With 0 channels the
-/// objects are those of [`bench`]. The call takes memory from `alloc` for exactly these objects. Refusals, the first
-/// that applies: `Full` if `channels` is above 1,022, since a tree has at most 4,096 objects; no memory is then taken.
-/// `NoMemory` if the allocator refused memory.
+/// Returns the tree of [`bench`] with `channels` more blocks under its root, the channel strips. A strip is a block
+/// with the role `strip` that contains a mute (muted), a polarity (non-inverted) and an Int16 actuator `trim` (0, from
+/// -600 to 600). All four can be locked. Their numbers follow each other from 4103 on. With 0 channels the objects are
+/// those of [`bench`]. The call takes memory from `alloc` for exactly these objects. Refusals, the first that applies:
+/// `Full` if `channels` is above 1,022, since a tree has at most 4,096 objects; no memory is then taken. `NoMemory` if
+/// the allocator refused memory.
 pub fn bench_with_channels(alloc: Global, channels: u16) -> Result<Tree, AddFault>
     ensures ok { IfOk result (λ tree. tree ≡ bench_with channels) }
     ensures most { 1022 < channels → IsErrOf result Full }

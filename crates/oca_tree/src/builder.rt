@@ -30,12 +30,12 @@ use std::fmt;
 use std::marker::Model;
 
 /// Why an object was not added to a tree: the first fault in this order that applies. The builder is then unchanged.
-/// The numbers are promised (*profile*).
+/// The numbers are promised.
 #[derive(Clone, Copy, Debug, PartialEq, Eq)]
 pub enum AddFault {
     /// The tree already has as many objects as it has room for, the root counted.
     Full = 1,
-    /// The object number is below 4096 (*profile*).
+    /// The object number is below 4096.
     Reserved = 2,
     /// Another object of the tree has the number.
     Taken = 3,
@@ -443,10 +443,10 @@ impl fmt::Debug for TreeBuilder {
 }
 
 impl TreeBuilder {
-    /// Returns a builder that contains only the root block, and has room for 128 objects with the root counted
-    /// (*profile*). The root is a lockable OcaBlock (AES70-2) with the number 100 and the role `root`. Its label is
-    /// empty, and it is enabled. The call takes the memory for all 128 objects from `alloc`. The only refusal is
-    /// `NoMemory` if the allocator refused that memory. No builder is then returned.
+    /// Returns a builder that contains only the root block, and has room for 128 objects with the root counted. The
+    /// root is a lockable OcaBlock (AES70-2) with the number 100 and the role `root`. Its label is empty, and it is
+    /// enabled. The call takes the memory for all 128 objects from `alloc`. The only refusal is `NoMemory` if the
+    /// allocator refused that memory. No builder is then returned.
     pub fn new(alloc: Global) -> Result<TreeBuilder, AddFault>
         ensures ok { IfOk result (λ builder. builder ≡ record { room = 128; list = root ∷ [] }) }
         ensures err { IfErr result (λ e. e ≡ NoMemory) }
@@ -455,9 +455,9 @@ impl TreeBuilder {
     }
 
     /// Returns a builder that contains only the root block, and has room for `room` objects with the root counted: 1 to
-    /// 4,096, with the default 128 (*profile*). The root is a lockable OcaBlock (AES70-2) with the number 100 and the
-    /// role `root`. Its label is empty, and it is enabled. The call takes the memory for all `room` objects from
-    /// `alloc`. The only refusal is `NoMemory` if the allocator refused that memory. No builder is then returned.
+    /// 4,096, with the default 128. The root is a lockable OcaBlock (AES70-2) with the number 100 and the role `root`.
+    /// Its label is empty, and it is enabled. The call takes the memory for all `room` objects from `alloc`. The only
+    /// refusal is `NoMemory` if the allocator refused that memory. No builder is then returned.
     pub fn with_room(alloc: Global, room: Room) -> Result<TreeBuilder, AddFault>
         ensures ok { IfOk result (λ builder. builder ≡ record { room = room_size room; list = root ∷ [] }) }
         ensures err { IfErr result (λ e. e ≡ NoMemory) }
@@ -465,11 +465,11 @@ impl TreeBuilder {
         TreeBuilder::holding(alloc, room, root_object())
     }
 
-    /// Returns a builder that contains only the root block, with the stored label and enabled flag in `start`
-    /// (*profile*). The root is a lockable OcaBlock (AES70-2) with the number 100 and the role `root`. `start` has what
-    /// was stored of the root: its label, and whether it is enabled. The builder has room for `room` objects with the
-    /// root counted: 1 to 4,096. The call takes the memory for all of them from `alloc`. Refusals, the first that
-    /// applies, after which no builder is returned:
+    /// Returns a builder that contains only the root block, with the stored label and enabled flag in `start`. The root
+    /// is a lockable OcaBlock (AES70-2) with the number 100 and the role `root`. `start` has what was stored of the
+    /// root: its label, and whether it is enabled. The builder has room for `room` objects with the root counted: 1 to
+    /// 4,096. The call takes the memory for all of them from `alloc`. Refusals, the first that applies, after which no
+    /// builder is returned:
     /// - `BadLabel` if the label has more than 64 bytes. No memory is then taken.
     /// - `BadFlags` if `start` has at least one flag of a position, since a block has no positions. No memory is then
     ///   taken.
@@ -520,11 +520,11 @@ impl TreeBuilder {
         Ok(())
     }
 
-    /// Adds an object as [`add`](TreeBuilder::add) does, with its stored label and flags in `start` (*profile*). `ono`
-    /// is the number, `container` the block, and `spec` has the role, the class and the setting. The object comes after
-    /// all objects of the tree. `start` says whether the object is enabled, and which positions of a switch are
-    /// enabled. The object is not locked. The call takes no memory. Refusals, the first that applies; the builder is
-    /// then unchanged:
+    /// Adds an object as [`add`](TreeBuilder::add) does, with its stored label and flags in `start`. `ono` is the
+    /// number, `container` the block, and `spec` has the role, the class and the setting. The object comes after all
+    /// objects of the tree. `start` says whether the object is enabled, and which positions of a switch are enabled.
+    /// The object is not locked. The call takes no memory. Refusals, the first that applies; the builder is then
+    /// unchanged:
     /// - `Add` with the fault with which [`add`](TreeBuilder::add) refuses this object.
     /// - `BadLabel` if the label has more than 64 bytes.
     /// - `BadFlags` if `start` has flags of positions, and their number is not the number of the object's positions. An
@@ -544,9 +544,9 @@ impl TreeBuilder {
         Ok(())
     }
 
-    /// Returns the tree of all objects that were added, in order of adding, with the root first (*profile*). No object
-    /// is locked. The builder is consumed, and its memory becomes the memory of the tree. The call refuses nothing and
-    /// takes no memory. A tree of the root alone is allowed.
+    /// Returns the tree of all objects that were added, in order of adding, with the root first. No object is locked.
+    /// The builder is consumed, and its memory becomes the memory of the tree. The call refuses nothing and takes no
+    /// memory. A tree of the root alone is allowed.
     pub fn finish(self) -> Tree
         ensures { result ≡ self.list }
     {

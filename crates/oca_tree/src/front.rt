@@ -17,7 +17,7 @@ use std::error::Error;
 use std::fmt;
 
 /// Why a change at the device's local front panel was refused: the first fault in this order that applies. No object is
-/// then changed. The numbers are promised (*profile*).
+/// then changed. The numbers are promised.
 #[derive(Clone, Copy, Debug, PartialEq, Eq)]
 pub enum FrontFault {
     /// No object has the number.

@@ -20,8 +20,8 @@ pub fn law_of_descendants(tree: &Tree)
 }
 
 /// Laws: a value that is set at the device's local front panel changes an object as a command of a peer does, for all
-/// objects and commands (*profile*). The *local front panel* is the device's own: [`Tree::set`](Tree::set) sets an
-/// object there. The function states these laws as its contract, and does nothing at run time.
+/// objects and commands. The *local front panel* is the device's own: [`Tree::set`](Tree::set) sets an object there.
+/// The function states these laws as its contract, and does nothing at run time.
 /// - A value changes an object in the same way, whichever peer sets the value.
 /// - Each command that sets an object sets it to a value of the object's class.
 ///
@@ -49,18 +49,18 @@ pub fn law_of_set_requests()
     law_of_settings();
 }
 
-/// Law: adding an object with a plain [`Start`](crate::Start) is the same as adding the object without a `Start`
-/// (*profile*). A `Start` has the label and the enabled flags that were stored of an object. It is *plain* if the label
-/// is empty, the object is enabled, and no flags of positions are given. The default of `Start` is plain. The function
-/// states this law as its contract, and does nothing at run time. The same means two things:
+/// Law: adding an object with a plain [`Start`](crate::Start) is the same as adding the object without a `Start`. A
+/// `Start` has the label and the enabled flags that were stored of an object. It is *plain* if the label is empty, the
+/// object is enabled, and no flags of positions are given. The default of `Start` is plain. The function states this
+/// law as its contract, and does nothing at run time. The same means two things:
 /// - The added objects are the same.
 /// - The refusals are the same.
 pub fn law_of_starts()
     ensures { PlainAddsTheSame }
 {}
 
-/// Law: a copy of an object is the same object, except for two things (*profile*). A *copy* is made by reading all that
-/// is listed below of an object in one tree, and adding an object with it to another tree
+/// Law: a copy of an object is the same object, except for two things. A *copy* is made by reading all that is listed
+/// below of an object in one tree, and adding an object with it to another tree
 /// ([`TreeBuilder::add_with`](crate::TreeBuilder::add_with)). The copy is not locked, and it is not marked as an object
 /// whose hardware refuses changes ([`Tree::set_failing`](Tree::set_failing)), even if the original is. The function
 /// states this law as its contract, and does nothing at run time. What must be read:

@@ -13,9 +13,9 @@ impl Room {
     ghost use Rattle.std.specs.Prelude.{◌≡◌, ◌≤◌, ◌↔◌, IsSome, IfSome};
     ghost use Rattle.oca_tree.specs.Room.{room_size};
 
-    /// Returns the size of a tree of at most `size` objects, the root counted (*profile*). `size` is from 1 to 4,096,
-    /// and the default of [`Room`] is 128. The result is `None` if `size` is 0, or above 4,096. The call takes no
-    /// memory: [`TreeBuilder::with_room`](crate::TreeBuilder::with_room) takes the memory.
+    /// Returns the size of a tree of at most `size` objects, the root counted. `size` is from 1 to 4,096, and the
+    /// default of [`Room`] is 128. The result is `None` if `size` is 0, or above 4,096. The call takes no memory:
+    /// [`TreeBuilder::with_room`](crate::TreeBuilder::with_room) takes the memory.
     pub fn new(size: u16) -> Option<Room>
         ensures variant { IsSome result ↔ ((1 ≤ size) × (size ≤ 4096)) }
         ensures value { IfSome result (λ room. room_size room ≡ size) }
@@ -26,8 +26,7 @@ impl Room {
         }
     }
 
-    /// Returns how many objects the tree has room for, the root counted: from 1 to 4,096, and 128 for the default
-    /// (*profile*).
+    /// Returns how many objects the tree has room for, the root counted: from 1 to 4,096, and 128 for the default.
     pub fn get(self) -> u16
         ensures value { result ≡ room_size self }
         ensures least { 1 ≤ result }

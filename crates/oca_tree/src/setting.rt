@@ -16,7 +16,7 @@ use std::error::Error;
 use std::fmt;
 
 /// Why an object was not set at the device's local front panel: the first fault in this order that applies. No object
-/// is then changed. The numbers are promised (*profile*).
+/// is then changed. The numbers are promised.
 #[derive(Clone, Copy, Debug, PartialEq, Eq)]
 pub enum SetFault {
     /// No object has the number.

@@ -10,9 +10,9 @@ use arrayvec::ArrayVec;
 use std::error::Error;
 use std::fmt;
 
-/// What was stored of an object besides its [`Spec`](crate::Spec): its label, and what is enabled (*profile*). Peers
-/// can change these by commands. The setting and the names of positions are part of `Spec`. Locks are not stored, since
-/// they end with the sessions of their holders. The default is an empty label, enabled, and all positions enabled.
+/// What was stored of an object besides its [`Spec`](crate::Spec): its label, and what is enabled. Peers can change
+/// these by commands. The setting and the names of positions are part of `Spec`. Locks are not stored, since they end
+/// with the sessions of their holders. The default is an empty label, enabled, and all positions enabled.
 #[derive(Clone, Copy, Debug)]
 pub struct Start<'a> {
     /// The label (OcaWorker, AES70-2): at most 64 bytes, possibly none.

@@ -253,10 +253,10 @@ impl Tree {
         }
     }
 
-    /// Returns the number of objects of the tree, the root counted: from 1 to 4,096 (*profile*). The contract also
-    /// states what holds for every tree. The object numbers are distinct, blocks come before the objects in them,
-    /// settings are within their limits, and only lockable objects are locked (`sound`). Roles, labels and names of
-    /// positions are UTF-8 of at most 64 bytes, and object numbers have 32 bits (`typed`).
+    /// Returns the number of objects of the tree, the root counted: from 1 to 4,096. The contract also states what
+    /// holds for every tree. The object numbers are distinct, blocks come before the objects in them, settings are
+    /// within their limits, and only lockable objects are locked (`sound`). Roles, labels and names of positions are
+    /// UTF-8 of at most 64 bytes, and object numbers have 32 bits (`typed`).
     pub fn len(&self) -> usize
         ensures len { result ≡ length self.now }
         ensures sound { IsTree self.now }
@@ -317,7 +317,7 @@ impl Tree {
         object.lock
     }
 
-    /// Returns whether the hardware of the object with the number `ono` refuses changes (*profile*). The result is what
+    /// Returns whether the hardware of the object with the number `ono` refuses changes. The result is what
     /// [`set_failing`](Tree::set_failing) last set, and `Some(false)` before its first call. It is `None` if no object
     /// has the number.
     pub fn is_failing(&self, ono: Ono) -> Option<bool>
@@ -350,8 +350,8 @@ impl Tree {
         setting_in(&self.objects, ono)
     }
 
-    /// Returns the label and the flags of the object with the number `ono`, for storing them (*profile*): its label,
-    /// whether it is enabled, and for a switch which of its positions are enabled.
+    /// Returns the label and the flags of the object with the number `ono`, for storing them: its label, whether it is
+    /// enabled, and for a switch which of its positions are enabled.
     /// [`TreeBuilder::add_with`](crate::TreeBuilder::add_with) and [`with_root`](crate::TreeBuilder::with_root) take
     /// the result. It is `None` if no object has the number. The result borrows from the tree, and no memory is taken.
     pub fn start_of(&self, ono: Ono) -> Option<Start<'_>>
@@ -377,8 +377,8 @@ impl Tree {
         lockable_in(&self.objects, ono)
     }
 
-    /// Compares this tree with `other`, object by object in their order (*profile*). Returns `true` only if both have
-    /// the same objects: with the same numbers, classes, containers, roles, labels, flags, values, limits and names of
+    /// Compares this tree with `other`, object by object in their order. Returns `true` only if both have the same
+    /// objects: with the same numbers, classes, containers, roles, labels, flags, values, limits and names of
     /// positions, and the same objects can be locked. Two things are not compared: which peer has a lock, and whether
     /// the hardware of an object refuses changes. `false` means that the call found a difference; that is not proved.
     /// Neither tree is changed, and no memory is taken.
