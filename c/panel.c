@@ -10,7 +10,7 @@ enum oca_result oca_panel_open(struct oca_panel *panel, const struct oca_end *en
 }
 
 void oca_panel_close(struct oca_panel *panel) {
-    if (panel) oca_link_close_any(&panel->link);
+    if (panel) oca_link_close(&panel->link);
 }
 
 /* The present moment of a panel's end, and whether its link can go on then. */
@@ -46,18 +46,32 @@ static struct oca_outcome send_due(struct oca_panel *panel) {
     return state;
 }
 
-/* The moment so many milliseconds behind another one, and at most the last there is; a turn that receives until a moment at most. */
+/* The moment so many milliseconds behind another one, and at most the last there is. */
 static uint64_t moment_after(uint64_t moment, uint32_t ms) { return moment > UINT64_MAX - ms ? UINT64_MAX : moment + ms; }
-static struct oca_outcome turn_until(struct oca_panel *panel, uint64_t until) {
+
+/* Receives once, until this moment; whether a datagram came. */
+static bool receive_until(struct oca_panel *panel, uint64_t until) {
     uint8_t bytes[OCA_MOST_BYTES + 1] = {0};
     size_t len = 0;
     uint32_t ip = 0, reception = 0, answered = 0;
     uint16_t port = 0;
+    const bool came = panel->end.receive(panel->end.context, until, bytes, sizeof bytes, &len, &ip, &port);
+    if (came && len <= OCA_MOST_BYTES) (void)oca_link_datagram(&panel->link, ip, port, bytes, len, now_of(panel), &reception, &answered);
+    return came;
+}
+
+/* A turn that receives until a moment at most. */
+static struct oca_outcome turn_until(struct oca_panel *panel, uint64_t until) {
     uint64_t due = 0;
     if (!panel->link.is_open) return oca_panel_state(panel);
     if (oca_link_next_due(&panel->link, &due) == OCA_DONE && due < until) until = due;
-    if (panel->end.receive(panel->end.context, until, bytes, sizeof bytes, &len, &ip, &port) && len <= OCA_MOST_BYTES)
-        (void)oca_link_datagram(&panel->link, ip, port, bytes, len, now_of(panel), &reception, &answered);
+    (void)receive_until(panel, until);
+    return send_due(panel);
+}
+
+struct oca_outcome oca_panel_poll(struct oca_panel *panel) {
+    if (!panel->link.is_open) return oca_panel_state(panel);
+    for (int i = 0; i < 64 && receive_until(panel, 0); i++) {}
     return send_due(panel);
 }
 
@@ -142,6 +156,24 @@ struct oca_outcome oca_flight_finish(struct oca_flight *flight, struct oca_panel
 struct oca_outcome oca_flight_try_finish(struct oca_flight *flight, struct oca_panel *panel, struct oca_answer *answer, void **item) {
     if (flight->count == 0) return oca_outcome_of(OCA_ASKED_NO_HANDLE, 0, 0);
     return take_first(flight, oca_panel_try_finish(panel, flight->handles[flight->first % 32], answer), item);
+}
+
+struct oca_outcome oca_flight_try_any(struct oca_flight *flight, struct oca_panel *panel, struct oca_answer *answer, void **item) {
+    struct oca_outcome outcome = oca_outcome_of(OCA_ASKED_NO_HANDLE, 0, 0);
+    for (uint32_t k = 0; k < flight->count && k < 32; k++) {
+        uint32_t at = (flight->first % 32 + k) % 32;
+        outcome = oca_panel_try_finish(panel, flight->handles[at], answer);
+        if (outcome.asked == OCA_ASKED_UNANSWERED) continue;
+        void *const found = flight->items[at];
+        for (; k > 0; k--, at = (at + 31) % 32) {
+            flight->handles[at] = flight->handles[(at + 31) % 32];
+            flight->items[at] = flight->items[(at + 31) % 32];
+        }
+        (void)take_first(flight, outcome, item);
+        *item = found;
+        break;
+    }
+    return outcome;
 }
 
 /* The outcome of a command that the link did not take, by why. */

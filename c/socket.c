@@ -121,6 +121,19 @@ enum oca_socket_result oca_socket_receive(struct oca_socket *own, uint8_t *out, 
     return told(own, OCA_SOCKET_DONE, NULL, 0);
 }
 
+enum oca_socket_result oca_socket_drop(struct oca_socket *own, uint32_t *count) {
+    uint8_t byte[1] = {0};
+    if (!own || !count) return own ? told(own, OCA_SOCKET_NULL, NULL, 0) : OCA_SOCKET_NULL;
+    *count = 0;
+    if (!own->is_open) return told(own, OCA_SOCKET_CLOSED, NULL, 0);
+    while (*count < OCA_DROPPED_AT_MOST) {
+        if (recv(own->file, byte, sizeof byte, MSG_DONTWAIT) >= 0) ++*count;
+        else if (errno == EAGAIN || errno == EWOULDBLOCK) break;
+        else if (errno != EINTR) return failed(own, "recv");
+    }
+    return told(own, OCA_SOCKET_DONE, NULL, 0);
+}
+
 enum oca_socket_result oca_socket_send(struct oca_socket *own, const uint8_t *bytes, size_t len, uint32_t ip, uint16_t port) {
     const struct sockaddr_in to = address_of(ip, port);
     if (!own || !bytes) return own ? told(own, OCA_SOCKET_NULL, NULL, 0) : OCA_SOCKET_NULL;

@@ -1,6 +1,7 @@
 /* An OCA (AES70) device and a controller's link to one, for C. Link liboca.a, which has both with the heap's calls, or
  * liboca_c.a and a heap of your own: three functions, whose signatures and rules are in c/malloc.c and examples/c/heap.c.
- * Built by `make install-library` it runs on every x86-64, and on every AArch64, with Linux; it needs 64 bits.
+ * Built by `make install-library` it runs on every x86-64, and on every AArch64, with Linux; it needs 64 bits. This header
+ * and the files of c/ are C99 (and later), and C++11 (and later).
  *
  * A device is one struct oca_device, and a link one struct oca_link, zeroed before the first call: then it is closed. A
  * call answers OCA_DONE, or another number of enum oca_result. After any number but OCA_DONE do not read what the call
@@ -17,7 +18,8 @@
  *  - the struct is as the last call left it, or zeroed; it may be moved, but never copied and both copies used;
  *  - one call at a time for a struct; another thread may make the next one, ordered by a lock, a start or a join; none from a
  *    signal handler or from the forked child of a process with threads;
- *  - enough stack (docs/EMBEDDING.md has figures).
+ *  - enough stack (docs/EMBEDDING-C.md has figures).
+ *
  * Only the calls that open and start take memory, by malloc, realloc and free or by a heap of the program's own, whose blocks are
  * aligned to 16; close gives it back. After OCA_NO_MEMORY from an opening or a start the struct is closed. */
 #ifndef OCA_H
@@ -43,7 +45,7 @@ extern "C" {
 /* Returns the version of the library that is linked, to be compared with OCA_VERSION, the version of this header:
  * 65,536 for each major version, 256 for each minor version, 1 for each patch. A library of the same major version and
  * at least this minor version keeps what this header says. */
-#define OCA_VERSION 0x010F00u
+#define OCA_VERSION 0x011000u
 uint32_t oca_version(void);
 
 enum oca_result {
@@ -105,6 +107,9 @@ static inline const char *oca_result_text(uint32_t result) {
 /* The most bytes of a datagram and of an answer's parameters, and the most objects that a datagram writes to (a command has at least 17
  * bytes). Room for these always suffices. */
 enum { OCA_MOST_BYTES = 1472, OCA_MOST_ANSWER = 1452, OCA_MOST_WRITTEN = 86 };
+
+/* The most datagrams that a device drops after a standstill. */
+enum { OCA_DROPPED_AT_MOST = 65536 };
 
 /* ---- numbers of AES70 ---- */
 
@@ -423,10 +428,9 @@ enum oca_result oca_device_open_with(struct oca_device *device, uint16_t room, c
 /* Closes a device and frees its memory. Its objects and sessions are lost; nothing is sent. A closed device stays
  * closed, and for a null pointer nothing is done. The device can be opened again. */
 void oca_device_close(struct oca_device *device);
-static inline void oca_device_close_any(struct oca_device *device) {
-    if (device) oca_device_close(device);
-}
-#define oca_device_close(device) oca_device_close_any(device)
+
+/* Closes a device as oca_device_close does, which a program calls. */
+void oca_device_shut(struct oca_device *device) OCA_NONNULL;
 
 /* Adds the object that `spec` describes to the tree, before the start. `ono` is the object's number, and `container` is
  * the number of the block that contains it (the number of the root is 100). Returns OCA_DONE. Otherwise the first of
@@ -660,6 +664,30 @@ enum oca_result oca_device_left_out(struct oca_device *device, bool *left_out) O
  * then it gets the first of them, and `count` is written too. */
 enum oca_result oca_device_written(struct oca_device *device, uint32_t *out, size_t out_len, size_t *count) OCA_NONNULL;
 
+/* What a device did with a command: it executed it; it is a duplicate, whose reply is retained; it is too old; or it asks something else under
+ * the handle of a retained command. */
+enum oca_command_outcome { OCA_EXECUTED = 1, OCA_DUPLICATE = 2, OCA_OLD = 3, OCA_REUSED = 4 };
+
+/* A command of a datagram: the number of the object that it names, its method (enum oca_method), what the device did with it (enum
+ * oca_command_outcome), and its status (enum oca_status) if it was executed, otherwise 0. A later version may have further fields: each is a
+ * word. */
+struct oca_effect { uint32_t ono, method, outcome, status; };
+
+/* Writes what the device did with a command of the last datagram, as oca_device_effect does: the first `words` words of
+ * struct oca_effect to `effect`, at most the four that this version has. A program calls oca_device_effect. Returns
+ * OCA_DONE. Otherwise the first of these that applies, and then nothing is changed or written. OCA_CLOSED if the device
+ * is closed. OCA_NOT_STARTED before its start. OCA_NOTHING if the last datagram had `index` commands or fewer. */
+enum oca_result oca_device_effect_words(struct oca_device *device, size_t index, uint32_t *effect, size_t words) OCA_NONNULL;
+
+/* Writes what the device did with the command of the last datagram that has this index, from 0, to `effect`. So a
+ * program learns whether a label or a value was set. Clock readings and settings at the local front panel leave it as
+ * it is. A malformed datagram, and one that found no room for a session, has no command here. Returns OCA_DONE.
+ * Otherwise the first of these that applies, and then nothing is changed or written. OCA_CLOSED if the device is
+ * closed. OCA_NOT_STARTED before its start. OCA_NOTHING if the last datagram had `index` commands or fewer. */
+static inline enum oca_result oca_device_effect(struct oca_device *device, size_t index, struct oca_effect *effect) {
+    return oca_device_effect_words(device, index, &effect->ono, sizeof *effect / sizeof effect->ono);
+}
+
 /* Writes to `waits` whether the answers to the last datagram must wait until the objects are stored. This is for a
  * device on which everything that was answered with OCA_STATUS_OK must be there after a power cut. The answers wait if
  * the datagram wrote to an object (oca_device_written lists one). While something that datagrams wrote is not stored,
@@ -670,9 +698,11 @@ enum oca_result oca_device_written(struct oca_device *device, uint32_t *out, siz
  * OCA_NOT_STARTED before its start: then nothing is changed or written. */
 enum oca_result oca_device_waits(struct oca_device *device, bool *waits) OCA_NONNULL;
 
-/* Notes that the objects are stored as they are now: oca_device_waits is then false. Call it before the next datagram
- * is handled. What is set at the local front panel makes no answers wait. Nothing is sent. Returns OCA_DONE. OCA_CLOSED
- * if the device is closed, and OCA_NOT_STARTED before its start: then nothing is changed or written. */
+/* Notes that the objects are stored as they are now: oca_device_waits is then false. Call it right after storing them,
+ * before another datagram is handled or an object is set. Several datagrams may be handled before the objects are
+ * stored once; the caller then keeps the packets of each whose answers wait, and sends them after this call. What is
+ * set at the local front panel makes no answers wait. Nothing is sent. Returns OCA_DONE. OCA_CLOSED if the device is
+ * closed, and OCA_NOT_STARTED before its start: then nothing is changed or written. */
 enum oca_result oca_device_stored(struct oca_device *device) OCA_NONNULL;
 
 /* Moves the device's clock on to `now`, in milliseconds, when no datagram comes: sessions and locks lapse by it. The
@@ -817,6 +847,19 @@ enum oca_result oca_device_spec(struct oca_device *device, size_t index, struct 
  * before its start. OCA_BAD_SIZE if `spec->size` is not the struct's size (OCA_SPEC_INIT sets it). OCA_NOTHING if no
  * object has the number. */
 enum oca_result oca_device_spec_of(struct oca_device *device, uint32_t ono, struct oca_spec *spec) OCA_NONNULL;
+
+/* Writes to `reading` how the object with the number `ono` is set, and within which limits it can be set, as
+ * oca_device_spec_of does: the value of a mute, a polarity, a switch, a Boolean or an integer. Returns OCA_DONE.
+ * Otherwise the first of these that applies, and then nothing is changed or written. OCA_CLOSED if the device is
+ * closed. OCA_NOT_STARTED before its start. OCA_NOTHING if no object has the number. OCA_NO_SETTING if it is a block. */
+static inline enum oca_result oca_device_value(struct oca_device *device, uint32_t ono, struct oca_reading *reading) {
+    struct oca_spec spec = OCA_SPEC_INIT;
+    const enum oca_result found = oca_device_spec_of(device, ono, &spec);
+    if (found != OCA_DONE) return found;
+    if (spec.reading.value.class_number == OCA_CLASS_BLOCK) return OCA_NO_SETTING;
+    *reading = spec.reading;
+    return OCA_DONE;
+}
 
 /* Writes to `count` how many peers have a session at the device's present moment: 0 to 64. A session ends when the
  * clock finds that its peer was not heard for more than 120,000 ms. Returns OCA_DONE. OCA_CLOSED if the device is
@@ -982,10 +1025,9 @@ enum oca_result oca_link_open_small(struct oca_link *link, uint32_t ip, uint16_t
 /* Closes a link and frees its memory. Nothing is sent, and answers that were not taken are lost. The device may still
  * carry out commands that were sent. A closed link stays closed, and for a null pointer nothing is done. */
 void oca_link_close(struct oca_link *link);
-static inline void oca_link_close_any(struct oca_link *link) {
-    if (link) oca_link_close(link);
-}
-#define oca_link_close(link) oca_link_close_any(link)
+
+/* Closes a link as oca_link_close does, which a program calls. */
+void oca_link_shut(struct oca_link *link) OCA_NONNULL;
 
 /* Submits a command at the moment `now`, in milliseconds, and writes its handle to `handle`. `target` is the number of
  * the object, `level` and `index` name the method (DefLevel and MethodIndex, AES70-2), `count` is ParamCount, and
@@ -1141,12 +1183,20 @@ static inline struct oca_outcome oca_outcome_of(uint32_t asked, uint32_t status,
  * more for each run. `other` is the port of the next six hours: if `port` is in use, do not bind `other`, but port 0.
  */
 struct oca_own_port { uint16_t port, other; uint32_t first_handle; };
+typedef struct oca_own_port oca_own_port_type; /* the struct's name in C++, where the function hides it */
+#if defined(__cplusplus) && defined(__GNUC__)
+#pragma GCC diagnostic push
+#pragma GCC diagnostic ignored "-Wshadow"
+#endif
 static inline struct oca_own_port oca_own_port(uint64_t seconds, uint32_t microseconds) {
     const uint64_t since = seconds * 100000 + microseconds / 10;
     const uint32_t turn = since >> 31 & 1;
     struct oca_own_port own = {(uint16_t)(65001 + turn), (uint16_t)(65002 - turn), (uint32_t)(since & 0x7fffffff)};
     return own;
 }
+#if defined(__cplusplus) && defined(__GNUC__)
+#pragma GCC diagnostic pop
+#endif
 
 /* Opens a panel for the device at the address `ip` (an IPv4 address as a number, the first byte highest) and the port
  * `port`. `end` is the caller's socket, which is copied. The call takes the memory of a link, and sends nothing. The
@@ -1178,6 +1228,12 @@ struct oca_outcome oca_panel_state(struct oca_panel *panel);
  * even if only this turn finds it. A lost or late panel still receives, and sends nothing. A closed panel does nothing
  * and returns OCA_ASKED_NOT_SENT with OCA_CLOSED in `result`. */
 struct oca_outcome oca_panel_turn(struct oca_panel *panel);
+
+/* Takes one turn that does not wait: receives what has come, at most 64 datagrams, and sends what is due, keep-alives
+ * too. It is for a loop of the program's own (Qt, epoll): call it when the socket's file is readable, and at the moment
+ * of oca_link_next_due(&panel->link, &moment). Then take the answers by oca_panel_try_finish. Returns what
+ * oca_panel_turn returns. */
+struct oca_outcome oca_panel_poll(struct oca_panel *panel);
 
 /* Submits a command by the method `method` (enum oca_method), sends it at once and writes its handle to `handle`. `ono`
  * is the number of the object, `count` is ParamCount, and `params` are the encoded parameters (docs/PROTOCOL.md,
@@ -1256,6 +1312,15 @@ struct oca_outcome oca_flight_finish(struct oca_flight *flight, struct oca_panel
  * command is then removed; after OCA_ASKED_UNANSWERED, if no answer is there yet, it stays the first.
  * OCA_ASKED_NO_HANDLE with 0 in `result` if there is no command: then nothing is written. */
 struct oca_outcome oca_flight_try_finish(struct oca_flight *flight, struct oca_panel *panel, struct oca_answer *answer, void **item);
+
+/* Takes the outcome of a command in flight that is known already, of several the one of the oldest, and does not wait. The
+ * command is then removed, `item` becomes what oca_flight_push was given for it, and the others keep their order. Returns
+ * OCA_ASKED_DONE if the status of its answer is OK, OCA_ASKED_REFUSED with the status if it is another one.
+ * OCA_ASKED_NO_HANDLE if its answer was taken before. OCA_ASKED_LOST or OCA_ASKED_LATE if the panel's link is lost or late
+ * and no answer is there: the command may have been carried out. OCA_ASKED_NOT_SENT with OCA_CLOSED in `result` if the
+ * panel is closed. `answer` is written for OCA_ASKED_DONE and OCA_ASKED_REFUSED alone. OCA_ASKED_UNANSWERED if none is
+ * known yet, and OCA_ASKED_NO_HANDLE with 0 in `result` if there is no command: then nothing is removed or written. */
+struct oca_outcome oca_flight_try_any(struct oca_flight *flight, struct oca_panel *panel, struct oca_answer *answer, void **item);
 
 /* Sends a command by the method `method` (enum oca_method), and waits for its answer. `ono` is the number of the
  * object, `count` is ParamCount, and `params` are the encoded parameters (docs/PROTOCOL.md, section 3), at most 1,445
@@ -1524,6 +1589,15 @@ enum oca_socket_result oca_socket_wait(struct oca_socket *own, uint64_t until);
  * socket has its name and errno. */
 enum oca_socket_result oca_socket_receive(struct oca_socket *own, uint8_t *out, size_t out_len, size_t *len, uint32_t *ip, uint16_t *port) OCA_LOOKED_AT;
 
+/* Drops the datagrams that wait in the socket, as if the network had lost them: until none waits, at most
+ * OCA_DROPPED_AT_MOST. Writes to `count` how many. oca_serve does this by itself. A device with a loop of its own calls it
+ * after a standstill: if it was not asked for more than 1,000 ms since its last receive returned, or a receive returned
+ * more than 1,000 ms after the moment until which it was to wait; then it also drops what that receive brought. Let such
+ * a receive wait for at most 500 ms, and give the device a clock that counts 1,000 ms of a standstill of at most a minute.
+ * Returns OCA_SOCKET_DONE. OCA_SOCKET_NULL if a pointer is null, OCA_SOCKET_CLOSED if the socket is closed: then nothing
+ * is dropped. OCA_SOCKET_SYSTEM if a call of the system failed: the socket has its name and errno. */
+enum oca_socket_result oca_socket_drop(struct oca_socket *own, uint32_t *count);
+
 /* Sends the `len` bytes `bytes` as one datagram to the address `ip` (an IPv4 address as a number, the first byte
  * highest) and the port `port`, without waiting. Returns OCA_SOCKET_DONE if the system took it, which does not say that
  * it arrives. OCA_SOCKET_NULL if a pointer is null. OCA_SOCKET_CLOSED if the socket is closed. OCA_SOCKET_SYSTEM if the
@@ -1535,16 +1609,28 @@ enum oca_socket_result oca_socket_send(struct oca_socket *own, const uint8_t *by
  * reported: the command is sent again. */
 struct oca_end oca_socket_end(struct oca_socket *own);
 
+/* What a server did so far: how many datagrams the device handled; how many of their commands were executed, were duplicates (`kept`), were
+ * too old, and asked something else under the handle of a retained command (`reused`); how many datagrams were malformed, had no room for a
+ * session of their sender, and had more than 1,472 bytes; how many were dropped after a standstill; and how many sends failed. */
+struct oca_counts { uint64_t datagrams, executed, kept, old, reused, malformed, no_room, oversize, dropped, failed_sends; };
+
 /* A device that serves over a socket: the size of the struct first, the started device, and its open socket. If there is a store, what a
  * datagram wrote is stored before the datagram is answered. `kept` is an array of the caller's for this, with room for `room` objects. Each
  * of the functions may be a null pointer, and is called with `context`. `lock` and `unlock` are for a program in which other threads use
  * the device: each call for the device is made between the two; waiting and storing are not. `written` is called, between the two, for each
- * object that a datagram wrote to. It is called once the datagram was answered, and also if it could not be stored. It gets only the number
- * of the object: oca_device_setting and oca_device_spec_of read the object. It may call what reads or sets an object, and then sets
- * `is_set` if it set one; it must not call `lock`. `told` is called after each try to store, and not between the two: to use the device it
+ * object that a datagram wrote to, as soon as the device handled the datagram: with a store before it is stored and answered, and also if
+ * storing fails. It gets only the number of the object: oca_device_value, oca_device_setting and oca_device_spec_of read the object. It may
+ * call what reads or sets an object, and then sets `is_set` if it set one; it must not call `lock`. `wrote` is called behind `written`, and
+ * gets the address and the port of the peer too. `did` is called behind these, also between the two, for each command of the datagram, with
+ * what the device did with it and the peer: so a program learns what was changed of an object, and what was refused. `told` is called after each try to store, and not between the two: to use the device it
  * calls `lock` and `unlock` itself. If the program sets something at the local front panel, it sets `is_set` under the lock. Then that is
- * stored at the next turn, and if storing fails, again a second later. Then come the result of the last try to store and of the last
- * receive, and two fields that are the server's own. */
+ * stored at the next turn, and if storing fails, again a second later. `stored` and `received` are the results of the last try to store and
+ * of the last receive, and `counts` what was done so far. The server's own are `next`, `is_busy`, `returned` (when the last receive returned)
+ * and `behind` (by how much the device's clock is). A struct with the size that it had up to version 1.15 ends before the counts: it is
+ * served without them, and only a standstill within a receive is then noticed.
+ *
+ * A program that has a struct of its own for each object finds it by the object's number, for example in a table: the numbers are the
+ * program's choice. */
 struct oca_server {
     size_t size;
     struct oca_device *device;
@@ -1562,33 +1648,56 @@ struct oca_server {
     enum oca_socket_result received;
     uint64_t next;
     bool is_busy;
+    struct oca_counts counts;
+    void (*wrote)(void *context, uint32_t ono, uint32_t ip, uint16_t port);
+    uint64_t returned, behind;
+    void (*did)(void *context, const struct oca_effect *effect, uint32_t ip, uint16_t port);
 };
 
 /* Returns a server of this device over this socket, which stores nothing and calls no function. Nothing is checked or
  * done: oca_serve serves. Set the other fields of the struct to have a store, locks or calls. */
 static inline struct oca_server oca_server_of(struct oca_device *device, struct oca_socket *own) {
-    struct oca_server server = {sizeof server, device, own, NULL, NULL, 0, NULL, NULL, NULL, NULL, NULL, false, OCA_STORE_DONE, OCA_SOCKET_DONE, 0, false};
+    struct oca_server server = {sizeof server, device, own, NULL, NULL, 0, NULL, NULL, NULL, NULL, NULL, false, OCA_STORE_DONE, OCA_SOCKET_DONE, 0, false,
+        {0, 0, 0, 0, 0, 0, 0, 0, 0, 0}, NULL, 0, 0, NULL};
     return server;
 }
 
 /* Takes one turn of a server: waits for a datagram until the moment `until` at most (milliseconds of oca_socket_now),
- * or until a clock reading changes something; receives one, stores what it wrote, and sends its answers. If that can't
- * be stored, no answer is sent: the panel's next transmission of its command causes another try. A datagram of more
- * than 1,472 bytes is dropped. If none came, the device's clock moves on. If `until` is the present moment, the call
- * does not wait for a datagram. So a loop can poll the socket's file and its own, until oca_device_next_lapse and, with
- * a store, for at most a second. Returns OCA_DONE. Otherwise the first of these that applies, and then nothing is done.
- * OCA_BAD_SIZE if the struct is of another size. OCA_NOTHING if one of the server's own functions makes the call.
- * OCA_CLOSED if the device is closed, and OCA_NOT_STARTED before its start. If the system fails to wait or to receive,
- * the device's clock moves on, the result is OCA_DONE and `received` is OCA_SOCKET_SYSTEM: the socket has the call and
- * its errno. Then sleep a little before the next call, since the call may not have waited. A send that fails is not
- * reported: it is as if the network had lost the answer. */
+ * for at most 500 ms, or until a clock reading changes something; receives one and sends its answers. If it wrote to an
+ * object and there is a store, the datagrams that have come already are served with it, at most 64 in all, while there
+ * is room for their answers. Then the objects are stored once, and only then are these answers sent. If that can't be
+ * stored, they are not sent: the panels' next transmissions cause another try. A datagram of more than 1,472 bytes is
+ * dropped. If none came, the device's clock moves on. If `until` is past (0), the call does not wait for a datagram. So
+ * a loop can poll the socket's file and its own, until oca_serve_due.
+ *
+ * A device that stood still: if the device was not asked for more than 1,000 ms since a receive last returned (the
+ * program, the machine or a store took so long), or a receive returned more than 1,000 ms after the moment until which
+ * it was to wait, all that waits in the socket is dropped before anything is served, at most OCA_DROPPED_AT_MOST
+ * datagrams, as if the network had lost it: no command acts late or twice. Each panel that still wants something sends
+ * it again within 250 ms. With a store the call then waits for 300 ms, whatever `until` is, so that what is sent again
+ * is stored together. The device's clock counts 1,000 ms of a standstill of at most a minute, so it is behind
+ * oca_socket_now then, and no panel loses a lock; a longer one counts in full. So call neither oca_device_tick nor
+ * oca_device_datagram for a device that is served, and take a turn at least every 500 ms.
+ *
+ * Returns OCA_DONE. Otherwise the first of these that applies, and then nothing is done. OCA_BAD_SIZE if the struct is
+ * of another size. OCA_NOTHING if one of the server's own functions makes the call. OCA_CLOSED if the device is closed,
+ * and OCA_NOT_STARTED before its start. OCA_TOO_SMALL if there is a store and `kept` has no room for all objects. If the
+ * system fails to wait or to receive, or the socket is closed, the device's clock moves on, the result is OCA_DONE and
+ * `received` says it: for OCA_SOCKET_SYSTEM the socket has the call and its errno. The call then waits until `until`, for
+ * at most 100 ms. A send that fails is as if the network had lost the answer. */
 enum oca_result oca_serve(struct oca_server *server, uint64_t until) OCA_NONNULL;
+
+/* Returns until which moment, in milliseconds of oca_socket_now, a loop that polls the socket's file itself may wait
+ * before it calls oca_serve, if no datagram comes: until a clock reading changes something or something is to be stored,
+ * and for at most 500 ms. It is not before the present moment, which it is for a null pointer or a struct of another
+ * size. The call takes the lock; none of the server's own functions may make it. */
+uint64_t oca_serve_due(struct oca_server *server);
 
 /* Stores what was set at the local front panel and is not stored yet, at the end of a program. Call it after the last
  * oca_serve, and before the store and the device are closed. It tries once, also to store what a datagram wrote and
  * could not be stored. If that fails, `is_set` stays true and `stored` says why. It closes nothing, and without a store
- * it does nothing. Call it without the lock, which it takes itself. For a null pointer, a struct of another size, and
- * from one of the server's own functions nothing is done. */
+ * it does nothing. Call it without the lock, which it takes itself; oca_serve from `told` then returns OCA_NOTHING. For
+ * a null pointer, a struct of another size, and from one of the server's own functions nothing is done. */
 void oca_serve_end(struct oca_server *server);
 #endif
 
@@ -1600,7 +1709,7 @@ static_assert(sizeof(enum oca_result) == sizeof(uint32_t), "a result is a word")
 static_assert(sizeof(struct oca_verdict) == 28 && sizeof(struct oca_name) == 65 && sizeof(struct oca_spec) == 1248 && offsetof(struct oca_object, role) == 16, "words");
 static_assert(sizeof(struct oca_kept) == 1256, "kept");
 static_assert(sizeof(struct oca_names) == 1044 && sizeof(struct oca_members) == 728 && sizeof(struct oca_class_id) == 40, "answers");
-#else
+#elif defined(__STDC_VERSION__) && __STDC_VERSION__ >= 201112L
 _Static_assert(sizeof(struct oca_device) == 16 && sizeof(struct oca_link) == 16 && sizeof(struct oca_setting) == 16, "64 bits");
 _Static_assert(sizeof(struct oca_value) == 16 && sizeof(struct oca_reading) == 48 && sizeof(struct oca_request) == 14, "values");
 _Static_assert(sizeof(enum oca_result) == sizeof(uint32_t), "a result is a word");

@@ -1,6 +1,6 @@
 /* A mute and a gain on a processor without an operating system: AArch64, the board `virt` of QEMU, with 24,576 bytes for the device. Datagrams
  * come and go over its serial line: the length in 2 bytes, the peer's address in 4 and its port in 2, the highest byte first, and the bytes.
- * Beside it stand examples/c/heap.c and liboca_c.a; docs/EMBEDDING.md has the commands. It shows what such a device needs: a stack, memory
+ * Beside it stand examples/c/heap.c and liboca_c.a; docs/EMBEDDING-C.md has the commands. It shows what such a device needs: a stack, memory
  * in which words may lie anywhere (here by the MMU), memcpy, memmove and memset, a clock in milliseconds, and a way for datagrams. */
 #define OCA_NO_POSIX
 #include <oca.h>

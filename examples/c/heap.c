@@ -1,5 +1,5 @@
 /* A heap for firmware that has no malloc: an arena of fixed size, from which nothing is given back but by the last block where it shrinks.
- * Link it with liboca_c.a in place of liboca.a. ARENA is its size in bytes, any number; docs/EMBEDDING.md says how much a device takes. C11
+ * Link it with liboca_c.a in place of liboca.a. ARENA is its size in bytes, any number; docs/EMBEDDING-C.md says how much a device takes. C11
  * or C++11. */
 #include <stdbool.h>
 #include <stddef.h>

@@ -4,6 +4,7 @@ ghost use Rattle.std.specs.Prelude.{slice_get, length};
 ghost use Rattle.oca_types.specs.Sizes.{DeviceSizes};
 ghost use Rattle.oca_tree.specs.declared.object.Object.{Object};
 ghost use Rattle.oca_tree.specs.Objects.{Store};
+ghost use Rattle.oca_device.specs.Effects.{effects};
 ghost use Rattle.oca_device.specs.Events.{Event, Datagram as DatagramEvent, Tick};
 ghost use Rattle.oca_device.specs.States.{state_after};
 ghost use Rattle.oca_device.specs.Rooms.{packets_within, told, verdict_within};
@@ -12,7 +13,8 @@ ghost use Rattle.oca_device.specs.Written.{written};
 ghost use Rattle.oca_calls.specs.Calls.{HandleBuilds, HandleRuns, HandleStarts, AnsweredWith, KeepsFirst, KeepsPackets};
 ghost use Rattle.oca_calls.specs.Calls.{Opens, RefusesBuilding, RefusesClosed, RefusesRunning};
 ghost use Rattle.oca_calls.specs.LinkRooms.{Rooms, full_rooms, small_rooms};
-ghost use Rattle.oca_calls.specs.Outputs.{WritesNextLapse, WritesToBuffer, WritesWords, put_words, verdict_words};
+ghost use Rattle.oca_calls.specs.Outputs.{WritesEffect, WritesNextLapse, WritesToBuffer, WritesWords, put_words};
+ghost use Rattle.oca_calls.specs.Outputs.{verdict_words};
 ghost use Rattle.oca_calls.specs.Storings.{HasUnstored, KeepsUnstored, RunsUnstored, all_stored};
 ghost use Rattle.oca_calls.specs.WaitingAnswers.{unstored_behind};
 ghost use Rattle.oca_calls.specs.declared.unstored.Unstored.{Unstored};
@@ -52,7 +54,7 @@ pub extern "C" fn oca_device_open(alloc: Global, handle: &mut DeviceHandle, room
 /// Closes a device and frees its memory. Its objects and sessions are lost; nothing is sent. A closed device stays
 /// closed. The device can be opened again.
 #[unsafe(no_mangle)]
-pub extern "C" fn oca_device_close(alloc: Global, handle: &mut DeviceHandle)
+pub extern "C" fn oca_device_shut(alloc: Global, handle: &mut DeviceHandle)
     ensures { handle.new.slot.inner ≡ None }
 {
     handle.close(alloc);
@@ -349,6 +351,39 @@ pub extern "C" fn oca_device_written(
         return Answer::Closed.number();
     };
     let answer = behind.written(out, count);
+    handle.put(behind);
+    answer.number()
+}
+
+/// Writes what the device did with the command of the last datagram that has this index, counted from 0 in the order of
+/// the commands. To `out` go the number of the object that the command names, its method (the level in the upper 16
+/// bits, the index in the lower ones), what was done, and a status. What was done is 1 if the command was executed, 2 if
+/// it is a duplicate, 3 if it is too old, and 4 if it asks something else under the handle of a retained command
+/// (`enum oca_command_outcome`). The status is that of an execution (OcaStatus, AES70-2), and 0 otherwise. They are
+/// written as far as there is room. Clock readings and settings at the local front panel leave them as they are.
+///
+/// Returns the number of an answer: `Done`. Otherwise the first of these that applies, and then nothing is changed or
+/// written. `Closed` if the device is closed. `NotStarted` before its start. `Nothing` if the last datagram had `index`
+/// commands or fewer, was malformed or found no room for a session, or there was none.
+#[unsafe(no_mangle)]
+pub extern "C" fn oca_device_effect_words(
+    alloc: Global,
+    handle: &mut DeviceHandle,
+    index: usize,
+    out: &mut [u32],
+) -> u32
+    ensures closed { RefusesClosed handle.old.slot.inner handle.new.slot.inner result }
+    ensures building { RefusesBuilding handle.old.slot.inner handle.new.slot.inner result }
+    ensures kept { handle.new.slot.inner ≡ handle.old.slot.inner }
+    ensures writes { (r : Rooms) (w : DeviceSizes) (T : List Object) (E : List Event) →
+        HandleRuns r w handle.old.slot.inner T E →
+        WritesEffect (slice_get (effects w T E) index) out.old out.new result }
+    ensures unwritten { (result ≡ 0) ⊎ (out.new ≡ out.old) }
+{
+    let Some(behind) = handle.take(alloc) else {
+        return Answer::Closed.number();
+    };
+    let answer = behind.effect(index, out);
     handle.put(behind);
     answer.number()
 }

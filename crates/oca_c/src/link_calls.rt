@@ -93,7 +93,7 @@ pub extern "C" fn oca_link_open_small(
 /// Closes a link and frees its memory. Nothing is sent, and answers that were not taken are lost. The device may still
 /// carry out commands that were sent. A closed link stays closed.
 #[unsafe(no_mangle)]
-pub extern "C" fn oca_link_close(alloc: Global, handle: &mut LinkHandle)
+pub extern "C" fn oca_link_shut(alloc: Global, handle: &mut LinkHandle)
     ensures { handle.new.slot.inner ≡ None }
 {
     handle.close(alloc);

@@ -1,4 +1,4 @@
--- The words for values, as C reads and writes them (profile).
+-- The words for values, as C reads and writes them.
 use Rattle.std.specs.Prelude.{◌≡◌, ◌⊎◌, ℕ, List, Option, Some, None}
 use Rattle.std.specs.Str.{IsUtf8}
 use Rattle.oca_types.specs.declared.class.Class.{Class}

@@ -1,4 +1,4 @@
--- A device with what it has room for: the value that is behind an open handle once it is started (*profile*).
+-- A device with what it has room for: the value that is behind an open handle once it is started.
 use Rattle.std.specs.Prelude.{◌≡◌, List}
 use Rattle.oca_types.specs.Sizes.{DeviceSizes}
 use Rattle.oca_tree.specs.declared.object.Object.{Object}

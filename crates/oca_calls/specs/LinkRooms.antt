@@ -1,4 +1,4 @@
--- A link with what it has room for: the value that is behind an open handle (*profile*).
+-- A link with what it has room for: the value that is behind an open handle.
 use Rattle.std.specs.Prelude.{ℕ, Bool, true, false}
 use Rattle.oca_types.specs.Sizes.{most_command_parameter_bytes, most_parameter_bytes}
 use Rattle.oca_control.specs.Links.{LinkState}

@@ -1,8 +1,10 @@
 -- What the calls of a device write, and how it is put where C wants it.
 use Rattle.std.specs.Prelude.{◌≡◌, ◌⊎◌, ℕ, ◌<◌, ◌≤◌, ◌^◌, nat_le, List, [], ◌∷◌, ◌++◌, take, drop, length, min, Option}
-use Rattle.std.specs.Prelude.{Bool, Some, None, pos, nat_abs, int_lt, if◌then◌else◌}
+use Rattle.std.specs.Prelude.{◌+◌, ◌*◌, Bool, Some, None, pos, nat_abs, int_lt, if◌then◌else◌}
 use Rattle.oca_types.specs.declared.class.Class.{Class}
 use Rattle.oca_types.specs.declared.class.Class.TheVariants as classes
+use Rattle.oca_types.specs.declared.words.MethodId.{MethodId}
+use Rattle.oca_types.specs.Status.{status_number}
 use Rattle.oca_tree.specs.declared.object.Lock.{Lock}
 use Rattle.oca_tree.specs.declared.object.LockKind.{LockKind}
 use Rattle.oca_tree.specs.declared.object.LockKind.TheVariants as locks
@@ -10,6 +12,9 @@ use Rattle.oca_tree.specs.declared.tree.ObjectInfo.{ObjectInfo}
 use Rattle.oca_tree.specs.declared.tree.Setting.{Setting}
 use Rattle.oca_tree.specs.declared.tree.Setting.TheVariants as settings
 use Rattle.oca_pdu.specs.Faults.{fault_number}
+use Rattle.oca_device.specs.declared.effect.Effect.{Effect}
+use Rattle.oca_device.specs.declared.effect.CommandOutcome.{CommandOutcome}
+use Rattle.oca_device.specs.declared.effect.CommandOutcome.TheVariants as outcome
 use Rattle.oca_device.specs.declared.verdict.Verdict.{Verdict}
 use Rattle.oca_device.specs.declared.verdict.Verdict.TheVariants.{Served, Malformed, NoRoom}
 use Rattle.oca_types.specs.declared.words.Peer.{Peer}
@@ -41,6 +46,26 @@ abbrev pub verdict_words : Verdict → List ℕ
 verdict_words (Served executed kept old reused) = 0 ∷ executed ∷ kept ∷ old ∷ reused ∷ 0 ∷ 0 ∷ []
 verdict_words (Malformed fault) = 1 ∷ 0 ∷ 0 ∷ 0 ∷ 0 ∷ fault_number fault.kind ∷ fault.at ∷ []
 verdict_words NoRoom = 2 ∷ 0 ∷ 0 ∷ 0 ∷ 0 ∷ 0 ∷ 0 ∷ []
+
+-- the number of a method: the level in the upper 16 bits
+abbrev pub method_number : MethodId → ℕ
+method_number method = method.level * 65536 + method.index
+
+-- the words of what a device did with a command: the number of that, and the status of an execution
+abbrev pub outcome_words : CommandOutcome → List ℕ
+outcome_words (outcome.Executed status) = 1 ∷ status_number status ∷ []
+outcome_words outcome.Duplicate = 2 ∷ 0 ∷ []
+outcome_words outcome.Old = 3 ∷ 0 ∷ []
+outcome_words outcome.Reused = 4 ∷ 0 ∷ []
+
+-- the words of an effect: the command's object, its method, and what the device did
+abbrev pub effect_words : Effect → List ℕ
+effect_words effect = effect.target.0 ∷ method_number effect.method ∷ outcome_words effect.outcome
+
+-- An effect is written, as far as there is room; or that there is none at this index.
+abbrev pub WritesEffect : Option Effect → List ℕ → List ℕ → ℕ → Type 0
+WritesEffect None old new number = (number ≡ 13) × (new ≡ old)
+WritesEffect (Some effect) old new number = (number ≡ 0) × (new ≡ put_words (effect_words effect) old)
 
 -- the number of a class
 abbrev pub class_number : Class → ℕ

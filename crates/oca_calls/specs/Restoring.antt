@@ -1,4 +1,4 @@
--- What is stored of an object, brought into the struct that says what the object is to be (profile).
+-- What is stored of an object, brought into the struct that says what the object is to be.
 use Rattle.std.specs.Prelude.{◌≡◌, ◌⊎◌, ℕ, ◌<◌, ◌≤◌, true, Option, Some, None}
 use Rattle.std.specs.List.{AllByRecursion}
 use Rattle.oca_model.specs.declared.reading.Reading.{Reading}

@@ -1,4 +1,4 @@
--- What a device notes of the objects that are not stored (profile).
+-- What a device notes of the objects that are not stored.
 use Rattle.std.specs.Prelude.{◌≡◌, false, Option, IsSome, IsSomeAnd}
 use Rattle.oca_calls.specs.declared.device.DeviceBehind.{DeviceBehind}
 use Rattle.oca_calls.specs.declared.unstored.Unstored.{Unstored}

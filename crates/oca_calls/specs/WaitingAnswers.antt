@@ -1,4 +1,4 @@
--- Which answers of a device wait until the objects are stored, as its caller in C is told (profile).
+-- Which answers of a device wait until the objects are stored, as its caller in C is told.
 use Rattle.std.specs.Prelude.{◌≡◌, ℕ, ◌≤◌, ◌==◌, ◌||◌, ◌&&◌, not, Bool, List, ◌∷◌, length}
 use Rattle.oca_types.specs.declared.words.Peer.{Peer}
 use Rattle.oca_types.specs.Sizes.{DeviceSizes, most_command_parameter_bytes}

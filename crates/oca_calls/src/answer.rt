@@ -6,8 +6,8 @@ ghost use Rattle.oca_calls.specs.Numbers.{submission_answer};
 use oca_control::ControlFault;
 use oca_tree::{AddFault, FrontFault, SetFault, StartFault};
 
-/// What a call for C returns, as `enum oca_result` of `oca.h`. The numbers are promised (*profile*); 1 to 8 are those
-/// of `AddFault`.
+/// What a call for C returns, as `enum oca_result` of `oca.h`. The numbers are promised; 1 to 8 are those of
+/// `AddFault`.
 #[derive(Clone, Copy)]
 pub enum Answer {
     /// The call did what was asked.

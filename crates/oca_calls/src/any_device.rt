@@ -8,6 +8,7 @@ ghost use Rattle.oca_tree.specs.LocalChanges.{front_fault, ToValue, ToLabel, ToE
 ghost use Rattle.oca_tree.specs.Readers.{failing_at};
 ghost use Rattle.oca_tree.specs.Settings.{set_fault};
 ghost use Rattle.oca_model.specs.declared.request.Request.TheVariants as asked;
+ghost use Rattle.oca_device.specs.Effects.{effects};
 ghost use Rattle.oca_device.specs.Events.{Event, Datagram as DatagramEvent, Tick, Local};
 ghost use Rattle.oca_device.specs.Outboxes.{first_packets};
 ghost use Rattle.oca_device.specs.Rooms.{packets_within, told, verdict_within};
@@ -17,7 +18,7 @@ ghost use Rattle.oca_device.specs.Lapses.{IsNextLapse, NeverLapses};
 ghost use Rattle.oca_calls.specs.LinkRooms.{Rooms, rooms_of};
 ghost use Rattle.oca_calls.specs.DeviceRooms.{RunsWithin};
 
-use oca_device::{BoundedOutbox, Device, SmallDevice, Verdict};
+use oca_device::{BoundedOutbox, Device, Effect, SmallDevice, Verdict};
 use oca_tree::{FrontFault, SetFault, Tree, Value};
 use oca_types::{NoMemory, Ono, Peer, Sizes};
 use std::alloc::Global;
@@ -241,26 +242,39 @@ impl AnyDevice {
             EitherSize::Small(device) => device.written(),
         }
     }
+
+    /// What the device did with each command of the last datagram, as [`Device::effects`] tells.
+    pub fn effects(&self) -> &[Effect]
+        ensures { (r : Rooms) (w : DeviceSizes) (T : List Object) (E : List Event) → RunsWithin r w self.now T E →
+            result.now ≡ effects w T E }
+    {
+        match &self.device {
+            EitherSize::Full(device) => device.effects(),
+            EitherSize::Small(device) => device.effects(),
+        }
+    }
 }
 
 /// A device with room for each command and each reply.
-#[inline(never)]
 fn full(alloc: Global, tree: Tree, sizes: Sizes) -> Result<AnyDevice, NoMemory>
     ensures { IfOk result (λ d. RunsWithin (rooms_of false) (sizes_of sizes) d tree []) }
 {
-    let device = Device::with_sizes(alloc, tree, sizes)?;
-    Ok(AnyDevice {
-        device: EitherSize::Full(device),
-    })
+    match Device::with_sizes(alloc, tree, sizes) {
+        Ok(device) => Ok(AnyDevice {
+            device: EitherSize::Full(device),
+        }),
+        Err(refused) => Err(refused),
+    }
 }
 
 /// A small device.
-#[inline(never)]
 fn small(alloc: Global, tree: Tree, sizes: Sizes) -> Result<AnyDevice, NoMemory>
     ensures { IfOk result (λ d. RunsWithin (rooms_of true) (sizes_of sizes) d tree []) }
 {
-    let device = SmallDevice::with_sizes(alloc, tree, sizes)?;
-    Ok(AnyDevice {
-        device: EitherSize::Small(device),
-    })
+    match SmallDevice::with_sizes(alloc, tree, sizes) {
+        Ok(device) => Ok(AnyDevice {
+            device: EitherSize::Small(device),
+        }),
+        Err(refused) => Err(refused),
+    }
 }

@@ -31,7 +31,7 @@ use std::str;
 mod local;
 mod outputs;
 
-/// The most packets that answer one datagram: 122 (*profile*).
+/// The most packets that answer one datagram: 122.
 pub const MOST_PACKETS: usize = 122;
 
 /// A device as the calls for C have it: the objects before its start, the device after it, the packets that answer the

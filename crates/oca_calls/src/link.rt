@@ -393,8 +393,8 @@ impl LinkBehind {
     }
 
     /// Writes to `late` whether the link is late at the moment `now`, in milliseconds of the caller's clock: a command
-    /// was submitted more than 15,000 ms ago and has no answer, whether it was sent or not (*profile*). Returns the
-    /// number of an answer, always `Done`.
+    /// was submitted more than 15,000 ms ago and has no answer, whether it was sent or not. Returns the number of an
+    /// answer, always `Done`.
     pub fn is_late(&self, now: u64, late: &mut bool) -> u32
         ensures { (result ≡ 0) × (late.new ≡ late_at now self.now.link) }
     {

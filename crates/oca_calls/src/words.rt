@@ -4,16 +4,19 @@ ghost use Rattle.oca_device.specs.Written.{numbers_of};
 ghost use Rattle.oca_calls.specs.LinkCalls.{LiesIn};
 ghost use Rattle.oca_calls.specs.declared.answer.Answer.TheVariants.{Done, TooSmall};
 ghost use Rattle.oca_calls.specs.Numbers.{answer_number};
-ghost use Rattle.oca_calls.specs.Outputs.{WritesToBuffer, class_number, lock_number, object_words, put_words};
+ghost use Rattle.oca_calls.specs.Outputs.{WritesToBuffer, class_number, effect_words, lock_number, object_words, put_words};
 ghost use Rattle.oca_calls.specs.Outputs.{verdict_words};
 
 use crate::answer::Answer;
-use oca_device::Verdict;
+use oca_device::{CommandOutcome, Effect, Verdict};
 use oca_tree::{LockKind, ObjectInfo};
 use oca_types::{Class, Ono};
 
 /// The number of words of a verdict for C: 7 (`struct oca_verdict`).
 pub const VERDICT_WORDS: usize = 7;
+
+/// The number of words of an effect for C: 4 (`struct oca_effect`).
+pub const EFFECT_WORDS: usize = 4;
 
 /// The number of words of an object for C, beside its role: 4 (`struct oca_object`).
 pub const OBJECT_WORDS: usize = 4;
@@ -42,6 +45,23 @@ pub fn words_of(verdict: Verdict) -> [u32; VERDICT_WORDS]
             u32::from(fault.at),
         ],
         Verdict::NoRoom => [2, 0, 0, 0, 0, 0, 0],
+    }
+}
+
+/// Returns what a device did with a command, as four words for C: the number of the object that the command names, its
+/// method (the level in the upper 16 bits, the index in the lower ones), what was done, and a status. What was done is 1
+/// if the command was executed, 2 if it is a duplicate, 3 if it is too old, and 4 if it asks something else under the
+/// handle of a retained command. The status is that of an execution (OcaStatus, AES70-2), and 0 otherwise.
+pub fn effect_words(effect: Effect) -> [u32; EFFECT_WORDS]
+    ensures { result ≡ effect_words effect }
+{
+    let target = effect.target.0;
+    let method = u32::from(effect.method.level) * 65_536 + u32::from(effect.method.index);
+    match effect.outcome {
+        CommandOutcome::Executed(status) => [target, method, 1, u32::from(status.number())],
+        CommandOutcome::Duplicate => [target, method, 2, 0],
+        CommandOutcome::Old => [target, method, 3, 0],
+        CommandOutcome::Reused => [target, method, 4, 0],
     }
 }
 

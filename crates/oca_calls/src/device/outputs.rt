@@ -4,14 +4,15 @@ ghost use Rattle.oca_types.specs.Sizes.{DeviceSizes};
 ghost use Rattle.oca_tree.specs.declared.object.Object.{Object};
 ghost use Rattle.oca_tree.specs.Readers.{failing_at, info_at, info_of_ono, lock_at, setting_at};
 ghost use Rattle.oca_device.specs.States.{known_after, state_after};
+ghost use Rattle.oca_device.specs.Effects.{effects};
 ghost use Rattle.oca_device.specs.Events.{Event};
 ghost use Rattle.oca_device.specs.Written.{written};
 ghost use Rattle.oca_calls.specs.declared.answer.Answer.TheVariants.{Done, NotStarted, Nothing, TooSmall};
 ghost use Rattle.oca_calls.specs.Numbers.{answer_number};
 ghost use Rattle.oca_calls.specs.Calls.{RunsBehind};
 ghost use Rattle.oca_calls.specs.CSpecs.{WritesSpec};
-ghost use Rattle.oca_calls.specs.Outputs.{WritesFailing, WritesLock, WritesNextLapse, WritesObject, WritesPeer, WritesSetting};
-ghost use Rattle.oca_calls.specs.Outputs.{WritesToBuffer, WritesWords};
+ghost use Rattle.oca_calls.specs.Outputs.{WritesEffect, WritesFailing, WritesLock, WritesNextLapse, WritesObject};
+ghost use Rattle.oca_calls.specs.Outputs.{WritesPeer, WritesSetting, WritesToBuffer, WritesWords};
 ghost use Rattle.oca_calls.specs.LinkRooms.{Rooms};
 
 use super::DeviceBehind;
@@ -19,7 +20,7 @@ use crate::answer::Answer;
 use crate::reading::Reading;
 use crate::spec_reading::{read_spec, read_spec_of};
 use crate::spec_words::SpecWords;
-use crate::words::{lock_number, object_words, put_bytes, put_numbers, put_words};
+use crate::words::{effect_words, lock_number, object_words, put_bytes, put_numbers, put_words};
 use oca_types::Ono;
 
 impl DeviceBehind {
@@ -118,6 +119,27 @@ impl DeviceBehind {
         } else {
             Answer::TooSmall
         }
+    }
+
+    /// Writes what the device did with the command of the last datagram that has this index, counted from 0. To the front
+    /// of `out` go four words, as far as there is room ([`effect_words`](crate::words::effect_words)). Returns `Done`.
+    /// `Nothing` if the last datagram had `index` commands or fewer, was malformed or found no room, or there was none.
+    /// `NotStarted` before the start. After both nothing is written.
+    pub fn effect(&self, index: usize, out: &mut [u32]) -> Answer
+        ensures writes { (r : Rooms) (w : DeviceSizes) (T : List Object) (E : List Event) →
+            RunsBehind r w self.now T E →
+            WritesEffect (slice_get (effects w T E) index) out.old out.new (answer_number result) }
+        ensures building { self.now.device ≡ None → result ≡ NotStarted }
+        ensures unwritten { (result ≡ Done) ⊎ (out.new ≡ out.old) }
+    {
+        let Some(device) = &self.device else {
+            return Answer::NotStarted;
+        };
+        let Some(&effect) = device.effects().get(index) else {
+            return Answer::Nothing;
+        };
+        put_words(&effect_words(effect), out);
+        Answer::Done
     }
 
     /// Writes to `waits` whether the answers to the last datagram must wait until the objects are stored. They wait if
