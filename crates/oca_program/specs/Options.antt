@@ -1,16 +1,14 @@
--- What the options of a command line say (*profile*).
-use Rattle.std.specs.Prelude.{ℕ, ◌==◌, ◌≤◌, List, Option, Some, None, is_none, is_some, nat_le, nat_lt, Bool, false, true, not, length}
+-- What the options of a command line say.
+use Rattle.std.specs.Prelude.{ℕ, ◌==◌, ◌≤◌, List, Option, Some, None, nat_le, nat_lt, Bool, false, not}
 use Rattle.std.specs.Prelude.{◌&&◌, ◌||◌, codes, if◌then◌else◌}
-use Rattle.std.specs.List.{find}
 use Rattle.std.specs.Str.{bytes_eq}
-use Rattle.std.specs.Option.{option_map}
 use Rattle.clap.specs.declared.parser.matches.ArgMatches.{ArgMatches}
 use Rattle.clap.specs.Words.{found_of, first_value}
 use Rattle.oca_types.specs.declared.words.Peer.{Peer}
-use Rattle.oca_script.specs.Fields.{number_of, address_of, peer_of, hex_of, then_in}
+use Rattle.oca_script.specs.Fields.{number_of, address_of, peer_of, then_in}
 use Rattle.oca_program.specs.declared.form.Form.{Form}
 use Rattle.oca_program.specs.declared.form.Form.TheVariants as form
-use Rattle.oca_program.specs.Commands.{OptionFields}
+use Rattle.oca_program.specs.declared.table.OptionRow.{OptionRow}
 
 -- the text that the words give for an option, where they give it
 unfoldable pub given : ArgMatches → List ℕ → Option (List ℕ)
@@ -20,20 +18,6 @@ given words name = first_value (found_of words) name
 abbrev pub read_as : {A : Type 0} → (List ℕ → Option A) → Option (List ℕ) → Option A
 read_as read None = None
 read_as read (Some text) = read text
-
--- the same, with a value for an option that is not given
-abbrev pub read_or : {A : Type 0} → A → (List ℕ → Option A) → Option (List ℕ) → Option A
-read_or other read None = Some other
-read_or other read (Some text) = read text
-
--- the same, where the option need not be given
-abbrev pub read_if : {A : Type 0} → (List ℕ → Option A) → Option (List ℕ) → Option (Option A)
-read_if read None = Some None
-read_if read (Some text) = option_map Some (read text)
-
--- a size from 1 to `most`
-abbrev pub sized : ℕ → ℕ → Option ℕ
-sized most n = if nat_le 1 n && nat_le n most then Some n else None
 
 -- ---- addresses
 
@@ -49,33 +33,6 @@ host_of text = then_in (peer_of text) (λ p. if is_host p.ip && not (p.port == 0
 abbrev pub own_of : List ℕ → Option ℕ
 own_of text = then_in (address_of text) (λ ip. if (ip == 0) || is_host ip then Some ip else None)
 
--- ---- forms
-
-abbrev pub is_from : ℕ → Option ℕ → Bool
-is_from least None = false
-is_from least (Some n) = nat_le least n
-
--- whether a text is of a form
-abbrev pub has_form : Form → List ℕ → Bool
-has_form (form.Number digits least largest) text = is_from least (number_of digits largest text)
-has_form form.Host text = is_some (host_of text)
-has_form form.Own text = is_some (own_of text)
-has_form form.AnyPeer text = is_some (peer_of text)
-has_form form.Bytes text = nat_le (length text) 2890 && is_some (hex_of text)
-has_form form.Text text = true
-
-abbrev pub is_unlike : Form → Option (List ℕ) → Bool
-is_unlike f None = false
-is_unlike f (Some text) = not (has_form f text)
-
--- whether an option is given whose text is not of its form
-abbrev pub breaks : ArgMatches → OptionFields → Bool
-breaks words row = is_unlike row.form (given words row.name)
-
--- NONE OF THESE OPTIONS is given with a text that is not of its form.
-abbrev pub fits : ArgMatches → List OptionFields → Bool
-fits words rows = is_none (find (breaks words) rows)
-
 -- ---- what an option says
 
 -- the number that a text of a form says
@@ -86,15 +43,12 @@ abbrev pub number_by : Form → List ℕ → Option ℕ
 number_by (form.Number digits least largest) text = then_in (number_of digits largest text) (at_least least)
 number_by other text = None
 
--- the number, the address of a socket, or the text that an option says, where it is given and has its form
-abbrev pub number_said : ArgMatches → OptionFields → Option ℕ
-number_said words row = read_as (number_by row.form) (given words row.name)
+-- the number, or the address of a socket, that an option says, where it is given and has its form
+abbrev pub number_said : ArgMatches → OptionRow → Option ℕ
+number_said words row = read_as (number_by row.form) (given words row.name.now)
 
-abbrev pub own_said : ArgMatches → OptionFields → Option ℕ
-own_said words row = read_as own_of (given words row.name)
-
-abbrev pub text_said : ArgMatches → OptionFields → Option (List ℕ)
-text_said words row = given words row.name
+abbrev pub own_said : ArgMatches → OptionRow → Option ℕ
+own_said words row = read_as own_of (given words row.name.now)
 
 -- a number that a form allows
 abbrev pub IsInForm : Form → ℕ → Type 0
@@ -106,5 +60,5 @@ abbrev pub is_true : Option (List ℕ) → Bool
 is_true None = false
 is_true (Some text) = bytes_eq text (codes "true")
 
-abbrev pub has_flag : ArgMatches → OptionFields → Bool
-has_flag words row = is_true (given words row.name)
+abbrev pub has_flag : ArgMatches → OptionRow → Bool
+has_flag words row = is_true (given words row.name.now)

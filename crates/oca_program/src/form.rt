@@ -1,11 +1,6 @@
 //! The forms of options, and the note on an option whose value is not of its form.
-ghost use Rattle.std.specs.Prelude.{◌≡◌, ◌≤◌, IfErr, IfSome, is_ok, map};
-ghost use Rattle.std.specs.List.{find};
-ghost use Rattle.std.specs.Option.{option_copied};
-ghost use Rattle.oca_program.specs.Commands.{row_fields};
-ghost use Rattle.oca_program.specs.Options.{host_of, own_of, is_host as is_host_address, has_form};
-ghost use Rattle.oca_program.specs.Options.{IsInForm, breaks as breaks_form, fits, number_by};
-ghost use Rattle.oca_program.specs.declared.fault.RunFault.TheVariants.{BadWords};
+ghost use Rattle.std.specs.Prelude.{◌≡◌};
+ghost use Rattle.oca_program.specs.Options.{IsInForm, host_of, is_host as is_host_address, number_by, own_of};
 
 use super::fault::{Failure, RunFault};
 use super::options::text_of;
@@ -15,7 +10,7 @@ use oca_script::field::{address, hex_bytes, number, peer};
 use oca_types::{MOST_COMMAND_PARAMETER_BYTES, Peer};
 use std::alloc::{AllocError, Global};
 
-/// The form that the value of an option must have (*profile*).
+/// The form that the value of an option must have.
 #[derive(Clone, Copy, PartialEq, Eq, Debug)]
 pub enum Form {
     /// A number of 1 to `digits` decimal digits, from `least` to `largest`.
@@ -36,21 +31,21 @@ pub enum Form {
     Text,
 }
 
-/// A number of 8 bits (*profile*).
+/// A number of 8 bits.
 pub const NUMBER_8: Form = Form::Number {
     digits: 3,
     least: 0,
     largest: 255,
 };
 
-/// A number of 16 bits (*profile*).
+/// A number of 16 bits.
 pub const NUMBER_16: Form = Form::Number {
     digits: 5,
     least: 0,
     largest: 65_535,
 };
 
-/// A number of 32 bits (*profile*).
+/// A number of 32 bits.
 pub const NUMBER_32: Form = Form::Number {
     digits: 10,
     least: 0,
@@ -58,61 +53,43 @@ pub const NUMBER_32: Form = Form::Number {
 };
 
 impl Form {
-    /// Returns whether a text has this form (*profile*). Any text has the form `Text`. The call prints nothing and
+    ghost use Rattle.std.specs.Prelude.{IfSome};
+
+    /// Returns whether a text has this form. Any text has the form `Text`. The call prints nothing and
     /// takes no memory.
-    pub fn takes(self, text: &[u8]) -> bool
-        ensures { result ≡ has_form self text.now }
-    {
+    pub fn takes(self, text: &[u8]) -> bool {
         match self {
-            Form::Number {
-                digits,
-                least,
-                largest,
-            } => match number(text, digits, largest) {
-                Some(n) => least <= n,
-                None => false,
-            },
+            Form::Number { .. } => self.number(text).is_some(),
             Form::Host => host(text).is_some(),
             Form::Own => own(text).is_some(),
             Form::AnyPeer => peer(text).is_some(),
-            Form::Bytes => are_bytes(text),
+            Form::Bytes => {
+                let mut room = [0u8; MOST_COMMAND_PARAMETER_BYTES];
+                text.len() <= 2 * MOST_COMMAND_PARAMETER_BYTES
+                    && hex_bytes(text, &mut room).is_some()
+            }
             Form::Text => true,
         }
     }
 
-    /// Returns the number that a text of this form gives (*profile*). The result is `None` if the form is not `Number`,
+    /// Returns the number that a text of this form gives. The result is `None` if the form is not `Number`,
     /// or the text does not have the form: it has not 1 to `digits` decimal digits, or the number is not from `least`
     /// to `largest`. The call takes no memory.
     pub fn number(self, text: &[u8]) -> Option<u64>
         ensures value { result ≡ number_by self text.now }
         ensures within { IfSome result (IsInForm self) }
     {
-        match self {
-            Form::Number {
-                digits,
-                least,
-                largest,
-            } => number_from(text, digits, least, largest),
-            _ => None,
-        }
+        let Form::Number {
+            digits,
+            least,
+            largest,
+        } = self
+        else {
+            return None;
+        };
+        let said = number(text, digits, largest)?;
+        if least <= said { Some(said) } else { None }
     }
-}
-
-/// The number of 1 to so many digits that a text says, from the one to the other.
-fn number_from(text: &[u8], digits: usize, least: u64, largest: u64) -> Option<u64>
-    ensures value { result ≡ number_by (Form.Number digits least largest) text.now }
-    ensures within { IfSome result (λ n. (least ≤ n) × (n ≤ largest)) }
-{
-    let said = number(text, digits, largest)?;
-    if least <= said { Some(said) } else { None }
-}
-
-/// Whether a text is at most 1,445 bytes in hexadecimal, or `-`.
-fn are_bytes(text: &[u8]) -> bool
-    ensures { result ≡ has_form Form.Bytes text.now }
-{
-    let mut room = [0u8; MOST_COMMAND_PARAMETER_BYTES];
-    text.len() <= 2 * MOST_COMMAND_PARAMETER_BYTES && hex_bytes(text, &mut room).is_some()
 }
 
 /// Whether an address is that of one host.
@@ -146,47 +123,19 @@ pub(crate) fn own(text: &[u8]) -> Option<u32>
     }
 }
 
-/// Returns whether the command line `words` has the option `row` with a value that does not have the option's form
-/// (*profile*). The result is `false` if the command line does not have the option. The call prints nothing and takes
-/// no memory.
-pub fn breaks(words: &ArgMatches<'_>, row: &OptionRow) -> bool
-    ensures { result ≡ breaks_form words.now (row_fields row.now) }
-{
-    match text_of(words, row.name) {
-        Some(text) => !row.form.takes(text.as_bytes()),
-        None => false,
-    }
-}
-
-/// Returns the first of the options `rows` whose value in the command line `words` does not have the option's form
-/// (*profile*). The result is `None` if each value has its form, or no option is given. The call prints nothing and
-/// takes no memory.
-pub fn first_broken<'r>(words: &ArgMatches<'_>, rows: &'r [OptionRow]) -> Option<&'r OptionRow>
-    ensures { option_copied result ≡ find (λ row. breaks_form words.now (row_fields row)) rows.now }
-{
-    rows.iter().find(|row| breaks(words, row))
-}
-
 /// Checks the values of the options `rows` in the command line `words`: each must have the form of its option
-/// (*profile*). Options that are not given are not checked. The only failure is `BadWords`, if a value does not have
+///. Options that are not given are not checked. The only failure is `BadWords`, if a value does not have
 /// its form. The note of the failure names the first such option in the order of `rows`, its value if that has at most
 /// 200 bytes, and the form. There is no note if memory for it was refused. The call prints nothing.
-pub fn check(alloc: Global, words: &ArgMatches<'_>, rows: &[OptionRow]) -> Result<(), Failure>
-    ensures ok { is_ok result ≡ fits words.now (map row_fields rows.now) }
-    ensures err { IfErr result (λ failure. failure.fault ≡ BadWords) }
-{
-    match first_broken(words, rows) {
-        Some(row) => Err(bad_value(alloc, words, row)),
-        None => Ok(()),
+pub fn check(alloc: Global, words: &ArgMatches<'_>, rows: &[OptionRow]) -> Result<(), Failure> {
+    for row in rows {
+        if let Some(value) = text_of(words, row.name)
+            && !row.form.takes(value.as_bytes())
+        {
+            return Err(Failure::noted_if(RunFault::BadWords, note_of(alloc, row, value)));
+        }
     }
-}
-
-/// Bad words: the value of this option is not of its form, as the note says, where there is memory for it.
-fn bad_value(alloc: Global, words: &ArgMatches<'_>, row: &OptionRow) -> Failure
-    ensures { result.fault ≡ BadWords }
-{
-    let value = text_of(words, row.name).unwrap_or("");
-    Failure::noted_if(RunFault::BadWords, note_of(alloc, row, value))
+    Ok(())
 }
 
 /// The most bytes of a value that a note repeats.

@@ -10,16 +10,15 @@ pub mod ending;
 pub mod fault;
 pub mod form;
 pub mod options;
-mod other_port;
 pub mod socket;
 pub mod start;
 pub mod table;
 mod version;
 
-pub use ending::{helped, replayed, status_of, written};
+pub use ending::{helped, replayed, status_of};
 pub use fault::{Failure, RunFault, print_made_note, print_note, report};
 pub use form::Form;
-pub use other_port::note_other_port;
+pub use socket::note_other_port;
 pub use start::words_of;
 pub use table::{CommandRow, Kind, OptionRow};
 pub use version::VERSION;

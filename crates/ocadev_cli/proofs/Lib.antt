@@ -1,2 +1,1 @@
-pub mod StoringLemmas
-pub mod TotalLemmas
+mod StoringLemmas

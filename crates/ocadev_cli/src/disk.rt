@@ -1,16 +1,12 @@
 //! How the objects of a device are written over a file: a new file takes the place of the old one.
-ghost use Rattle.std.specs.Prelude.{◌≡◌, ◌↔◌, ◌++◌, IfOk, IfSome, IsSome, None, is_ok, string_bytes};
-ghost use Rattle.std.specs.Fs.{metadata_mode};
-ghost use Rattle.oca_script.specs.Printing.{WritesOut, WritesWhole};
-ghost use Rattle.oca_textree.specs.Written.{text_of};
-ghost use Rattle.ocadev_cli.specs.Storing.{ArePlain, DiskState, IsSaidPlain, Replaces, StoresBy, SyncsFolder, SyncsNew, Tries};
-ghost use Rattle.ocadev_cli.specs.Storing.{WritesNew, last_line_text, folder_text, state_text};
+ghost use Rattle.std.specs.Prelude.{◌≡◌, ◌++◌, IfOk, codes, is_ok, string_bytes};
+ghost use Rattle.ocadev_cli.specs.Storing.{DiskState, Replaces, StoresBy, SyncsFolder, SyncsNew, Tries, WritesNew};
 
 use oca_script::{Printer, Sink, ToWriter, WriteFailed};
 use oca_textree::print_tree;
 use oca_tree::Tree;
-use std::alloc::Global;
-use std::fs::{Metadata, OpenFile, OpenOptions, Permissions};
+use std::alloc::{AllocError, Global};
+use std::fs::{File, Metadata, OpenFile, OpenOptions, Permissions};
 use std::io::ErrorKind;
 use std::os::unix::fs::{MetadataExt, PermissionsExt, lchown};
 use std::path::Path;
@@ -60,173 +56,172 @@ pub fn write_over<D: Disk>(disk: &mut D, tree: &Tree) -> io::Result<()>
 
 /// The mode and the owner of a file.
 #[derive(Clone, Copy)]
-pub struct Attributes {
+struct Attributes {
     mode: u32,
     uid: u32,
     gid: u32,
 }
 
 impl Attributes {
-    /// Those of a file of which this is known.
-    fn of(found: &Metadata) -> Attributes
-        ensures { result.mode ≡ metadata_mode found.now }
-    {
+    /// The attributes of a file.
+    fn of(found: &Metadata) -> Attributes {
         Attributes {
             mode: found.mode(),
             uid: found.uid(),
             gid: found.gid(),
         }
     }
+
+    /// Those of the plain file at a path. `None` if there is no plain file, or the system does not say.
+    fn at<N: Files>(system: &N, path: &str) -> Option<Attributes> {
+        match fs::symlink_metadata(system, path) {
+            Ok(found) if found.is_file() => Some(Attributes::of(&found)),
+            _ => None,
+        }
+    }
+
+    /// Gives them to a file at a path.
+    fn give<N: Files, O: OpenFile>(self, system: &N, file: &O, path: &str) -> io::Result<()> {
+        let new = file.metadata()?;
+        if new.uid() != self.uid || new.gid() != self.gid {
+            lchown(system, path, Some(self.uid), Some(self.gid))?;
+        }
+        file.set_permissions(Permissions::from_mode(self.mode))
+    }
+}
+
+/// Whether a file is the one that was found.
+fn is_the_one(file: &File, found: &Metadata) -> io::Result<bool> {
+    let its = file.metadata()?;
+    Ok(its.dev() == found.dev() && its.ino() == found.ino())
 }
 
 /// A file of the system, which does not tell, and the new file beside it.
 #[derive(Drop)]
-pub struct FileDisk<'l, 'p, 'n, L: Files> {
+pub struct FileDisk<'l, 'p, N> {
     alloc: Global,
-    files: &'l L,
+    system: &'l N,
     path: &'p str,
-    fresh: &'n str,
-    /// The new file, until it is on the disk.
-    made: Option<L::File>,
+    /// The path of the new file.
+    fresh: String,
+    /// The new file, locked, until it takes the place of the old one.
+    made: Option<File>,
+    /// The file at the path, locked: the one that was there at the start, or that took its place last. It stays open, so
+    /// that no other file gets its number.
+    held: Option<File>,
     /// What a new file gets: those of the plain file that was there last, at the start or when one was made, or of the
     /// new file that was made last.
     attributes: Option<Attributes>,
 }
 
-impl<'l, 'p, 'n, L: Files> FileDisk<'l, 'p, 'n, L> {
-    /// The disk with the file at `path`, and with the new file at `fresh` that will take its place. A new file gets the
-    /// mode and the owner of the plain file that was last seen at `path`. Before one was seen, it gets those of
-    /// `attributes`, if these are given. Nothing is read or written.
+impl<'l, 'p, N: Files<File = File>> FileDisk<'l, 'p, N> {
+    /// The disk with the file at `path`, which is `held` if it exists. A new file beside it gets the mode and the owner
+    /// of the plain file that was last seen there. Nothing is read or written. The refusal is one of memory.
     pub fn new(
         alloc: Global,
-        files: &'l L,
+        system: &'l N,
         path: &'p str,
-        fresh: &'n str,
-        attributes: Option<Attributes>,
-    ) -> FileDisk<'l, 'p, 'n, L>
-        ensures files { result.files ≡ files.entry }
-        ensures path { result.path ≡ path.entry }
-        ensures fresh { result.fresh ≡ fresh.entry }
-        ensures made { result.made ≡ None }
-        ensures attributes { result.attributes ≡ attributes }
+        held: Option<File>,
+    ) -> Result<FileDisk<'l, 'p, N>, AllocError>
+        ensures { IfOk result (λ disk. string_bytes disk.fresh ≡ disk.path.now ++ codes ".new") }
     {
-        FileDisk {
+        let fresh = format!(in alloc; "{path}.new")?;
+        Ok(FileDisk {
             alloc,
-            files,
+            system,
             path,
             fresh,
             made: None,
-            attributes,
-        }
+            held,
+            attributes: Attributes::at(system, path),
+        })
     }
 
-    /// Makes the new file, with the mode and the owner of the one that was there last. One that was left is taken away
-    /// first; a symbolic link in its place is not followed.
-    fn make_new(&mut self) -> io::Result<L::File> {
-        if let Some(found) = plain_attributes(self.files, self.path) {
+    /// Refuses where a plain file is at the path that this device did not put there: another device has the state then.
+    fn check_place(&self) -> io::Result<()> {
+        let is_ours = match fs::symlink_metadata(self.system, self.path) {
+            Ok(found) if found.is_file() => match &self.held {
+                Some(file) => is_the_one(file, &found)?,
+                None => false,
+            },
+            _ => true,
+        };
+        if is_ours {
+            return Ok(());
+        }
+        let why = "another program put a file in its place";
+        Err(io::Error::new(ErrorKind::Other, why))
+    }
+
+    /// Makes the new file and locks it. One that was left is removed first; a symbolic link in its place is not followed.
+    fn make_new(&mut self) -> io::Result<File> {
+        if let Some(found) = Attributes::at(self.system, self.path) {
             self.attributes = Some(found);
         }
-        let _ = fs::remove_file(self.files, self.fresh);
+        let fresh = self.fresh.as_str();
+        let _ = fs::remove_file(self.system, fresh);
         let mut how = OpenOptions::new();
         how.write(true).create_new(true);
-        let file = how.open(self.files, self.fresh)?;
+        let file = how.open(self.system, fresh)?;
+        file.try_lock()?;
         match self.attributes {
-            Some(attributes) => make_alike(self.files, &file, self.fresh, attributes)?,
+            Some(attributes) => attributes.give(self.system, &file, fresh)?,
             None => self.attributes = Some(Attributes::of(&file.metadata()?)),
         }
         Ok(file)
     }
 }
 
-impl<'l, 'p, 'n, L: Files> Disk for FileDisk<'l, 'p, 'n, L> {
+impl<'l, 'p, N: Files<File = File>> Disk for FileDisk<'l, 'p, N> {
     ghost use Rattle.ocadev_cli.specs.Storing.{silent_disk};
 
     ghost state = { λ _. silent_disk };
 
-    /// Writes the objects to the new file, which is made first.
+    /// Writes the objects to the new file, which is made first; refused where another device has the state.
     fn write_new(&mut self, tree: &Tree) -> io::Result<()> {
+        self.check_place()?;
         let file = self.make_new()?;
-        let written = file.try_clone()?;
-        self.made = Some(written);
+        self.made = Some(file.try_clone()?);
         print_state(self.alloc, tree, &mut Printer::new(ToWriter::new(file)))
     }
 
     /// Waits until the new file is on the disk; refused where none was written.
     fn sync_new(&mut self) -> io::Result<()> {
-        match self.made.take() {
+        match &self.made {
             Some(file) => file.sync_all(),
             None => Err(io::Error::new(ErrorKind::Other, "no new file")),
         }
     }
 
-    /// Renames the new file to the path.
+    /// Renames the new file to the path; refused where another device has the state.
     fn replace(&mut self) -> io::Result<()> {
-        fs::rename(self.files, self.fresh, self.path)
+        self.check_place()?;
+        fs::rename(self.system, self.fresh.as_str(), self.path)?;
+        self.held = self.made.take();
+        Ok(())
     }
 
     /// Waits until the folder of the path is on the disk.
     fn sync_folder(&mut self) -> io::Result<()> {
-        fs::open(self.files, folder_of(self.path))?.sync_all()
-    }
-}
-
-/// The mode and the owner of the plain file at this path. `None` if there is no plain file, or the system does not say.
-/// (No contract of std says what is at a path. So the contract of this function says only that a mode is that of a plain
-/// file.)
-pub fn plain_attributes<F: Files>(files: &F, path: &str) -> Option<Attributes>
-    ensures { IfSome result ArePlain }
-{
-    attributes_in(fs::symlink_metadata(files, path))
-}
-
-/// The mode and the owner of a plain file, by what the system says of a path. `None` exactly if it says that something
-/// else is there, or does not say what is there.
-fn attributes_in(found: io::Result<Metadata>) -> Option<Attributes>
-    ensures plain { IfSome result ArePlain }
-    ensures some { IsSome result ↔ IsSaidPlain found }
-    ensures mode { IfOk found (λ said. IfSome result (λ a. a.mode ≡ metadata_mode said)) }
-{
-    match found {
-        Ok(found) if found.is_file() => Some(Attributes::of(&found)),
-        _ => None,
+        fs::open(self.system, folder_of(self.path))?.sync_all()
     }
 }
 
 /// The folder in which a file stands.
-fn folder_of(path: &str) -> &str
-    ensures { result.now ≡ folder_text path.now }
-{
+fn folder_of(path: &str) -> &str {
     match Path::new(path).parent() {
         Some(folder) if !folder.as_str().is_empty() => folder.as_str(),
         _ => ".",
     }
 }
 
-/// Gives a file at a path this owner and this mode.
-fn make_alike<F: Files, O: OpenFile>(
-    files: &F,
-    file: &O,
-    path: &str,
-    attributes: Attributes,
-) -> io::Result<()> {
-    let new = file.metadata()?;
-    if new.uid() != attributes.uid || new.gid() != attributes.gid {
-        lchown(files, path, Some(attributes.uid), Some(attributes.gid))?;
-    }
-    file.set_permissions(Permissions::from_mode(attributes.mode))
-}
-
 /// The last line of a file that lists `count` objects, with its line feed. `None` if memory was refused.
-pub fn end_line(alloc: Global, count: usize) -> Option<String>
-    ensures { IfSome result (λ line. string_bytes line ≡ last_line_text count) }
-{
+pub fn end_line(alloc: Global, count: usize) -> Option<String> {
     format!(in alloc; "# end of {count} objects\n").ok()
 }
 
 /// Prints the objects, and a last line that says how many they are, and writes all that the printer holds.
-fn print_state<W: Sink>(alloc: Global, tree: &Tree, printer: &mut Printer<W>) -> io::Result<()>
-    ensures { IfOk result (λ _. WritesWhole printer.old printer.new (state_text tree.now)) }
-{
+fn print_state<W: Sink>(alloc: Global, tree: &Tree, printer: &mut Printer<W>) -> io::Result<()> {
     let Some(line) = end_line(alloc, tree.len()) else {
         return Err(io::Error::new(ErrorKind::OutOfMemory, "memory was refused"));
     };
@@ -237,14 +232,11 @@ fn print_state<W: Sink>(alloc: Global, tree: &Tree, printer: &mut Printer<W>) ->
 }
 
 /// Prints the objects and behind them this line, and writes all that the printer holds.
-#[tactic(auto, using(oca_script::proofs::PrintLemmas::writing))]
 fn print_ended<W: Sink>(
     tree: &Tree,
     line: &[u8],
     printer: &mut Printer<W>,
-) -> Result<(), WriteFailed>
-    ensures { WritesOut result printer.old printer.new (text_of tree.now ++ line.now) }
-{
+) -> Result<(), WriteFailed> {
     print_tree(tree, printer)?;
     printer.print(line)?;
     printer.flush()

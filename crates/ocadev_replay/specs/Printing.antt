@@ -1,4 +1,4 @@
--- What is printed for an event (profile).
+-- What is printed for an event.
 use Rattle.std.specs.Prelude.{ℕ, ◌==◌, if◌then◌else◌, List, [], ◌∷◌, ◌++◌, codes, decimal}
 use Rattle.std.specs.List.{flat_map}
 use Rattle.oca_types.specs.Sizes.{DeviceSizes}

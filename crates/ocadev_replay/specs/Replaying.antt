@@ -1,4 +1,4 @@
--- What a replay does to a device, and what it writes (profile).
+-- What a replay does to a device, and what it writes.
 use Rattle.std.specs.Prelude.{◌≡◌, ℕ, List, ◌∷◌, ◌++◌, Result, Err}
 use Rattle.oca_types.specs.Sizes.{DeviceSizes}
 use Rattle.oca_tree.specs.declared.object.Object.{Object}

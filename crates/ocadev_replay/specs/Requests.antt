@@ -1,4 +1,4 @@
--- What the lines of the device's scripts ask for (profile).
+-- What the lines of the device's scripts ask for.
 use Rattle.std.specs.Prelude.{ℕ, Bool, if◌then◌else◌, List, [], ◌∷◌, codes, Result, Ok, Err}
 use Rattle.std.specs.Str.{bytes_eq}
 use Rattle.oca_script.specs.Fields.{moment_of, peer_of, hex_of}

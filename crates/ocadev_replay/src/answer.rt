@@ -15,8 +15,8 @@ const VERDICT_ROOM: usize = 128;
 /// Room for the line of a packet.
 const PACKET_ROOM: usize = 2960;
 
-/// Prints a line that says what a device did with a datagram, as PROTOCOL.md lists it (*profile*). The line can wait in
-/// the printer. The only refusal is `WriteFailed`, if a write failed; then perhaps only the beginning of the text was
+/// Prints a line that says what a device did with a datagram, as PROTOCOL.md lists it. The line can wait in the
+/// printer. The only refusal is `WriteFailed`, if a write failed; then perhaps only the beginning of the text was
 /// written. The call takes no memory.
 #[tactic(auto, using(oca_script::proofs::PrintLemmas::printing))]
 pub fn print_verdict<W: Sink>(verdict: Verdict, printer: &mut Printer<W>) -> Result<(), WriteFailed>
@@ -27,9 +27,9 @@ pub fn print_verdict<W: Sink>(verdict: Verdict, printer: &mut Printer<W>) -> Res
     Ok(())
 }
 
-/// Prints a line for each packet of the outbox, in order: `> ` and the bytes in hexadecimal (*profile*). An empty
-/// outbox prints nothing. The lines can wait in the printer. The only refusal is `WriteFailed`, if a write failed; then
-/// perhaps only the beginning of the text was written. The call takes no memory, and the outbox is unchanged.
+/// Prints a line for each packet of the outbox, in order: `> ` and the bytes in hexadecimal. An empty outbox prints
+/// nothing. The lines can wait in the printer. The only refusal is `WriteFailed`, if a write failed; then perhaps only
+/// the beginning of the text was written. The call takes no memory, and the outbox is unchanged.
 pub fn print_packets<W: Sink>(outbox: &Outbox, printer: &mut Printer<W>) -> Result<(), WriteFailed>
     ensures { Prints result printer.old printer.new (flat_map line_text outbox.now) }
 {

@@ -134,10 +134,10 @@ fn fault_after_peer(rest: &[u8]) -> LineFault
     }
 }
 
-/// Reads what a line of a device's script asks for (*profile*): `N P HEX` is a datagram of the peer P at the moment N,
-/// and `N quiet` a reading of the clock. Moments are in milliseconds. The line has at most 4,096 bytes (a premise,
-/// which the caller must prove). The bytes of a datagram are written to the front of `room`, and the result refers to
-/// them. The call takes no memory. Refusals, the first that applies; discard what `room` contains then:
+/// Reads what a line of a device's script asks for: `N P HEX` is a datagram of the peer P at the moment N, and `N
+/// quiet` a reading of the clock. Moments are in milliseconds. The line has at most 4,096 bytes (a premise, which the
+/// caller must prove). The bytes of a datagram are written to the front of `room`, and the result refers to them. The
+/// call takes no memory. Refusals, the first that applies; discard what `room` contains then:
 /// - `Form` if the line does not have these fields.
 /// - `Moment`, `Peer` or `Hex` for the first field, from the left, that does not have its form.
 pub fn asked_by<'a>(

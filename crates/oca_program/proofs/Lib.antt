@@ -1,4 +1,0 @@
-pub mod CommandLemmas
-pub mod EndingLemmas
-pub mod OptionLemmas
-pub mod RowLemmas

@@ -1,0 +1,117 @@
+//! The objects that a device begins with.
+
+use super::disk::end_line;
+use oca_program::{Failure, RunFault};
+use oca_script::ObjectFault;
+use oca_textree::{TreeFault, tree_from_text};
+use oca_tree::{Tree, bench_with_channels};
+use std::alloc::Global;
+use std::fmt::Display;
+use std::fs;
+use std::io::Read;
+use std::rt::Files;
+
+/// The most bytes of a file that lists objects.
+const LARGEST_TEXT: usize = 16_777_216;
+
+/// Where the objects of a device come from.
+#[derive(Clone, Copy)]
+pub enum Objects<'a> {
+    /// They are the bench's, with so many channel strips behind them.
+    Bench(u16),
+    /// The file at this path lists them.
+    Listed(&'a str),
+    /// The file at this path has them, in which a device kept them.
+    Kept(&'a str),
+}
+
+impl Objects<'_> {
+    /// The objects. Failures: `NoMemory` if memory was refused. Of a file `Read` if it can't be read, `TooMuch` if it
+    /// has more than 16,777,216 bytes, and `Object` with its first line that has a fault. Of a file in which a device
+    /// kept them also `Object` with its last line, if that does not say how many objects it has.
+    pub fn load<N: Files>(self, alloc: Global, system: &N) -> Result<Tree, Failure> {
+        match self {
+            Objects::Bench(channels) => match bench_with_channels(alloc, channels) {
+                Ok(tree) => Ok(tree),
+                Err(_) => Err(Failure::from(RunFault::NoMemory)),
+            },
+            Objects::Listed(path) => {
+                let text = text_of(alloc, system, path)?;
+                tree_of(alloc, path, text.as_slice())
+            }
+            Objects::Kept(path) => {
+                let text = text_of(alloc, system, path)?;
+                kept_tree_of(alloc, path, text.as_slice())
+            }
+        }
+    }
+}
+
+/// The failure of a file at a path that can't be read or kept.
+pub fn refused<D: Display + Drop>(alloc: Global, fault: RunFault, path: &str, why: D) -> Failure {
+    Failure::noted_if(fault, format!(in alloc; "{path}: {why}"))
+}
+
+/// The objects that the text of the file at a path lists.
+fn tree_of(alloc: Global, path: &str, text: &[u8]) -> Result<Tree, Failure> {
+    match tree_from_text(alloc, text) {
+        Ok(tree) => Ok(tree),
+        Err(TreeFault::Line(number, fault)) => {
+            let note = format!(in alloc; "{path}: line {number} is wrong");
+            Err(Failure::noted_if(RunFault::Object(number, fault), note))
+        }
+        Err(TreeFault::NoMemory) => Err(Failure::from(RunFault::NoMemory)),
+    }
+}
+
+/// The objects that the text of the file at a path lists, in which a device kept them.
+fn kept_tree_of(alloc: Global, path: &str, text: &[u8]) -> Result<Tree, Failure> {
+    let tree = tree_of(alloc, path, text)?;
+    let Some(line) = end_line(alloc, tree.len()) else {
+        return Err(Failure::from(RunFault::NoMemory));
+    };
+    if text.ends_with(line.as_bytes()) {
+        return Ok(tree);
+    }
+    let lines = text
+        .strip_suffix(b"\n")
+        .unwrap_or(text)
+        .split(|byte| *byte == b'\n');
+    let fault = RunFault::Object(lines.count() as u64, ObjectFault::Form);
+    let why =
+        "its last line does not say how many objects it has: it is cut off, or not of this program";
+    Err(refused(alloc, fault, path, why))
+}
+
+/// The text of the file at a path.
+fn text_of<N: Files>(alloc: Global, system: &N, path: &str) -> Result<Vec<u8>, Failure> {
+    match fs::open(system, path) {
+        Ok(mut file) => read_whole(alloc, &mut file, path),
+        Err(reason) => Err(refused(alloc, RunFault::Read, path, reason)),
+    }
+}
+
+/// All bytes of a file.
+fn read_whole<R: Read>(alloc: Global, file: &mut R, path: &str) -> Result<Vec<u8>, Failure> {
+    let mut text = Vec::new(alloc);
+    let mut piece = [0u8; 4096];
+    for _read in 0..=LARGEST_TEXT {
+        let count = match file.read(&mut piece) {
+            Ok(0) => return Ok(text),
+            Ok(count) => count,
+            Err(reason) => return Err(refused(alloc, RunFault::Read, path, reason)),
+        };
+        if count > LARGEST_TEXT.saturating_sub(text.len()) {
+            break;
+        }
+        if text.extend_from_slice(&piece[..count]).is_err() {
+            return Err(Failure::from(RunFault::NoMemory));
+        }
+    }
+    Err(refused(
+        alloc,
+        RunFault::TooMuch,
+        path,
+        "it has more than 16777216 bytes",
+    ))
+}
