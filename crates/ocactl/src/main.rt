@@ -6,7 +6,7 @@
 use oca_net::{CountsSleep, fill_standard_descriptors};
 use oca_program::{report as report_failure, words_of};
 use oca_script::{FromReader, Printer, ToWriter};
-use ocactl_cli::run::run;
+use ocactl_cli::console::Console;
 use std::io;
 use std::process::ExitCode;
 
@@ -15,14 +15,14 @@ fn main(rt: HostRuntime) -> ExitCode {
     let _ = fill_standard_descriptors(&rt);
     let mut faults = Printer::new(ToWriter::new(rt.stderr()));
     let status = match words_of(&rt) {
-        Ok(words) => run(
-            rt.alloc(),
-            &CountsSleep(&rt),
-            words.as_slice(),
-            &mut FromReader::awaited(rt.stdin()),
-            &mut Printer::new(ToWriter::new(io::writer(&rt))),
-            &mut faults,
-        ),
+        Ok(words) => Console {
+            alloc: rt.alloc(),
+            system: &CountsSleep(&rt),
+            reader: &mut FromReader::awaited(rt.stdin()),
+            printer: &mut Printer::new(ToWriter::new(io::writer(&rt))),
+            faults: &mut faults,
+        }
+        .run(words.as_slice()),
         Err(failure) => report_failure(&failure, &mut faults),
     };
     ExitCode::from(status)

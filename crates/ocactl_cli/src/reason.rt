@@ -1,152 +1,125 @@
 //! Why no answer came, as far as it is known.
-ghost use Rattle.std.specs.Prelude.{◌≡◌, IfNone, false, true};
-ghost use Rattle.oca_program.specs.Notes.{PrintsANote};
-ghost use Rattle.ocactl_cli.specs.Beside.{AsksIfThere, IsSameBeside, TakesKeepAlives};
-ghost use Rattle.ocactl_cli.specs.Reasons.{NotesNoAnswer, NotesReason, NotesSilence, asks_again, reason_by};
+ghost use Rattle.std.specs.Prelude.{◌≡◌};
+ghost use Rattle.ocactl_cli.specs.Exchanges.{IsSameBeside};
 
 use super::bound_end::BoundEnd;
-use super::in_time::present;
-use super::probe::is_there_where;
-use super::reason_line::print_reason;
-use super::words::Reach;
-use oca_net::{is_gone, is_refused};
+use oca_net::{End, Heard, is_gone, is_refused};
 use oca_panel::{Panel, Watched};
 use oca_program::print_made_note;
 use oca_script::{Printer, Sink};
 use oca_types::Peer;
-use std::alloc::Global;
-use std::io;
-use std::net::Net;
+use std::alloc::{AllocError, Global};
+use std::net::{Ipv4Addr, Net};
 
-/// What is known of a device that gave no answer.
-#[derive(Clone, Copy)]
-pub enum Reason {
-    /// Nothing was heard from it.
-    NeverHeard,
-    /// Nothing was heard from it, and its host says that no program has its port.
-    Refused,
-    /// It was last heard so many milliseconds ago.
-    HeardBefore(u64),
-    /// It is there, and answered no command.
-    AnswersNone,
-    /// The machine has lost the address from which the commands left, so that no copy of them can be sent.
-    AddressGone,
-}
+/// How often a keep-alive is sent.
+const ROUNDS: u32 = 4;
 
-/// Why no answer came: by whether the machine has lost the socket's address, the present moment, when the device was
-/// heard, whether it was heard when it was asked again, and whether its host refuses its port.
-fn why(is_gone: bool, now: u64, heard: Option<u64>, is_there: bool, is_refused: bool) -> Reason
-    ensures { result ≡ reason_by is_gone now heard is_there is_refused }
-{
-    if is_gone {
-        return Reason::AddressGone;
-    }
-    match (heard, is_there, is_refused) {
-        (Some(moment), _, _) => Reason::HeardBefore(now.saturating_sub(moment)),
-        (None, true, _) => Reason::AnswersNone,
-        (None, false, true) => Reason::Refused,
-        (None, false, false) => Reason::NeverHeard,
-    }
-}
-
-/// If a command got no answer over a panel (`silent`), prints to `faults` what is known of the reason. `reach` has the
-/// address of the device. First comes why a send failed, if one has. Then comes when the device was last heard, or that
-/// the machine has lost the address of the socket. A device that was never heard is first asked once more by
-/// keep-alives. If it is still not heard, its host is asked whether a program has its port.
-///
-/// If `silent` is false, nothing is done. If there is no memory for why a send failed, that line is not printed. A failed
-/// write is ignored.
-#[tactic(auto, using(crate::proofs::BesideLemmas::not_asked, crate::proofs::BesideLemmas::takes_keep_alives, crate::proofs::ReasonLemmas::notes_no_answer))]
+/// Prints to `faults` what is known of a device from which a command over a panel got no answer. First comes why a send
+/// failed, if one has. Then comes when the device was last heard, or that the machine has lost the address of the
+/// socket. A device that was never heard is first asked once more by keep-alives. If it is still not heard, its host is
+/// asked whether a program has its port.
 pub fn note_no_answer<N: Net, E: BoundEnd, F: Sink>(
     alloc: Global,
-    system: &N,
-    panel: &mut Panel<Watched<E>>,
-    reach: Reach,
-    silent: bool,
-    faults: &mut Printer<F>,
-)
-    ensures beside { AsksIfThere reach.device panel.old.end_state panel.new.end_state }
-    ensures told { TakesKeepAlives reach.device panel.old.end_state panel.new.end_state }
-    ensures same { IsSameBeside panel.old panel.new }
-    ensures answered { silent ≡ false → panel.new ≡ panel.old }
-    ensures quiet { silent ≡ false → faults.new ≡ faults.old }
-    ensures silent { silent ≡ true
-        → NotesNoAnswer reach.device panel.old.end_state panel.new.end_state faults.old faults.new }
-{
-    if silent {
-        note_failed_send(alloc, panel.end().end().last_failed_send(), faults);
-        note_silence(system, panel, reach.device, faults);
-    }
-}
-
-/// Prints when the device was heard; one that was not heard is asked first whether it is there.
-#[tactic(auto, using(crate::proofs::ReasonLemmas::notes_silence))]
-fn note_silence<N: Net, E: BoundEnd, F: Sink>(
     system: &N,
     panel: &mut Panel<Watched<E>>,
     device: Peer,
     faults: &mut Printer<F>,
 )
-    ensures beside { AsksIfThere device panel.old.end_state panel.new.end_state }
-    ensures same { IsSameBeside panel.old panel.new }
-    ensures notes { NotesSilence device panel.old.end_state panel.new.end_state faults.old faults.new }
+    ensures { IsSameBeside panel.old panel.new }
 {
+    note_failed_send(alloc, panel.end(), faults);
     let own = panel.end().end().local();
-    let is_gone = is_gone(system, own.ip);
-    let heard = panel.end().heard();
-    let asks = asks_again(is_gone, heard);
-    let is_there = is_there_where(asks, panel, device);
-    let is_refused = is_refused_where(asks, is_there, system, own.ip, device);
-    let now = present(panel);
-    let reason = why(is_gone, now, heard, is_there, is_refused);
-    print_reason(device, own, reason, faults);
+    let known = known_of(alloc, system, panel.end(), device);
+    let is_there = is_there_where(known.is_none(), panel, device);
+    let note = match known {
+        Some(note) => note,
+        None if is_there => {
+            let port = own.port;
+            format!(in alloc;
+                "{device} is heard, but answers no command from port {port}: wait two minutes, or give another --port"
+            )
+        }
+        None if is_refused(system, own.ip, device) => {
+            format!(in alloc;
+                "nothing was heard from {device}: its host says that no program has this port"
+            )
+        }
+        None => format!(in alloc; "nothing was heard from {device}"),
+    };
+    print_made_note(note, faults);
 }
 
-/// Whether a device is asked whether it is there: it was not heard, and the machine has the address from which the
-/// commands left.
-fn asks_again(is_gone: bool, heard: Option<u64>) -> bool
-    ensures { result ≡ asks_again is_gone heard }
-{
-    !is_gone && heard.is_none()
-}
-
-/// Whether the host of a device refuses its port; it is asked only if the device was asked (`asks`) and is not there.
-fn is_refused_where<N: Net>(asks: bool, is_there: bool, system: &N, ip: u32, device: Peer) -> bool
-    ensures unasked { asks ≡ false → result ≡ false }
-    ensures there { is_there ≡ true → result ≡ false }
-{
-    asks && !is_there && is_refused(system, ip, device)
-}
-
-/// If a command got no answer over an end without a panel (`silent`), prints to `faults` what is known of the reason,
-/// as [`note_no_answer`] does. The device and its host are not asked. If `silent` is false, nothing is done.
+/// Prints to `faults` what is known of a device from which a command over an end got no answer. The device and its host
+/// are not asked.
 pub fn note_unanswered<N: Net, E: BoundEnd, F: Sink>(
     alloc: Global,
     system: &N,
     end: &Watched<E>,
     device: Peer,
-    silent: bool,
     faults: &mut Printer<F>,
-)
-    ensures silent { silent ≡ true → NotesReason end.now device faults.old faults.new }
-    ensures answered { silent ≡ false → faults.new ≡ faults.old }
-{
-    if !silent {
-        return;
+) {
+    note_failed_send(alloc, end, faults);
+    let note = match known_of(alloc, system, end, device) {
+        Some(note) => note,
+        None => format!(in alloc; "nothing was heard from {device}"),
+    };
+    print_made_note(note, faults);
+}
+
+/// What is known without a question: that the machine has lost the address of the socket, or when the device was heard.
+fn known_of<N: Net, E: BoundEnd>(
+    alloc: Global,
+    system: &N,
+    end: &Watched<E>,
+    device: Peer,
+) -> Option<Result<String, AllocError>> {
+    let ip = end.end().local().ip;
+    if is_gone(system, ip) {
+        let ip = Ipv4Addr::from(ip);
+        return Some(format!(in alloc; "the address {ip} is gone"));
     }
-    let own = end.end().local();
-    note_failed_send(alloc, end.end().last_failed_send(), faults);
-    let is_gone = is_gone(system, own.ip);
-    let reason = why(is_gone, end.end().now(), end.heard(), false, false);
-    print_reason(device, own, reason, faults);
+    let age = end.now().saturating_sub(end.heard()?);
+    Some(format!(in alloc; "{device} was last heard {age} ms ago"))
 }
 
 /// Prints why a send failed, where one has and there is memory for the line.
-fn note_failed_send<F: Sink>(alloc: Global, reason: Option<io::Error>, faults: &mut Printer<F>)
-    ensures one { PrintsANote faults.old faults.new }
-    ensures none { IfNone reason (faults.new ≡ faults.old) }
-{
-    if let Some(reason) = reason {
+fn note_failed_send<E: BoundEnd, F: Sink>(
+    alloc: Global,
+    end: &Watched<E>,
+    faults: &mut Printer<F>,
+) {
+    if let Some(reason) = end.end().last_failed_send() {
         print_made_note(format!(in alloc; "a send failed: {reason}"), faults);
     }
+}
+
+/// Whether a device is heard when it is asked for keep-alives. If `asks` is false, it is not asked, and the result is
+/// `false`.
+fn is_there_where<E: End>(asks: bool, panel: &mut Panel<Watched<E>>, device: Peer) -> bool
+    ensures { IsSameBeside panel.old panel.new }
+{
+    if !asks {
+        return false;
+    }
+    is_there(panel, device)
+}
+
+/// Whether a device is heard when it is asked for keep-alives.
+fn is_there<E: End>(panel: &mut Panel<Watched<E>>, device: Peer) -> bool
+    ensures { IsSameBeside panel.old panel.new }
+{
+    for round in 0..ROUNDS {
+        if echoes(panel, device) {
+            return true;
+        }
+    }
+    false
+}
+
+/// Sends a device a keep-alive, and receives once: whether a datagram of the device came.
+fn echoes<E: End>(panel: &mut Panel<Watched<E>>, device: Peer) -> bool
+    ensures { IsSameBeside panel.old panel.new }
+{
+    let heard = panel.call(device);
+    matches!(heard, Heard::Datagram { from, .. } if from == device)
 }

@@ -1,21 +1,19 @@
 //! A panel, and the commands in flight on it.
-ghost use Rattle.std.specs.Prelude.{◌≡◌, ◌==◌, ◌||◌, ◌<◌, ◌≤◌, ◌+◌, length, true, false};
+ghost use Rattle.std.specs.Prelude.{◌≡◌, ◌<◌, ◌≤◌, ◌+◌, length, true, false};
 ghost use Rattle.oca_types.specs.Peers.{request_of};
+ghost use Rattle.oca_types.specs.Sizes.{span_size};
 ghost use Rattle.oca_control.specs.Limits.{longest_life};
-ghost use Rattle.ocactl_cli.specs.Exchanges.{AwaitsFirst, IsFoundLostNow, IsWaitTime, NoneInFlight, NotesIfLost};
-ghost use Rattle.ocactl_cli.specs.Exchanges.{TakesOne, TakesUp, is_over, since, time_beside};
+ghost use Rattle.ocactl_cli.specs.Exchanges.{AwaitsFirst, NoneInFlight, RenewsPanel, TakesOne, TakesUp, since};
 ghost use Rattle.ocactl_cli.specs.PrivateExchanges.{Submitted, TakesFirst};
-ghost use Rattle.ocactl_cli.specs.Beside.{AsksIfThere};
 
 use super::bound_end::BoundEnd;
 use super::in_time::present;
 use super::reason::note_no_answer;
-use super::words::Reach;
-use oca_control::{ControlFault, LONGEST_LIFE_MS, Link, Outcome};
+use oca_control::{ControlFault, LONGEST_LIFE_MS, Outcome};
 use oca_net::End;
 use oca_panel::{InFlight, Panel, Watched};
 use oca_script::{Printer, Sink};
-use oca_types::{Handle, Request, Span};
+use oca_types::{Handle, Peer, Request, Span};
 use std::alloc::Global;
 use std::marker::Model;
 use std::net::Net;
@@ -33,6 +31,8 @@ const LONGEST_WAIT_MS: u64 = 3_600_000;
 /// line is at hand, where it was read.
 pub struct Session<E: End> {
     panel: Panel<E>,
+    device: Peer,
+    span: Span,
     in_flight: InFlight<()>,
     ahead: usize,
     refused: bool,
@@ -66,6 +66,8 @@ impl<E: End + Drop> Drop for Session<E> {
     fn drop(self) {
         let Session {
             panel: _,
+            device: _,
+            span: _,
             in_flight: _,
             ahead: _,
             refused: _,
@@ -80,23 +82,21 @@ impl<E: End> Session<E> {
     ghost use Rattle.std.specs.Prelude.{◌≡◌, ◌-◌, ◌<◌, [], true, false, length};
     ghost use Rattle.oca_types.specs.Sizes.{span_size};
 
-    /// A session over a link and an end, with no command in flight. At most `ahead` commands (1 to 32) may be in flight
-    /// at once. `socket` is the end's descriptor: a wait for input also ends when a datagram comes there. If `socket`
-    /// is `None`, the session does not wait for input at all.
-    pub fn new(link: Link, end: E, ahead: Span, socket: Option<RawFd>) -> Session<E>
-        ensures { result ≡ record {
-          link = link;
-          end_state = E.state end;
-          in_flight = [];
-          ahead = span_size ahead;
-          unanswered = false;
-          socket = socket;
-          is_open = false;
-          at_hand = None;
-        } }
-    {
+    /// A session over a new panel ([`Panel::open`]), with no command in flight. At most `ahead` commands (1 to 32) may be
+    /// in flight at once. `socket` is the end's descriptor: a wait for input also ends when a datagram comes there. If
+    /// `socket` is `None`, the session does not wait for input at all.
+    pub fn open(
+        device: Peer,
+        end: E,
+        first: Handle,
+        span: Span,
+        ahead: Span,
+        socket: Option<RawFd>,
+    ) -> Session<E> {
         Session {
-            panel: Panel::new(link, end, WAIT_MS),
+            panel: Panel::open(device, end, first, span, WAIT_MS),
+            device,
+            span,
             in_flight: InFlight::new(),
             ahead: usize::from(ahead.get()),
             refused: false,
@@ -123,23 +123,17 @@ impl<E: End> Session<E> {
     }
 
     /// The end over which the session sends.
-    pub fn end(&self) -> &E
-        ensures { E.state result.now ≡ self.now.end_state }
-    {
+    pub fn end(&self) -> &E {
         self.panel.end()
     }
 
     /// Whether the link is lost, or late at the end's present moment.
-    pub fn is_lost(&self) -> bool
-        ensures { IsFoundLostNow self.now result }
-    {
+    pub fn is_lost(&self) -> bool {
         self.panel.is_lost()
     }
 
     /// Whether a command got no answer, at any time since the session was made.
-    pub fn unanswered(&self) -> bool
-        ensures { result ≡ self.now.unanswered }
-    {
+    pub fn unanswered(&self) -> bool {
         self.refused || self.panel.unanswered()
     }
 
@@ -160,11 +154,18 @@ impl<E: End> Session<E> {
     /// Notes that a line is now handled, and at which moment it counts as read. The first line after a read counts as
     /// read at the end's present moment. A later line counts as read at the moment of the last submit since that read,
     /// or together with the first line if nothing was submitted since.
+    ///
+    /// If the link is lost or late, and no command is in flight, a new link takes its place: the command of this line is
+    /// then sent again. Handles go on behind those of the old link; if these are used up, the link stays.
     pub fn take_up(&mut self)
         ensures { TakesUp self.old self.new }
     {
         let now = present(&self.panel);
         self.at_hand = Some(since(self.at_hand, now));
+        if !self.in_flight.is_empty() {
+            return;
+        }
+        renew(&mut self.panel, self.device, self.span);
     }
 
     /// Submits the command of a line and sends it at once, and returns its handle. Fewer than 32 commands must be in
@@ -190,24 +191,19 @@ impl<E: End> Session<E> {
 
     /// Whether there is nothing to do: no command is in flight, and either none was submitted yet or the link is lost.
     pub fn is_over(&self) -> bool
-        ensures value { result ≡ is_over self.now }
-        ensures none { result ≡ true → NoneInFlight self.now }
+        ensures { result ≡ true → NoneInFlight self.now }
     {
         self.in_flight.is_empty() && (!self.is_open || self.panel.link().is_lost())
     }
 
     /// The end's descriptor; `None` if it has none.
-    pub fn socket(&self) -> Option<RawFd>
-        ensures { result ≡ self.now.socket }
-    {
+    pub fn socket(&self) -> Option<RawFd> {
         self.socket
     }
 
     /// How many milliseconds the program may wait before the next turn, at most an hour. 0 if the end has no
     /// descriptor.
-    pub fn wait_time(&self) -> u64
-        ensures { IsWaitTime self.now result }
-    {
+    pub fn wait_time(&self) -> u64 {
         let due = self.panel.next_due();
         time_beside(self.socket, due, present(&self.panel))
     }
@@ -246,22 +242,32 @@ impl<E: End> Session<E> {
 }
 
 impl<E: BoundEnd> Session<Watched<E>> {
-    /// If the link is lost or late now, prints to `faults` what is known of the reason, as [`note_no_answer`] does.
-    /// `reach` has the address of the device. A device that was never heard is first asked whether it is there. If the
-    /// link is neither, nothing is done.
-    #[tactic(auto, using(crate::proofs::BesideLemmas::still_waits, crate::proofs::ExchangeLemmas::notes_if_lost))]
+    /// If the link is lost or late now, prints to `faults` what is known of the reason, as [`note_no_answer`] does. A
+    /// device that was never heard is first asked whether it is there. If the link is neither, nothing is done.
+    #[tactic(auto, using(crate::proofs::ExchangeLemmas::still_waits))]
     pub fn note_silence<N: Net, F: Sink>(
         &mut self,
         alloc: Global,
         system: &N,
-        reach: Reach,
         faults: &mut Printer<F>,
-    )
-        ensures beside { AsksIfThere reach.device self.old.end_state self.new.end_state }
-        ensures notes { NotesIfLost reach.device self.old self.new faults.old faults.new }
-    {
-        let silent = self.is_lost();
-        note_no_answer(alloc, system, &mut self.panel, reach, silent, faults);
+    ) {
+        if self.is_lost() {
+            note_no_answer(alloc, system, &mut self.panel, self.device, faults);
+        }
+    }
+}
+
+/// If the link of a panel is lost or late, goes on with a new link to the device at the address `device`. Handles go on
+/// behind those of the old link; if these are used up, the link stays.
+fn renew<E: End>(panel: &mut Panel<E>, device: Peer, span: Span)
+    ensures { RenewsPanel device (span_size span) panel.old panel.new }
+{
+    if !panel.is_lost() {
+        return;
+    }
+    match panel.next_handle() {
+        Some(next) => panel.renew(device, next, span),
+        None => {}
     }
 }
 
@@ -283,9 +289,7 @@ fn comes_late(at_hand: Option<u64>, now: u64) -> bool
 
 /// How many milliseconds input may be awaited beside a descriptor, where there is one, until the moment `due`: an hour at
 /// most.
-fn time_beside(socket: Option<RawFd>, due: Option<u64>, now: u64) -> u64
-    ensures { result ≡ time_beside socket due now }
-{
+fn time_beside(socket: Option<RawFd>, due: Option<u64>, now: u64) -> u64 {
     match (socket, due) {
         (None, _) => 0,
         (Some(_), Some(due)) => due.saturating_sub(now).min(LONGEST_WAIT_MS),

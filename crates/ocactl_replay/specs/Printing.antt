@@ -1,4 +1,4 @@
--- What the controller's program prints (*profile*): a line for each call of a link.
+-- What the controller's program prints: a line for each call of a link.
 use Rattle.std.specs.Prelude.{ℕ, List, ◌++◌, codes, decimal, Option, Some, None, Result, Ok, Err}
 use Rattle.oca_types.specs.declared.words.Handle.{Handle}
 use Rattle.oca_script.specs.Fields.{hex_text}

@@ -1,4 +1,4 @@
--- What a replay does to a link, and what it writes (*profile*).
+-- What a replay does to a link, and what it writes.
 use Rattle.std.specs.Prelude.{◌≡◌, ℕ, List, Result}
 use Rattle.oca_script.specs.declared.fault.WriteFailed.{WriteFailed}
 use Rattle.oca_script.specs.Ends.{Output}

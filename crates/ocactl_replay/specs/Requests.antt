@@ -1,4 +1,4 @@
--- What the lines of the controller's scripts ask for (*profile*).
+-- What the lines of the controller's scripts ask for.
 use Rattle.std.specs.Prelude.{ℕ, if◌then◌else◌, List, [], ◌∷◌, codes, Option, Some, None, Result, Ok, Err}
 use Rattle.std.specs.Str.{bytes_eq}
 use Rattle.oca_types.specs.declared.words.Peer.{Peer}

@@ -29,10 +29,9 @@ pub enum Line<'a> {
     NoAnswer,
 }
 
-/// Prints one line that says what a call of a link returned, as PROTOCOL.md lists it (*profile*). A packet that is due
-/// must have at most 1,472 bytes (a premise, which the caller must prove). The line can wait in the printer. The only
-/// refusal is `WriteFailed`, if a write failed; then perhaps only the beginning of the text was written. The call takes
-/// no memory.
+/// Prints one line that says what a call of a link returned, as PROTOCOL.md lists it. A packet that is due must have at
+/// most 1,472 bytes (a premise, which the caller must prove). The line can wait in the printer. The only refusal is
+/// `WriteFailed`, if a write failed; then perhaps only the beginning of the text was written. The call takes no memory.
 #[tactic(auto, using(oca_script::proofs::PrintLemmas::printing))]
 pub fn print_line<W: Sink>(printer: &mut Printer<W>, line: Line<'_>) -> Result<(), WriteFailed>
     requires { LineWithin line }

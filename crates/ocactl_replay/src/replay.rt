@@ -27,7 +27,7 @@ pub struct LinkRoom {
 
 impl LinkRoom {
     /// Returns memory for one packet (1,472 bytes) and for the bytes of one field (2,048 bytes), in which there are no
-    /// bytes of a script yet (*profile*). The call takes no memory from the heap.
+    /// bytes of a script yet. The call takes no memory from the heap.
     pub fn new() -> LinkRoom
         ensures packet { result.packet.items ≡ [] }
         ensures bytes { result.bytes ≡ replicate 2048 0 }

@@ -223,7 +223,7 @@ fn timed<'a>(
     Err(LineFault::Form)
 }
 
-/// Reads which call of the link a line of a script asks for (*profile*): one of the four lines that
+/// Reads which call of the link a line of a script asks for: one of the four lines that
 /// [`replay`](crate::replay::replay) lists. The line has at most 4,096 bytes (a premise, which the caller must prove).
 /// The bytes of its last field are written to the front of `room`, and the result refers to them. The call takes no
 /// memory, and makes no call of the link. Refusals, the first that applies; discard what `room` contains then:
