@@ -1,23 +1,50 @@
 // Controls: each shows what the device said last, or is marked as not yet; and what a person does with it is an order.
 const HOLD_MS = 800;
 
-// Asks in a dialog: `fill` puts options into it, and answers that close it.
-function askFirst(title, text, fill) {
-  const dialog = $("dialog"), head = make("h2", "", title), options = make("div", "options"), acts = make("div", "acts");
+// Asks in a dialog: `fill` puts options into it, and answers that close it. What it shows of the device, which `look` gives as one text, is
+// drawn again when it changes.
+let asked = null;
+
+function askFirst(title, text, fill, look) {
+  asked = { title, text, fill, look: look || (() => ""), drawn: null };
+  fillDialog();
+  if (!popUp.open) popUp.showModal();
+}
+
+function fillDialog() {
+  const head = make("h2", "", asked.title), options = make("div", "options"), acts = make("div", "acts"), at = tabStops().indexOf(document.activeElement);
   head.id = "dialog-title";
-  dialog.replaceChildren(head, make("p", "", text), options, acts);
+  popUp.replaceChildren(head, make("p", "", asked.text), options, acts);
+  asked.drawn = asked.look();
   const answer = (words, look, then) => {
     const button = make("button", look, words);
     button.onclick = () => {
-      dialog.close();
+      popUp.close();
       if (then) then();
     };
     acts.append(button);
     return button;
   };
   answer("Cancel");
-  fill(options, answer);
-  if (!dialog.open) dialog.showModal();
+  asked.fill(options, answer);
+  greyDialog();
+  if (tabStops()[at]) tabStops()[at].focus();
+}
+
+const tabStops = () => popUp.lastElementChild ? [...popUp.children[2].children, ...popUp.lastElementChild.children].flatMap(one => one.children.length ? [...one.children] : [one]) : [];
+
+// Where the link is not open, nothing in a dialog acts but Cancel, and it says why.
+function greyDialog() {
+  const [, text, options, acts] = popUp.children;
+  options.inert = !isOpen();
+  [...acts.children].slice(1).forEach(button => button.inert = !isOpen());
+  put(text, (isOpen() || acts.children.length < 2 && !options.children.length ? "" : "What stands here is old: " + stateWord(program.state) + ". ") + asked.text);
+}
+
+function drawDialog() {
+  if (!popUp.open) return;
+  if (asked.look() !== asked.drawn) fillDialog();
+  else greyDialog();
 }
 
 // A press that is held for 0.8 s acts. A click without pointer or key, as assistive tools make it, is asked about; `plain`
@@ -104,28 +131,34 @@ function choice(row) {
   const button = make("button"), text = make("span", "cut");
   button.append(text, "▾");
   button.ariaHasPopup = "dialog";
-  button.onclick = () => can(row) && askFirst(fullName(row), "Now: " + shown(row, row.value) + ". Select, then switch.", (options, answer) => choose(row, options, answer));
+  button.onclick = () => {
+    const picked = { word: null };
+    if (can(row)) askFirst(fullName(row), "Select, then switch.", (options, answer) => choose(row, picked, options, answer), () => [row.value, row.flags, row.limits].join());
+  };
   return { parts: [button], main: button, draw: () => put(text, shown(row, row.value)) };
 }
 
-function choose(row, options, answer) {
-  let picked = row.value;
-  const go = answer("Switch", "go", () => change(row, picked)), least = row.limits ? Number(row.limits[0]) : 0, greatest = row.limits ? Number(row.limits[1]) : row.names.length - 1;
-  go.disabled = true;
+// The position that the device has is marked; the one that is picked is switched to.
+function choose(row, picked, options, answer) {
+  const go = answer("Switch", "go", () => change(row, picked.word)), least = row.limits ? Number(row.limits[0]) : 0, greatest = row.limits ? Number(row.limits[1]) : row.names.length - 1;
+  const drawGo = () => {
+    go.disabled = picked.word === null || picked.word === row.value;
+    put(go, go.disabled ? "Switch" : "Switch to " + position(row, picked.word));
+  };
   options.role = "radiogroup";
   for (let at = least; at <= greatest; at++) {
-    const word = String(at), option = make("button", "", position(row, word));
+    const word = String(at), option = make("button", "", position(row, word) + (word === row.value ? " ● now" : ""));
     option.role = "radio";
-    aria(option, "checked", word === picked);
+    aria(option, "checked", word === (picked.word ?? row.value));
     option.disabled = row.flags[at - least] === false;
     option.onclick = () => {
-      picked = word;
+      picked.word = word;
       for (const other of options.children) aria(other, "checked", other === option);
-      go.disabled = word === row.value;
-      put(go, "Switch to " + option.textContent);
+      drawGo();
     };
     options.append(option);
   }
+  drawGo();
 }
 
 // Where nothing may be done, a control is a text.

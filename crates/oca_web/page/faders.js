@@ -15,7 +15,7 @@ function field(row) {
     if (!typing && input.value !== shown(row, goal(row))) input.value = shown(row, goal(row));
     beside.hidden = !isAway;
     if (isAway) put(beside, "device " + shown(row, row.value));
-    if (row.limits) input.title = shown(row, row.limits[0]) + " to " + shown(row, row.limits[1]) + unitName(row);
+    input.title = limitWords(row);
   };
   const leave = () => {
     typing = false;
@@ -23,9 +23,9 @@ function field(row) {
   };
   const send = () => {
     if (!typing) return;
-    const text = input.value, word = typed(row, text);
+    const text = input.value, { word, why } = typed(row, text);
     leave();
-    if (word === null) note(row.ono, "hint", "“" + clean(text) + "” not sent: " + (row.limits ? input.title : "no number"));
+    if (why) note(row.ono, "hint", "“" + clean(text) + "” not sent: " + why);
     else change(row, word);
     draw();
   };

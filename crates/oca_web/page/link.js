@@ -40,13 +40,13 @@ const stateWord = state => STATES[state][1].toLowerCase();
 
 // What is said over the page where it shows nothing that is so: a heading and what to do.
 function warning(state) {
-  const device = program.device || "The device", old = "What you see is old, and nothing is sent. ", waits = "This page goes on by itself.";
+  const device = program.device || "The device", old = rows.size ? "What you see is old, and nothing is sent. " : "Nothing was heard of it yet. ", waits = "This page goes on by itself.";
   switch (state) {
     case "shut": return ["The panel program does not let this page in.", "Open the address that ocapanel printed when it was started; it has the token in it."];
     case "stale": return ["The panel program gives no answer" + (program.heardClock ? " since " + program.heardClock : "") + ".",
       old + "See whether ocapanel runs, and start it again. " + waits];
     case "silent": return [device + " gives no answer for " + seconds(deviceAge()) + ".", old + waits];
-    case "lost": return [device + " is lost.", old + "See to the device's power and network. Locks of this panel may be gone. " + waits];
+    case "lost": return [device + (rows.size ? " is lost." : " gives no answer."), old + "See to the device's power and network. Locks of this panel may be gone. " + waits];
     case "read": return !program.opensAt && (now() - program.waitsSince > 1500 || program.found) ? [device + " is being read: " + program.found + " objects so far.", "If this stays, see whether the address is right and the device is on."] : ["", ""];
     default: return ["", ""];
   }
@@ -57,22 +57,24 @@ function noteState(state) {
   program.state = state;
   if ([was, state].includes("slow") && ["live", "slow"].includes(was) && ["live", "slow"].includes(state)) return;
   log("link: " + stateWord(state), "was " + stateWord(was), !["live", "slow", "read"].includes(state));
+  say(stateWord(state));
   if (!isOpen()) dropWaiting("not sent: " + stateWord(state));
   forgetHints();
 }
 
 // Draws what is so of the link: word, colour and shape, age, the device's name, and the warning.
 function drawLink() {
-  const state = settled(stateNow()), sign = STATES[state][0], word = STATES[state][1], age = deviceAge(), [head, text] = warning(state);
+  const state = settled(stateNow()), looks = state === "live" && program.unsure ? "slow" : state, [sign, word] = STATES[looks], age = deviceAge(), [head, text] = warning(state);
   if (state !== program.state) noteState(state);
-  document.body.dataset.state = state;
+  document.body.dataset.state = looks;
   document.body.classList.toggle("old", !isOpen());
   aria($("main"), "disabled", !isOpen());
   put($("state").firstElementChild, sign);
   put($("state").lastElementChild, word);
   const gone = state === "lost" && program.news ? program.news.lost_for + programAge() : age;
   put($("age"), gone === null ? "" : seconds(gone) + " ago");
-  drawName(sign, state === "live" ? "" : " — " + word);
+  drawName(sign, looks === "live" ? "" : " — " + word);
+  drawDialog();
   $("banner").hidden = !head;
   if ($("banner").textContent !== head + text) $("banner").replaceChildren(make("b", "", head), text);
 }
@@ -121,7 +123,7 @@ async function takeTree(values) {
   if (!values.walked) return;
   const tree = await get("/tree", ALL_MS);
   if (tree.run !== values.run || tree.epoch !== values.epoch || !tree.walked) return;
-  dropWaiting("not sent: the objects were read anew");
+  dropWaiting("not sent: the objects were read anew", "changed");
   build(tree);
   Object.assign(program, { epoch: tree.epoch, since: "0", reads: false });
   again = true;
@@ -138,6 +140,7 @@ function learn(objects) {
     show(row);
   }
   $("main").removeAttribute("aria-busy");
+  drawDialog();
 }
 
 // Since when each reading that was asked for is confirmed: the device had it behind that moment. One that the program does not tell as old
@@ -152,13 +155,13 @@ function noteAges(old, ranges, askedAt) {
 
 const isSure = row => row.value === null || now() - row.sureAt <= SURE_MS;
 
-// Marks what is no longer confirmed, and takes the mark off again.
+// Marks what is no longer confirmed, and takes the mark off again. What came into view within the last second is not counted yet.
 function drawAges() {
   program.unsure = 0;
   for (const strip of inView) {
     for (const row of strip.rows) {
       if (row.view && row.unsure === isSure(row)) show(row);
-      program.unsure += row.unsure;
+      if (!(now() - strip.seenAt < UNTOLD_MS)) program.unsure += row.unsure;
     }
   }
 }

@@ -3,10 +3,17 @@ const MOST_UNDO = 20, MOST_LINES = 200, UNSURE = "not yet confirmed";
 const notes = new Map();   // by ONo: what is said of it, until its state changes; that an order was lost stays until a person acts
 let changes = [];
 
+// The one text of the page that a screen reader is told when it changes.
+function say(text) {
+  put($("say"), text);
+}
+
 function note(ono, how, words) {
   notes.set(ono, { how, words, read: false });
   const row = rows.get(ono);
-  if (row) drawMessage(row.strip);
+  if (!row) return;
+  drawMessage(row.strip);
+  say(fullName(row) + ": " + words);
 }
 
 function unnote(ono) {
@@ -54,20 +61,28 @@ function log(what, came, isBad) {
 
 const changeOf = one => one.kind === "set" ? "" : one.kind === "label" ? "name “" + clean(one.word) + "”" : one.kind;
 
-// Each order's end stands in the log: by itself, or in the line of the change of many that it belongs to.
+// Each order's end stands in the log: by itself, or in the line of the change of many that it belongs to. Where the strip of an order
+// that was not done is out of sight, the result banner names it.
 function tellEnd(one, how, words) {
   const row = rows.get(one.ono), ms = Math.round(now() - one.at);
+  keepEnd(one, how);
   if (one.gang) return tellGang(one, how, words);
   if (how === "displaced" || how === "done" && row && (row.held || isOut(row, controlOf(one)))) return;
-  if (how === "refused" || how === "unsent") changes = changes.filter(change => change.gang || change.list[0].ono !== one.ono || change.list[0].to !== one.word);
   const value = one.kind === "set" && row ? shown(row, firstOf(one)) + " → " + shown(row, one.word) + unitName(row) : changeOf(one);
   log(one.name + ": " + value, words || "done, " + ms + " ms", how !== "done");
+  if (words && (how === "changed" || !(row && inView.has(row.strip)))) tellUndone("Not done: " + value, [[one.name, words]]);
   drawUndo();
 }
 
-function firstOf(one) {
-  const change = changes.at(-1);
-  return change && !change.gang && change.list[0].ono === one.ono ? change.list[0].from : one.from;
+const firstOf = one => one.item ? one.item.from : one.from;
+
+// How an order ended is kept with its part of a change: what was not carried out is not taken back.
+function keepEnd(one, how) {
+  const item = one.item;
+  if (!item) return;
+  if (how === "done" || how === "lost") Object.assign(item, { came: one.word, sure: how === "done" });
+  else if (item.to === one.word && item.came !== undefined) item.to = item.came;
+  else if (item.to === one.word) leaveOut(other => other === item);
 }
 
 function tellGang(one, how, words) {
@@ -75,21 +90,41 @@ function tellGang(one, how, words) {
   gang.at = now();
   gang.left--;
   if (how === "displaced") gang.displaced++;
-  else if (how !== "done") gang.bad.push(one.name + ": " + words);
+  else if (how !== "done") gang.bad.push([one.name, words]);
   drawUndo();
   if (gang.left) return;
   const bad = gang.bad.length, fewer = gang.displaced ? ", " + gang.displaced + " displaced by a later order" : "";
-  const came = bad ? bad + " of " + gang.all + " not done: " + gang.bad.slice(0, 12).join("; ") + (bad > 12 ? " …" : "") : "all " + gang.all + " done, " + Math.round(now() - gang.begun) + " ms";
-  log(gang.what, came + fewer, bad > 0);
+  const count = bad + " of " + gang.all + " not done", all = bad ? count + ": " + gang.bad.map(pair => pair.join(": ")).slice(0, 12).join("; ") + (bad > 12 ? " …" : "")
+    : (gang.displaced ? gang.all - gang.displaced + " of " : "all ") + gang.all + " done, " + Math.round(now() - gang.begun) + " ms";
+  log(gang.what, all + fewer, bad > 0);
+  if (bad) tellUndone(gang.what + ": " + count, gang.bad);
+}
+
+// What was not done stands in the result banner, the newest first, under its reasons, until a person dismisses it.
+function tellUndone(head, bad) {
+  const part = make("p"), list = $("result").firstElementChild, byWords = new Map(bad.map(pair => [pair[1], []]));
+  for (const [name, words] of bad) byWords.get(words).push(name);
+  part.append(make("b", "", head), ...[...byWords].map(([words, names]) => make("span", "", names.join(", ") + ": " + words)));
+  list.prepend(part);
+  if (list.children.length > MOST_UNDO) list.lastElementChild.remove();
+  $("result").hidden = false;
+  say(head);
+}
+
+function dismiss() {
+  $("result").hidden = true;
+  $("result").firstElementChild.replaceChildren();
 }
 
 // A person's change of one object. What follows within a second, or in one drag, is one change.
 function change(row, word) {
   if (word === goal(row) || !can(row)) return;
   const last = changes.at(-1), isSame = last && !last.gang && last.list[0].ono === row.ono && (row.held ? last.held === row.held : now() - last.at < 1000);
-  if (isSame) Object.assign(last, { at: now(), list: [{ ...last.list[0], to: word }] });
-  else keepChange({ list: [{ ono: row.ono, from: row.value, to: word }], at: now(), held: row.held, gang: null });
-  order(row, "set", word);
+  if (isSame) {
+    last.at = now();
+    last.list[0].to = word;
+  } else keepChange({ list: [{ ono: row.ono, from: row.value, to: word }], at: now(), held: row.held, gang: null });
+  order(row, "set", word, null, changes.at(-1).list[0]);
   drawUndo();
 }
 
@@ -99,19 +134,32 @@ function keepChange(one) {
   drawUndo();
 }
 
+// The object of this number is another one now: nothing is said of it, and nothing of it taken back.
+function forget(ono) {
+  notes.delete(ono);
+  leaveOut(item => item.ono === ono);
+  drawUndo();
+}
+
+function leaveOut(test) {
+  for (const one of changes) one.list = one.list.filter(item => !test(item));
+  changes = changes.filter(one => one.list.length);
+}
+
 function forgetChanges() {
   changes = [];
   drawUndo();
 }
 
-// Sets many objects, each to the word that is wanted of it, as one change. What is seen goes first.
+// Sets many objects, each to the word that is wanted of it, as one change. Each is ordered, whatever this page takes it to have: that
+// may be old. What is seen goes first. Taken back is later what this page knew to be different.
 function changeMany(list, wordFor, what, isUndo) {
-  const able = list.filter(row => row.enabled && row.value !== null && goal(row) !== wordFor(row));
-  if (!able.length) return log(what, "nothing to do");
-  able.sort((a, b) => inView.has(b.strip) - inView.has(a.strip));
-  const gang = { what, all: able.length, left: able.length, bad: [], displaced: 0, begun: now(), at: now() };
-  if (!isUndo) keepChange({ list: able.map(row => ({ ono: row.ono, from: goal(row), to: wordFor(row) })), at: now(), gang });
-  for (const row of able) order(row, "set", wordFor(row), gang);
+  if (!list.length) return log(what, "nothing to do");
+  const all = [...list].sort((a, b) => inView.has(b.strip) - inView.has(a.strip)), items = new Map();
+  const gang = { what, all: all.length, left: all.length, bad: [], displaced: 0, begun: now(), at: now() };
+  if (!isUndo) for (const row of all) if (row.value !== null && goal(row) !== wordFor(row)) items.set(row, { ono: row.ono, from: goal(row), to: wordFor(row) });
+  if (items.size) keepChange({ list: [...items.values()], at: now(), gang });
+  for (const row of all) order(row, "set", wordFor(row), gang, items.get(row));
   sendReady();
 }
 
@@ -128,12 +176,12 @@ function drawUndo() {
   button.title = button.textContent;
 }
 
-// Takes the last change back; where others changed it since, it is asked first.
+// Takes the last change back. Where an object that had come to what this page ordered has something else now, it is asked first.
 function undo() {
   const last = changes.at(-1), what = $("undo").textContent;
   if (!last || !mayAct(what)) return;
   const back = new Map(last.list.map(one => [one.ono, one.from])), list = last.list.map(one => rows.get(one.ono)).filter(Boolean);
-  const since = last.list.filter(one => rows.has(one.ono) && goal(rows.get(one.ono)) !== one.to).length;
+  const since = last.list.filter(one => one.sure && rows.has(one.ono) && goal(rows.get(one.ono)) !== one.to).length;
   const go = () => {
     changes = changes.filter(one => one !== last);
     changeMany(list, row => back.get(row.ono), what, true);

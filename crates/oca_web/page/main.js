@@ -15,10 +15,10 @@ function setGuard(isOn) {
 }
 
 function muteAll() {
-  const mutes = mutesOf(strips), open = mutes.filter(row => row.value !== "muted").length;
+  const count = mutesOf(strips).length;
   if (!mayAct("mute all")) return;
-  askFirst("Mute all?", open + " of " + mutes.length + " are unmuted. All of the device is muted, not only what is shown.",
-    (options, answer) => answer("Mute " + open, "red", () => mayAct("mute all") && changeMany(mutes, () => "muted", "mute all")));
+  askFirst("Mute all?", "Each of the device's " + count + " mutes is set, also those that are not shown.",
+    (options, answer) => answer("Mute all " + count, "red", () => mayAct("mute all") && changeMany(mutesOf(strips), () => "muted", "mute all")));
 }
 
 function setChosen(word, what) {
@@ -32,7 +32,7 @@ function toggleLog() {
 
 function findByKey(event) {
   const find = $("find");
-  if (event.key === "/" && !/INPUT|SELECT/.test(event.target.tagName) && !$("dialog").open) {
+  if (event.key === "/" && !/INPUT|SELECT/.test(event.target.tagName) && !popUp.open) {
     event.preventDefault();
     find.focus();
   } else if (event.key === "Escape" && event.target === find) {
@@ -49,6 +49,9 @@ function begin() {
   $("choose-none").onclick = chooseNone;
   $("mute-all").onclick = muteAll;
   $("undo").onclick = undo;
+  $("bank-left").onclick = () => goByBank(-1);
+  $("bank-right").onclick = () => goByBank(1);
+  $("dismiss").onclick = dismiss;
   $("show-log").onclick = toggleLog;
   $("find").oninput = $("renew").onclick = filter;
   for (const id of ["only-muted", "only-locked"]) {

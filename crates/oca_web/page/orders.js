@@ -31,9 +31,12 @@ function can(row) {
   return !why;
 }
 
-// Takes an order of a person: `word` is the value, or the label. One of many waits for the others, and goes with them.
-function order(row, kind, word, gang) {
-  const desk = deskOf(row.ono), one = { ono: row.ono, run: program.run, name: fullName(row), kind, word, gang: gang || null, at: now(), from: row.value, over: false };
+// Takes an order of a person: `word` is the value, or the label; `item` is its part of a change. It is for what the person
+// read: this role, and of a switch this name of the position. One of many waits for the others, and goes with them.
+function order(row, kind, word, gang, item) {
+  const desk = deskOf(row.ono), one = { ono: row.ono, run: program.run, name: fullName(row), kind, word, gang: gang || null, item, at: now(), from: row.value, over: false };
+  one.read = { role: row.role, "block": row.block };
+  if (kind === "set" && row.kind === "switch") one.read.name = nameAt(row, word);
   const displaced = desk.waits.filter(other => controlOf(other) === controlOf(one));
   desk.waits = desk.waits.filter(other => controlOf(other) !== controlOf(one));
   if (displaced.length) one.from = displaced[0].from;
@@ -82,7 +85,7 @@ function sendReady() {
 
 function bodyOf(batch) {
   const before = Math.floor(Math.min(...batch.map(lastMoment)) + program.ahead);
-  const orders = batch.map(one => one.kind === "set" ? { ono: one.ono, set: one.word } : one.kind === "label" ? { ono: one.ono, label: one.word } : { ono: one.ono, [one.kind]: true });
+  const orders = batch.map(one => ({ ono: one.ono, ...one.read, [one.kind]: one.word ?? true }));
   return JSON.stringify({ run: program.run, before: Math.max(0, before), orders });
 }
 
@@ -195,6 +198,7 @@ function giveUpUnheard() {
 function told(one, trouble) {
   if (!trouble) return end(one, "done", "");
   if (trouble === "lost" || trouble === "no answer") return end(one, "lost", "the device gave no answer");
+  if (trouble === "not sent: the device changed") return end(one, "changed", trouble + "; this page shows what it has now");
   if (/^not sent/.test(trouble)) return end(one, "unsent", clean(trouble));
   end(one, "refused", "refused: " + (trouble === "Locked" ? "locked by another controller" : clean(trouble)));
 }
@@ -221,8 +225,8 @@ function keepTime(one) {
 }
 
 // Nothing that waits is sent any more; what is in flight is told as it ends.
-function dropWaiting(words) {
-  for (const desk of desks.values()) for (const one of desk.waits.splice(0)) end(one, "unsent", words);
+function dropWaiting(words, how) {
+  for (const desk of desks.values()) for (const one of desk.waits.splice(0)) end(one, how || "unsent", words);
   urgent.clear();
   patient.clear();
 }

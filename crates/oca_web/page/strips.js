@@ -1,5 +1,6 @@
 // Strips: a name that selects, and controls, which are there only near what is seen.
-const RANK = { mute: 1, switch: 2, boolean: 3, polarity: 4 };
+const RANK = { switch: 1, boolean: 2, polarity: 3, mute: 4 };
+const BANK = 8;
 const rowsOf = strip => strip.block ? [strip.block, ...strip.rows] : strip.rows;
 const isChosen = strip => !!strip.on;
 
@@ -41,11 +42,13 @@ function drawHead(strip) {
   strip.title = title;
   if (isNew) for (const row of strip.rows) if (row.view) drawControl(row, strip);
   put(strip.name, strip.title);
+  strip.select.style.fontSize = Math.max(13, Math.min(22, Math.floor(160 / Math.max(...strip.title.split(/[ -]/).map(word => word.length))))) + "px";
   strip.select.title = strip.title;
   put(strip.role, strip.block && isOut(strip.block, "label") ? "another name: not yet" : strip.block && clean(strip.block.label) ? clean(strip.block.role) : "");
   aria(strip.select, "pressed", isChosen(strip));
   aria(strip.select, "label", "Select " + strip.title);
   strip.element.toggleAttribute("data-on", isChosen(strip));
+  strip.element.classList.toggle("closed", strip.rows.some(row => row.value === "muted" && !row.unsure));
   if (strip.menu) drawMenu(strip);
 }
 
@@ -54,9 +57,9 @@ function drawMenu(strip) {
   if (strip.menuKey !== key) {
     strip.menuKey = key;
     strip.menu.className = "menu " + word;
-    strip.menu.replaceChildren(isOut ? "…" : icon(word === "free" ? "free" : "held"));
+    strip.menu.replaceChildren(isOut ? "…" : rowsOf(strip).some(row => row.lockable) ? icon(word === "free" ? "free" : "held") : "Aa");
   }
-  aria(strip.menu, "label", "Locks and names of " + strip.title + ", locked: " + locks + (isOut ? "; an order is out" : ""));
+  aria(strip.menu, "label", menuName(strip) + " of " + strip.title + (strip.menu.textContent === "Aa" ? "" : ", locked: " + locks) + (isOut ? "; an order is out" : ""));
 }
 
 const isLockOut = row => isOut(row, "lock");
@@ -65,7 +68,7 @@ function newStrip(block, members, title) {
   const count = test => members.filter(test).length;
   const strip = { block, rows: members, title, path: "", on: false, message: null, menu: null };
   strip.wide = members.length > 6 || count(row => row.kind === "mute") > 1 || count(isLevel) > 1 || count(row => row.long) > 0;
-  strip.element = make("section", "strip" + (strip.wide ? " wide" : count(isLevel) ? " tall" : ""));
+  strip.element = make("section", "strip " + (strip.wide ? "wide" : "slim"));
   strip.select = make("button", "select");
   strip.name = make("span");
   strip.role = make("small");
@@ -73,6 +76,8 @@ function newStrip(block, members, title) {
   strip.name.dir = "auto";
   strip.select.append(strip.name, strip.role);
   strip.select.onclick = () => chooseStrip(strip);
+  strip.select.onkeydown = event => goByKey(event, strip);
+  strip.select.onfocus = () => setCurrent(strip);
   strip.element.role = "group";
   aria(strip.element, "labelledby", strip.name.id);
   strip.element.append(strip.select);
@@ -85,31 +90,52 @@ function newStrip(block, members, title) {
 
 // A strip lies in a narrow window; one whose controls are not there yet is as high as it will be.
 function layOut(strip) {
-  const levels = strip.rows.filter(isLevel).length, waits = !strip.message;
-  strip.element.classList.toggle("flat", !strip.wide && narrow.matches);
-  const height = strip.wide ? 120 + 70 * Math.ceil(strip.rows.length / Math.max(1, Math.floor(innerWidth / 150))) + "px" : narrow.matches ? (levels ? "218px" : "110px") : "";
-  strip.element.style.minHeight = waits ? height : "";
+  const isFlat = narrow.matches, many = Math.ceil(strip.rows.length / Math.max(1, Math.floor(innerWidth / 150)));
+  strip.element.classList.toggle("flat", !strip.wide && isFlat);
+  strip.element.style.minHeight = strip.message || !isFlat ? "" : strip.wide ? 120 + 70 * many + "px" : strip.rows.some(isLevel) ? "218px" : "110px";
 }
 
 function fill(strip) {
   if (strip.message) return;
   strip.message = make("div", "message");
-  strip.message.role = "status";
   strip.message.onclick = () => rowsOf(strip).forEach(row => unnote(row.ono));
   layOut(strip);
   let menu = program.readOnly ? null : newMenu(strip);
   for (const row of [...strip.rows].sort((a, b) => (RANK[a.kind] || 5) - (RANK[b.kind] || 5))) {
-    if (menu && isLevel(row) && !strip.wide) {
-      strip.element.append(menu);
+    const cell = newCell(row), isBeside = row.kind === "polarity";
+    if (menu && !strip.wide && (isBeside || RANK[row.kind] !== RANK.switch && RANK[row.kind] !== RANK.boolean)) {
+      (isBeside ? cell : strip.element).append(menu);
       menu = null;
     }
-    strip.element.append(newCell(row));
+    strip.element.append(cell);
   }
-  if (menu) strip.element.append(menu);
-  strip.element.append(strip.message);
+  strip.element.append(...menu ? [menu] : [], strip.message);
   for (const row of rowsOf(strip)) show(row);
   drawHead(strip);
   drawMessage(strip);
+  setTabs(strip);
+}
+
+// One strip at a time is in the order of the Tab key; on a strip's name the arrow keys go to the next one, and PageUp and PageDown by a bank.
+let current = null;
+
+function setTabs(strip) {
+  const parts = [strip.select, strip.menu, ...strip.rows.flatMap(row => row.view ? [row.view.main, row.view.second] : [])];
+  for (const part of parts) if (part && part.tagName !== "OUTPUT") part.tabIndex = strip === current ? 0 : -1;
+}
+
+function setCurrent(strip) {
+  const was = current;
+  current = strip;
+  if (was) setTabs(was);
+  if (strip) setTabs(strip);
+}
+
+function goByKey(event, strip) {
+  const all = strips.filter(one => !isAway(one)), by = { ArrowRight: 1, ArrowLeft: -1, PageDown: BANK, PageUp: -BANK, Home: -1e9, End: 1e9 }[event.key];
+  if (!by) return;
+  event.preventDefault();
+  all[Math.max(0, Math.min(all.length - 1, all.indexOf(strip) + by))].select.focus();
 }
 
 function newCell(row) {
@@ -132,7 +158,7 @@ function newMenu(strip) {
 // Takes the controls away of a strip that is far from what is seen, but none that a person uses.
 function empty(strip) {
   if (!strip.message || strip.element.contains(document.activeElement) || strip.rows.some(row => row.held || isOut(row, "set"))) return;
-  strip.element.style.minHeight = strip.element.offsetHeight ? strip.element.offsetHeight + "px" : "";
+  strip.element.style.minHeight = narrow.matches ? strip.element.offsetHeight + "px" : "";
   strip.element.replaceChildren(strip.select);
   strip.message = strip.menu = null;
   for (const row of strip.rows) row.cell = row.view = row.caption = null;
@@ -142,14 +168,16 @@ function empty(strip) {
 const LOCK_WORDS = { free: "not locked", own: "locked by this panel", other: "locked by another controller; the device does not say which" };
 
 function stripMenu(strip) {
-  const lockable = rowsOf(strip).filter(row => row.lockable), own = lockable.filter(row => row.lock === "own"), rest = lockable.filter(row => row.lock !== "own");
-  const orderAll = (list, kind) => list.forEach(row => can(row) && order(row, kind));
-  askFirst("Locks and names: " + strip.title, "A lock keeps other controllers out until it is taken off or this panel ends. The block's lock is not that of its controls.", (options, answer) => {
+  const lockable = rowsOf(strip).filter(row => row.lockable), have = isOwn => lockable.filter(row => (row.lock === "own") === isOwn);
+  const orderAll = (isOwn, kind) => have(isOwn).forEach(row => can(row) && order(row, kind));
+  askFirst(menuName(strip) + ": " + strip.title, lockable.length ? "A lock keeps other controllers out until it is taken off or this panel ends. The block's lock is not that of its controls." : "", (options, answer) => {
     for (const row of rowsOf(strip)) options.append(menuLine(strip, row));
-    if (own.length) answer("Unlock all", "", () => orderAll(own, "unlock"));
-    if (rest.length) answer("Lock all", "go", () => orderAll(rest, "lock"));
-  });
+    if (have(true).length) answer("Unlock all", "", () => orderAll(true, "unlock"));
+    if (have(false).length) answer("Lock all", "go", () => orderAll(false, "lock"));
+  }, () => rowsOf(strip).map(row => row.lock + isLockOut(row) + nameOf(row)).join());
 }
+
+const menuName = strip => rowsOf(strip).some(row => row.lockable) ? "Locks and names" : "Names";
 
 function menuLine(strip, row) {
   const line = make("div", "row"), text = make("span", "", row === strip.block ? "the block" : nameOf(row)), rename = make("button", "", "Rename");
@@ -166,7 +194,7 @@ function lockButton(row, name) {
   const kind = row.lock === "own" ? "unlock" : "lock", button = make("button", "", row.lock === "other" ? "Try to lock" : row.lock === "own" ? "Unlock" : "Lock");
   button.ariaLabel = button.textContent + " " + name;
   button.onclick = () => {
-    $("dialog").close();
+    popUp.close();
     if (can(row)) order(row, kind);
   };
   return button;
@@ -174,13 +202,17 @@ function lockButton(row, name) {
 
 // Asks for an object's name, which is a label in the device.
 function askName(row) {
-  askFirst("Rename " + nameOf(row), "The name is kept by the device, and all controllers see it. Its role stays: " + clean(row.role) + ".", (options, answer) => {
+  askFirst("Rename " + nameOf(row), "All controllers see the name. Its role stays: " + clean(row.role) + ".", (options, answer) => {
     const input = make("input");
     input.maxLength = 64;
     input.value = row.label;
     input.ariaLabel = "Name";
     const go = answer("Rename", "go", () => input.value !== row.label && can(row) && order(row, "label", input.value));
-    input.onkeydown = event => event.key === "Enter" && go.click();
+    input.onkeydown = event => {
+      if (event.key !== "Enter") return;
+      event.preventDefault();
+      go.click();
+    };
     options.append(input);
     setTimeout(() => input.focus(), 0);
   });
@@ -203,9 +235,15 @@ function chooseNone() {
   drawChosen();
 }
 
+// A search or a closed group hides strips, but does not take them out of the selection: how many are not shown is said.
 function drawChosen() {
-  const count = chosenStrips().length;
-  $("chosen").hidden = !count;
-  document.body.classList.toggle("picked", !!count);
-  put($("chosen").firstElementChild, count + " selected");
+  const chosen = chosenStrips(), away = chosen.filter(strip => isAway(strip)).length;
+  $("chosen").hidden = !chosen.length;
+  document.body.classList.toggle("picked", !!chosen.length);
+  put($("chosen").firstElementChild, chosen.length + " selected" + (away ? ", " + away + " not shown" : ""));
+}
+
+function isAway(strip) {
+  for (let group = strip.up; group.up; group = group.up) if (group.body.hidden) return true;
+  return strip.element.hidden;
 }

@@ -6,9 +6,9 @@ const inView = new Set();
 const wasOpen = new Map();      // by ONo of a group's block: whether a person opened or closed it
 const narrow = matchMedia("(max-width:600px)");
 
-function newRow(object, place, units) {
+function newRow(object, place, units, block) {
   return {
-    ono: object.ono, kind: object.class, role: object.role, names: object.names, lockable: object.lockable, place, label: "", flags: [], value: null, limits: null,
+    ono: object.ono, kind: object.class, role: object.role, block, names: object.names, lockable: object.lockable, place, label: "", flags: [], value: null, limits: null,
     lock: "free", enabled: true, trouble: null, key: "", want: null, held: null, strip: null, group: null, cell: null, view: null, caption: null, sureAt: -1e9, unsure: false,
     long: object.class.endsWith("64"), unit: /int/.test(object.class) ? unitOf(units, object) : null,
   };
@@ -25,9 +25,14 @@ function clearStrips() {
   inView.clear();
   const main = make("main");
   main.id = "main";
+  main.addEventListener("focusin", event => {
+    const element = event.target.closest(".strip");
+    if (element) setCurrent(element.strip);
+  });
+  current = null;
   aria(main, "busy", true);
   $("main").replaceWith(main);
-  if ($("dialog").open) $("dialog").close();
+  if (popUp.open) popUp.close();
   root = { element: main, strips: [], groups: [], up: null };
   drawChosen();
   return main;
@@ -35,14 +40,16 @@ function clearStrips() {
 
 // Makes the strips of a tree: they stand there with their names, and get their controls when they come near.
 function build(tree) {
-  const height = scrollY, main = clearStrips(), kids = new Map(), top = tree.objects[0];
+  const height = scrollY, was = rows, main = clearStrips(), kids = new Map(), top = tree.objects[0], roles = new Map(tree.objects.map(object => [object.ono, object.role]));
   tree.objects.forEach((object, place) => {
-    const row = newRow(object, place, tree.units || []);
+    const row = newRow(object, place, tree.units || [], roles.get(object.in) ?? "");
     rows.set(object.ono, row);
     places.push(row);
     if (place) kids.set(object.in, [...kids.get(object.in) || [], row]);
   });
   if (top) addMembers(rows.get(top.ono), root, main, kids);
+  for (const row of was.values()) if (!isSameObject(row, rows.get(row.ono))) forget(row.ono);
+  if (!strips.length) main.append(make("p", "none", "The device has no objects."));
   scrollTo(0, height);
   watchStrips();
   listJumps();
@@ -51,6 +58,7 @@ function build(tree) {
   drawSums();
 }
 
+const isSameObject = (one, other) => !!other && one.kind === other.kind && one.role === other.role && one.block === other.block && one.names.join("\n") === other.names.join("\n");
 const membersOf = (kids, row) => kids.get(row.ono) || [];
 const isBlock = row => row.kind === "block";
 
@@ -87,10 +95,7 @@ function newGroup(block, up) {
   up.groups.push(group);
   block.group = group;
   group.open = wasOpen.get(block.ono) ?? (rows.size < OPEN_BELOW || groups.length < 3);
-  group.head.onclick = () => {
-    wasOpen.set(block.ono, group.open = !group.open);
-    fold(group);
-  };
+  group.head.onclick = () => foldBy(group, !group.open);
   drawGroup(group);
   return group;
 }
@@ -109,13 +114,22 @@ function fold(group) {
   aria(group.head, "expanded", isShown);
 }
 
+function foldBy(group, isOpen) {
+  wasOpen.set(group.block.ono, group.open = isOpen);
+  fold(group);
+  drawChosen();
+}
+
 // Controls are made within 80 % of a window of what is seen; what is seen is what the program is asked to read often.
 function watchStrips() {
   near = new IntersectionObserver(all => {
     for (const one of all) (one.isIntersecting ? fill : empty)(one.target.strip);
-  }, { rootMargin: "80% 0px" });
+  }, { rootMargin: "80% 0px", scrollMargin: "0px 80%" });
   seen = new IntersectionObserver(all => {
-    for (const one of all) inView[one.isIntersecting ? "add" : "delete"](one.target.strip);
+    for (const one of all) {
+      inView[one.isIntersecting ? "add" : "delete"](one.target.strip);
+      one.target.strip.seenAt = now();
+    }
   });
   for (const strip of strips) {
     near.observe(strip.element);
@@ -164,6 +178,12 @@ function jumpTo(choice) {
   target.element.scrollIntoView();
 }
 
+// By a bank: as many strips as are seen whole, in the row of the strip that the keys are at.
+function goByBank(by) {
+  const row = current && current.element.parentNode;
+  if (row) row.scrollBy({ left: by * Math.floor(row.clientWidth / 124) * 124, behavior: "smooth" });
+}
+
 // A filtered list does not change under the hand: "Update list" takes in what changed.
 const isMuted = strip => strip.rows.some(row => row.value === "muted");
 const isLocked = strip => rowsOf(strip).some(row => row.lock !== "free");
@@ -179,6 +199,9 @@ function isHit(strip) {
 function filter() {
   const hits = isFiltered() ? filterIn(root, "", isHit) : filterIn(root, "", () => true);
   put($("hits"), isFiltered() ? hits + " of " + strips.length + " strips" : "");
+  if (isFiltered()) say($("hits").textContent);
+  drawChosen();
+  if (!current || isAway(current)) setCurrent(strips.find(strip => !isAway(strip)) || null);
   $("renew").hidden = true;
 }
 

@@ -1,5 +1,6 @@
 // Elements and texts. What comes from the device goes in as text and as attributes alone, never as HTML.
 const $ = id => document.getElementById(id);
+const popUp = $("dialog");
 const now = () => performance.now();
 const wallClock = () => new Date().toLocaleTimeString("en-GB");
 
@@ -47,32 +48,45 @@ const isLevel = row => /int/.test(row.kind);
 const unitName = row => row.unit ? " " + row.unit.name : "";
 
 // A whole number times the unit's factor, exact however large it is.
-function scaled(word, unit) {
+function scaled(word, unit, isSigned) {
   const value = BigInt(word) * unit.times, digits = String(value < 0n ? -value : value).padStart(unit.places + 1, "0"), at = digits.length - unit.places;
-  return (value < 0n ? "−" : value > 0n ? "+" : "") + digits.slice(0, at) + (unit.places ? "." + digits.slice(at) : "");
+  return (value < 0n ? "−" : value > 0n && isSigned ? "+" : "") + digits.slice(0, at) + (unit.places ? "." + digits.slice(at) : "");
 }
 
-function position(row, word) {
-  return clean(row.names[word - (row.limits ? row.limits[0] : 0)] || "") || "position " + word;
-}
+// The name of a switch's position, as the device has it.
+const nameAt = (row, word) => row.names[word - (row.limits ? row.limits[0] : 0)] || "";
+
+const position = (row, word) => clean(nameAt(row, word)) || "position " + word;
 
 // A value of an object as it is shown.
 function shown(row, word) {
   if (word == null) return "–";
   if (row.kind === "switch") return position(row, word);
   if (!isLevel(row)) return word;
-  return row.unit ? scaled(word, row.unit) : word.replace("-", "−");
+  return row.unit ? scaled(word, row.unit, !row.limits || row.limits[0] < "0") : word.replace("-", "−");
 }
 
-// The value that a person typed, or null where it is none of the object's.
+const limitWords = row => row.limits ? shown(row, row.limits[0]) + " to " + shown(row, row.limits[1]) + unitName(row) : "";
+
+// The value that a person typed, and else why it is none: a number, and behind it nothing or the object's own unit, of some units with
+// k for a thousand. A comma before three digits may mean a thousand, so it is refused.
 function typed(row, text) {
-  const found = /^([+-]?)(\d+)(?:\.(\d+))?$/.exec(text.trim().replace(/[−–]/, "-").replace(",", ".").replace(/\s*[a-zµ%°Ω/]+$/i, ""));
-  if (!found || found[3] && !row.unit) return null;
-  const part = found[3] || "", unit = row.unit || { times: 1n, places: 0 };
-  const top = BigInt(found[2] + part) * 10n ** BigInt(unit.places), below = unit.times * 10n ** BigInt(part.length);
+  const found = /^([+-]?)(\d+)(?:\.(\d+)|,(\d\d?|\d{4,}))?\s*([^\d\s,.]\S*|)$/.exec(text.trim().replace(/[−–]/, "-")), unit = row.unit || { times: 1n, places: 0, name: "" };
+  if (!found) return { why: "write digits, with a point before decimals, and no other unit than " + (unit.name || "none") };
+  const part = found[3] || found[4] || "", times = timesOf(found[5], unit.name);
+  if (!times) return { why: "“" + clean(found[5]) + "” is not its unit" + (unit.name && ", " + unit.name) };
+  if (part.length > unit.places && times < 2n) return { why: unit.places ? "it has " + unit.places + " decimals" : "it has no decimals" };
+  const top = BigInt(found[2] + part) * times * 10n ** BigInt(unit.places), below = unit.times * 10n ** BigInt(part.length);
   const size = (2n * top + below) / (2n * below), value = found[1] === "-" ? -size : size;
-  if (row.limits && (value < BigInt(row.limits[0]) || value > BigInt(row.limits[1]))) return null;
-  return String(value);
+  if (row.limits && (value < BigInt(row.limits[0]) || value > BigInt(row.limits[1]))) return { why: limitWords(row) };
+  return { word: String(value) };
+}
+
+// By how much a unit that was typed is larger than the object's own; 0n where it is another one. Small letters do for all but m and M.
+function timesOf(typedUnit, own) {
+  const isOwn = name => name === own || !/^m/i.test(own) && name.toLowerCase() === own.toLowerCase();
+  if (!typedUnit || isOwn(typedUnit)) return 1n;
+  return /^k/i.test(typedUnit) && /^(Hz|V|W|Ω|Pa|m)$/.test(own) && (typedUnit.length === 1 || isOwn(typedUnit.slice(1))) ? 1000n : 0n;
 }
 
 const seconds = ms => ms < 9950 ? (ms / 1000).toFixed(1) + " s" : ms < 60000 ? Math.round(ms / 1000) + " s" : Math.floor(ms / 60000) + " min";

@@ -1,15 +1,4 @@
-pub mod PageLemmas
+pub mod AdmissionLemmas
 pub mod OrderLemmas
 pub mod StepLemmas
-pub mod LeftLemmas
-pub mod EndLemmas
-pub mod ResultLemmas
-pub mod WalkLemmas
 pub mod ManyLemmas
-pub mod TicketLemmas
-pub mod AgeLemmas
-pub mod ListingLemmas
-pub mod ChangeLemmas
-pub mod LearnLemmas
-pub mod FindLemmas
-pub mod HeadLemmas

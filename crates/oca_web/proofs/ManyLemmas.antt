@@ -1,19 +1,26 @@
 -- Orders of one body stand one behind another.
-use Rattle.std.proofs.Common.{◌≡◌, List, [], ◌∷◌, length, sym, ◌∙◌, append_assoc, append-nil}
+use Rattle.std.proofs.Common.{◌≡◌, ℕ, ◌+◌, ◌<◌, ◌≤◌, List, [], ◌∷◌, ◌++◌, length, drop, get_or, ap, sym, ◌∙◌, append_assoc, append-nil}
+use Rattle.std.proofs.lemmas.List.{drop_more, drop_all}
 use Rattle.serde_json.specs.declared.value.Value.{Value}
 use Rattle.serde_json.specs.View.{items_view, view}
 use Rattle.oca_web.specs.declared.order.Wanted.{Wanted}
-use Rattle.oca_web.specs.Bodies.{AreWanted, PutsOne, PutsWanted}
+use Rattle.oca_web.specs.Bodies.{AreWanted, IsWanted}
 
-pub wanted_first : (values : List Value) (first : Value) (rest : List Value) (old between new : List Wanted) → values ≡ first ∷ rest
-    → PutsOne (view first) old between → PutsWanted (items_view rest) between new → PutsWanted (items_view values) old new
+-- with what the items from this one on say, the orders so far are those of all
+abbrev pub WantedSoFar : List Value → ℕ → List Wanted → Type 0
+WantedSoFar values i all = (ws : List Wanted) → AreWanted (items_view (drop i values)) ws → AreWanted (items_view values) (all ++ ws)
+
+pub wanted_more : (values : List Value) (i : ℕ) (v : Value) (w : Wanted) (all new : List Wanted) → WantedSoFar values i all → i < length values
+    → v ≡ get_or values i v → IsWanted (view v) w → new ≡ all ++ w ∷ [] → WantedSoFar values (i + 1) new
 unfolding AreWanted
-wanted_first values first rest old between new e put more =
-    (put.0 ∷ more.0, rw e (put.1, more.1), rw put.2 at more.2 ∙ append_assoc old (put.0 ∷ []) more.0)
+wanted_more values i v w all new before within e one put ws rest =
+    let p : drop i values ≡ v ∷ drop (i + 1) values = drop_more values i v within ∙ ap (λ x. x ∷ drop (i + 1) values) (sym e) in
+    rw (put, append_assoc all (w ∷ []) ws) (before (w ∷ ws) (rw p (one, rest)))
 
-pub wanted_none : (values : List Value) (old new : List Wanted) → length values ≡ 0 → new ≡ old → PutsWanted (items_view values) old new
+pub wanted_all : (values : List Value) (i : ℕ) (all : List Wanted) → WantedSoFar values i all → length values ≤ i → AreWanted (items_view values) all
 unfolding AreWanted
-wanted_none [] old new e same = ([], tt, rw same (sym (append-nil old)))
-wanted_none (v ∷ vs) old new e same = absurd (cc e)
+wanted_all values i all before past =
+    let k : AreWanted (items_view values) (all ++ []) = before [] (rw (drop_all i values past) tt) in
+    rw (append-nil all) at k
 
-pub ruleset wanted_rules = (wanted_first, wanted_none)
+pub ruleset wanted_rules = (wanted_more, wanted_all)

@@ -1,13 +1,16 @@
 -- The order that is submitted next, and orders whose results are noted one after another.
-use Rattle.std.proofs.Common.{◌≡◌, ◌≢◌, ℕ, ◌==◌, ◌||◌, Bool, true, false, if◌then◌else◌, List, [], ◌∷◌, length, remove, slice_get, Option, Some, None, OnSome, refl, sym, ◌<◌, ◌+◌, max, min}
+use Rattle.std.proofs.Common.{◌≡◌, ◌≢◌, ℕ, ◌==◌, ◌||◌, Bool, true, false, if◌then◌else◌, List, [], ◌∷◌, length, remove, slice_get, Option, Some, None, OnSome, Err, refl, sym, ap, arith, drop, get_or, ◌∙◌, ◌<◌, ◌≤◌, ◌+◌}
 use Rattle.std.specs.Prelude.{IfSome}
 use Rattle.std.specs.List.{position}
+use Rattle.std.proofs.lemmas.List.{drop_more, drop_all, length-append}
 use Rattle.std.proofs.lemmas.List.Quantifiers.{position-Some}
+use Rattle.oca_web.specs.declared.order.NotDone.{NotDone}
 use Rattle.oca_web.specs.declared.order.Order.{Order}
 use Rattle.oca_web.specs.declared.order.OrderResult.{OrderResult}
 use Rattle.oca_web.specs.declared.order.Sent.{Sent}
 use Rattle.oca_web.specs.declared.order.Wanted.{Wanted}
-use Rattle.oca_web.specs.Orders.{OrdersState, above_all, ready_of, is_in_flight, with_all, with_order}
+use Rattle.oca_web.specs.Orders.{OrdersState, ready_of, is_in_flight, lost_result, order_added, result_of, with_all, with_lost, with_order}
+use Rattle.oca_web.specs.Orders.{with_result, with_unsent}
 
 pick : {X : Type 0} (b : Bool) (x o : X) → (if b then None else Some x) ≡ Some o → (b ≡ false) × (x ≡ o)
 pick true x o e = absurd (cc e)
@@ -55,23 +58,44 @@ placed_within p results None e = tt
 placed_within p [] (Some at) e = absurd (cc e)
 placed_within p (x ∷ xs) (Some at) e = (position-Some p (x ∷ xs) at x (sym e)).0
 
--- many orders are added one after another
-pub all_first : (ws : List Wanted) (w : Wanted) (rest : List Wanted) (last : ℕ) (s t u : OrdersState)
-    → ws ≡ w ∷ rest → t ≡ with_order w.ono w.action last s → u ≡ with_all rest last t → u ≡ with_all ws last s
-all_first ws w rest last s t u e f g = rw (e, sym f) g
+-- many orders are added one after another: with those from this one on, those so far are all
+pub record AddedSoFar (ws : List Wanted) (last i : ℕ) (old s : OrdersState) : Type 0 where
+  pub room : length s.waiting + length ws ≤ 256 + i
+  pub tickets : s.tickets + length ws ≤ 18446744073709551615 + i
+  pub rest : with_all (drop i ws) last s ≡ with_all ws last old
 
-pub all_none : (ws : List Wanted) (last : ℕ) (s t : OrdersState) → length ws ≡ 0 → t ≡ s → t ≡ with_all ws last s
-all_none [] last s t e f = f
-all_none (w ∷ ws) last s t e f = absurd (cc e)
+pub added_more : (ws : List Wanted) (i : ℕ) (w : Wanted) (last : ℕ) (old s t : OrdersState) → AddedSoFar ws last i old s → i < length ws
+    → w ≡ get_or ws i w → t ≡ with_order w last s → AddedSoFar ws last (i + 1) old t
+added_more ws i w last old s t before within e f =
+    let n : length t.waiting ≡ length s.waiting + 1 = ap (λ (o : OrdersState). length o.waiting) f ∙ length-append s.waiting (order_added w last s ∷ []) in
+    let k : t.tickets ≡ s.tickets + 1 = ap (λ (o : OrdersState). o.tickets) f in
+    let p : drop i ws ≡ w ∷ drop (i + 1) ws = drop_more ws i w within ∙ ap (λ x. x ∷ drop (i + 1) ws) (sym e) in
+    record {
+      room = omega (arith, n, before.room);
+      tickets = omega (arith, k, before.tickets);
+      rest = ap (λ o. with_all (drop (i + 1) ws) last o) f ∙ ap (λ l. with_all l last s) (sym p) ∙ before.rest;
+    }
 
-pub ruleset many_rules = (all_first, all_none)
+pub added_all : (ws : List Wanted) (i last : ℕ) (old s : OrdersState) → AddedSoFar ws last i old s → length ws ≤ i → s ≡ with_all ws last old
+added_all ws i last old s before past = ap (λ l. with_all l last s) (sym (drop_all i ws past)) ∙ before.rest
 
--- the handle above those of orders
-pub above_first : (sent : List Sent) (s : Sent) (rest : List Sent) (n : ℕ) → sent ≡ s ∷ rest → n ≡ max (min (s.handle.0 + 1) 4294967295) (above_all rest) → n ≡ above_all sent
-above_first sent s rest n e f = rw e f
+pub ruleset many_rules = (added_more, added_all)
 
-pub above_none : (sent : List Sent) → length sent ≡ 0 → 0 ≡ above_all sent
-above_none [] e = refl
-above_none (s ∷ sent) e = absurd (cc e)
+-- orders are noted as lost one after another
+pub lost_first : (sent : List Sent) (s : Sent) (rest : List Sent) (results new : List OrderResult) → slice_get sent 0 ≡ Some s → rest ≡ remove sent 0
+    → new ≡ with_result results (lost_result s) → with_lost rest new ≡ with_lost sent results
+lost_first sent s rest results new e r f = rw (first_and_rest sent s rest e r, f) refl
 
-pub ruleset above_rules = (above_first, above_none)
+pub lost_none : (sent : List Sent) (results : List OrderResult) → None ≡ slice_get sent 0 → results ≡ with_lost sent results
+lost_none [] results e = refl
+lost_none (s ∷ sent) results e = absurd (cc e)
+
+pub unsent_first : (reason : NotDone) (orders : List Order) (o : Order) (rest : List Order) (results new : List OrderResult) → slice_get orders 0 ≡ Some o
+    → rest ≡ remove orders 0 → new ≡ with_result results (result_of o (Err reason)) → with_unsent reason rest new ≡ with_unsent reason orders results
+unsent_first reason orders o rest results new e r f = rw (first_and_rest orders o rest e r, f) refl
+
+pub unsent_none : (reason : NotDone) (orders : List Order) (results : List OrderResult) → None ≡ slice_get orders 0 → results ≡ with_unsent reason orders results
+unsent_none reason [] results e = refl
+unsent_none reason (o ∷ orders) results e = absurd (cc e)
+
+pub ruleset losing_rules = (first_and_rest, lost_first, lost_none, unsent_first, unsent_none)

@@ -1,15 +1,14 @@
--- Which requests are let in: those that name one of the panel's own hosts, and bring its token where it has one; and of
--- those that change something only the ones that a page of that very host sent, as JSON.
+-- Which requests are let in.
 use Rattle.std.specs.Prelude.{ℕ, ◌==◌, List, [], ◌∷◌, codes, take, drop, length, Bool, true, false, ◌&&◌, ◌||◌, if◌then◌else◌}
-use Rattle.std.specs.Prelude.{Option, Some, None}
-use Rattle.std.specs.List.{list_any}
+use Rattle.std.specs.Prelude.{Option, Some, None, is_some, not}
+use Rattle.std.specs.List.{list_all, list_any}
 use Rattle.std.specs.Str.{bytes_eq}
 use Rattle.std.specs.String.{string_bytes}
 use Rattle.http.specs.declared.request.Request.{Request}
 use Rattle.http.specs.Request.{head_of}
-use Rattle.http_header.specs.HeaderMap.{get, Entries}
+use Rattle.http_header.specs.HeaderMap.{get, get_all, Entries}
 use Rattle.http_header.specs.declared.value.HeaderValue.{HeaderValue}
-use Rattle.http_uri.specs.Uri.{uri_path, uri_query}
+use Rattle.http_uri.specs.Uri.{uri_authority, uri_path, uri_query}
 use Rattle.oca_web.specs.declared.admission.Key.{Key}
 use Rattle.oca_web.specs.declared.admission.Name.{Name}
 use Rattle.oca_web.specs.declared.admission.Terms.{Terms}
@@ -23,6 +22,14 @@ bytes_in (Some value) = value.bytes
 abbrev pub field : Entries HeaderValue → List ℕ → List ℕ
 field headers name = bytes_in (get headers name)
 
+-- all fields with this name have these bytes
+abbrev pub same_as : List ℕ → Entries HeaderValue → List ℕ → Bool
+same_as bytes headers name = list_all (λ v. bytes_eq v.bytes bytes) (get_all headers name)
+
+-- the bytes of the field with this name; none where there is none, or two of them differ
+abbrev pub one_field : Entries HeaderValue → List ℕ → List ℕ
+one_field headers name = if same_as (field headers name) headers name then field headers name else []
+
 -- whether one of the names has this host
 abbrev pub has_host : List Name → List ℕ → Bool
 has_host names host = list_any (λ n. bytes_eq (string_bytes n.host) host) names
@@ -31,15 +38,6 @@ has_host names host = list_any (λ n. bytes_eq (string_bytes n.host) host) names
 abbrev pub has_page : List Name → List ℕ → List ℕ → Bool
 has_page names host origin = list_any (λ n. bytes_eq (string_bytes n.host) host && bytes_eq (string_bytes n.origin)
     origin) names
-
--- whether a POST is let in
-abbrev pub lets_post_in : List Name → List ℕ → List ℕ → List ℕ → Bool
-lets_post_in names host origin kind = has_page names host origin && bytes_eq (codes "application/json") kind
-
--- whether such a request is let in
-abbrev pub lets_in : List Name → List ℕ → List ℕ → List ℕ → List ℕ → Bool
-lets_in names method host origin kind =
-    if bytes_eq (codes "POST") method then lets_post_in names host origin kind else has_host names host
 
 -- ---- the token
 
@@ -84,8 +82,30 @@ opens (Some key) path query cookies = brings key path query cookies
 abbrev pub request_opens : Option Key → Request (List ℕ) → Bool
 request_opens key r = opens key (uri_path (head_of r).uri) (uri_query (head_of r).uri) (field (head_of r).headers (codes "cookie"))
 
--- WHETHER THE REQUEST IS LET IN, if it names no host in its address (`admits_request`)
-abbrev pub lets_request_in : Terms → Request (List ℕ) → Bool
-lets_request_in t r = lets_in t.names.items (head_of r).method (field (head_of r).headers (codes "host"))
-    (field (head_of r).headers (codes "origin")) (field (head_of r).headers (codes "content-type"))
-    && request_opens t.key r
+-- whether the request names a host in its address, as one to a proxy does
+abbrev pub is_for_proxy : Request (List ℕ) → Bool
+is_for_proxy r = is_some (uri_authority (head_of r).uri)
+
+-- a browser says that a page of another origin makes the request; for the page itself anyone may ask
+abbrev pub says_foreign : List ℕ → Bool
+says_foreign site = bytes_eq (codes "cross-site") site || bytes_eq (codes "same-site") site
+
+abbrev pub is_foreign : Request (List ℕ) → Bool
+is_foreign r = says_foreign (field (head_of r).headers (codes "sec-fetch-site")) && not (bytes_eq (uri_path (head_of r).uri) (codes "/"))
+
+abbrev pub is_post : Request (List ℕ) → Bool
+is_post r = bytes_eq (codes "POST") (head_of r).method
+
+-- a POST comes from a page of the very host that it is for, and has JSON
+abbrev pub is_own_post : List Name → Request (List ℕ) → Bool
+is_own_post names r = not (is_post r)
+    || has_page names (one_field (head_of r).headers (codes "host")) (one_field (head_of r).headers (codes "origin"))
+
+abbrev pub is_json : Request (List ℕ) → Bool
+is_json r = not (is_post r) || bytes_eq (codes "application/json") (one_field (head_of r).headers (codes "content-type"))
+
+-- WHETHER A REQUEST IS LET IN: it names no host in its address, and one of the panel's own in its field, brings the token
+-- where there is one, and no page of another origin makes it; a POST is made by a page of that very host, and has JSON.
+abbrev pub admits_request : Terms → Request (List ℕ) → Bool
+admits_request t r = not (is_for_proxy r) && has_host t.names.items (one_field (head_of r).headers (codes "host"))
+    && request_opens t.key r && not (is_foreign r) && is_own_post t.names.items r && is_json r

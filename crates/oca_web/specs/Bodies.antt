@@ -1,26 +1,22 @@
 -- What the body of a request that orders something says, in JSON.
-use Rattle.std.specs.Prelude.{◌≡◌, ℕ, List, [], ◌∷◌, ◌++◌, codes, decimal, Bool, true, Option, Some, None, option_and_then}
+use Rattle.std.specs.Prelude.{◌≡◌, ℕ, List, [], ◌∷◌, codes, decimal, true, Option, Some, None, option_and_then}
 use Rattle.std.specs.Str.{bytes_eq}
 use Rattle.serde_json.specs.Data.{Data, Items, no_items, item}
 use Rattle.serde_json.specs.Find.{as_array, as_bool, as_number, as_str, as_u64, get}
 use Rattle.serde_json.specs.Read.{read}
 use Rattle.oca_types.specs.declared.class.Class.{Class}
-use Rattle.oca_types.specs.declared.words.Ono.{Ono}
 use Rattle.oca_model.specs.declared.value.Value.{Value}
 use Rattle.oca_model.specs.Words.{IsRead}
 use Rattle.oca_web.specs.Labels.{is_label, label_bytes}
 use Rattle.oca_web.specs.declared.label.Label.{Label}
 use Rattle.oca_web.specs.declared.order.Action.{Action}
 use Rattle.oca_web.specs.declared.order.Action.TheVariants as actions
+use Rattle.oca_web.specs.declared.order.Read.{Read}
 use Rattle.oca_web.specs.declared.order.Wanted.{Wanted}
 
 -- the number of the object
 abbrev pub ono_in : Data → Option ℕ
 ono_in d = option_and_then as_u64 (option_and_then as_number (get (codes "ono") d))
-
--- the word for its value
-abbrev pub word_for_value : Data → Option (List ℕ)
-word_for_value d = option_and_then as_str (get (codes "value") d)
 
 -- the moment after which the order must not be submitted; none where it gives none
 abbrev pub last_in : Data → Option ℕ
@@ -30,36 +26,9 @@ last_in d = option_and_then as_u64 (option_and_then as_number (get (codes "befor
 abbrev pub run_in : Data → Option (List ℕ)
 run_in d = option_and_then as_str (get (codes "run") d)
 
--- whether it is for this run, in decimal digits
-abbrev pub names_run : ℕ → Option (List ℕ) → Bool
-names_run run None = true
-names_run run (Some text) = bytes_eq (decimal run) text
-
 -- a value that the word is for, in an object of some class
 abbrev pub IsForWord : List ℕ → Value → Type 0
 IsForWord word value = (class : Class) × IsRead class word (Some value)
-
--- what is set is a value that the word is for, in an object of some class; `NamesValue` says what a word is for in the
--- class of an object
-abbrev pub IsValueIn : Option (List ℕ) → Action → Type 0
-IsValueIn word (actions.Set value) = (text : List ℕ) × (word ≡ Some text) × IsForWord text value
-IsValueIn word actions.Lock = Unit {0}
-IsValueIn word actions.Unlock = Unit {0}
-IsValueIn word (actions.Rename label) = ⊥
-
--- the object is the one that it says, and the value one that its word is for
-pub record IsOrderOf (d : Data) (ono : Ono) (action : Action) : Type 0 where
-  pub object : ono_in d ≡ Some ono.0
-  pub value : IsValueIn (word_for_value d) action
-
--- THE ORDER IS THE ONE THAT THE BODY SAYS (its value is one that the word is for in some class), with the last moment
--- that it gives, where it gives one; it names no other run.
-pub record IsOrderIn (run : ℕ) (body : List ℕ) (ono : Ono) (action : Action) (given : Option ℕ) : Type 0 where
-  pub parsed : Data
-  pub text : read body ≡ Some parsed
-  pub this_run : names_run run (run_in parsed) ≡ true
-  pub order : IsOrderOf parsed ono action
-  pub last : given ≡ last_in parsed
 
 -- ---- many orders in one body
 
@@ -75,9 +44,29 @@ IsActionIn d actions.Lock = option_and_then as_bool (get (codes "lock") d) ≡ S
 IsActionIn d actions.Unlock = option_and_then as_bool (get (codes "unlock") d) ≡ Some true
 IsActionIn d (actions.Rename label) = IsLabelFrom (option_and_then as_str (get (codes "label") d)) label
 
--- one of many, of the object that it names
+-- this text is given under a name
+abbrev pub IsGivenAs : Option (List ℕ) → Label → Type 0
+IsGivenAs None label = ⊥
+IsGivenAs (Some text) label = label_bytes label ≡ text
+
+-- the name of the position to which a switch is set; the empty one where none is given
+abbrev pub IsGivenOrEmpty : Option (List ℕ) → Label → Type 0
+IsGivenOrEmpty None label = label_bytes label ≡ []
+IsGivenOrEmpty (Some text) label = label_bytes label ≡ text
+
+abbrev pub IsPositionIn : Data → Label → Type 0
+IsPositionIn d label = IsGivenOrEmpty (option_and_then as_str (get (codes "name") d)) label
+
+-- WHAT THE PAGE SHOWED of the object, as one of many says
+pub record IsReadIn (d : Data) (r : Read) : Type 0 where
+  pub role : IsGivenAs (option_and_then as_str (get (codes "role") d)) r.role
+  pub block : IsGivenAs (option_and_then as_str (get (codes "block") d)) r.block
+  pub position : IsPositionIn d r.position
+
+-- one of many, of the object that it names and that the page showed
 pub record IsWanted (d : Data) (w : Wanted) : Type 0 where
   pub object : ono_in d ≡ Some w.ono.0
+  pub read : IsReadIn d w.read
   pub action : IsActionIn d w.action
 
 -- all of many, in their order
@@ -105,25 +94,3 @@ pub record AreOrdersIn (run : ℕ) (body : List ℕ) (ws : List Wanted) (given :
   pub parsed : Data
   pub text : read body ≡ Some parsed
   pub orders : AreOrdersOf run parsed ws given
-
--- what a word sets, in an object of some class
-abbrev pub IsSetTo : List ℕ → Action → Type 0
-IsSetTo word (actions.Set value) = IsForWord word value
-IsSetTo word actions.Lock = ⊥
-IsSetTo word actions.Unlock = ⊥
-IsSetTo word (actions.Rename label) = ⊥
-
--- the label that a text gives
-abbrev pub IsRenaming : List ℕ → Action → Type 0
-IsRenaming text (actions.Set value) = ⊥
-IsRenaming text actions.Lock = ⊥
-IsRenaming text actions.Unlock = ⊥
-IsRenaming text (actions.Rename label) = IsLabelFrom (Some text) label
-
--- one order stands behind those before it
-abbrev pub PutsOne : Data → List Wanted → List Wanted → Type 0
-PutsOne d old new = (w : Wanted) × IsWanted d w × (new ≡ old ++ w ∷ [])
-
--- the orders that these items say stand behind those before them
-abbrev pub PutsWanted : Items → List Wanted → List Wanted → Type 0
-PutsWanted items old new = (ws : List Wanted) × AreWanted items ws × (new ≡ old ++ ws)

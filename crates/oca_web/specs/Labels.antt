@@ -1,4 +1,4 @@
--- The labels that pages give objects (*profile*).
+-- The labels that pages give objects.
 use Rattle.std.specs.Prelude.{◌≡◌, ℕ, nat_le, not, ◌==◌, ◌&&◌, Bool, List, length, min, take, IsUtf8}
 use Rattle.std.specs.List.{list_all}
 use Rattle.oca_web.specs.declared.label.Label.{Label}

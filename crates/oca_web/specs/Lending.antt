@@ -1,4 +1,4 @@
--- What the service becomes by what the program does with its view (*profile*).
+-- What the service becomes by what the program does with its view.
 use Rattle.std.specs.Borrow.{Lends, MutBor, Fml}
 use Rattle.oca_web.specs.declared.site.Site.{Site}
 use Rattle.oca_web.specs.declared.view.View.{View}

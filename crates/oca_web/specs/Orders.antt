@@ -1,16 +1,14 @@
--- Orders: what pages want done with objects, in the order in which they came (*profile*).
-use Rattle.std.specs.Prelude.{◌≡◌, ◌⊎◌, ℕ, ◌+◌, ◌==◌, ◌||◌, ◌&&◌, Bool, true, false, if◌then◌else◌, List, [], ◌∷◌, ◌++◌}
-use Rattle.std.specs.Prelude.{length, max, min, nat_le, nat_lt, ◌<◌, ◌≤◌, drop, insert, remove, slice_get, Option, Some, None, Result, Ok, Err, IfSome}
-use Rattle.std.specs.List.{All, list_any, position}
+-- Orders: what pages want done with objects, in the order in which they came.
+use Rattle.std.specs.Prelude.{◌≡◌, ℕ, ◌+◌, ◌==◌, ◌||◌, ◌&&◌, Bool, true, false, if◌then◌else◌, List, [], ◌∷◌, ◌++◌}
+use Rattle.std.specs.Prelude.{length, nat_le, nat_lt, ◌≤◌, drop, insert, remove, slice_get, Option, Some, None, Result, Ok, Err}
+use Rattle.std.specs.List.{list_any, position}
 use Rattle.oca_types.specs.declared.class.Class.{Class}
 use Rattle.oca_types.specs.declared.class.Class.TheVariants as class
-use Rattle.oca_types.specs.declared.words.Ono.{Ono}
 use Rattle.oca_types.specs.declared.words.Handle.{Handle}
 use Rattle.oca_net.specs.Ends.{last_u64}
 use Rattle.oca_control.specs.declared.fault.ControlFault.TheVariants as faults
 use Rattle.oca_control.specs.declared.outcome.Outcome.{Outcome}
 use Rattle.oca_control.specs.Asking.{IsPresent}
-use Rattle.oca_control.specs.Untaken.{answer_under}
 use Rattle.oca_model.specs.declared.request.Request.{Request}
 use Rattle.oca_model.specs.declared.request.Request.TheVariants as requests
 use Rattle.oca_model.specs.Values.{class_of_value}
@@ -29,7 +27,8 @@ use Rattle.oca_web.specs.declared.order.Order.{Order}
 use Rattle.oca_web.specs.declared.order.Wanted.{Wanted}
 use Rattle.oca_web.specs.declared.order.Sent.{Sent}
 use Rattle.oca_web.specs.declared.order.OrderResult.{OrderResult}
-use Rattle.oca_web.specs.declared.turns.Settled.{Settled}
+use Rattle.oca_web.specs.declared.object.Object.{Object}
+use Rattle.oca_web.specs.Known.{is_read}
 
 -- The orders that wait, the first that came first; those in flight under their handles; how the last ones ended, by
 -- their tickets; and the ticket of the last order.
@@ -66,24 +65,19 @@ AsksOrdered (actions.Rename label) request = (text : List ℕ) × (request ≡ r
 
 -- ONE ORDER WAS ADDED, behind all others, with the moment after which it must not be submitted, and a ticket of its own:
 -- one more than that of the order before it.
-abbrev pub order_added : Ono → Action → ℕ → OrdersState → Order
-order_added ono action last s = record { ticket = s.tickets + 1; ono = ono; action = action; last = last }
+abbrev pub order_added : Wanted → ℕ → OrdersState → Order
+order_added w last s = record { ticket = s.tickets + 1; ono = w.ono; read = w.read; action = w.action; last = last }
 
-abbrev pub with_order : Ono → Action → ℕ → OrdersState → OrdersState
-with_order ono action last s = record s {
-  waiting = s.waiting ++ order_added ono action last s ∷ [];
+abbrev pub with_order : Wanted → ℕ → OrdersState → OrdersState
+with_order w last s = record s {
+  waiting = s.waiting ++ order_added w last s ∷ [];
   tickets = s.tickets + 1;
 }
-
--- Where it was added, this is its ticket; where 256 wait, or no ticket is left, none was.
-abbrev pub AddsTicket : Ono → Action → ℕ → OrdersState → Option ℕ → OrdersState → Type 0
-AddsTicket ono action last old (Some ticket) new = (ticket ≡ old.tickets + 1) × (new ≡ with_order ono action last old)
-AddsTicket ono action last old None new = (new ≡ old) × ((length old.waiting ≡ 256) ⊎ (old.tickets ≡ last_u64))
 
 -- MANY ORDERS WERE ADDED, in their order, each with the same last moment and a ticket of its own.
 abbrev pub with_all : List Wanted → ℕ → OrdersState → OrdersState
 with_all [] last s = s
-with_all (w ∷ ws) last s = with_all ws last (with_order w.ono w.action last s)
+with_all (w ∷ ws) last s = with_all ws last (with_order w last s)
 
 -- whether there is room for so many, and a ticket for each
 abbrev pub has_room_for : ℕ → OrdersState → Bool
@@ -108,8 +102,9 @@ ready_of [] sent = None
 ready_of (o ∷ os) sent = if is_in_flight o.ono.0 sent || (length sent == 32) then None else Some o
 
 -- THAT ORDER WAS SUBMITTED, once: it no longer waits, and is in flight under the handle of its command. It was so at a
--- moment not after its last one; the program's clock is so far ahead of the end's.
-pub record SubmitsOrder (ahead : ℕ) (old : OrdersState) (before : PanelState) (new : OrdersState) (after : PanelState) : Type 0
+-- moment not after its last one, and the device had said at most 2,000 ms before that its object is the one that the
+-- page showed. The program's clock is so far ahead of the end's.
+pub record SubmitsOrder (ahead : ℕ) (known : List Object) (old : OrdersState) (before : PanelState) (new : OrdersState) (after : PanelState) : Type 0
   where
     pub order : Order
     pub handle : Handle
@@ -121,40 +116,15 @@ pub record SubmitsOrder (ahead : ℕ) (old : OrdersState) (before : PanelState) 
     pub now : ℕ
     pub present : IsPresent now before.end_state
     pub in_time : ahead + now ≤ order.last
+    pub read : is_read (ahead + now) order known ≡ true
     pub request : Request
     pub is_for : AsksOrdered order.action request
     pub asks : BeginsAsking order.ono.0 (class_asked order.action) request (Ok handle) before after
 
--- an order is next, and its last moment has passed at a moment of the end's; or the link refuses its command for this
--- reason, which changes nothing
-pub record IsTooLate (ahead : ℕ) (s : OrdersState) (p : PanelState) : Type 0 where
-  pub order : Order
-  pub ready : ready_of s.waiting s.in_flight ≡ Some order
-  pub now : ℕ
-  pub present : IsPresent now p.end_state
-  pub late : order.last < ahead + now
-
-pub record IsNotTaken (s : OrdersState) (p : PanelState) : Type 0 where
-  pub order : Order
-  pub ready : ready_of s.waiting s.in_flight ≡ Some order
-  pub reason : Trouble
-  pub request : Request
-  pub is_for : AsksOrdered order.action request
-  pub asks : BeginsAsking order.ono.0 (class_asked order.action) request (Err reason) p p
-
--- WHY NO ORDER IS SUBMITTED: none is next, it is too late for the one that is, or the link does not take its command.
-abbrev pub IsHeldBack : ℕ → OrdersState → PanelState → Type 0
-IsHeldBack ahead s p = (ready_of s.waiting s.in_flight ≡ None) ⊎ (IsTooLate ahead s p ⊎ IsNotTaken s p)
-
--- whether one was submitted: where none was, nothing changed, and none can be
-abbrev pub SubmitsFirst : ℕ → Bool → OrdersState → PanelState → OrdersState → PanelState → Type 0
-SubmitsFirst ahead true old before new after = SubmitsOrder ahead old before new after
-SubmitsFirst ahead false old before new after = (new ≡ old) × (after ≡ before) × IsHeldBack ahead old before
-
--- the handle above those of all these orders
-abbrev pub above_all : List Sent → ℕ
-above_all [] = 0
-above_all (s ∷ sent) = max (min (s.handle.0 + 1) 4294967295) (above_all sent)
+-- whether one was submitted: where none was, nothing changed
+abbrev pub SubmitsFirst : ℕ → List Object → Bool → OrdersState → PanelState → OrdersState → PanelState → Type 0
+SubmitsFirst ahead known true old before new after = SubmitsOrder ahead known old before new after
+SubmitsFirst ahead known false old before new after = (new ≡ old) × (after ≡ before)
 
 -- ---- an order is answered
 
@@ -193,15 +163,10 @@ pub record SettlesOrder (at : ℕ) (sent : Sent) (done : Result Unit Trouble) (o
         (result_of sent.order (not_done done));
   }
 
--- NO OUTCOME IS KNOWN of the command under a handle: the link holds no answer under it, and is not lost.
-abbrev pub HasNoOutcome : ℕ → PanelState → Type 0
-HasNoOutcome handle p = (answer_under handle p.link.untaken ≡ None) × (p.link.lost ≡ false)
-
 abbrev pub SettlesAt : ℕ → Option (Sent × Result Unit Trouble) → OrdersState → PanelState → OrdersState → PanelState
     → Type 0
 SettlesAt at (Some settled) old before new after = SettlesOrder at settled.0 settled.1 old before new after
 SettlesAt at None old before new after = (new ≡ old) × (after ≡ before)
-    × IfSome (slice_get old.in_flight at) (λ sent. HasNoOutcome sent.handle.0 before)
 
 -- ---- the link is lost
 
@@ -236,22 +201,24 @@ abbrev pub LosesOrders : Bool → PanelState → OrdersState → OrdersState →
 LosesOrders true p old new = IsFoundLost p true × (new ≡ lost_orders old)
 LosesOrders false p old new = IsFoundLost p false × (new ≡ old)
 
--- ---- an order waits for too long
+-- ---- an order is never submitted
 
--- the orders that are left where those in front whose last moment has passed are taken away
-abbrev pub in_time : ℕ → List Order → List Order
-in_time now [] = []
-in_time now (o ∷ os) = if nat_lt o.last now then in_time now os else o ∷ os
+-- THE ORDER THAT WAITS AT THIS PLACE IS NEVER SUBMITTED: it waits no longer, and it is noted why.
+abbrev pub without : (at : ℕ) → Order → NotDone → OrdersState → OrdersState
+without at order reason s = record s {
+  waiting = remove s.waiting at;
+  results = with_result s.results (result_of order (Err reason));
+}
 
--- of each of those it is kept that it was not submitted in time
-abbrev pub with_late : ℕ → List Order → List OrderResult → List OrderResult
-with_late now [] results = results
-with_late now (o ∷ os) results =
-    if nat_lt o.last now then with_late now os (with_result results (result_of o (Err why.TooLate))) else results
+abbrev pub EndsAt : (at : ℕ) → NotDone → Option Order → OrdersState → OrdersState → Type 0
+EndsAt at reason None old new = new ≡ old
+EndsAt at reason (Some order) old new = new ≡ without at order reason old
 
--- ORDERS PASSED THEIR LAST MOMENT, those in front of all that wait: they wait no longer, and were never sent.
-abbrev pub with_passed : ℕ → OrdersState → OrdersState
-with_passed now s = record s { waiting = in_time now s.waiting; results = with_late now s.waiting s.results }
+-- ORDERS ENDED UNSENT, one after another; all others are as they were.
+pub data EndsUnsent : OrdersState → OrdersState → Type 0 where
+  NoneEnds : {s : OrdersState} → EndsUnsent s s
+  OneEnds : {s t : OrdersState} (at : ℕ) (order : Order) (reason : NotDone) → EndsUnsent s t
+      → slice_get t.waiting at ≡ Some order → EndsUnsent s (without at order reason t)
 
 -- THE PROGRAM STOOD STILL: no order waits any longer, and those that did were never sent; those in flight stay so.
 abbrev pub without_waiting : OrdersState → OrdersState
@@ -263,13 +230,10 @@ pub data Steps {S P : Type 0} (Step : S → P → S → P → Type 0) : S → P 
   NoStep : {s : S} {p : P} → Steps Step s p s p
   OneMore : {s t u : S} {p q r : P} → Steps Step s p t q → Step t q u r → Steps Step s p u r
 
--- no order is left that could be submitted, or 32 are in flight
-abbrev pub NoneIsLeft : ℕ → OrdersState → PanelState → Type 0
-NoneIsLeft ahead s p = IsHeldBack ahead s p ⊎ (32 ≤ length s.in_flight)
-
--- ORDERS WERE SUBMITTED, in the order in which they came, each once and in time; nothing else was asked.
-abbrev pub SubmitsOrders : ℕ → OrdersState → PanelState → OrdersState → PanelState → Type 0
-SubmitsOrders ahead = Steps (SubmitsOrder ahead)
+-- ORDERS WERE SUBMITTED, in the order in which they came, each once, in time, and for the object that its page showed;
+-- nothing else was asked.
+abbrev pub SubmitsOrders : ℕ → List Object → OrdersState → PanelState → OrdersState → PanelState → Type 0
+SubmitsOrders ahead known = Steps (SubmitsOrder ahead known)
 
 -- WHAT TICKETS WERE TOLD: of one order after another, how it came out.
 abbrev pub SettlesOne : OrdersState → PanelState → OrdersState → PanelState → Type 0
@@ -278,20 +242,3 @@ SettlesOne old before new after = (at : ℕ) × (sent : Sent) × (done : Result 
 
 abbrev pub SettlesOrders : OrdersState → PanelState → OrdersState → PanelState → Type 0
 SettlesOrders = Steps SettlesOne
-
--- Of no order that is left in flight the outcome is known.
-abbrev pub NoneIsKnown : List Sent → PanelState → Type 0
-NoneIsKnown sent p = All (λ s. HasNoOutcome s.handle.0 p) sent
-
--- THESE ORDERS CAME OUT, one after another, each as the answer says that the link held under its own handle.
-pub data SettlesEach : List Settled → OrdersState → PanelState → OrdersState → PanelState → Type 0 where
-  NoneSettled : {s : OrdersState} {p : PanelState} → SettlesEach [] s p s p
-  OneSettled : {all : List Settled} {s t u : OrdersState} {p q r : PanelState} (at : ℕ) (one : Settled)
-      → SettlesEach all s p t q → SettlesOrder at one.sent one.done t q u r → SettlesEach (all ++ one ∷ []) s p u r
-
--- whether one more came out: where none did, nothing changed, and no outcome is known of the one at this place
-abbrev pub SettlesInto : Bool → ℕ → List Settled → List Settled → OrdersState → PanelState → OrdersState → PanelState → Type 0
-SettlesInto true at all more old before new after = (one : Settled) × (more ≡ all ++ one ∷ [])
-    × SettlesOrder at one.sent one.done old before new after
-SettlesInto false at all more old before new after = (more ≡ all) × (new ≡ old) × (after ≡ before)
-    × IfSome (slice_get old.in_flight at) (λ sent. HasNoOutcome sent.handle.0 before)

@@ -1,9 +1,11 @@
 //! What is asked of an object to know it: nothing here sets anything.
 ghost use Rattle.std.specs.Prelude.{◌≡◌};
-ghost use Rattle.oca_web.specs.Asking.{class_for, is_same_ask, method_of_ask, request_of_ask};
+ghost use Rattle.oca_web.specs.Asking.{AsksOne, class_for, request_of_ask};
 
 use oca_model::Request;
-use oca_types::{Class, Handle, Method};
+use oca_net::End;
+use oca_panel::Panel;
+use oca_types::{Class, Handle, Method, Ono};
 
 /// What the panel asks of an object to know it. Each question is a command that only reads.
 #[derive(Clone, Copy, PartialEq, Eq)]
@@ -27,9 +29,7 @@ pub enum Ask {
 }
 
 impl Ask {
-    /// Returns the request that asks this question (AES70-2): GetMembers, GetRole, GetLabel, GetLockable, GetEnabled,
-    /// GetPositionNames, GetPositionEnableds, or the get method of the value. The request only reads. The call sends
-    /// nothing and refuses nothing.
+    /// Returns the request that asks this question (AES70-2).
     pub fn request(self) -> Request
         ensures { result ≡ request_of_ask self }
     {
@@ -45,12 +45,9 @@ impl Ask {
         }
     }
 
-    /// Returns the method whose answer this question gets (AES70-2). For the value the method is `GetSetting` for each
-    /// class, since the answers of all get methods of a value are read in the same way. The call sends nothing and
-    /// refuses nothing.
-    pub fn method(self) -> Method
-        ensures { result ≡ method_of_ask self }
-    {
+    /// Returns the method whose answer this question gets (AES70-2). For the value it is `GetSetting` for each class,
+    /// since the answers of all get methods of a value are read in the same way.
+    pub fn method(self) -> Method {
         match self {
             Ask::Members => Method::GetMembers,
             Ask::Role => Method::GetRole,
@@ -64,34 +61,41 @@ impl Ask {
     }
 }
 
-impl Ask {
-    /// Whether both ask the same.
-    pub(crate) fn is_same(self, other: Ask) -> bool
-        ensures { result ≡ is_same_ask self other }
-    {
-        match (self, other) {
-            (Ask::Members, Ask::Members)
-            | (Ask::Role, Ask::Role)
-            | (Ask::Label, Ask::Label)
-            | (Ask::Lockable, Ask::Lockable)
-            | (Ask::Enabled, Ask::Enabled)
-            | (Ask::Names, Ask::Names)
-            | (Ask::Flags, Ask::Flags)
-            | (Ask::Value, Ask::Value) => true,
-            _ => false,
-        }
-    }
-}
-
-/// Returns the class whose methods are used to ask an object: the object's own class (*profile*). If this profile does
-/// not have the class (`None`), the result is OcaBlock, whose methods of OcaRoot all classes have (AES70-2). The call
-/// refuses nothing.
+/// Returns the class whose methods are used to ask an object: its own. Where this profile does not have the class
+/// (`None`), it is OcaBlock, whose methods of OcaRoot all classes have (AES70-2).
 pub fn class_for(class: Option<Class>) -> Class
     ensures { result ≡ class_for class }
 {
+    class.unwrap_or(Class::Block)
+}
+
+/// What is asked of an object of this class to know it.
+pub(crate) fn asks_of(class: Option<Class>) -> &'static [Ask] {
     match class {
-        Some(class) => class,
-        None => Class::Block,
+        Some(Class::Block) => &[
+            Ask::Members,
+            Ask::Role,
+            Ask::Label,
+            Ask::Lockable,
+            Ask::Enabled,
+        ],
+        Some(Class::Switch) => &[
+            Ask::Role,
+            Ask::Label,
+            Ask::Lockable,
+            Ask::Enabled,
+            Ask::Names,
+            Ask::Flags,
+            Ask::Value,
+        ],
+        Some(_) => &[
+            Ask::Role,
+            Ask::Label,
+            Ask::Lockable,
+            Ask::Enabled,
+            Ask::Value,
+        ],
+        None => &[Ask::Role, Ask::Label, Ask::Lockable, Ask::Enabled],
     }
 }
 
@@ -104,6 +108,17 @@ pub struct Question {
     pub ask: Ask,
     /// The number of the walk in which the object was found ([`Inventory`](crate::Inventory)).
     pub epoch: u64,
+}
+
+impl Default for Question {
+    /// A question that nobody asked.
+    fn default() -> Self {
+        Question {
+            place: 0,
+            ask: Ask::Role,
+            epoch: 0,
+        }
+    }
 }
 
 /// A question whose command is in flight: it was submitted, and its answer was not taken yet.
@@ -122,12 +137,25 @@ impl Default for Asked {
     fn default() -> Self {
         Asked {
             handle: Handle(0),
-            question: Question {
-                place: 0,
-                ask: Ask::Role,
-                epoch: 0,
-            },
+            question: Question::default(),
             moment: 0,
         }
+    }
+}
+
+/// Asks the object `ono` one question over the panel, and returns the handle of its command (AES70-2). The command only
+/// reads, and is sent at once. `class` is the class of the object, and `None` if this profile does not have it. The
+/// result is `None` if the panel refuses the command; then nothing is changed or sent.
+pub fn ask_one<E: End>(
+    panel: &mut Panel<E>,
+    ono: Ono,
+    class: Option<Class>,
+    ask: Ask,
+) -> Option<Handle>
+    ensures { AsksOne ono.0 class ask result panel.old panel.new }
+{
+    match panel.begin_request(ono, class_for(class), &ask.request()) {
+        Ok(handle) => Some(handle),
+        Err(_) => None,
     }
 }

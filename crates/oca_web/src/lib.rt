@@ -10,7 +10,7 @@
 mod admission;
 mod answers;
 mod ask;
-mod asking;
+mod confirmed;
 mod inventory;
 mod label;
 mod listing;
@@ -21,7 +21,6 @@ mod order;
 mod orders;
 mod page;
 mod poll;
-mod shown;
 mod site;
 mod turns;
 mod units;
@@ -32,7 +31,9 @@ pub use inventory::Inventory;
 pub use label::Label;
 pub use object::{Lock, Object, Shown, is_class_name};
 pub use objects::Objects;
-pub use order::{Action, MOST_RESULTS, MOST_WAITING, NotDone, Order, OrderResult, Sent, Wanted};
+pub use order::{
+    Action, MOST_RESULTS, MOST_WAITING, NotDone, Order, OrderResult, Read, Sent, Wanted,
+};
 pub use orders::Orders;
 pub use page::{PAGE, POLICY};
 pub use site::Site;

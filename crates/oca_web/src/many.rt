@@ -1,12 +1,13 @@
 //! Many orders in one body.
-ghost use Rattle.std.specs.Prelude.{◌≡◌, ◌≢◌, ◌++◌, ◌∷◌, [], IfErr, IfOk, OnOk};
+ghost use Rattle.std.specs.Prelude.{◌≡◌, ◌≢◌, IfOk, OnOk, codes, option_and_then};
+ghost use Rattle.serde_json.specs.Find.{as_str, get};
 ghost use Rattle.serde_json.specs.View.{items_view, view};
-ghost use Rattle.oca_web.specs.Bodies.{AreOrdersIn, AreOrdersOf, AreWanted, IsActionIn, IsSetTo};
-ghost use Rattle.oca_web.specs.Bodies.{IsRenaming, IsWanted, NamesThis, PutsOne, PutsWanted};
+ghost use Rattle.oca_web.specs.Bodies.{AreOrdersIn, AreOrdersOf, AreWanted, IsActionIn, IsGivenAs, IsPositionIn};
+ghost use Rattle.oca_web.specs.Bodies.{IsReadIn, IsWanted, NamesThis, last_in};
+ghost use Rattle.oca_web.specs.Labels.{label_bytes};
 
 use crate::label::Label;
-use crate::order::{Action, Wanted};
-use crate::site::{last_in, ono_in};
+use crate::order::{Action, Read, Wanted};
 use crate::view::{NoOrder, View};
 use http::StatusCode;
 use itoa::Buffer;
@@ -17,45 +18,73 @@ use std::alloc::Global;
 /// The most orders in one body.
 const MOST_ORDERS: usize = 64;
 
+/// What is wrong with the orders of a request.
+#[derive(Clone, Copy, PartialEq, Eq)]
+pub enum Wrong {
+    /// The body or an order does not have the form.
+    Form,
+    /// The body names another run of the program.
+    Run,
+    /// An order's object is not known.
+    Object,
+    /// An order's word is no value of its object, or its label is too long or has a control character.
+    Value,
+    /// Memory was refused for the orders.
+    Memory,
+}
+
+impl Wrong {
+    ghost use Rattle.std.specs.Prelude.{◌≢◌};
+
+    /// Returns the HTTP status of the answer: 400, 409, 404, 422 or 503.
+    pub fn status(self) -> StatusCode
+        ensures { result ≢ 202 }
+    {
+        match self {
+            Wrong::Form => StatusCode::BAD_REQUEST,
+            Wrong::Run => StatusCode::CONFLICT,
+            Wrong::Object => StatusCode::NOT_FOUND,
+            Wrong::Value => StatusCode::UNPROCESSABLE_ENTITY,
+            Wrong::Memory => StatusCode::SERVICE_UNAVAILABLE,
+        }
+    }
+}
+
 /// Why the orders of a request are refused. None of them is added.
 #[derive(Clone, Copy)]
 pub struct Refusal {
-    /// The HTTP status of the answer.
-    pub status: StatusCode,
+    /// What is wrong.
+    pub wrong: Wrong,
     /// The index of the order that is the reason, counted from 0, and `None` if it is the whole body.
     pub at: Option<usize>,
 }
 
-/// A refusal of the whole body.
-fn whole(status: StatusCode) -> Refusal
-    ensures { result.status ≡ status }
-{
-    Refusal { status, at: None }
+impl From<Wrong> for Refusal {
+    /// A refusal of the whole body.
+    fn from(wrong: Wrong) -> Refusal {
+        Refusal { wrong, at: None }
+    }
 }
 
-/// Reads the orders of a body in JSON (*profile*). The body is an object with `run`, the number of a run of the program
+/// Reads the orders of a body in JSON. The body is an object with `run`, the number of a run of the program
 /// as a text, and `orders`, a list of 1 to 64 orders. It may also have `before`, the last moment in milliseconds of the
-/// program's clock. Each order has the number `ono` of its object, and one of `set` with a word, `label` with a text,
-/// `lock` with true and `unlock` with true; if there are several, the first in this order counts. `known` is what is
-/// known of the device, and `run` the number of this run. Returns the orders, and the last moment at which they may be
-/// submitted (`None` if the body gives none). Nothing is ordered yet. A refusal has the status of the first fault that
-/// is found:
-/// - 400 if the body or an order does not have this form, and 409 if the body names another run.
-/// - 404 if an order's object is not known.
-/// - 422 if an order's word is no value of its object, or its label is too long or has a control character.
-/// - 503 if memory was refused for the orders.
+/// program's clock. Each order has the number `ono` of its object, what the page showed of it (its role as `role`, the
+/// role of the block that lists it as `block`, and if a switch is set the name of the position as `name`), and one of
+/// `set` with a word, `label` with a text, `lock` with true and `unlock` with true; if there are several, the first in
+/// this order counts. `known` is what is known of the device, and `run` the number of this run. Returns the orders, and
+/// the last moment at which they may be submitted (`None` if the body gives none). Nothing is ordered yet. A refusal has
+/// the first fault that is found: of the body, and then of the first order that has one.
 pub fn orders_in(
     alloc: Global,
     known: &View,
     run: u64,
     body: &[u8],
 ) -> Result<(Vec<Wanted>, Option<u64>), Refusal>
-    ensures ok { IfOk result (λ o. AreOrdersIn run body.now o.0.items o.1) }
-    ensures refused { IfErr result (λ refusal. refusal.status ≢ 202) }
+    ensures { IfOk result (λ o. AreOrdersIn run body.now o.0.items o.1) }
 {
     match Value::from_slice(alloc, body) {
         Ok(said) => orders_of(alloc, known, run, &said),
-        Err(_) => Err(whole(StatusCode::BAD_REQUEST)),
+        Err(_) => Err(Refusal::from(Wrong::Form)),
     }
 }
 
@@ -66,18 +95,12 @@ fn orders_of(
     run: u64,
     said: &Value,
 ) -> Result<(Vec<Wanted>, Option<u64>), Refusal>
-    ensures ok { IfOk result (λ o. AreOrdersOf run (view said.now) o.0.items o.1) }
-    ensures refused { IfErr result (λ refusal. refusal.status ≢ 202) }
+    ensures { IfOk result (λ o. AreOrdersOf run (view said.now) o.0.items o.1) }
 {
-    if let Err(status) = names_this_run(said, run) {
-        return Err(whole(status));
-    }
-    let given = match last_in(said) {
-        Ok(given) => given,
-        Err(status) => return Err(whole(status)),
-    };
+    names_run(said, run)?;
+    let given = last_in(said)?;
     let Some(orders) = said.get("orders").and_then(Value::as_array) else {
-        return Err(whole(StatusCode::BAD_REQUEST));
+        return Err(Refusal::from(Wrong::Form));
     };
     match all_wanted(alloc, known, orders.as_slice()) {
         Ok(wanted) => Ok((wanted, given)),
@@ -85,143 +108,146 @@ fn orders_of(
     }
 }
 
-/// Whether a body names this run of the program. Refusals: another run, with the status 409; none.
-fn names_this_run(said: &Value, run: u64) -> Result<(), StatusCode>
-    ensures ok { OnOk result (NamesThis run (view said.now)) }
-    ensures refused { IfErr result (λ status. status ≢ 202) }
+/// A body must name this run of the program.
+fn names_run(said: &Value, run: u64) -> Result<(), Wrong>
+    ensures { OnOk result (NamesThis run (view said.now)) }
 {
     let mut digits = Buffer::new();
     match said.get("run").and_then(Value::as_str) {
-        Some(named) => {
-            if digits.format(run).as_bytes() == named.as_bytes() {
-                Ok(())
-            } else {
-                Err(StatusCode::CONFLICT)
-            }
-        }
-        None => Err(StatusCode::BAD_REQUEST),
+        Some(named) if digits.format(run).as_bytes() == named.as_bytes() => Ok(()),
+        Some(_) => Err(Wrong::Run),
+        None => Err(Wrong::Form),
+    }
+}
+
+/// The last moment at which an order may be submitted that a body gives, in milliseconds of the program's clock; `None`
+/// where it gives none. What is no such number is refused.
+fn last_in(said: &Value) -> Result<Option<u64>, Wrong>
+    ensures { IfOk result (λ given. given ≡ last_in (view said.now)) }
+{
+    let Some(given) = said.get("before") else {
+        return Ok(None);
+    };
+    match given.as_u64() {
+        Some(moment) => Ok(Some(moment)),
+        None => Err(Wrong::Form),
     }
 }
 
 /// All orders of a body: 1 to 64.
+#[tactic(auto, using(crate::proofs::ManyLemmas::wanted_rules))]
 fn all_wanted(alloc: Global, known: &View, orders: &[Value]) -> Result<Vec<Wanted>, Refusal>
-    ensures ok { IfOk result (λ v. AreWanted (items_view orders.now) v.items) }
-    ensures refused { IfErr result (λ refusal. refusal.status ≢ 202) }
+    ensures { IfOk result (λ v. AreWanted (items_view orders.now) v.items) }
 {
     if orders.is_empty() || orders.len() > MOST_ORDERS {
-        return Err(whole(StatusCode::BAD_REQUEST));
+        return Err(Refusal::from(Wrong::Form));
     }
     let mut all = Vec::new(alloc);
-    match put_wanted(known, orders, &mut all) {
-        Ok(()) => Ok(all),
-        Err(refusal) => Err(refusal),
-    }
-}
-
-/// Puts the orders that are left of a body behind those before them.
-#[tactic(auto, using(crate::proofs::ManyLemmas::wanted_rules))]
-fn put_wanted(known: &View, orders: &[Value], all: &mut Vec<Wanted>) -> Result<(), Refusal>
-    ensures ok { OnOk result (PutsWanted (items_view orders.now) all.old.items all.new.items) }
-    ensures refused { IfErr result (λ refusal. refusal.status ≢ 202) }
-{
-    match orders.split_first() {
-        Some((first, rest)) => {
-            put_first(known, first, all)?;
-            match put_wanted(known, rest, all) {
-                Ok(()) => Ok(()),
-                Err(refusal) => Err(refusal),
+    for order in orders {
+        match wanted_in(known, order) {
+            Ok(wanted) => {
+                if all.push(wanted).is_err() {
+                    return Err(Refusal::from(Wrong::Memory));
+                }
+            }
+            Err(wrong) => {
+                let at = Some(all.len());
+                return Err(Refusal { wrong, at });
             }
         }
-        None => Ok(()),
     }
+    Ok(all)
 }
 
-/// Puts one order of a body behind those before it.
-fn put_first(known: &View, order: &Value, all: &mut Vec<Wanted>) -> Result<(), Refusal>
-    ensures ok { OnOk result (PutsOne (view order.now) all.old.items all.new.items) }
-    ensures refused { IfErr result (λ refusal. refusal.status ≢ 202) }
+/// One order of a body: its object, which is known, what the page showed of it, and its action.
+fn wanted_in(known: &View, order: &Value) -> Result<Wanted, Wrong>
+    ensures { IfOk result (λ w. IsWanted (view order.now) w) }
 {
-    let at = Some(all.len());
-    match wanted_in(known, order) {
-        Ok(wanted) => keep(wanted, all),
-        Err(status) => Err(Refusal { status, at }),
+    let Some(ono) = order.get("ono").and_then(Value::as_u64) else {
+        return Err(Wrong::Form);
+    };
+    let Ok(ono) = u32::try_from(ono) else {
+        return Err(Wrong::Form);
+    };
+    let read = read_in(order)?;
+    if !known.knows(Ono(ono)) {
+        return Err(Wrong::Object);
     }
+    let action = action_in(known, Ono(ono), order)?;
+    Ok(Wanted {
+        ono: Ono(ono),
+        read,
+        action,
+    })
 }
 
-/// Puts an order behind those before it.
-fn keep(wanted: Wanted, all: &mut Vec<Wanted>) -> Result<(), Refusal>
-    ensures ok { OnOk result (all.new.items ≡ all.old.items ++ wanted ∷ []) }
-    ensures refused { IfErr result (λ refusal. refusal.status ≢ 202) }
+/// What the page showed of the object of an order.
+fn read_in(order: &Value) -> Result<Read, Wrong>
+    ensures { IfOk result (λ read. IsReadIn (view order.now) read) }
 {
-    if all.push(wanted).is_err() {
-        return Err(whole(StatusCode::SERVICE_UNAVAILABLE));
-    }
-    Ok(())
+    let role = text_in(order, "role")?;
+    let block = text_in(order, "block")?;
+    let position = position_in(order)?;
+    Ok(Read {
+        role,
+        block,
+        position,
+    })
 }
 
-/// One order of a body: its object, which is known, and its action.
-fn wanted_in(known: &View, order: &Value) -> Result<Wanted, StatusCode>
-    ensures ok { IfOk result (λ w. IsWanted (view order.now) w) }
-    ensures refused { IfErr result (λ status. status ≢ 202) }
+/// The text that an order gives under this name.
+fn text_in(order: &Value, name: &str) -> Result<Label, Wrong>
+    ensures { IfOk result (IsGivenAs (option_and_then as_str (get name.now (view order.now)))) }
 {
-    let ono = ono_in(order)?;
-    if !known.knows(ono) {
-        return Err(StatusCode::NOT_FOUND);
-    }
-    match action_in(known, ono, order) {
-        Ok(action) => Ok(Wanted { ono, action }),
-        Err(status) => Err(status),
+    match order.get(name).and_then(Value::as_str) {
+        Some(text) => shown(text),
+        None => Err(Wrong::Form),
     }
 }
 
-/// What an order of a body says: the value to which its object is set, its label, or that it is locked or unlocked.
-fn action_in(known: &View, ono: Ono, order: &Value) -> Result<Action, StatusCode>
-    ensures ok { IfOk result (λ action. IsActionIn (view order.now) action) }
-    ensures refused { IfErr result (λ status. status ≢ 202) }
+/// The name of the position to which a switch is set; the empty one where an order has none.
+fn position_in(order: &Value) -> Result<Label, Wrong>
+    ensures { IfOk result (IsPositionIn (view order.now)) }
+{
+    match order.get("name").and_then(Value::as_str) {
+        Some(name) => shown(name),
+        None => shown(""),
+    }
+}
+
+/// A text that the page showed.
+fn shown(text: &str) -> Result<Label, Wrong>
+    ensures { IfOk result (λ label. label_bytes label ≡ text.now) }
+{
+    match Label::given(text) {
+        Some(label) => Ok(label),
+        None => Err(Wrong::Form),
+    }
+}
+
+/// What an order of a body says: the value to which its object is set, its label, or that it is locked or unlocked. The
+/// clause only says of a value that its word is for it in some class.
+fn action_in(known: &View, ono: Ono, order: &Value) -> Result<Action, Wrong>
+    ensures { IfOk result (λ action. IsActionIn (view order.now) action) }
 {
     if let Some(word) = order.get("set").and_then(Value::as_str) {
-        return setting_of(known, ono, word);
+        return match known.value_named(ono, word) {
+            Ok(value) => Ok(Action::Set(value)),
+            Err(NoOrder::NoObject) => Err(Wrong::Object),
+            Err(NoOrder::NoValue) => Err(Wrong::Value),
+        };
     }
     if let Some(text) = order.get("label").and_then(Value::as_str) {
-        return naming_of(text);
+        return match Label::new(text) {
+            Some(label) => Ok(Action::Rename(label)),
+            None => Err(Wrong::Value),
+        };
     }
-    locking_in(order)
-}
-
-/// The label that an object is given by this text.
-fn naming_of(text: &str) -> Result<Action, StatusCode>
-    ensures ok { IfOk result (IsRenaming text.now) }
-    ensures refused { IfErr result (λ status. status ≢ 202) }
-{
-    match Label::new(text) {
-        Some(label) => Ok(Action::Rename(label)),
-        None => Err(StatusCode::UNPROCESSABLE_ENTITY),
-    }
-}
-
-/// What an object is set to by this word: the value that the word is for in the object's class. The clause `ok` only says
-/// that the word is for it in some class.
-fn setting_of(known: &View, ono: Ono, word: &str) -> Result<Action, StatusCode>
-    ensures ok { IfOk result (IsSetTo word.now) }
-    ensures refused { IfErr result (λ status. status ≢ 202) }
-{
-    match known.value_named(ono, word) {
-        Ok(value) => Ok(Action::Set(value)),
-        Err(NoOrder::NoObject) => Err(StatusCode::NOT_FOUND),
-        Err(NoOrder::NoValue) => Err(StatusCode::UNPROCESSABLE_ENTITY),
-    }
-}
-
-/// That an object is locked or unlocked.
-fn locking_in(order: &Value) -> Result<Action, StatusCode>
-    ensures ok { IfOk result (λ action. IsActionIn (view order.now) action) }
-    ensures refused { IfErr result (λ status. status ≢ 202) }
-{
     if order.get("lock").and_then(Value::as_bool) == Some(true) {
-        return Ok(Action::Lock);
+        Ok(Action::Lock)
+    } else if order.get("unlock").and_then(Value::as_bool) == Some(true) {
+        Ok(Action::Unlock)
+    } else {
+        Err(Wrong::Form)
     }
-    if order.get("unlock").and_then(Value::as_bool) == Some(true) {
-        return Ok(Action::Unlock);
-    }
-    Err(StatusCode::BAD_REQUEST)
 }

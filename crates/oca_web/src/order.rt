@@ -19,6 +19,9 @@ pub const MOST_RESULTS: usize = 512;
 /// For how many milliseconds after its request was read an order may be submitted: 5,000.
 pub const ORDER_MS: u64 = 5000;
 
+/// An order is submitted only if what its page showed was confirmed by the device so many milliseconds ago at most: 2,000.
+pub const CONFIRMED_MS: u64 = 2000;
+
 /// What a page wants done with an object.
 #[derive(Clone, Copy, PartialEq, Eq)]
 pub enum Action {
@@ -34,8 +37,7 @@ pub enum Action {
 
 impl Action {
     /// Returns the class whose methods carry out this action (AES70-2): the class of the value to set, and OcaBlock for
-    /// a lock and a label. OcaBlock has the methods of OcaRoot and OcaWorker, as all classes here have. The call
-    /// refuses nothing.
+    /// a lock and a label. OcaBlock has the methods of OcaRoot and OcaWorker, as all classes here have.
     pub fn class(self) -> Class
         ensures { result ≡ class_asked self }
     {
@@ -46,7 +48,7 @@ impl Action {
     }
 
     /// Returns the request that carries out this action (AES70-2): the set method of the value's class, LockTotal,
-    /// Unlock or SetLabel. The call sends nothing, refuses nothing and takes no memory.
+    /// Unlock or SetLabel.
     pub fn request(self) -> Request
         ensures { AsksOrdered self result }
     {
@@ -59,11 +61,25 @@ impl Action {
     }
 }
 
+/// What the page showed of an object when a person ordered something of it: an order is for the object that this person
+/// read, and for no other that has its number by now.
+#[derive(Clone, Copy, PartialEq, Eq, Default)]
+pub struct Read {
+    /// The role of the object.
+    pub role: Label,
+    /// The role of the block that lists the object, empty where none does.
+    pub block: Label,
+    /// The name of the position to which a switch is set, otherwise empty.
+    pub position: Label,
+}
+
 /// An object and what a page wants done with it.
 #[derive(Clone, Copy, PartialEq, Eq)]
 pub struct Wanted {
     /// The number of the object.
     pub ono: Ono,
+    /// What the page showed of the object.
+    pub read: Read,
     /// What is done with the object.
     pub action: Action,
 }
@@ -75,6 +91,8 @@ pub struct Order {
     pub ticket: u64,
     /// The number of the object.
     pub ono: Ono,
+    /// What the page showed of the object.
+    pub read: Read,
     /// What is done with the object.
     pub action: Action,
     /// The moment, in milliseconds of the program's clock, after which the order must not be submitted.
@@ -87,6 +105,7 @@ impl Default for Order {
         Order {
             ticket: 0,
             ono: Ono(0),
+            read: Read::default(),
             action: Action::Unlock,
             last: 0,
         }
@@ -119,6 +138,8 @@ pub enum NotDone {
     Trouble(Trouble),
     /// The order was never sent: the moment after which it must not be submitted had passed.
     TooLate,
+    /// The order was never sent: the object is another one than the page showed.
+    Changed,
 }
 
 /// How an order ended.

@@ -1,7 +1,7 @@
 //! The orders of the pages: those that wait, those in flight, and how the last ones ended.
 ghost use Rattle.std.specs.Prelude.{◌≡◌, ◌<◌, length, nat_lt, IfSome};
 ghost use Rattle.std.specs.List.{position};
-ghost use Rattle.oca_web.specs.Orders.{above_all, by_ticket, not_done};
+ghost use Rattle.oca_web.specs.Orders.{by_ticket, not_done};
 
 use crate::order::{
     Action, MOST_IN_FLIGHT, MOST_RESULTS, MOST_WAITING, NotDone, Order, OrderResult, Sent, Wanted,
@@ -12,7 +12,7 @@ use oca_panel::Trouble;
 use oca_types::{Handle, Ono};
 use std::marker::Model;
 
-/// The orders of the pages (*profile*). An order *waits* until its command is submitted, then it is *in flight* until
+/// The orders of the pages. An order *waits* until its command is submitted, then it is *in flight* until
 /// the outcome is known, and then its result is stored. At most 256 orders wait, 32 are in flight, and 512 results are
 /// stored. Each order has a *ticket*, the number by which its page knows it; tickets count up from 1. No call here
 /// takes memory.
@@ -40,11 +40,11 @@ impl Model for Orders {
 impl Orders {
     ghost use Rattle.std.specs.Prelude.{◌≡◌, ◌≤◌, ◌<◌, ◌+◌, ◌∷◌, ◌++◌, remove, slice_get, length, [], Some};
     ghost use Rattle.oca_net.specs.Ends.{one_more};
-    ghost use Rattle.oca_web.specs.Orders.{AddsAll, AddsTicket, above_all, has_room_for, is_in_flight, lost_orders, no_orders, ready_of};
-    ghost use Rattle.oca_web.specs.Orders.{result_of, has_waiting, not_done, with_all, with_lost, with_order, with_passed, with_result};
-    ghost use Rattle.oca_web.specs.Orders.{with_unsent, without_waiting};
+    ghost use Rattle.oca_web.specs.Orders.{AddsAll, EndsAt, has_room_for, is_in_flight, lost_orders, no_orders, ready_of};
+    ghost use Rattle.oca_web.specs.Orders.{result_of, has_waiting, not_done, with_lost, with_order, with_result};
+    ghost use Rattle.oca_web.specs.Orders.{with_unsent};
 
-    /// Returns a list without orders, in which no ticket is used (*profile*). The call takes no memory from the heap.
+    /// Returns a list without orders, in which no ticket is used.
     pub fn new() -> Orders
         ensures { result ≡ no_orders }
     {
@@ -56,38 +56,16 @@ impl Orders {
         }
     }
 
-    /// Returns the ticket that the next order gets: 1 at first, and one more after each order (*profile*). The result
-    /// is 2^64 - 1 also if that ticket is used; no further order is then added. The call changes nothing.
+    /// Returns the ticket that the next order gets: 1 at first, and one more after each order. The result
+    /// is 2^64 - 1 also if that ticket is used; no further order is then added.
     pub fn next_ticket(&self) -> u64
         ensures { result ≡ one_more self.now.tickets }
     {
         self.tickets.saturating_add(1)
     }
 
-    /// Adds an order to do `action` with the object `ono`, after all others, and returns its ticket (*profile*). `last`
-    /// is the moment, in milliseconds of the program's clock, after which the order must not be submitted. The result
-    /// is `None` if 256 orders wait already, or no ticket is left below 2^64; then nothing is changed. The call submits
-    /// nothing, does not check that the object exists, and takes no memory.
-    pub fn add(&mut self, ono: Ono, action: Action, last: u64) -> Option<u64>
-        ensures { AddsTicket ono action last self.old result self.new }
-    {
-        if self.waiting.is_full() || self.tickets == u64::MAX {
-            return None;
-        }
-        let ticket = self.tickets + 1;
-        self.waiting.push(Order {
-            ticket,
-            ono,
-            action,
-            last,
-        });
-        self.tickets = ticket;
-        Some(ticket)
-    }
-
-    /// Returns whether `count` more orders can be added by [`add_all`](Orders::add_all) (*profile*). Then at most 256
-    /// orders would wait, and each would get a ticket below 2^64 - 1. A `count` above 256 always gives `false`. The
-    /// call changes nothing.
+    /// Returns whether `count` more orders can be added by [`add_all`](Orders::add_all). Then at most 256
+    /// orders would wait, and each would get a ticket below 2^64 - 1. A `count` above 256 always gives `false`.
     pub fn has_room(&self, count: usize) -> bool
         ensures { result ≡ has_room_for count self.now }
     {
@@ -95,45 +73,36 @@ impl Orders {
             && (count as u64) < u64::MAX - self.tickets
     }
 
-    /// Adds the orders `wanted` after all others, in their order, and returns the ticket of the first (*profile*). The
+    /// Adds the orders `wanted` after all others, in their order, and returns the ticket of the first. The
     /// other orders have the next tickets, in their order. `last` is the moment, in milliseconds of the program's
     /// clock, after which these orders must not be submitted. The result is `None` if there is no room for all these
     /// orders ([`has_room`](Orders::has_room)); then nothing is changed. If `wanted` is empty, the result is the next
-    /// ticket, and no order is added. The call submits nothing and takes no memory.
+    /// ticket, and no order is added.
+    #[tactic(auto, using(crate::proofs::OrderLemmas::many_rules))]
     pub fn add_all(&mut self, wanted: &[Wanted], last: u64) -> Option<u64>
         ensures { AddsAll wanted.now last self.old result self.new }
     {
         if !self.has_room(wanted.len()) {
             return None;
         }
-        let first = self.tickets.saturating_add(1);
-        self.put_all(wanted, last);
-        Some(first)
-    }
-
-    /// Adds many orders, for which there is room.
-    #[tactic(auto, using(crate::proofs::OrderLemmas::many_rules))]
-    fn put_all(&mut self, wanted: &[Wanted], last: u64)
-        requires room { length self.old.waiting + length wanted.now ≤ 256 }
-        requires tickets { self.old.tickets + length wanted.now ≤ 18446744073709551615 }
-        ensures { self.new ≡ with_all wanted.now last self.old }
-    {
-        if let Some((first, rest)) = wanted.split_first() {
-            self.put(*first, last);
-            self.put_all(rest, last);
+        let first = self.tickets + 1;
+        for one in wanted {
+            self.put(*one, last);
         }
+        Some(first)
     }
 
     /// Adds an order, for which there is room.
     fn put(&mut self, wanted: Wanted, last: u64)
         requires room { length self.old.waiting < 256 }
         requires tickets { self.old.tickets < 18446744073709551615 }
-        ensures { self.new ≡ with_order wanted.ono wanted.action last self.old }
+        ensures { self.new ≡ with_order wanted last self.old }
     {
         let ticket = self.tickets + 1;
         self.waiting.push(Order {
             ticket,
             ono: wanted.ono,
+            read: wanted.read,
             action: wanted.action,
             last,
         });
@@ -150,7 +119,7 @@ impl Orders {
             .any(|sent| sent.order.ono.0 == ono.0)
     }
 
-    /// Returns the order that is submitted next: the first that waits (*profile*). The result is `None` if no order
+    /// Returns the order that is submitted next: the first that waits. The result is `None` if no order
     /// waits, an order for the same object is in flight, or 32 orders are in flight. The call submits nothing and
     /// changes nothing.
     pub fn ready(&self) -> Option<Order>
@@ -186,8 +155,8 @@ impl Orders {
         self.in_flight.as_slice().get(at).copied()
     }
 
-    /// Returns the number of orders in flight: their commands were submitted, and the outcomes are not known yet
-    /// (*profile*). The result is from 0, as at first, to 32.
+    /// Returns the number of orders in flight: their commands were submitted, and the outcomes are not known yet.
+    /// The result is from 0, as at first, to 32.
     pub fn in_flight(&self) -> usize
         ensures value { result ≡ length self.now.in_flight }
         ensures most { result ≤ 32 }
@@ -195,7 +164,7 @@ impl Orders {
         self.in_flight.len()
     }
 
-    /// Returns whether at least one order waits: its command was not submitted yet (*profile*). The result is `false`
+    /// Returns whether at least one order waits: its command was not submitted yet. The result is `false`
     /// at first.
     pub fn waits(&self) -> bool
         ensures { result ≡ has_waiting self.now }
@@ -242,61 +211,49 @@ impl Orders {
     }
 
     /// Notes that the orders in flight are lost.
-    #[tactic(auto, using(crate::proofs::OrderLemmas::first_and_rest))]
+    #[tactic(auto, using(crate::proofs::OrderLemmas::losing_rules))]
     fn lose_sent(&mut self)
         ensures { self.new ≡ record self.old {
           in_flight = [];
           results = with_lost self.old.in_flight self.old.results;
         } }
     {
-        let Some(sent) = self.in_flight.pop_at(0) else {
-            return;
-        };
-        self.note_result(sent.order, Err(NotDone::Trouble(Trouble::Lost)));
-        self.lose_sent();
+        while let Some(sent) = self.in_flight.pop_at(0) {
+            self.note_result(sent.order, Err(NotDone::Trouble(Trouble::Lost)));
+        }
     }
 
     /// Notes that the orders that wait were not sent, for this reason.
-    #[tactic(auto, using(crate::proofs::OrderLemmas::first_and_rest))]
-    fn lose_waiting(&mut self, reason: NotDone)
+    #[tactic(auto, using(crate::proofs::OrderLemmas::losing_rules))]
+    pub(crate) fn lose_waiting(&mut self, reason: NotDone)
         ensures { self.new ≡ record self.old {
           waiting = [];
           results = with_unsent reason self.old.waiting self.old.results;
         } }
     {
-        let Some(order) = self.waiting.pop_at(0) else {
-            return;
-        };
-        self.note_result(order, Err(reason));
-        self.lose_waiting(reason);
-    }
-
-    /// Notes that the orders that wait were not sent, since it is too late for them.
-    pub(crate) fn drop_waiting(&mut self)
-        ensures { self.new ≡ without_waiting self.old }
-    {
-        self.lose_waiting(NotDone::TooLate);
-    }
-
-    /// Takes away those in front of the orders that wait whose last moment has passed: they were not sent.
-    #[tactic(auto, using(crate::proofs::OrderLemmas::first_and_rest))]
-    pub(crate) fn drop_late(&mut self, now: u64)
-        ensures { self.new ≡ with_passed now self.old }
-    {
-        let Some(order) = self.waiting.as_slice().first().copied() else {
-            return;
-        };
-        if now <= order.last {
-            return;
+        while let Some(order) = self.waiting.pop_at(0) {
+            self.note_result(order, Err(reason));
         }
-        let _ = self.waiting.pop_at(0);
-        self.note_result(order, Err(NotDone::TooLate));
-        self.drop_late(now);
     }
 
-    /// Returns how the last orders ended, in the order of their tickets: from 0, as at first, to 512 results
-    /// (*profile*). If 512 results are stored, the result with the lowest ticket is removed before another is stored.
-    /// The call changes nothing.
+    /// The order that waits at this place, counted from 0.
+    pub(crate) fn waiting_at(&self, at: usize) -> Option<Order>
+        ensures { result ≡ slice_get self.now.waiting at }
+    {
+        self.waiting.as_slice().get(at).copied()
+    }
+
+    /// The order that waits at this place is never sent, for this reason.
+    pub(crate) fn end_at(&mut self, at: usize, reason: NotDone)
+        ensures { EndsAt at reason (slice_get self.old.waiting at) self.old self.new }
+    {
+        if let Some(order) = self.waiting.pop_at(at) {
+            self.note_result(order, Err(reason));
+        }
+    }
+
+    /// Returns how the last orders ended, in the order of their tickets: from 0, as at first, to 512 results.
+    /// If 512 results are stored, the result with the lowest ticket is removed before another is stored.
     pub fn results(&self) -> &[OrderResult]
         ensures { result.now ≡ self.now.results }
     {
@@ -304,17 +261,19 @@ impl Orders {
     }
 
     /// The handle above those of all orders in flight; 0 where none is.
-    pub(crate) fn next_handle(&self) -> u32
-        ensures { result ≡ above_all self.now.in_flight }
-    {
-        above_all(self.in_flight.as_slice())
+    pub(crate) fn next_handle(&self) -> u32 {
+        let mut next = 0u32;
+        for sent in self.in_flight.as_slice() {
+            next = next.max(sent.handle.0.saturating_add(1));
+        }
+        next
     }
 
-    /// The lowest handle of an order in flight.
-    pub(crate) fn lowest_handle(&self) -> Option<u32> {
-        let mut lowest: Option<u32> = None;
+    /// The lowest handle of an order in flight, or `next` where it is lower.
+    pub(crate) fn lowest_handle(&self, next: u32) -> u32 {
+        let mut lowest = next;
         for sent in self.in_flight.as_slice() {
-            lowest = lower(lowest, sent.handle.0);
+            lowest = lowest.min(sent.handle.0);
         }
         lowest
     }
@@ -337,28 +296,6 @@ fn put_by_ticket(results: &mut ArrayVec<OrderResult, MOST_RESULTS>, one: OrderRe
     match place_behind(results.as_slice(), one.ticket) {
         Some(at) => results.insert(at, one),
         None => results.push(one),
-    }
-}
-
-/// The handle above those of all these orders; 0 where there is none.
-#[tactic(auto, using(crate::proofs::OrderLemmas::above_rules))]
-fn above_all(sent: &[Sent]) -> u32
-    ensures { result ≡ above_all sent.now }
-{
-    match sent.split_first() {
-        Some((first, rest)) => {
-            let above = above_all(rest);
-            first.handle.0.saturating_add(1).max(above)
-        }
-        None => 0,
-    }
-}
-
-/// The lower one.
-pub(crate) fn lower(lowest: Option<u32>, handle: u32) -> Option<u32> {
-    match lowest {
-        Some(least) => Some(least.min(handle)),
-        None => Some(handle),
     }
 }
 

@@ -4,7 +4,7 @@
 use oca_net::{CountsSleep, fill_standard_descriptors};
 use oca_program::{report as report_failure, words_of};
 use oca_script::{Printer, ToWriter};
-use ocapanel_cli::run::run;
+use ocapanel_cli::console::Console;
 use std::io;
 use std::process::ExitCode;
 
@@ -13,14 +13,14 @@ fn main(rt: HostRuntime) -> ExitCode {
     let _ = fill_standard_descriptors(&rt);
     let mut faults = Printer::new(ToWriter::new(rt.stderr()));
     let status = match words_of(&rt) {
-        Ok(words) => run(
-            rt.alloc(),
-            &rt,
-            &CountsSleep(&rt),
-            words.as_slice(),
-            &mut Printer::new(ToWriter::new(io::writer(&rt))),
-            &mut faults,
-        ),
+        Ok(words) => Console {
+            alloc: rt.alloc(),
+            host: &rt,
+            system: &CountsSleep(&rt),
+            printer: &mut Printer::new(ToWriter::new(io::writer(&rt))),
+            faults: &mut faults,
+        }
+        .run(words.as_slice()),
         Err(failure) => report_failure(&failure, &mut faults),
     };
     ExitCode::from(status)

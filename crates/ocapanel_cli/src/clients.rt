@@ -1,11 +1,24 @@
-//! The connections of browsers: at most 128, none of which is waited for.
+//! The browsers: the listener and at most 128 connections, none of which is waited for alone.
 use http_server::{Config, Connection};
-use mio::net::TcpStream;
-use mio::{Interest, Poll, Token};
+use mio::net::{TcpListener, TcpStream};
+use mio::unix::SourceFd;
+use mio::{Events, Interest, Poll, Token};
+use oca_program::{Failure, RunFault};
+use oca_types::Peer;
 use oca_web::Site;
 use std::alloc::Global;
 use std::hash::RandomState;
 use std::io;
+use std::net::{Net, SocketAddr, SocketAddrV4};
+use std::os::fd::RawFd;
+use std::random::RandomSource;
+use std::time::Duration;
+
+/// The token of the listener.
+const LISTENER: Token = Token(0);
+
+/// The token of the device's socket, below those of the connections.
+const DEVICE: Token = Token(1);
 
 /// The most connections at once.
 const MOST: usize = 128;
@@ -152,145 +165,111 @@ fn is_slow(since: Option<u64>, now: u64) -> bool {
     }
 }
 
-/// The connection is waited for under this token, and sends at once.
-fn is_waited_for(stream: &mut TcpStream, poll: &Poll, token: Token) -> bool {
-    let _ = stream.set_nodelay(true);
-    let both = Interest::READABLE | Interest::WRITABLE;
-    poll.registry().register(stream, token, both).is_ok()
-}
-
-/// The limits of a connection.
-fn config() -> Config {
-    Config {
-        max_body_len: MOST_BODY,
-        ..Config::default()
-    }
-}
-
-/// The connections of browsers.
+/// The listener, the connections of browsers, and the wait for them and for the device's socket.
 #[derive(Drop)]
 pub struct Clients {
     alloc: Global,
+    listener: TcpListener,
+    poll: Poll,
+    events: Events,
     clients: Vec<Client>,
+    /// The number of the newest connection's token.
     tokens: usize,
     more: bool,
+    /// Whether the program was suspended, and connections that came meanwhile may still wait.
+    doubts: bool,
 }
 
 impl Clients {
-    /// A list without connections. The tokens by which they are waited for begin above `tokens`, and each new
-    /// connection gets the next one.
-    pub fn new(alloc: Global, tokens: usize) -> Clients {
-        Clients {
-            alloc,
-            clients: Vec::new(alloc),
-            tokens,
-            more: false,
-        }
-    }
-
-    /// Adds a new connection (`stream`) at the moment `now`, in milliseconds of the program's clock, and lets `poll`
-    /// wait for it. `keys` are the random keys for the map of its request's headers. `doubts` says that the connection
-    /// may have come while the program was suspended.
-    ///
-    /// At most 128 connections are kept. If there are 128, one of them is closed to make room. That is the oldest one
-    /// on which no request was admitted so far (admitted: with the right host and token). If there is no such
-    /// connection, it is the first on which no request is begun and nothing moved for more than 1,000 ms. If there is
-    /// neither, the new connection is closed. The new connection is also closed if `poll` refuses it, or if memory was
-    /// refused; a connection that was closed for it stays closed.
-    pub fn add(
-        &mut self,
-        stream: TcpStream,
-        poll: &Poll,
-        keys: RandomState,
-        now: u64,
-        doubts: bool,
-    ) {
-        if self.clients.len() < MOST || self.close_unknown() || self.close_resting(now) {
-            self.keep(stream, poll, keys, now, doubts);
-        }
-    }
-
-    /// Keeps a connection on which nothing came yet, where the system takes it and there is memory for it.
-    fn keep(
-        &mut self,
-        mut stream: TcpStream,
-        poll: &Poll,
-        keys: RandomState,
-        now: u64,
-        doubts: bool,
-    ) {
-        self.tokens = self.tokens.saturating_add(1);
-        let token = Token(self.tokens);
-        if is_waited_for(&mut stream, poll, token) {
-            self.more = true;
-            drop(
-                self.clients.push(Client {
-                    stream,
-                    http: Connection::new(self.alloc, keys, config()),
-                    token,
-                    ready: true,
-                    moved: now,
-                    begun: Some(now),
-                    untaken: None,
-                    doubts,
-                    is_known: false,
-                }),
-            );
-        }
-    }
-
-    /// Closes the oldest connection on which no request was let in so far. Returns whether there was one.
-    fn close_unknown(&mut self) -> bool {
-        let found = self.clients.iter().position(|client| !client.is_known);
-        self.close(found)
-    }
-
-    /// Closes the first connection that rests. Returns whether there was one.
-    fn close_resting(&mut self, now: u64) -> bool {
-        let found = self.clients.iter().position(|client| client.rests(now));
-        self.close(found)
-    }
-
-    /// Closes the connection at this place. Returns whether there is one.
-    fn close(&mut self, found: Option<usize>) -> bool {
-        match found {
-            Some(place) if place < self.clients.len() => {
-                drop(self.clients.remove(place));
-                true
+    /// Listens for browsers at this address. The device's socket is waited for, too. Failures: `Socket` if the system
+    /// refuses the listener or the wait, `NoMemory` if memory was refused.
+    pub fn listen<H: Net>(
+        alloc: Global,
+        host: &H,
+        at: Peer,
+        socket: RawFd,
+    ) -> Result<Clients, Failure> {
+        let mut listener = match TcpListener::bind(host, SocketAddr::V4(SocketAddrV4::from(at))) {
+            Ok(listener) => listener,
+            Err(reason) => {
+                let note = format!(in alloc; "{at}: {reason}");
+                return Err(Failure::noted_if(RunFault::Socket, note));
             }
-            _ => false,
+        };
+        let poll = match poll_of(host, &mut listener, socket) {
+            Ok(poll) => poll,
+            Err(reason) => return Err(failed(alloc, reason)),
+        };
+        Ok(Clients {
+            alloc,
+            listener,
+            poll,
+            events: Events::with_capacity(alloc, 32)?,
+            clients: Vec::new(alloc),
+            tokens: DEVICE.0,
+            more: false,
+            doubts: false,
+        })
+    }
+
+    /// Where browsers are listened to that was to be at `asked`: with the port that the system chose.
+    pub fn local(&self, asked: Peer) -> Peer {
+        match self.listener.local_addr() {
+            Ok(address) => Peer {
+                ip: asked.ip,
+                port: address.port(),
+            },
+            Err(_) => asked,
         }
     }
 
-    /// Notes that something can be read from or written to the connection with this token. A token that no connection
-    /// has changes nothing.
-    pub fn note_ready(&mut self, token: Token) {
-        let found = self
-            .clients
-            .binary_search_by_key(&token.0, |client| client.token.0);
-        if let Ok(place) = found {
-            if let Some(client) = self.clients.get_mut(place) {
+    /// Another socket for the device is waited for.
+    pub fn watch(&mut self, socket: RawFd) -> Result<(), Failure> {
+        match watch(&self.poll, socket) {
+            Ok(()) => Ok(()),
+            Err(reason) => Err(failed(self.alloc, reason)),
+        }
+    }
+
+    /// Waits until something can be read or written, at most so many milliseconds.
+    pub fn wait(&mut self, wait: u64) -> Result<(), Failure> {
+        let longest = Some(Duration::from_millis(wait));
+        if let Err(reason) = self.poll.poll(&mut self.events, longest) {
+            return Err(failed(self.alloc, reason));
+        }
+        for event in self.events.iter() {
+            let token = event.token().0;
+            let found = self
+                .clients
+                .binary_search_by_key(&token, |client| client.token.0);
+            if let Ok(place) = found {
+                if let Some(client) = self.clients.get_mut(place) {
+                    client.ready = true;
+                }
+            }
+        }
+        Ok(())
+    }
+
+    /// Notes that the program was suspended: requests may have come meanwhile.
+    pub fn doubt(&mut self) {
+        self.doubts = true;
+    }
+
+    /// Lets the browsers in that wait, at the moment `now`, in milliseconds of the program's clock. Then reads, answers by
+    /// `site` and writes on each connection that is ready, and closes those that ended or are late. A connection is late if
+    /// nothing moved on it for more than 30,000 ms. It is also late if a request is not whole, or an answer is not taken,
+    /// for more than 5,000 ms. The beginning of a request that was read together with the end of the request before does
+    /// not count: 5,000 ms begin with the next byte. A new connection counts as one whose request is begun: it is late
+    /// 5,000 ms after its beginning even if no byte came.
+    pub fn serve<H: RandomSource>(&mut self, host: &H, site: &mut Site, now: u64) {
+        if self.doubts {
+            for client in self.clients.iter_mut() {
+                client.doubts = true;
                 client.ready = true;
             }
         }
-    }
-
-    /// Notes that the program was suspended: requests that wait on the connections may have come meanwhile. Each
-    /// connection counts as ready.
-    pub fn doubt(&mut self) {
-        for client in self.clients.iter_mut() {
-            client.doubts = true;
-            client.ready = true;
-        }
-    }
-
-    /// Reads, answers by `site` and writes on each connection that is ready, and closes those that ended or are late at
-    /// the moment `now`, in milliseconds of the program's clock. A connection is late if nothing moved on it for more
-    /// than 30,000 ms. It is also late if a request is not whole, or an answer is not taken, for more than 5,000 ms. The
-    /// beginning of a request that was read together with the end of the request before does not count: 5,000 ms begin
-    /// with the next byte. A new connection counts as one whose request is begun: it is late 5,000 ms after its
-    /// beginning even if no byte came.
-    pub fn serve(&mut self, site: &mut Site, now: u64) {
+        self.accept(host, now);
         let mut more = false;
         self.clients.retain_mut(|client| match client.serve(site, now) {
             Ok(has_more) => {
@@ -302,8 +281,101 @@ impl Clients {
         self.more = more;
     }
 
+    /// Lets the browsers in that wait. Nothing is from the time of a stop once no more do.
+    fn accept<H: RandomSource>(&mut self, host: &H, now: u64) {
+        for _ in 0..16u32 {
+            let Ok((stream, _)) = self.listener.accept() else {
+                self.doubts = false;
+                return;
+            };
+            if let Ok(keys) = RandomState::new(host) {
+                self.add(stream, keys, now);
+            }
+        }
+    }
+
+    /// Adds a new connection. `keys` are the random keys for the map of its request's headers.
+    ///
+    /// At most 128 connections are kept. If there are 128, one of them is closed to make room. That is the oldest one
+    /// on which no request was admitted so far (admitted: with the right host and token). If there is no such
+    /// connection, it is the first on which no request is begun and nothing moved for more than 1,000 ms. If there is
+    /// neither, the new connection is closed. The new connection is also closed if the system refuses the wait for it, or
+    /// if memory was refused; a connection that was closed for it stays closed.
+    fn add(&mut self, mut stream: TcpStream, keys: RandomState, now: u64) {
+        if self.clients.len() >= MOST && !self.make_place(now) {
+            return;
+        }
+        self.tokens = self.tokens.saturating_add(1);
+        let token = Token(self.tokens);
+        let _ = stream.set_nodelay(true);
+        let both = Interest::READABLE | Interest::WRITABLE;
+        if self
+            .poll
+            .registry()
+            .register(&mut stream, token, both)
+            .is_err()
+        {
+            return;
+        }
+        self.more = true;
+        let config = Config {
+            max_body_len: MOST_BODY,
+            ..Config::default()
+        };
+        drop(
+            self.clients.push(Client {
+                stream,
+                http: Connection::new(self.alloc, keys, config),
+                token,
+                ready: true,
+                moved: now,
+                begun: Some(now),
+                untaken: None,
+                doubts: self.doubts,
+                is_known: false,
+            }),
+        );
+    }
+
+    /// Closes the connection that gives way to a new one. Returns whether there is one.
+    fn make_place(&mut self, now: u64) -> bool {
+        let unknown = self.clients.iter().position(|client| !client.is_known);
+        let resting = self.clients.iter().position(|client| client.rests(now));
+        match unknown.or(resting) {
+            Some(place) if place < self.clients.len() => {
+                drop(self.clients.remove(place));
+                true
+            }
+            _ => false,
+        }
+    }
+
     /// Whether a connection may have more to do at once: then the loop must not wait.
     pub fn has_more(&self) -> bool {
         self.more
     }
+}
+
+/// What is waited for at first: the listener and the device's socket.
+fn poll_of<H: Net>(host: &H, listener: &mut TcpListener, socket: RawFd) -> io::Result<Poll> {
+    let poll = Poll::new(host)?;
+    poll.registry()
+        .register(listener, LISTENER, Interest::READABLE)?;
+    watch(&poll, socket)?;
+    Ok(poll)
+}
+
+/// The device's socket is waited for.
+fn watch(poll: &Poll, socket: RawFd) -> io::Result<()> {
+    let mut source = SourceFd(&socket);
+    poll.registry()
+        .register(&mut source, DEVICE, Interest::READABLE)
+}
+
+/// A call of the system failed.
+fn failed(alloc: Global, reason: io::Error) -> Failure {
+    if reason.kind() == io::ErrorKind::OutOfMemory {
+        return Failure::from(RunFault::NoMemory);
+    }
+    Failure::noted_if(RunFault::Socket, format!(in alloc; "{reason}"))
 }

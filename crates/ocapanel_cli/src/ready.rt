@@ -9,6 +9,7 @@ pub struct Ready<E: End> {
     end: E,
     sent: u64,
     quiet: bool,
+    failed: bool,
 }
 
 impl<E: End> Model for Ready<E> {
@@ -30,6 +31,7 @@ impl<E: End> Ready<E> {
             end,
             sent: 0,
             quiet: false,
+            failed: false,
         }
     }
 
@@ -49,6 +51,11 @@ impl<E: End> Ready<E> {
     pub fn is_quiet(&self) -> bool {
         self.quiet
     }
+
+    /// Whether the last receive failed; `false` before the first one. A turn whose receive fails sends nothing.
+    pub fn has_failed(&self) -> bool {
+        self.failed
+    }
 }
 
 impl<E: End> End for Ready<E> {
@@ -64,6 +71,7 @@ impl<E: End> End for Ready<E> {
     {
         let heard = self.end.receive_by(packet, 0);
         self.quiet = !matches!(heard, Heard::Datagram { .. } | Heard::Oversize { .. });
+        self.failed = matches!(heard, Heard::Failed);
         heard
     }
 

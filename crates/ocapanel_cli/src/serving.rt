@@ -1,332 +1,203 @@
 //! The loop: one thread waits for the device's socket, the listener and the browsers' connections at once.
 use crate::clients::Clients;
+use crate::command::{Access, Options};
+use crate::console::Console;
 use crate::ready::Ready;
-use crate::terms::{Wishes, terms_of, wishes_of};
-use crate::words::{Paths, Serving};
-use mio::net::TcpListener;
-use mio::unix::SourceFd;
-use mio::{Events, Interest, Poll, Token};
+use crate::token::token_of;
+use crate::units::units_of;
 use oca_net::{End, UdpEnd, is_gone};
-use oca_panel::{OwnPort, Panel, Probed, Watched, probe};
-use oca_program::socket::bind_towards;
-use oca_program::{Failure, RunFault, note_other_port, print_made_note, print_note};
-use oca_script::{Printer, Sink};
-use oca_types::{Handle, NoMemory, Peer};
+use oca_panel::{LocalPort, Panel, Reached, Watched};
+use oca_program::socket::unreached;
+use oca_program::{Failure, note_other_port, print_made_note, print_note};
+use oca_script::Sink;
+use oca_types::{NoMemory, Peer};
 use oca_web::{Site, Terms, View};
-use std::alloc::Global;
-use std::hash::RandomState;
-use std::io;
-use std::net::{Ipv4Addr, Net, SocketAddr, SocketAddrV4};
+use std::net::{Ipv4Addr, Net};
 use std::os::fd::AsRawFd;
 use std::random::RandomSource;
 use std::rt::{Clock, Files};
-use std::time::Duration;
-
-/// The token of the listener.
-const LISTENER: Token = Token(0);
-
-/// The token of the device's socket.
-const DEVICE: Token = Token(1);
 
 /// The most turns that are taken before the browsers have theirs.
 const MOST_TURNS: u32 = 256;
 
+/// Behind a receive that failed so many milliseconds are waited at least, unless a browser comes: what is due was not sent.
+const FAILED_WAIT_MS: u64 = 50;
+
 /// The answer to an order is waited for so many milliseconds at most before requests are answered again.
-const ANSWER_MS: u64 = 4;
+const ANSWER_MS: u64 = 8;
 
 /// The longest wait, in milliseconds: as often, connections on which nothing moves are looked at.
 const LONGEST_WAIT_MS: u64 = 1000;
 
-/// `serving` is what the command line asks for, and `paths` are the files that it names. The call reads the files,
-/// binds the sockets, and then serves until a call of the system fails or memory is refused. Ok only after 2^64 - 1
-/// waits, which no run reaches. Failures: `Read` if a file can't be read. `BadWords` if a file has something that is
-/// refused. `Socket` if the system refused a socket, a wait or random numbers. `NoMemory` if memory was refused.
-pub fn serve<R: Net + RandomSource + Files, N: Net + Clock, F: Sink>(
-    alloc: Global,
-    rt: &R,
-    system: &N,
-    serving: Serving,
-    paths: Paths<'_>,
-    faults: &mut Printer<F>,
-) -> Result<(), Failure> {
-    let wishes = wishes_of(alloc, rt, serving, paths)?;
-    let (end, first) = first_end(alloc, system, serving, faults)?;
-    let mut rounds = rounds_of(alloc, rt, serving, wishes, &end, first, faults)?;
-    let mut panel = Panel::open(serving.device, Ready::new(end), first, serving.span, 0);
-    rounds.go_on(system, &mut panel, faults)
-}
-
 /// What is received from and sent to: a socket for the device.
-type DeviceEnd<'a, N> = Watched<UdpEnd<'a, N>>;
+type DeviceEnd<'c, N> = Ready<Watched<UdpEnd<'c, N>>>;
 
-/// A socket for the device at this port; at 0 the system chooses one.
-fn end_at<N: Net + Clock>(
-    alloc: Global,
-    system: &N,
-    serving: Serving,
-    port: u16,
-) -> Result<DeviceEnd<'_, N>, Failure> {
-    let end = bind_towards(alloc, system, serving.ip, serving.device, port)?;
-    Ok(Watched::new(end, serving.device))
-}
-
-/// The first socket for the device, and the first handle over it. Where a port was given, and the device is heard there
-/// and answers no command, it is at another port, of the system's choice.
-fn first_end<'a, N: Net + Clock, F: Sink>(
-    alloc: Global,
-    system: &'a N,
-    serving: Serving,
-    faults: &mut Printer<F>,
-) -> Result<(DeviceEnd<'a, N>, Handle), Failure> {
-    let first = OwnPort::now(system).first_handle;
-    let mut end = end_at(alloc, system, serving, serving.port)?;
-    if serving.port == 0 {
-        return Ok((end, first));
+impl<'c, R: Net + RandomSource + Files, N: Net + Clock, W: Sink, F: Sink> Console<'c, R, N, W, F> {
+    /// Reads the files that the options name, binds the sockets, and then serves until a call of the system fails or memory
+    /// is refused. Ok only after 2^64 - 1 waits, which no run reaches. Failures: `Read` if a file can't be read. `BadWords`
+    /// if a file has something that is refused. `Socket` if the system refused a socket, a wait or random numbers.
+    /// `NoMemory` if memory was refused.
+    pub(super) fn serve(&mut self, options: &Options<'_>) -> Result<u8, Failure> {
+        let token = token_of(self.alloc, self.host, options.access)?;
+        let units = units_of(self.alloc, self.host, options.units)?;
+        let Reached { end, first, .. } = self.reach(options, LocalPort::Checked(options.port))?;
+        let (made, socket, ip) = (end.now(), end.end().as_raw_fd(), end.end().local().ip);
+        let clients = Clients::listen(self.alloc, self.host, options.listen, socket)?;
+        let local = clients.local(options.listen);
+        let terms = self.terms(options, local, token, units)?;
+        self.print_listening(options.access, local, &terms);
+        let view = View::new(self.alloc, options.device, options.span, first, made)?;
+        let mut panel = Panel::open(options.device, Ready::new(end), first, options.span, 0);
+        let mut rounds = Rounds {
+            site: Site::new(self.alloc, view, terms),
+            console: self,
+            options,
+            panel: &mut panel,
+            clients,
+            ip,
+            losses: 0,
+            was_lost: false,
+            ticket: 1,
+            held_until: 0,
+        };
+        rounds.go_on()?;
+        Ok(0)
     }
-    match probe(&mut end, serving.device, first) {
-        Probed::NotAnswering => {
-            let other = end_at(alloc, system, serving, 0)?;
-            let port = other.end().local().port;
-            note_other_port(alloc, serving.device, serving.port, port, faults);
-            Ok((other, first))
+
+    /// A socket for the device, from this local port, and the first handle over it. A port at which the device answers no
+    /// command is noted.
+    fn reach(&mut self, options: &Options<'_>, port: LocalPort) -> Result<Reached<'c, N>, Failure> {
+        match options.way(port).reach(self.alloc, self.system) {
+            Ok(reached) => {
+                if let Some(port) = reached.instead_of {
+                    let other = reached.end.end().local().port;
+                    note_other_port(self.alloc, options.device, port, other, self.faults);
+                }
+                Ok(reached)
+            }
+            Err(refused) => Err(unreached(self.alloc, &refused.error, 0)),
         }
-        Probed::Answering | Probed::NotHeard => Ok((end, Handle(first.0.saturating_add(1)))),
+    }
+
+    /// Prints the address of the page, with the token where it was made for this run: one of a file is in no log.
+    fn print_listening(&mut self, access: Access<'_>, local: Peer, terms: &Terms) {
+        let alloc = self.alloc;
+        let line = match (access, terms.key.as_ref()) {
+            (Access::MadeToken, Some(key)) => {
+                let query = key.query.as_str();
+                format!(in alloc; "listening http://{local}/?{query}\n")
+            }
+            _ => format!(in alloc; "listening http://{local}/\n"),
+        };
+        if let Ok(line) = line {
+            let _ = self.faults.print(line.as_str().as_bytes());
+            let _ = self.faults.flush();
+        }
     }
 }
 
-/// The service of a panel that listens at this address, and of which this is wished. The address of its page is printed
-/// as soon as its terms are known.
-fn site_of<R: RandomSource, F: Sink>(
-    alloc: Global,
-    rt: &R,
-    serving: Serving,
-    wishes: Wishes,
-    local: Peer,
-    first: Handle,
-    made: u64,
-    faults: &mut Printer<F>,
-) -> Result<Site, Failure> {
-    let terms = terms_of(alloc, rt, local, wishes)?;
-    print_listening(alloc, local, &terms, faults);
-    match View::new(alloc, serving.device, serving.span, first, made) {
-        Ok(view) => Ok(Site::new(alloc, view, terms)),
-        Err(NoMemory) => Err(Failure::from(RunFault::NoMemory)),
-    }
-}
-
-/// What the loop waits for, what answers the browsers, and what it has printed.
+/// What the loop goes round with.
 #[derive(Drop)]
-struct Rounds<'a, R> {
-    alloc: Global,
-    rt: &'a R,
-    serving: Serving,
-    listener: TcpListener,
-    poll: Poll,
-    events: Events,
+struct Rounds<'r, 'c, R, N: Clock, W: Sink, F: Sink> {
+    console: &'r mut Console<'c, R, N, W, F>,
+    options: &'r Options<'r>,
+    panel: &'r mut Panel<DeviceEnd<'c, N>>,
     clients: Clients,
     site: Site,
     /// The address of the socket for the device.
     ip: u32,
+    /// How many links were lost when the way to the device was looked at last.
+    losses: u64,
+    /// Whether it was printed last that the device is lost.
     was_lost: bool,
-    /// The ticket of the last order that was taken, and until when the browsers wait for its answer.
+    /// The ticket of the next order, and until when the browsers wait for the answer to the last one.
     ticket: u64,
     held_until: u64,
-    /// Whether the program was suspended, and connections that came meanwhile may still wait.
-    doubts: bool,
 }
 
-/// What the loop has at first: it waits for the listener and this socket for the device.
-fn rounds_of<'a, R: Net + RandomSource, N: Net + Clock, F: Sink>(
-    alloc: Global,
-    rt: &'a R,
-    serving: Serving,
-    wishes: Wishes,
-    end: &DeviceEnd<'_, N>,
-    first: Handle,
-    faults: &mut Printer<F>,
-) -> Result<Rounds<'a, R>, Failure> {
-    let made = end.now();
-    let mut listener = listen(alloc, rt, serving.listen)?;
-    let poll = poll_of(alloc, rt, &mut listener, end.end().as_raw_fd())?;
-    let local = local_of(&listener, serving.listen);
-    let site = site_of(alloc, rt, serving, wishes, local, first, made, faults)?;
-    match Events::with_capacity(alloc, 32) {
-        Ok(events) => Ok(Rounds {
-            alloc,
-            rt,
-            serving,
-            listener,
-            poll,
-            events,
-            clients: Clients::new(alloc, DEVICE.0),
-            site,
-            ip: end.end().local().ip,
-            was_lost: false,
-            ticket: 1,
-            held_until: 0,
-            doubts: false,
-        }),
-        Err(_) => Err(Failure::from(RunFault::NoMemory)),
-    }
-}
-
-/// A listener for browsers. A refusal says the address.
-fn listen<R: Net>(alloc: Global, rt: &R, at: Peer) -> Result<TcpListener, Failure> {
-    match TcpListener::bind(rt, SocketAddr::V4(SocketAddrV4::from(at))) {
-        Ok(listener) => Ok(listener),
-        Err(reason) => {
-            let note = format!(in alloc; "{at}: {reason}");
-            Err(Failure::noted_if(RunFault::Socket, note))
-        }
-    }
-}
-
-/// Where it listens, with the port that the system chose.
-fn local_of(listener: &TcpListener, asked: Peer) -> Peer {
-    match listener.local_addr() {
-        Ok(address) => Peer {
-            ip: asked.ip,
-            port: address.port(),
-        },
-        Err(_) => asked,
-    }
-}
-
-/// What is waited for at once: the listener and the device's socket.
-fn poll_of<R: Net>(
-    alloc: Global,
-    rt: &R,
-    listener: &mut TcpListener,
-    descriptor: i32,
-) -> Result<Poll, Failure> {
-    match poll_with(rt, listener, descriptor) {
-        Ok(poll) => Ok(poll),
-        Err(reason) => Err(failed(alloc, reason)),
-    }
-}
-
-/// The listener and the device's socket are waited for.
-fn poll_with<R: Net>(rt: &R, listener: &mut TcpListener, descriptor: i32) -> io::Result<Poll> {
-    let poll = Poll::new(rt)?;
-    poll.registry()
-        .register(listener, LISTENER, Interest::READABLE)?;
-    watch(&poll, descriptor)?;
-    Ok(poll)
-}
-
-/// The device's socket is waited for.
-fn watch(poll: &Poll, descriptor: i32) -> io::Result<()> {
-    let mut source = SourceFd(&descriptor);
-    poll.registry()
-        .register(&mut source, DEVICE, Interest::READABLE)
-}
-
-/// Prints the address of the page, with the token where one is asked for.
-fn print_listening<F: Sink>(alloc: Global, local: Peer, terms: &Terms, faults: &mut Printer<F>) {
-    let line = match terms.key.as_ref() {
-        Some(key) => {
-            let query = key.query.as_str();
-            format!(in alloc; "listening http://{local}/?{query}\n")
-        }
-        None => format!(in alloc; "listening http://{local}/\n"),
-    };
-    if let Ok(line) = line {
-        let _ = faults.print(line.as_str().as_bytes());
-        let _ = faults.flush();
-    }
-}
-
-/// A call of the system failed.
-fn failed(alloc: Global, reason: io::Error) -> Failure {
-    if reason.kind() == io::ErrorKind::OutOfMemory {
-        return Failure::from(RunFault::NoMemory);
-    }
-    Failure::noted_if(RunFault::Socket, format!(in alloc; "{reason}"))
-}
-
-impl<R: Net + RandomSource> Rounds<'_, R> {
-    /// Goes round: what came from the device, what is to be sent to it, the browsers, and a wait. Where another socket
-    /// for the device is wanted, it goes on over that.
-    fn go_on<'n, N: Net + Clock, F: Sink>(
-        &mut self,
-        system: &'n N,
-        panel: &mut Panel<Ready<DeviceEnd<'n, N>>>,
-        faults: &mut Printer<F>,
-    ) -> Result<(), Failure> {
+impl<'c, R: Net + RandomSource + Files, N: Net + Clock, W: Sink, F: Sink> Rounds<
+    '_,
+    'c,
+    R,
+    N,
+    W,
+    F,
+> {
+    /// Goes round: what came from the device, what is to be sent to it, the browsers, and a wait. Where another socket for
+    /// the device is wanted, it goes on over that.
+    fn go_on(&mut self) -> Result<(), Failure> {
         for _ in 0..u64::MAX {
-            match self.go_once(panel, faults) {
-                Ok(wait) => self.wait(wait)?,
-                Err(NoMemory) => return Err(Failure::from(RunFault::NoMemory)),
-            }
+            let wait = self.go_once()?;
+            self.clients.wait(wait)?;
             if self.site.view().wants_end() {
-                self.change_ends(system, panel)?;
+                let reached = self.console.reach(self.options, LocalPort::Given(0))?;
+                self.go_over(reached)?;
             }
+            self.follow_address()?;
         }
         Ok(())
     }
 
-    /// The panel goes on over another socket for the device, at a port of the system's choice: so the handles begin
-    /// again. The time until now is counted by the clock of the one before. The new one's moment is taken first: so a
-    /// stop between the two is counted, if need be twice.
-    fn change_ends<'n, N: Net + Clock>(
-        &mut self,
-        system: &'n N,
-        panel: &mut Panel<Ready<DeviceEnd<'n, N>>>,
-    ) -> Result<(), Failure> {
-        let first = OwnPort::now(system).first_handle;
-        let end = end_at(self.alloc, system, self.serving, 0)?;
-        let (moment, descriptor) = (end.now(), end.end().as_raw_fd());
+    /// Behind each loss of the link: if the system reaches the device from another address by now, goes on from there. What
+    /// is in flight then is lost, and never sent again. Where no socket is to be had, the next loss is the next try.
+    fn follow_address(&mut self) -> Result<(), Failure> {
+        let losses = self.site.view().news().lost;
+        if losses == self.losses {
+            return Ok(());
+        }
+        self.losses = losses;
+        let way = self.options.way(LocalPort::Given(self.options.port));
+        let Ok(reached) = way.reach(self.console.alloc, self.console.system) else {
+            return Ok(());
+        };
+        let ip = reached.end.end().local().ip;
+        if ip == self.ip {
+            return Ok(());
+        }
+        if self.options.verbose {
+            let (alloc, ip) = (self.console.alloc, Ipv4Addr::from(ip));
+            let note = format!(in alloc; "the device is reached from the address {ip} now");
+            print_made_note(note, self.console.faults);
+        }
+        self.site.view().lose_end();
+        self.go_over(reached)
+    }
+
+    /// Goes on over another socket for the device, with a new link, which lies in this function's frame alone, some 94 kB.
+    /// The time until now is counted by the clock of the socket before. The new one's moment is taken first: so a stop
+    /// between the two is counted, if need be twice.
+    #[inline(never)]
+    fn go_over(&mut self, reached: Reached<'c, N>) -> Result<(), Failure> {
+        let Reached { end, first, .. } = reached;
+        let (moment, socket) = (end.now(), end.end().as_raw_fd());
         self.ip = end.end().local().ip;
-        let (last, sent) = (panel.end().end().now(), panel.end().sent());
+        let (last, sent) = (self.panel.end().end().now(), self.panel.end().sent());
         if self.site.view().take_end(first, moment, last, sent) {
-            self.doubts = true;
+            self.clients.doubt();
         }
-        let (device, span) = (self.serving.device, self.serving.span);
-        *panel = Panel::open(device, Ready::new(end), first, span, 0);
-        match watch(&self.poll, descriptor) {
-            Ok(()) => Ok(()),
-            Err(reason) => Err(failed(self.alloc, reason)),
-        }
+        let (device, span) = (self.options.device, self.options.span);
+        *self.panel = Panel::open(device, Ready::new(end), first, span, 0);
+        self.clients.watch(socket)
     }
 
     /// Does what is to be done. Returns how long may be waited then, in milliseconds.
-    fn go_once<E: End, F: Sink>(
-        &mut self,
-        panel: &mut Panel<Ready<E>>,
-        faults: &mut Printer<F>,
-    ) -> Result<u64, NoMemory> {
-        let drained = self.turn(panel)?;
-        self.note_link(faults);
-        self.look_at_clock(panel);
+    fn go_once(&mut self) -> Result<u64, NoMemory> {
+        let drained = self.turn()?;
+        self.note_link();
+        self.look_at_clock();
         let now = self.site.view().moment();
         self.serve_browsers(now);
-        self.site.view().go_on(panel)?;
-        Ok(if drained {
-            self.wait_for(panel, now)
-        } else {
-            0
-        })
-    }
-
-    /// Waits until something can be read or written, at most so many milliseconds.
-    fn wait(&mut self, wait: u64) -> Result<(), Failure> {
-        let longest = Some(Duration::from_millis(wait));
-        if let Err(reason) = self.poll.poll(&mut self.events, longest) {
-            return Err(failed(self.alloc, reason));
-        }
-        for event in self.events.iter() {
-            self.clients.note_ready(event.token());
-        }
-        Ok(())
+        self.site.view().go_on(self.panel)?;
+        Ok(if drained { self.wait_for(now) } else { 0 })
     }
 
     /// Takes in what came from the device, and sends what is to be sent. Returns whether nothing more is there.
-    fn turn<E: End>(&mut self, panel: &mut Panel<Ready<E>>) -> Result<bool, NoMemory> {
+    fn turn(&mut self) -> Result<bool, NoMemory> {
         for _ in 0..MOST_TURNS {
-            self.look_at_clock(panel);
-            self.site.view().take_turn(panel)?;
-            self.site.view().go_on(panel)?;
-            if panel.end().is_quiet() {
+            self.look_at_clock();
+            self.site.view().take_turn(self.panel)?;
+            self.site.view().go_on(self.panel)?;
+            if self.panel.end().is_quiet() {
                 return Ok(true);
             }
         }
@@ -334,15 +205,15 @@ impl<R: Net + RandomSource> Rounds<'_, R> {
     }
 
     /// Reads the clock. Where the program was suspended, what waits for it is as old as nobody knows.
-    fn look_at_clock<E: End>(&mut self, panel: &Panel<Ready<E>>) {
-        let end = panel.end();
+    fn look_at_clock(&mut self) {
+        let end = self.panel.end();
         if self.site.view().note(end.end().now(), end.sent()) {
-            self.doubts = true;
+            self.clients.doubt();
         }
     }
 
     /// How long may be waited, in milliseconds.
-    fn wait_for<E: End>(&mut self, panel: &Panel<Ready<E>>, now: u64) -> u64 {
+    fn wait_for(&mut self, now: u64) -> u64 {
         let mut moment = now.saturating_add(LONGEST_WAIT_MS);
         if self.holds(now) {
             moment = self.held_until;
@@ -350,11 +221,14 @@ impl<R: Net + RandomSource> Rounds<'_, R> {
             return 0;
         }
         let view = self.site.view();
-        if let Some(due) = panel.next_due() {
+        if let Some(due) = self.panel.next_due() {
             moment = moment.min(due.saturating_add(view.ahead()));
         }
         if let Some(next) = view.next_moment() {
             moment = moment.min(next);
+        }
+        if self.panel.end().has_failed() {
+            moment = moment.max(now.saturating_add(FAILED_WAIT_MS));
         }
         moment.saturating_sub(now)
     }
@@ -365,36 +239,12 @@ impl<R: Net + RandomSource> Rounds<'_, R> {
         now < self.held_until && self.site.view().has_orders()
     }
 
-    /// Lets the browsers in that wait, and answers their requests.
+    /// Lets the browsers in that wait, answers their requests, and notes an order that was taken.
     fn serve_browsers(&mut self, now: u64) {
         if self.holds(now) {
             return;
         }
-        if self.doubts {
-            self.clients.doubt();
-        }
-        if self.accept(now) {
-            self.doubts = false;
-        }
-        self.clients.serve(&mut self.site, now);
-        self.note_orders(now);
-    }
-
-    /// Lets the browsers in that wait. Returns whether no more do.
-    fn accept(&mut self, now: u64) -> bool {
-        for _ in 0..16u32 {
-            let Ok((stream, _)) = self.listener.accept() else {
-                return true;
-            };
-            if let Ok(keys) = RandomState::new(self.rt) {
-                self.clients.add(stream, &self.poll, keys, now, self.doubts);
-            }
-        }
-        false
-    }
-
-    /// Notes an order that was taken.
-    fn note_orders(&mut self, now: u64) {
+        self.clients.serve(self.console.host, &mut self.site, now);
         let ticket = self.site.view().next_ticket();
         if self.ticket != ticket {
             self.ticket = ticket;
@@ -402,36 +252,32 @@ impl<R: Net + RandomSource> Rounds<'_, R> {
         }
     }
 
-    /// Prints when the device is lost and when it is heard again, where that is asked for.
-    fn note_link<F: Sink>(&mut self, faults: &mut Printer<F>) {
+    /// Prints when the device is lost, with the local address if the machine has lost that, and when it is heard again,
+    /// where that is asked for.
+    fn note_link(&mut self) {
         let news = self.site.view().news();
         let is_lost = news.lost_since.is_some();
-        if !self.serving.verbose || is_lost == self.was_lost {
+        if !self.options.verbose || is_lost == self.was_lost {
             return;
         }
         self.was_lost = is_lost;
+        let (alloc, host, ip) = (self.console.alloc, self.console.host, self.ip);
+        let faults = &mut *self.console.faults;
         if is_lost {
             print_note(
                 "the device is lost: a command got no answer for 5 s",
                 faults,
             );
-            self.note_gone(faults);
+            if is_gone(host, ip) {
+                let ip = Ipv4Addr::from(ip);
+                print_made_note(format!(in alloc; "the address {ip} is gone"), faults);
+            }
         } else {
-            note_heard(self.alloc, news.lost, faults);
+            let lost = news.lost;
+            let note = format!(in alloc;
+                "the device is heard again; {lost} sessions were lost so far"
+            );
+            print_made_note(note, faults);
         }
     }
-
-    /// Prints that the machine has lost the address of the socket for the device, where it has.
-    fn note_gone<F: Sink>(&self, faults: &mut Printer<F>) {
-        if is_gone(self.rt, self.ip) {
-            let ip = Ipv4Addr::from(self.ip);
-            print_made_note(format!(in self.alloc; "the address {ip} is gone"), faults);
-        }
-    }
-}
-
-/// Prints that the device is heard again, after so many lost sessions.
-fn note_heard<F: Sink>(alloc: Global, lost: u64, faults: &mut Printer<F>) {
-    let note = format!(in alloc; "the device is heard again; {lost} sessions were lost so far");
-    print_made_note(note, faults);
 }

@@ -1,7 +1,0 @@
-use Rattle.std.proofs.Common.{◌≡◌}
-use Rattle.oca_web.proofs.site.Site.open.Given as goal
-
-abbrev pub invariant-loop-range : goal.invariant-loop-range
-invariant-loop-range l = (l.self.view.orders ≡ l.fn.self.view.orders) × (l.self.terms ≡ l.fn.self.terms)
-    × (l.self.doubts ≡ l.fn.self.doubts)
-    × (l.self.calls ≡ l.fn.self.calls) × (l.self.admitted ≡ l.fn.self.admitted)
