@@ -6,6 +6,7 @@ mod bounded;
 mod commands;
 mod keeping;
 mod lapses;
+mod order;
 mod parts;
 mod play;
 mod reports;

@@ -4,6 +4,7 @@ mod memory;
 mod moments;
 mod refusals;
 mod sockets;
+mod stale;
 
 use super::Script;
 use oca_net::{End, Heard, UdpEnd};

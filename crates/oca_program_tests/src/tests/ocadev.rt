@@ -1,6 +1,6 @@
 //! What the clauses leave open: replays between ends that cut what they give and take, or fail at each place, and what
 //! goes over sockets. Whole runs of the program are rows of `tools/rows/ocadev.toml`.
-use super::{first_place, first_wrong, none_wrong};
+use super::{first_place, first_wrong, none_wrong, wrong_unless};
 use oca_device::{Device, Outbox};
 use oca_tree::{Tree, bench};
 use oca_types::Window;
@@ -117,8 +117,17 @@ fn traced_datagrams(rt: HostRuntime) {
         &rt,
         "traced datagrams",
         &[
-            on_bench(alloc, &mut traces::Serving { alloc }),
-            on_bench(alloc, &mut traces::Printing { alloc }),
+            wrong_unless(traces::serves(alloc, false, b"")),
+            wrong_unless(traces::serves(alloc, true, traces::TRACE)),
         ],
+    );
+}
+
+#[test]
+fn a_store_that_fails_is_logged_each_minute(rt: HostRuntime) {
+    none_wrong(
+        &rt,
+        "a store that fails",
+        &[wrong_unless(traces::reminds_each_minute(rt.alloc()))],
     );
 }

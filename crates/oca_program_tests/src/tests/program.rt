@@ -1,7 +1,6 @@
 //! What the clauses leave open: printed texts, and faults where memory or the writer refuses.
 use super::{AtPlace, Row, displays, first_place, first_wrong, none_wrong};
 use crate::tests::fakes::ShortWriter;
-use oca_net::BindFault;
 use oca_program::{Failure, Form, RunFault, report};
 use oca_script::{LineFault, Printer, ReplayFault};
 use oca_textree::ObjectFault;
@@ -13,7 +12,6 @@ use std::str::from_utf8;
 enum Cause {
     Run(RunFault),
     Replay(ReplayFault),
-    Bind(BindFault),
 }
 
 use Cause::*;
@@ -23,7 +21,6 @@ fn failure(cause: Cause) -> Failure {
     match cause {
         Run(fault) => Failure::from(fault),
         Replay(fault) => Failure::from(fault),
-        Bind(fault) => Failure::from(fault),
     }
 }
 
@@ -49,7 +46,7 @@ impl Row for Reported {
     fn agrees(&self, alloc: Global) -> bool {
         let is_displayed = match self.0 {
             Run(fault) => displays_line(alloc, &fault, self.2),
-            Replay(_) | Bind(_) => true,
+            Replay(_) => true,
         };
         is_displayed && reports_as(&failure(self.0), self.1, self.2.as_bytes())
     }
@@ -125,7 +122,7 @@ const FORMS: &[IsOf] = &[
     IsOf(Form::Text, "a file", true),
 ];
 
-const LINES_AND_SOCKETS: &[Reported] = &[
+const LINES: &[Reported] = &[
     Reported(
         Replay(ReplayFault::Line(7, LineFault::Hex)),
         2,
@@ -134,8 +131,6 @@ const LINES_AND_SOCKETS: &[Reported] = &[
     Reported(Replay(ReplayFault::Read), 1, "read failed\n"),
     Reported(Replay(ReplayFault::Write), 1, "write failed\n"),
     Reported(Replay(ReplayFault::TooMuch), 1, "too much input\n"),
-    Reported(Bind(BindFault::Io), 1, "socket failed\n"),
-    Reported(Bind(BindFault::NoMemory), 1, "no memory\n"),
 ];
 
 /// A fault with a note of these bytes; the status with which it ends a run, how what is printed begins, and of how many
@@ -202,7 +197,7 @@ fn faults_and_forms_of_runs(rt: HostRuntime) {
         "faults and forms of runs",
         &[
             first_wrong(alloc, FAULTS),
-            first_wrong(alloc, LINES_AND_SOCKETS),
+            first_wrong(alloc, LINES),
             first_wrong(alloc, FORMS),
             first_place(alloc, &Filled, 0, 10),
             first_wrong(alloc, NOTES),

@@ -6,7 +6,7 @@ use super::{Row, first_wrong, none_wrong};
 use oca_net::MemoryEnd;
 use oca_panel::Panel;
 use oca_types::{Handle, Ono, Packet, Peer, Span};
-use oca_web::{Action, OrderResult, View};
+use oca_web::{Action, Read, View, Wanted};
 use std::alloc::Global;
 
 const DEVICE: Peer = Peer {
@@ -16,15 +16,6 @@ const DEVICE: Peer = Peer {
 
 /// The first handle: behind three commands half of those above it are used.
 const FIRST: u32 = 4_294_967_289;
-
-/// What is ordered. The fourth order waits for the first one, which is of the same object, and the fifth behind it.
-const ORDERS: &[(u32, Action)] = &[
-    (4097, Action::Lock),
-    (4098, Action::Lock),
-    (4099, Action::Lock),
-    (4097, Action::Unlock),
-    (4100, Action::Lock),
-];
 
 /// The answers to the first three commands, and to those over the end after it.
 const ANSWERS: &[Coming] = &[
@@ -58,30 +49,26 @@ const ANSWERS_BEHIND: &[Coming] = &[
     ),
 ];
 
-/// The commands of orders that an end took: the handle and the object of each.
-const TAKEN: &[(u32, u32)] = &[(FIRST, 4097), (FIRST + 1, 4098), (FIRST + 2, 4099)];
+/// The commands that the first end took, and those that the second one took at first: the handle and the object of each.
+/// An order of the root waits for its role, which no answer says. So the role is asked first, and again over the second end.
+const TAKEN: &[(u32, u32)] = &[(FIRST, 100), (FIRST + 1, 100), (FIRST + 2, 100)];
 
-/// The last moment of the first end, whether the program stood still until then, the commands of orders that the second
-/// end took, and how many orders were carried out in the end.
+const TAKEN_BEHIND: &[(u32, u32)] = &[(1, 100), (2, 100)];
+
+/// The last moment of the first end, and whether the program stood still until then: then the order waits no longer.
 pub struct Changes {
     last: u64,
     stood_still: bool,
-    taken: &'static [(u32, u32)],
-    done: usize,
 }
 
 pub const CHANGES: &[Changes] = &[
     Changes {
         last: 2000,
         stood_still: false,
-        taken: &[(1, 4097), (2, 4100)],
-        done: 5,
     },
     Changes {
         last: 2001,
         stood_still: true,
-        taken: &[],
-        done: 3,
     },
 ];
 
@@ -98,52 +85,20 @@ fn is_command(packet: &Packet, wanted: (u32, u32)) -> bool {
     number_at(packet, 14) == Some(wanted.0) && number_at(packet, 18) == Some(wanted.1)
 }
 
-/// Whether a datagram has no command for an object that is ordered about.
-fn is_of_no_order(packet: &Packet) -> bool {
-    match number_at(packet, 18) {
-        Some(ono) => ono < 4097,
-        None => true,
-    }
-}
-
-/// Whether the commands of orders that an end took are these, each once.
+/// Whether the first commands that an end took are these, each once.
 fn took(end: &MemoryEnd, wanted: &[(u32, u32)]) -> bool {
-    for (at, (_, packet)) in end.taken().iter().enumerate() {
-        let is_right = match wanted.get(at) {
-            Some(command) => is_command(packet, *command),
-            None => is_of_no_order(packet),
-        };
-        if !is_right {
-            return false;
-        }
-    }
-    wanted.len() <= end.taken().len()
+    let taken = end.taken();
+    wanted.len() <= taken.len() && (0..wanted.len()).all(|at| is_command(&taken[at].1, wanted[at]))
 }
 
-/// Whether these are the results of the first orders, in their order: so many were carried out.
-fn are_first(results: &[OrderResult], done: usize) -> bool {
-    let mut ticket = 0u64;
-    let mut carried_out = 0usize;
-    for one in results {
-        ticket = ticket.saturating_add(1);
-        if one.ticket != ticket {
-            return false;
-        }
-        if one.done == Ok(()) {
-            carried_out = carried_out.saturating_add(1);
-        }
-    }
-    carried_out == done
-}
-
-/// Takes all orders.
-fn takes_orders(view: &mut View) -> bool {
-    for (ono, action) in ORDERS {
-        if view.order(Ono(*ono), *action, u64::MAX).is_none() {
-            return false;
-        }
-    }
-    view.next_ticket() == 6
+/// Takes an order.
+fn takes_order(view: &mut View) -> bool {
+    let wanted = Wanted {
+        ono: Ono(100),
+        read: Read::default(),
+        action: Action::Lock,
+    };
+    view.order_all(&[wanted], u64::MAX).is_some() && view.next_ticket() == 2
 }
 
 /// Goes on, and takes so many turns. Whether there was memory.
@@ -179,14 +134,12 @@ fn runs(
 impl Changes {
     /// Whether the view goes on as it must over both ends.
     fn goes_on(&self, alloc: Global, view: &mut View) -> bool {
-        takes_orders(view)
+        takes_order(view)
             && !view.wants_end()
             && runs(alloc, view, Handle(FIRST), ANSWERS, TAKEN)
             && view.wants_end()
-            && are_first(view.orders().results(), 3)
             && self.changes(view)
-            && runs(alloc, view, Handle(1), ANSWERS_BEHIND, self.taken)
-            && are_first(view.orders().results(), self.done)
+            && runs(alloc, view, Handle(1), ANSWERS_BEHIND, TAKEN_BEHIND)
     }
 
     /// Whether the view keeps what it is to keep when it takes another end: the objects and the tickets, and the orders
@@ -197,7 +150,7 @@ impl Changes {
         stood_still == self.stood_still
             && view.orders().waits() == !stood_still
             && !view.wants_end()
-            && view.next_ticket() == 6
+            && view.next_ticket() == 2
             && view.moment() == self.last
             && view.ahead() == self.last.saturating_sub(500)
             && view.inventory().objects().as_slice().len() == objects

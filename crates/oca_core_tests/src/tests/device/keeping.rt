@@ -121,7 +121,7 @@ impl<E: End> End for Noting<E> {
 /// What the loop does in at most so many turns.
 #[derive(Clone, Copy)]
 struct Run {
-    turns: u32,
+    turns: u64,
     /// What is reported.
     report: Report,
     /// Whether something written is then not stored.

@@ -83,6 +83,32 @@ const SILENCE: &[Coming] = &[
     Quiet(7250),
 ];
 
+/// Nothing for 5,000 ms, after which a command is lost, and then the answer to the next one.
+const LOSS: &[Coming] = &[
+    Quiet(0),
+    Quiet(250),
+    Quiet(500),
+    Quiet(750),
+    Quiet(1000),
+    Quiet(1250),
+    Quiet(1500),
+    Quiet(1750),
+    Quiet(2000),
+    Quiet(2250),
+    Quiet(2500),
+    Quiet(2750),
+    Quiet(3000),
+    Quiet(3250),
+    Quiet(3500),
+    Quiet(3750),
+    Quiet(4000),
+    Quiet(4250),
+    Quiet(4500),
+    Quiet(4750),
+    Quiet(5000),
+    Datagram(DEVICE, ANSWER_2_7, 5100),
+];
+
 /// A new link, whose first handle is 1.
 fn link() -> Link {
     Link::new(DEVICE, Handle(1), 0, Span::default())
@@ -254,7 +280,7 @@ const THEN_A_READ: Lines = Lines {
 fn session(alloc: Global, ahead: u8, deliveries: &[Coming]) -> Option<Session<MemoryEnd>> {
     let ahead = Span::new(ahead)?;
     match end(alloc, deliveries, 30, None) {
-        Some(end) => Some(Session::new(link(), end, ahead, None)),
+        Some(end) => Some(Session::open(DEVICE, end, Handle(1), Span::default(), ahead, None)),
         None => None,
     }
 }
@@ -322,13 +348,22 @@ pub const ONE_AT_A_TIME: &[Lines] = &[
         output: b"answer 0 1 01\nanswer 7 1 01\n",
         ..NO_LINES
     },
-    // a link that is lost
+    // a link that is lost: the next line is sent over a new one, at an end that is closed then
     Lines {
         ahead: 1,
         deliveries: SILENCE,
         lines: TWO,
         unanswered: true,
-        output: b"lost\nlost\n",
+        output: b"lost\nno answer\n",
+        ..NO_LINES
+    },
+    // and at one over which the answer comes
+    Lines {
+        ahead: 1,
+        deliveries: LOSS,
+        lines: TWO,
+        unanswered: true,
+        output: b"lost\nanswer 7 1 01\n",
         ..NO_LINES
     },
 ];

@@ -10,7 +10,8 @@ use oca_panel::Panel;
 use oca_program::RunFault;
 use oca_script::Printer;
 use oca_types::{Handle, Ono, Span, Text};
-use ocactl_cli::objects::{Pair, set_all};
+use ocactl_cli::command::Pair;
+use ocactl_cli::objects::set_all;
 use std::alloc::Global;
 
 /// Under handle 1 the object is a mute.

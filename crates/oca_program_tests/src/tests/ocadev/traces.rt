@@ -1,16 +1,18 @@
-//! A device that is served until its end is closed, and what is printed of each datagram.
-use super::Trial;
+//! A device that is served until its end is closed, and what is printed of each datagram; and a store that fails.
 use crate::tests::coming::Coming::{self, Datagram, Failed, Quiet};
 use crate::tests::coming::end;
 use crate::tests::fakes::ShortWriter;
-use crate::tests::wrong_unless;
-use oca_device::{Device, Outbox, Report};
-use oca_net::MemoryEnd;
+use oca_device::{Report, Store};
+use oca_net::{Heard, MemoryEnd};
 use oca_script::Printer;
-use oca_types::Peer;
-use ocadev_cli::serving::{Tracing, serve_on, serve_traced};
-use ocadev_cli::trace::Watched;
+use oca_tree::{Tree, bench};
+use oca_types::{Peer, Sizes};
+use ocadev_cli::disk::Disk;
+use ocadev_cli::log::Log;
+use ocadev_cli::serving::{Served, serve};
+use ocadev_cli::store::{FileStore, Kept};
 use std::alloc::Global;
+use std::io::{self, ErrorKind};
 
 /// SetState of 4097 to Unmuted under handle 1.
 const SET: &[u8] =
@@ -87,26 +89,8 @@ const REPORT: Report = Report {
     failed_sends: 1,
 };
 
-/// A device that is served until the script is at its end.
-#[derive(Drop)]
-pub struct Serving {
-    pub alloc: Global,
-}
-
-impl Trial for Serving {
-    /// Whether it reports the script so, and its end took so many packets.
-    fn first_wrong(&mut self, device: &mut Device, outbox: &mut Outbox) -> Option<usize> {
-        match end_of_script(self.alloc) {
-            Some(mut end) => wrong_unless(
-                serve_on(device, &mut end, outbox) == REPORT && end.taken().len() == 6,
-            ),
-            None => Some(usize::MAX),
-        }
-    }
-}
-
 /// The trace of the script.
-const TRACE: &[u8] = b"10.0.0.1:9001 served 1 0 0 wrote 4097
+pub const TRACE: &[u8] = b"10.0.0.1:9001 served 1 0 0 wrote 4097
 10.0.0.1:9001 served 0 1 0
 10.0.0.1:9001 served 0 0 0 reused 1
 10.0.0.1:9001 served 2 0 0 wrote 4097 4098 failed-sends 1
@@ -118,29 +102,84 @@ oversize
 10.0.0.1:9001 served 1 0 0 unlocked 4098
 ";
 
-/// Whether a device reports the turns of an end so, and they are traced so.
-fn prints_turns(device: &mut Device, outbox: &mut Outbox, end: &mut Watched<MemoryEnd>) -> bool {
+/// Whether the bench device serves the script so, its end takes so many packets, and this is logged.
+pub fn serves(alloc: Global, verbose: bool, logged: &[u8]) -> bool {
+    let Ok(tree) = bench(alloc) else {
+        return false;
+    };
+    let Ok(mut served) = Served::new(alloc, tree, Sizes::default()) else {
+        return false;
+    };
+    let Some(mut end) = end_of_script(alloc) else {
+        return false;
+    };
     let mut faults = Printer::new(ShortWriter::new(7, usize::MAX));
-    let tracing = Tracing::new(true, None);
-    let report = serve_traced(device, end, outbox, u64::MAX, tracing, &mut faults);
-    report == REPORT && faults.sink().taken.as_slice() == TRACE
+    let mut log = Log::new(alloc, verbose, None, &mut faults);
+    let unkept: Option<Kept<'_, Full>> = None;
+    let report = serve(&mut served, &mut end, unkept, &mut log, u64::MAX);
+    report == REPORT && end.taken().len() == 6 && faults.sink().taken.as_slice() == logged
 }
 
-/// A device of which each datagram is traced.
-#[derive(Drop)]
-pub struct Printing {
-    pub alloc: Global,
-}
+/// A disk that refuses each step.
+#[derive(Clone, Copy)]
+struct Full;
 
-impl Trial for Printing {
-    /// Whether it reports the script so, and each datagram is traced so.
-    fn first_wrong(&mut self, device: &mut Device, outbox: &mut Outbox) -> Option<usize> {
-        match end_of_script(self.alloc) {
-            Some(end) => {
-                let end = &mut Watched::new(end);
-                wrong_unless(prints_turns(device, outbox, end))
-            }
-            None => Some(usize::MAX),
-        }
+impl Disk for Full {
+    ghost use Rattle.ocadev_cli.specs.Storing.{silent_disk};
+
+    ghost state = { λ _. silent_disk };
+
+    fn write_new(&mut self, _tree: &Tree) -> io::Result<()> {
+        refused()
     }
+
+    fn sync_new(&mut self) -> io::Result<()> {
+        refused()
+    }
+
+    fn replace(&mut self) -> io::Result<()> {
+        refused()
+    }
+
+    fn sync_folder(&mut self) -> io::Result<()> {
+        refused()
+    }
+}
+
+fn refused() -> io::Result<()> {
+    Err(io::Error::new(ErrorKind::Other, "it is full"))
+}
+
+/// The moments of turns behind a store that failed, and what is logged of it.
+const QUIET: &[u64] = &[1000, 1050, 60_999, 61_000, 61_050, 120_999, 121_000];
+
+const REMINDERS: &[u8] = b"note: the state is not kept: state: it is full
+note: the state is not kept for 60 s: state: it is full
+note: the state is not kept for 120 s: state: it is full
+";
+
+/// Whether a store that fails is logged at once, and again each minute.
+pub fn reminds_each_minute(alloc: Global) -> bool {
+    let Ok(tree) = bench(alloc) else {
+        return false;
+    };
+    let Ok(served) = Served::new(alloc, tree, Sizes::default()) else {
+        return false;
+    };
+    let mut faults = Printer::new(ShortWriter::new(7, usize::MAX));
+    let mut log = Log::new(alloc, false, None, &mut faults);
+    let mut disk = Full;
+    let mut store = FileStore::new("state", &mut disk, &mut log);
+    let is_stored = store.store(served.device.tree());
+    for now in QUIET {
+        let heard = Heard::Quiet { now: *now };
+        store.tell(
+            heard,
+            &[],
+            &served.outbox,
+            &Report::default(),
+            &served.device,
+        );
+    }
+    !is_stored && faults.sink().taken.as_slice() == REMINDERS
 }
