@@ -1,8 +1,8 @@
 #!/usr/bin/env python3
-"""The list of docs/API.md: each public call and type of the libraries that embedders use, and each call of
-include/oca.h, with the first sentence of what its comment says.
+"""Lists each public call and type of the libraries that embedders use, and each call of include/oca.h, with the first
+sentence of its comment.
 
-Usage: api.py     writes docs/API.md anew from the line MARK on; what stands above is written by hand
+Usage: api.py     writes out/API.md
 
 What a library exports is what its lib.rt names: what it uses with `pub`, and all of its public modules. The sources are
 formatted, so that what begins a line, or stands behind four spaces in an `impl` or a trait, is an item of it."""
@@ -14,7 +14,13 @@ from pathlib import Path
 import reference
 
 TOP = Path(__file__).resolve().parent.parent
-PAGE, MARK = TOP / "docs/API.md", "<!-- What follows is made by gate/api.py. -->\n"
+PAGE = TOP / "out/API.md"
+HEAD = """# The public API by crate
+
+Each public type and call, with the first sentence of its comment. Its contract and its errors are above it in
+`crates/NAME/src`. docs/EMBEDDING.md and docs/EMBEDDING-C.md show the calls in use. Moments and times are in
+milliseconds.
+"""
 LIBRARIES = ("oca_types oca_pdu oca_model oca_tree oca_session oca_net oca_device oca_control oca_panel oca_pair oca_promise "
              "oca_wait oca_script oca_textree").split()
 OWNER = r"(?:impl(?:<[^{]*?>)? (\w+)(?:<[^{]*>)?|pub trait (\w+).*) \{"
@@ -99,8 +105,9 @@ def made():
     parts = [table(f"`{crate}`\n\n{textwrap.fill(about(crate), 120)}", listed(crate)) for crate in LIBRARIES]
     of_header = [(" ".join(declared.rstrip(";").split()).removeprefix("static inline "), first_sentence([said]))
                  for said, calls, _ in reference.paragraphs(reference.HEADER.read_text()) for declared in calls.values()]
-    return "\n".join([MARK, *parts, table("`oca.h`", of_header)])
+    return "\n".join([HEAD, *parts, table("`oca.h`", of_header)])
 
 
 if __name__ == "__main__":
-    PAGE.write_text(PAGE.read_text().split(MARK)[0] + made())
+    PAGE.parent.mkdir(exist_ok=True)
+    PAGE.write_text(made())

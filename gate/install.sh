@@ -1,6 +1,7 @@
 #!/bin/sh
 # Installs below PREFIX (of DESTDIR), or takes away what it installed: install.sh install|uninstall programs|library [TARGET]
 # The library of another kind of processor goes to lib/KIND of PREFIX, compiled by KIND-gcc. A relative PREFIX is below this folder.
+# CC, AR, CFLAGS, CPPFLAGS and LDFLAGS are respected, as those of a cross build are; CC may have words behind the compiler's name.
 set -eu
 PREFIX=${PREFIX:-/usr/local}
 case $PREFIX in /*) ;; *) PREFIX=$PWD/$PREFIX ;; esac
@@ -10,8 +11,8 @@ KIND=${TARGET%%-*}-linux-gnu
 LIB=lib
 if [ "$TARGET" != "$(uname -m)-unknown-linux-gnu" ]; then
     LIB=lib/$KIND
-    CC=$KIND-gcc
-    AR=$KIND-ar
+    CC=${CC:-$KIND-gcc}
+    AR=${AR:-$KIND-ar}
 fi
 VERSION=$(sed -n 's/^Version: //p' include/oca.pc.in)
 MAJOR=${VERSION%%.*}
@@ -41,19 +42,20 @@ put_programs() {
         put 755 "bin/$name" bin
         put 644 "man/$name.1" share/man/man1
     done
+    for name in ocadev ocapanel; do put_text "systemd/$name.service.in" lib/systemd/system "$name.service"; done
 }
 
 # The static library with all C of c/ (a panel, a device's loop and what it needs, a heap over malloc), the one without the heap, and
 # the shared one, whose names all begin with `oca_`; and the manual pages.
 make_library() {
-    parts="panel kept store socket serve"
-    for name in $parts malloc; do ${CC:-cc} -O2 -fPIC -Wall -Wextra -Iinclude -c -o "$work/$name.o" "c/$name.c"; done
+    parts="panel kept store socket serve close"
+    for name in $parts malloc; do ${CC:-cc} ${CFLAGS--O2} ${CPPFLAGS-} -fPIC -Wall -Wextra -Iinclude -c -o "$work/$name.o" "c/$name.c"; done
     cp "${LIBRARY:-crates/oca_c/out/$TARGET/liboca_c.a}" "$work/liboca_c.a"
     for name in $parts; do ${AR:-ar} rs "$work/liboca_c.a" "$work/$name.o" 2> /dev/null; done
     cp "$work/liboca_c.a" "$work/liboca.a"
     ${AR:-ar} rs "$work/liboca.a" "$work/malloc.o" 2> /dev/null
-    ${CC:-cc} -shared -o "$work/liboca.so.$VERSION" -Wl,-soname,liboca.so.$MAJOR -Wl,--version-script=include/oca.map \
-        -Wl,--whole-archive "$work/liboca.a" -Wl,--no-whole-archive -Wl,-z,defs
+    ${CC:-cc} ${CFLAGS--O2} ${LDFLAGS-} -shared -o "$work/liboca.so.$VERSION" -Wl,-soname,liboca.so.$MAJOR \
+        -Wl,--version-script=include/oca.map -Wl,-z,relro,-z,now -Wl,--whole-archive "$work/liboca.a" -Wl,--no-whole-archive -Wl,-z,defs
     python3 gate/reference.py "$work/man3" > "$work/pages"
 }
 
@@ -73,5 +75,5 @@ put_library() {
 action=$1
 case $1-$2 in
 install-programs | install-library | uninstall-programs | uninstall-library) "put_$2" ;;
-*) sed -n 2,3p "$0" >&2; exit 2 ;;
+*) sed -n 2,4p "$0" >&2; exit 2 ;;
 esac

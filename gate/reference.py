@@ -19,7 +19,7 @@ CALL = r"^(?:static inline )?(?:(?:enum|struct) oca_\w+|const char|u?int\d+_t|si
 TYPE = r"^(?:((?:struct|enum) oca_\w+) \{[^}]*\}|typedef \w+ \(\*(oca_\w+)\)\([^)]*\));"
 # On each page anyway; and what the header's own functions call, which has no page.
 NAMED_ANYWAY = ("struct oca_device", "struct oca_link", "enum oca_result")
-HELPERS = {"oca_device_close_any", "oca_link_close_any", "oca_outcome_of"}
+HELPERS = {"oca_outcome_of"}
 
 def answers_of(name):
     said = next((said for form, said in ANSWERS if re.fullmatch(form, name)), None)
@@ -28,9 +28,38 @@ def answers_of(name):
     return [f"{of}{it}" for it in ["DONE", *said.split()]] if said else []
 
 
+def lines_of(text):
+    """The lines of the comments in a text, without the signs of the comments."""
+    for part in re.findall(r"/\*(.*?)\*/", text, re.S):
+        yield from (re.sub(r"^ ?\* ?", "", line).rstrip() for line in part.splitlines())
+        yield ""
+
+
+def blocks_of(text):
+    """What the comments in a text say, as troff has it: paragraphs; each item of a list, and each answer of a call, by itself."""
+    found = [".PP"]
+    for line in lines_of(text):
+        item = re.match(r" ?- (.*)", line)
+        if item or not line.strip():
+            found += [".IP \\(bu 2" if item else ".PP", *([item[1]] if item else [])]
+        elif found[-1].startswith("."):
+            found.append(line.strip())
+        else:
+            found[-1] += " " + line.strip()
+    for said in found:
+        if said.startswith("."):
+            yield said
+            continue
+        for number, part in enumerate(re.split(r"(?<=[.:]) (?=Returns OCA_)", said)):
+            first, *answers = re.split(r"(?<=\.) (?=OCA_[A-Z])", part)
+            yield from (*[".PP"] * min(number, 1), first, *(it for answer in answers for it in (".IP \\(bu 2", answer)))
+
+
 def comment_in(text):
-    parts = re.findall(r"/\*(.*?)\*/", text, re.S)
-    return " ".join(" ".join(re.sub(r"^ \* ?", "", line).strip() for line in part.splitlines()) for part in parts).strip()
+    """What the comments in a text say, as troff has it; a macro stands only before what it is for."""
+    found = [*blocks_of(text), ".PP"]
+    kept = [it if it.startswith(".") else roff(it) for it, behind in zip(found, found[1:]) if not (it.startswith(".") and behind.startswith("."))]
+    return "\n".join(kept).removeprefix(".PP\n")
 
 
 def paragraphs(header):
@@ -56,7 +85,7 @@ def pages(header):
             of_functions = " ".join(of for it, (_, of) in types.items() if of.startswith("typedef") and re.search(rf"\b{it}\b", declared))
             named = [types[it] for it in types if re.search(rf"\b{it}\b", declared + of_functions) and it not in NAMED_ANYWAY]
             more = [about for about, _ in named if about != said]
-            found[name] = ("\n.PP\n".join(map(roff, [said, *more])), declared, [of for _, of in named])
+            found[name] = ("\n.PP\n".join([said, *more]), declared, [of for _, of in named])
     return found, general
 
 
@@ -83,7 +112,7 @@ def page(header, general, name, said, declared, types):
         texts = dict(re.findall(r'case (OCA_\w+): return "([^"]*)";', header))
         answers = "\n".join(f"{it} ({numbers[it]}): {texts[it]}" for it in answers_of(name))
         parts += [".SH RETURN VALUE", ".nf", roff(answers), ".fi"]
-    return "\n".join([*parts, ".SH NOTES", roff(general), ""])
+    return "\n".join([*parts, ".SH NOTES", general, ""])
 
 
 def version_of(header):

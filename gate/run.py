@@ -34,6 +34,7 @@ TOP = HERE.parent
 BESIDE = 3
 LAST_LINES = 12  # so many are shown of a step that passed
 RUNNING = []
+STARTS = threading.Lock()  # held while a command begins, so that each that has begun is in RUNNING; and for good once the gate ends
 TABLE = []  # a line for each command that has ended
 WRONG = []  # lines that say what failed
 EARLIER = {}  # whether an earlier run had proved it, of each crate that `rt ci` has proved
@@ -64,10 +65,24 @@ def end(process):
         os.killpg(process.pid, signal.SIGKILL)
 
 
-def interrupted(number, _):
-    for process in RUNNING:
-        end(process)
-    os._exit(128 + number)
+def end_at_signals():
+    """Ends the gate, and all that it runs, at a signal. A thread of its own is told of it: Python runs a handler in the main
+    thread alone, and not while that waits, if the signal came just before."""
+    told, tells = os.pipe()
+    os.set_blocking(tells, False)
+
+    def ends():
+        number = os.read(told, 1)[0]
+        STARTS.acquire()
+        for process in RUNNING:
+            end(process)
+        os._exit(128 + number)
+
+    threading.Thread(target=ends, daemon=True).start()
+    signal.set_wakeup_fd(tells)
+    for number in (signal.SIGINT, signal.SIGTERM, signal.SIGHUP):
+        if number != signal.SIGHUP or signal.getsignal(number) != signal.SIG_IGN:  # which it is under `nohup`
+            signal.signal(number, lambda *_: None)
 
 
 def last_line(text):
@@ -85,9 +100,10 @@ def ran(command, least, minutes=24 * 60, gives_way=False, note=lambda _: None):
     with it. Each line that it prints is handed on. Answers how many checks passed and failed, by its last line or its
     status, what it printed, and what is told of it."""
     begun, said, why = time.monotonic(), [], ""
-    process = subprocess.Popen(command, shell=True, cwd=TOP, stdin=subprocess.DEVNULL, stdout=subprocess.PIPE, stderr=subprocess.STDOUT,
-                               text=True, errors="replace", start_new_session=True, preexec_fn=give_way if gives_way else None)
-    RUNNING.append(process)
+    with STARTS:
+        process = subprocess.Popen(command, shell=True, cwd=TOP, stdin=subprocess.DEVNULL, stdout=subprocess.PIPE, stderr=subprocess.STDOUT,
+                                   text=True, errors="replace", start_new_session=True, preexec_fn=give_way if gives_way else None)
+        RUNNING.append(process)
     late = threading.Timer(60 * minutes, end, [process])
     late.daemon = True
     late.start()
@@ -220,10 +236,7 @@ def writes():
 
 
 def main(words):
-    signal.signal(signal.SIGINT, interrupted)
-    signal.signal(signal.SIGTERM, interrupted)
-    if signal.getsignal(signal.SIGHUP) != signal.SIG_IGN:  # which it is under `nohup`
-        signal.signal(signal.SIGHUP, interrupted)
+    end_at_signals()
     begun, counts = time.monotonic(), []
     if not words:
         kit.command()  # or one line says that there is none

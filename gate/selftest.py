@@ -29,6 +29,7 @@ import fuzz
 import keep
 import lossy
 import machines
+import named
 import peers
 import scenes
 import snippets
@@ -323,6 +324,18 @@ def broken_tables(text, folder):
     return tuple(found) if is_well and (found or last == "2 passed, 0 failed") else (status, last, places)
 
 
+@check("Each tool that is a step of `gate/steps` has a row of docs/PROVED.md.")
+def steps_that_pages_name(_):
+    rows = named.cells((run.TOP / "docs/PROVED.md").read_text(), "Step")
+    ran_by_steps = re.findall(r"(?m)^[^#\n]*python3 (\S+\.py)", (run.TOP / "gate/steps").read_text())
+    return is_same(set(), {*ran_by_steps} - {row["Step"].strip("`") for _, row in rows})
+
+
+@of_rows("`snippets.py` finds each contract, place and definition that a document names and the crates lack.", DATA.named)
+def named_wrongly(look, text, _):
+    return tuple(number for number, fault in getattr(named, look)(text) if fault)
+
+
 @check("`snippets.py` comes to each session, with each of its commands, and each block of code with a path of README.md and of all of docs/.")
 def finds_what_documents_say(_):
     wanted, found = [], []
@@ -484,17 +497,19 @@ def called_by(function, body, named, below):
                 yield other
 
 
-def public_functions(crates):
-    """The crates without edits; the public functions of the others that have no contract; and those that have one, but that no edit reaches.
-    An edit reaches what it touches, and what calls that, at any depth, as far as calls tell without types. Not looked at: methods of traits,
-    and laws, whose edits are of definitions. Left out of the last: what only hands out a field."""
+def public_functions(crates, programs):
+    """The libraries without edits; the public functions of the others that have no contract; and those that have one, but that no edit reaches,
+    also of the crates of programs, which need no contract. An edit reaches what it touches, and what calls that, at any depth, as far as calls
+    tell without types. Not looked at: methods of traits, and laws, whose edits are of definitions. Left out of the last: what only hands out a
+    field."""
     named, bodies, reached, bare, public, without, below = {}, {}, set(), [], {}, [], {}
     for crate in crates:
         below[crate.name] = {crate.name, *(it.name for it in crate.below())}
         its = [edits.Edit(it, crate) for it, must_pass in edits.files_of_edits(crate) if not must_pass]
-        without += [] if its else [crate.name]
+        is_program = crate.name in programs
+        without += [] if its or is_program else [crate.name]
         paths = {function.path() for it in its for function in it.functions}
-        for path, text in edits.sources_of(crate).items() if its else ():
+        for path, text in edits.sources_of(crate).items() if its or is_program else ():
             lines = text.split("\n")
             for it in edits.functions_in(crate, path, text):
                 it.crate = crate.name
@@ -503,8 +518,9 @@ def public_functions(crates):
                 reached |= {it} if it.path() in paths else set()
                 if lines[it.first].strip().startswith("pub ") and not it.name.startswith("law_") and not it.is_of_trait:
                     its_name, is_field = f"{crate.name} {it.path()}", re.fullmatch(r"(&(mut )?)?self(\.\w+)+", bodies[it])
-                    bare += [] if edits.clauses_of(lines, it) else [its_name]
-                    public |= {} if is_field or its_name in bare else {it: its_name}
+                    has_contract = edits.clauses_of(lines, it)
+                    bare += [] if has_contract or is_program else [its_name]
+                    public |= {it: its_name} if has_contract and not is_field else {}
     calls = {it: {*called_by(it, body, named, below)} - {it} for it, body in bodies.items()}
     while more := {it for it, those in calls.items() if those & reached} - reached:
         reached |= more
@@ -528,8 +544,8 @@ ASKED = {
     "defined twice in these": defined_twice,
     "defined twice": lambda _: defined_twice(run.TOP),
     "public": public,
-    "public functions of these": lambda top: public_functions([FakeCrate("a", top), FakeCrate("b", top)]),
-    "public functions": lambda _: public_functions(edits.rt.crates_below(str(run.TOP))),
+    "public functions of these": lambda top: public_functions([FakeCrate(it, top) for it in "abc"], ["c"]),
+    "public functions": lambda _: public_functions(edits.rt.crates_below(str(run.TOP)), DATA.programs.split()),
 }
 each(DATA.of_files)(
     lambda files, asked, wanted, folder: laid(folder, getattr(DATA, files)) or is_same(wanted, mapped(ASKED[asked](folder), lambda it: it, tuple)))

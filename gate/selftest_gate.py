@@ -439,7 +439,7 @@ def library_of(row, folder):
 def is_installed(fails, folder):
     """Whether `install.sh` installs the library, and the programs, where this fails, or this file is missing."""
     kind = f"{os.uname().machine}-unknown-linux-gnu"
-    for name in ("gate", "include", "man", "c"):
+    for name in ("gate", "include", "man", "systemd", "c"):
         shutil.copytree(run.TOP / name, folder / name, ignore=shutil.ignore_patterns("__pycache__"))
     laid(folder, dict.fromkeys(("made.a", "bin/ocadev", "bin/ocactl", "bin/ocapanel"), "made"))
     if (folder / fails).is_file():
@@ -559,14 +559,15 @@ def ends_when_told(number, before, folder):
     words = [sys.executable, run.HERE / "run.py", "steps", folder / "long-steps"]
     gate = subprocess.Popen(words, stdout=subprocess.DEVNULL, preexec_fn=hears)
     is_begun = waited(begun.exists, 30) is not None
-    sleeps = lambda: os.path.exists(f"/proc/{begun.read_text().strip()}/exe")
+    sleeps = lambda: begun.exists() and os.path.exists(f"/proc/{begun.read_text().strip()}/exe")
     for it in [before] if before else []:
         gate.send_signal(it)
         time.sleep(0.1)
     slept = is_begun and sleeps()
     gate.send_signal(number)
-    status = gate.wait(30)
-    return slept and waited(lambda: not sleeps(), 30) is not None and status == 128 + number
+    has_ended = waited(lambda: gate.poll() is not None, 30) is not None
+    gate.kill()
+    return is_same((True, True, 128 + number, True), (slept, has_ended, gate.wait(), waited(lambda: not sleeps(), 30) is not None))
 
 
 def lost(before, now):
