@@ -91,7 +91,7 @@ static enum oca_result spec_added(struct oca_device *d, struct oca_spec spec) { 
 static bool same_object(const struct oca_spec *told, const struct oca_spec *given) { return memcmp(told, given, sizeof *told) == 0; }
 
 /* A device over a socket, and a panel at it: what the server calls, and between what. */
-struct watched { struct oca_server *server; int held, locks, calls, stores; uint32_t last; bool is_wrong; };
+struct watched { struct oca_server *server; int held, locks, calls, stores; uint32_t last; bool is_wrong; int peers, executed, others; };
 static void holds(void *context) {
     struct watched *it = (struct watched *)context;
     it->is_wrong = it->is_wrong || it->held++ != 0;
@@ -108,9 +108,21 @@ static void writes(void *context, uint32_t ono) {
     it->last = ono;
     it->calls++;
 }
+static void wrote_by(void *context, uint32_t ono, uint32_t ip, uint16_t port) {
+    struct watched *it = (struct watched *)context;
+    it->is_wrong = it->is_wrong || it->held != 1 || it->last != ono || ip != 0x7F000001 || port == 0;
+    it->peers++;
+}
+static void did_for(void *context, const struct oca_effect *effect, uint32_t ip, uint16_t port) {
+    struct watched *it = (struct watched *)context;
+    it->is_wrong = it->is_wrong || it->held != 1 || effect->ono != 4097 || effect->method != OCA_SET_STATE || ip != 0x7F000001 || port == 0;
+    it->executed += effect->outcome == OCA_EXECUTED && effect->status == OCA_STATUS_OK;
+    it->others += effect->outcome != OCA_EXECUTED;
+}
 static void stores(void *context, enum oca_store_result stored) {
     struct watched *it = (struct watched *)context;
-    it->is_wrong = it->is_wrong || it->held != 0 || (it->server->is_busy && oca_serve(it->server, 0) != OCA_NOTHING);
+    it->is_wrong = it->is_wrong || it->held != 0 || oca_serve(it->server, 0) != OCA_NOTHING;
+    oca_serve_end(it->server);
     it->stores = it->stores * 10 + (int)stored + 1;
 }
 

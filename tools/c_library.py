@@ -20,18 +20,22 @@ import os
 import re
 import shlex
 import shutil
+import signal
 import struct
 import subprocess
 import sys
 import tempfile
+import time
 from pathlib import Path
 
 sys.path.insert(0, str(Path(__file__).resolve().parent.parent / "gate"))
 import reference
+import c_figures
 import c_rows
 import oca_profile as oca
+from c_flight import with_many_in_flight
 from c_rows import LANGUAGES, SANITIZED, STRICT, compiled, ran
-from checks import Checks, bound, ended, free_port, lines_in, over_the_layer, port_said, read_until
+from checks import Ahead, Checks, bound, ended, free_port, lines_in, over_the_layer, port_said, read_until
 from samples import bound_at, channels
 from keep import Peer, over_kills
 from peers import Lossy
@@ -44,7 +48,7 @@ DATA, VERSION = data("c_library"), reference.version_of(reference.HEADER.read_te
 CARELESS = [("unused-result", it) for it in DATA.unused] + [("nonnull", f"(void)!{it}") for it in DATA.null]
 INSTALLED = [*DATA.installed]
 CALLS = 1_500_000  # of a run of random ones
-PARTS = ("panel", "kept", "store", "socket", "serve")  # of c/, but the heap
+PARTS = ("panel", "kept", "store", "socket", "serve", "close")  # of c/, but the heap
 FULL = oca.pdu(1, [oca.Command(handle, 4097, 4, 1).body() for handle in range(1, 87)])  # a datagram of 1,472 bytes
 CAREFUL = ["valgrind", "-q", "--error-exitcode=99", "--leak-check=full"]
 KINDS = (("", []), ("sanitized", SANITIZED))  # how a test in C is compiled
@@ -220,6 +224,7 @@ class Trial(Scene):
             "has lost": lambda: self.way.lost > 0,
             "notes": lambda: sorted({*stop(self.run).splitlines()}),
             "stops": lambda: stop(self.run),
+            "signals": lambda number: self.run.send_signal(number),
             "listens at": lambda: bound_at(self.port),
             "looks at the channels": lambda: channels(checks, self.peer, (4096, 4112), -600),
             "stored by": lambda name: [f"fsync {made}/{name}.new", f"rename {name}.new {name}", f"fsync {made}"],
@@ -279,6 +284,88 @@ def mixers(checks, made, prefix, folder):
         plays(checks, "mixer", made, CAREFUL, name="valgrind", short=12, long=12)
 
 
+def standstill(checks, what, words, begins, lasts):
+    """A device in C stands still for so many seconds, while copies of a mute, and a set of one that gives up, wait in its socket."""
+    ahead = Ahead()
+    run, port = serving(words, **ahead.settings, **begins.settings)
+    one, other = Peer(port, 4098), Peer(port, 4098)
+    said = {"the mute": one.status(*MUTED), "the unmute of another": other.status(*UNMUTED), "a lock": one.status(4114, 1, 3), "a gain": other.trims(-5)}
+    begins(run, other)
+    for _ in range(3):
+        one.copy(1, *MUTED)
+    one.send(4098, 5, 2, struct.pack(">h", -77))
+    ahead.set(lasts)
+    begins.ends(run)
+    said |= {"the gain": other.trim(), "the state": other.ask(4113, 4, 1), "what is locked, to another": other.status(4114, 5, 2, b"\0\0")}
+    one.copy(1, *MUTED)
+    said |= {"the state behind one copy more": other.ask(4113, 4, 1), "the unlock": one.status(4114, 1, 4), "a gain again": (one.trims(-78), other.trim())}
+    for name, wanted in (STOOD if lasts <= 60 else OVER_A_MINUTE).items():
+        checks.same(f"{what}, {lasts} s: {name}", said[name], wanted)
+    stop(run)
+
+
+class Stopped:
+    """A device that is stopped."""
+    settings = {}
+
+    def __call__(self, run, peer):
+        run.send_signal(signal.SIGSTOP)
+
+    def ends(self, run):
+        run.send_signal(signal.SIGCONT)
+
+
+class Hung:
+    """A device whose store hangs, from the next command of another peer on."""
+
+    def __init__(self, refusing):
+        self.refusing, self.settings = refusing, {"REFUSING": refusing}
+
+    def __call__(self, run, peer):
+        self.refusing.write_text("slow 700")
+        peer.copy(99, 4097, 4, 2, b"\2")
+        time.sleep(0.3)
+
+    def ends(self, run):
+        self.refusing.unlink()
+
+
+MUTED, UNMUTED = (4113, 4, 2, b"\1"), (4113, 4, 2, b"\2")
+STOOD = {"the mute": 0, "the unmute of another": 0, "a lock": 0, "a gain": (0, b""), "the gain": -5, "the state": (0, b"\2"),
+         "what is locked, to another": 3, "the state behind one copy more": (0, b"\2"), "the unlock": 0,
+         "a gain again": ((0, b""), -78)}
+# The clock counts it: the lock is released. No controller sends a copy so late.
+OVER_A_MINUTE = {name: wanted for name, wanted in STOOD.items() if "copy" not in name} | {"what is locked, to another": 0, "the unlock": 9}
+
+
+def standstills(checks, made):
+    """A device that stood still, stopped or in a store, executes nothing that waited meanwhile, and up to a minute it loses no lock and no session."""
+    for lasts in DATA.standstills:
+        standstill(checks, "a stopped device", [made / "device-c11", 0, 900], Stopped(), lasts)
+        standstill(checks, "a stopped mixer", [made / "mixer-plain", made / f"kept over {lasts} s", 0, 900], Stopped(), lasts)
+        standstill(checks, "a mixer whose store hangs", [made / "mixer-plain", made / f"kept over {lasts} s of a store", 0, 900],
+                   Hung(made / "refusing of a store"), lasts)
+
+
+def groups(checks, made):
+    """Three panels with 16 sets in flight, at a store that takes 100 ms: no link is lost, and what waits is stored together."""
+    counts = made / "fsyncs"
+    run, port = serving([made / "mixer-plain", made / "kept together", 0, 900], REFUSING=made / "slow store", CALLS=counts)
+    (made / "slow store").write_text("slow 50")
+    confirmed, _, lost = with_many_in_flight(port, 4114, least=2000)
+    stores = sum(it.startswith("rename") for it in lines_in(counts))
+    stop(run)
+    checks.same("links that were lost over a slow store", lost, 0)
+    checks.same(f"{confirmed} sets in {stores} stores", confirmed >= 2000 and stores * 8 <= confirmed, True)
+
+
+def stacks(checks, made, prefix):
+    """The most stack that a call of the library takes; tools/c_figures.py prints what each takes."""
+    for name, used in c_figures.stacks(made, prefix / "lib/liboca.a", prefix / "include").items():
+        most = DATA.stack_of_a_start if name.startswith("oca_device_start") else DATA.stack
+        checks.expect(f"the stack of {name} is at most {most} bytes", used <= most, used)
+
+
 def refused_memory(checks, made):
     """Each request for memory refused in turn: the program says so and ends, or does without."""
     for words, refused in (([made / "device-c11", 0, 0], "not started: 8\n"), ([made / "panel-c11", 9], "not opened: 8\n")):
@@ -302,6 +389,7 @@ def arenas(checks, made):
 
 
 PROGRAMS = ["ocadev", "ocactl", "ocapanel"]
+UNITS = [f"lib/systemd/system/{it}.service" for it in ("ocadev", "ocapanel")]
 
 
 def make(goal, prefix, archive, **more):
@@ -348,7 +436,7 @@ def panel_below(made, place):
 def installs(checks, made, archive):
     """What is installed stays below DESTDIR; below odd prefixes the panel runs."""
     pages = [f"{name}.1" for name in PROGRAMS]
-    every = [*INSTALLED, *(f"bin/{it}" for it in PROGRAMS), *(f"share/man/man1/{it}" for it in pages)]
+    every = [*INSTALLED, *(f"bin/{it}" for it in PROGRAMS), *(f"share/man/man1/{it}" for it in pages), *UNITS]
     below = lambda files: sorted(f"opt/oca/{it}" for it in files)
     before = os.umask(0o077)  # of one who keeps files from others
     plays(checks, "place", made, archive=archive, relative=os.path.relpath(made / "rel", TOP), installed=INSTALLED, own=below(INSTALLED),
@@ -433,6 +521,35 @@ def beside_another_kind(checks, made, archive):
     checks.same("what `make uninstall` leaves of AArch64", files_below(made / "arm-alone"), [])
 
 
+def cross_built(checks, made, archive):
+    """A cross build as that of a distribution: its compiler, with words behind the name, its archiver and its flags are taken."""
+    told = made / "said to the tools"
+    for name in ("cc", "ar"):
+        (made / f"poky-{name}").write_text(f'#!/bin/sh\necho "{name} $*" >> "{told}"\nexec {name} "$@"\n')
+        (made / f"poky-{name}").chmod(0o755)
+    make("install-library", made / "poky", archive, TARGET=ARM, **{name: text.format(made=made) for name, text in DATA.cross})
+    lines = lines_in(told)
+    compiles, links = [it for it in lines if " -c " in it], [it for it in lines if " -shared " in it]
+    checks.same("what is compiled by a compiler of one's own", len(compiles), len(PARTS) + 1)
+    for what, found, wanted in (("compiled", compiles, DATA.cross_compiled), ("linked", links, DATA.cross_linked)):
+        for word in wanted:
+            checks.same(f"what is {what} with {word}", [f" {word} " in it for it in found], [True] * len(found))
+    checks.same("what is put together by an archiver of one's own", len(lines) - len(compiles) - len(links), len(PARTS) + 1)
+    checks.same("what is linked once", len(links), 1)
+
+
+def standards(checks, made):
+    """The header and each part of c/ are C99 and C++11, the names of the header can be used in C++, and no sample has more than 120 lines."""
+    long = [it.name for it in (TOP / "examples/c").glob("*.c") if it.read_text().count("\n") > 120]
+    checks.same("samples of more than 120 lines", long, [])
+    (made / "names.cc").write_text(DATA.names)
+    sources = [*sorted((TOP / "c").glob("*.c"))]
+    for words in (["cc", "-std=c99"], ["cc", "-std=c11"], ["c++", "-x", "c++", "-std=c++11"]):
+        for source in [*sources, made / "names.cc"] if "c++" in words else sources:
+            run = ran(*words, *STRICT, "-Wpedantic", "-Wshadow", f"-I{TOP}/include", "-c", "-o", os.devnull, source)
+            checks.same(f"{source.name} by {words[-1]}", (run.returncode, run.stderr), (0, ""))
+
+
 def on_the_line(digits, port):
     """A datagram as the bare device's serial line has it: behind its size and the address and the port of its peer; nothing for none."""
     data = bytes.fromhex(whole(digits, {}))
@@ -485,6 +602,7 @@ def names(checks, archive, prefix):
     checks.same("what the library needs", sorted(symbols(r" U (\w+)$", "nm", "-u", archive)),
                 ["memcpy", "memmove", "memset", "rattle_alloc", "rattle_dealloc", "rattle_realloc"])
     checks.same("what the shared library exports", symbols(r" T (\w+)$", "nm", "-D", "--defined-only", prefix / "lib/liboca.so"), declared)
+    checks.same("its functions are bound at the start", symbols(r"(BIND_NOW|\bNOW\b)", "readelf", "-d", prefix / "lib/liboca.so") != set(), True)
     checks.same("its SONAME", symbols(r"SONAME.*\[(.*)\]", "readelf", "-d", prefix / "lib/liboca.so"), {"liboca.so.1"})
 
 
@@ -529,9 +647,9 @@ def main():
         compile_all(made, "c++17", *cflags, f"{prefix}/lib/liboca.a")
         names(checks, archive, prefix)
         for_every_processor(checks, archive)
-        for part, *given in ((panels, prefix, folder), (installs, archive), (beside_another_kind, archive), (warnings, prefix), (by_cmake, prefix),
+        for part, *given in ((panels, prefix, folder), (installs, archive), (beside_another_kind, archive), (cross_built, archive), (standards,), (warnings, prefix), (by_cmake, prefix),
                              (each_call, prefix), (random_calls, prefix), (mixers, prefix, folder), (on_arm,), (large_datagrams,),
-                             (of_a_socket,), (refused_memory,), (both_ends,)):
+                             (of_a_socket,), (standstills,), (groups,), (stacks, prefix), (refused_memory,), (both_ends,)):
             part(checks, made, *given)
     return checks.verdict()
 

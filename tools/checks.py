@@ -186,6 +186,8 @@ class Serving:
         found = re.fullmatch(r"listening (?:http://)?([\d.]+):(\d+)(?:/(?:\?token=([\w-]+))?)?\n", self.said)
         self.ip, self.port, self.token = found.groups() if found else (None, 0, None)
         self.port = int(self.port)
+        if "--token" in words:  # of a file: it is not printed, else the run counts as one that did not say where it listens
+            self.port, self.token = 0 if self.token else self.port, Path(words[words.index("--token") + 1]).read_text().splitlines()[0]
 
     def __enter__(self):
         return self if self.port else sys.exit(f"{self.process.args[0]} said {self.said!r}")
@@ -254,6 +256,8 @@ class Checks:
         run = self.start("ocadev", "serve", "--port", 0, *words, **how)
         port = port_said(run)
         read_note(run)
+        if "--keep" in words:
+            run.stderr.readline()  # with what it began
         return run, port
 
     def ran(self, *words, given="", seconds=60, **how):

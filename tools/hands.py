@@ -156,6 +156,8 @@ class Stage(Scene):
             "device hears all": lambda: setattr(self.device, "methods", ()),
             "locked": lambda: [it.ono for it in self.device.tree if it.lock],
             "locked by another": lambda ono, kind: setattr(self.object(ono), "lock", (kind, OTHER)),
+            "unlocked at the device": lambda ono, _: setattr(self.object(ono), "lock", None),
+            "restarted": lambda *_: self.device.restart(),
             "objects": lambda *onos: [*map(self.shown, onos)],
             "calls": lambda words, given="": self.calls(words, given, *([] if "--port" in words else ["--port", self.names["port"]])),
             "calls at its own ports": self.calls,

@@ -1,6 +1,6 @@
 #!/usr/bin/env python3
 """include/oca.h held against the sources of the library: each prototype, constant and struct; the manual pages made
-from it; and the list of docs/API.md, as gate/api.py makes it.
+from it; and the list of public calls that gate/api.py makes.
 
 Usage: header.py
 
@@ -9,6 +9,7 @@ failed'."""
 import re
 import sys
 import tempfile
+from collections import Counter
 from pathlib import Path
 
 from checks import Checks
@@ -124,14 +125,16 @@ def compared(header):
     all where they are not those of the results that its enums have."""
     there, said = dict(re.findall(r'case (OCA_\w+): return "([^"]*)";', header)), texts()
     enums = {
-        **{name: constants(of, re.findall(rf"{kind}::(\w+)(?:\(\w+\))? => \(?(\d+)", source(file))) for name, file, kind, of in DATA.arms},
+        **{name: constants(of, re.findall(rf"{kind}::(\w+)(?:\(\w+\))? => (?:\(|\[\w+, \w+, )?(\d+)", source(file))) for name, file, kind, of in DATA.arms},
         **{name: constants(of, re.findall(r"\n    (\w+) = (\d+),", variants_of(file, kind))) for name, file, kind, of in DATA.variants},
         "oca_method": methods(),
     }
     words = source("crates/oca_calls/src/words.rt")
     verdict = re.search(r"\} => \[0, (.*?)\]", words)[1].split(", ")
     object_words = re.findall(r"^        (?:object\.|)(\w+)(?:\.0|\(object\.class\)|\.len\(\) as u32),", words, re.M)
+    effect = re.search(r"\[target, (\w+), 1, u32::from\((\w+)\.", words)
     structs = {
+        "oca_effect": [(name, "uint32_t") for name in ["ono", effect[1], "outcome", effect[2]]],
         "oca_verdict": [(name, "uint32_t") for name in ["kind", *verdict[:4], "fault", "at"]],
         "oca_object": [(name, "uint32_t") for name in [*object_words[:2], "class_number", "role_size"]] + [("role[64]", "uint8_t")],
         **{of: struct(name) for name, of in DATA.structs.items()},
@@ -175,6 +178,11 @@ def part(page, heading):
     return page.partition(f"\n.SH {heading}\n")[2].split("\n.SH")[0]
 
 
+def said_in(page, heading):
+    """The words of a part of a page, without its macros."""
+    return words(re.sub(r"^\.[A-Z]{2}.*$", "", part(page, heading), flags=re.M))
+
+
 def words(text):
     return re.findall(r"\w+", text)
 
@@ -189,11 +197,13 @@ def page_faults(name, page, header, comment, title):
         (f"is not titled by its name and {title}", page.startswith(f".TH {name} 3 {title}\n")),
         ("does not say in a line what the call does", about and about == comment[:len(about)]),
         ("does not have its declaration", f" {' '.join(words(declared))} " in f" {' '.join(words(part(page, 'SYNOPSIS')))} "),
-        ("does not say what the header says", comment and words(part(page, "DESCRIPTION"))[:len(comment)] == comment),
+        ("does not say what the header says", comment and said_in(page, "DESCRIPTION")[:len(comment)] == comment),
         ("does not show what its declaration names", all(f"{it} {{" in part(page, "SYNOPSIS") for it in types)),
         ("does not say what it can answer", answers == set(reference.answers_of(name)) and bool(answers) == bool(re.search(f"enum oca_((store|socket)_)?result {name}", declared))),
         ("does not say what all calls want",
-         words(part(page, "NOTES")) == words(header[:header.index("#ifndef OCA_H")])),
+         said_in(page, "NOTES") == words(header[:header.index("#ifndef OCA_H")])),
+        ("says what the call returns within another paragraph", not re.search(r"\. Returns OCA_|^[^.].*\. OCA_[A-Z_]+ if", part(page, "DESCRIPTION"), re.M)),
+        ("says what all calls want in one paragraph", part(page, "NOTES").count("\n.IP ") > 5),
     ]
     return [f"{name}: its page {what}" for what, is_well in tried if not is_well]
 
@@ -210,15 +220,19 @@ def pages_wrong(header, texts):
     wrong += [f"{it}: no call answers with it" for it in sorted(unsaid)]
     for name in sorted(calls & texts.keys()):
         wrong += page_faults(name, texts[name], header, said[name], f'{day} "oca {version}" "OCA (AES70) for C"')
-    return 8 * len(calls), wrong
+    return 10 * len(calls), wrong
 
 
-def list_wrong(page, made):
-    """How many lines the list of docs/API.md is to have, and what is wrong with it: the lines of one of both alone."""
-    there, wanted = page.partition(api.MARK)[2].splitlines(), made.partition(api.MARK)[2].splitlines()
-    wrong = [f"the list of docs/API.md lacks (python3 gate/api.py makes it anew): {it}" for it in wanted if it not in there]
-    wrong += [f"the list of docs/API.md is not to have: {it}" for it in there if it not in wanted]
-    return len(wanted), wrong or ["the list of docs/API.md has another order"] * (there != wanted)
+def list_wrong(header, made):
+    """How many rows the list of public calls has, and what is wrong with it. It has each library and each call of the header once, and each row
+    has a sentence."""
+    rows = re.findall(r"(?m)^\| (`.*`) \| (.*) \|$", made)
+    wrong = [f"the list of public calls lacks {it}" for it in [*api.LIBRARIES, "oca.h"] if made.count(f"\n## `{it}`\n") != 1]
+    inline = re.findall(r"^static inline [\w ]+?[ *](oca_\w+)\(", header, re.M)
+    called = Counter(re.findall(r"\b(oca_\w+)\(", "\n".join(item for item, _ in rows)))
+    wrong += [f"the list of public calls has {it} {called[it]} times" for it in {*prototypes(header), *inline} - reference.HELPERS if called[it] != 1]
+    wrong += [f"the list of public calls says nothing of {item}" for item, said in rows if not re.search(r"\w \w.*\.$", said)]
+    return len(rows), wrong + [f"the list of public calls has {item} twice" for (item, _), count in Counter(rows).items() if count > 1]
 
 
 def main():
@@ -227,7 +241,7 @@ def main():
         reference.write(Path(place))
         texts = {file.stem: file.read_text() for file in Path(place).glob("*.3")}
     of_pages = pages_wrong(header, texts)
-    for count, wrong in (differences(header), of_pages, list_wrong(api.PAGE.read_text(), made)):
+    for count, wrong in (differences(header), of_pages, list_wrong(header, made)):
         checks.all_but(count, [f"include/oca.h: {line}" for line in wrong])
     for there, other in DATA.wrong:
         checks.finds("", header, there, other, lambda wrong: differences(wrong)[1])
@@ -236,7 +250,7 @@ def main():
         is_found = changed != texts and len(pages_wrong(header, changed)[1]) > len(of_pages[1])
         checks.expect(f"not found: {other!r} in place of {there!r} in the page of {name}", is_found)
     for there, other in DATA.wrong_lists:
-        checks.finds(" in the list", made, there, other, lambda wrong: list_wrong(wrong, made)[1])
+        checks.finds(" in the list", made, there, other, lambda wrong: list_wrong(header, wrong)[1])
     return checks.verdict()
 
 

@@ -49,6 +49,12 @@ class Peer(peers.Peer):
         return answer and struct.unpack(">h", answer[1][:2])[0]
 
 
+def limited(most):
+    """How a run is started whose files have so many bytes at most."""
+    limit = lambda: resource.setrlimit(resource.RLIMIT_FSIZE, (most, resource.RLIM_INFINITY))
+    return {} if most is None else {"preexec_fn": limit, "restore_signals": False}
+
+
 def layer_of(keep):
     """The settings of the layer for a device with this file: steps that are refused, and what is told of them."""
     return {"REFUSING": f"{keep}.refusing", "TOLD": f"{keep}.told"}
@@ -58,10 +64,9 @@ class Checks(checks.Checks):
     def serve(self, keep, *words, most=None, **layer):
         """A device with this file at a port of the system's, this port, and its peer. Where its files have so many bytes at most, a further
         write is refused, and does not end it: the signal is ignored, as by Python."""
-        limit = lambda: resource.setrlimit(resource.RLIMIT_FSIZE, (most, resource.RLIM_INFINITY))
-        limited = {} if most is None else {"preexec_fn": limit, "restore_signals": False}
-        run = self.start("ocadev", "serve", "--port", 0, "--keep", keep, *words, **limited, **layer)
+        run = self.start("ocadev", "serve", "--port", 0, "--keep", keep, *words, **limited(most), **layer)
         port = port_said(run)
+        self.began = run.stderr.readline() if port else ""
         return run, port, Peer(port) if port else None
 
     def has(self, what, keep, value):
@@ -122,7 +127,7 @@ class Room(Scene):
     """A scene of the rows in a folder of its own: a run of the device over a file there, and its controller."""
 
     def __init__(self, checks):
-        self.open, self.keep, self.run, self.peer = contextlib.ExitStack(), "", None, None
+        self.open, self.keep, self.run, self.peer, self.other = contextlib.ExitStack(), "", None, None, None
         self.folder = self.open.enter_context(tempfile.TemporaryDirectory())
         at = lambda name: Path(self.folder, name)
         super().__init__(checks, {
@@ -130,8 +135,11 @@ class Room(Scene):
             "stop": lambda how=signal.SIGKILL: stop(self.run, how),
             "tells": self.tells,
             "serve over the layer": lambda name: self.serve(name, **layer_of(at(name))),
+            "began": lambda: self.checks.began,
+            "serve beside it": self.serve_beside,
+            "the other": self.turn_to_the_other,
             "serve with room": lambda name, most: self.serve(name, most=most),
-            "has room": lambda: resource.prlimit(self.run.pid, resource.RLIMIT_FSIZE, 2 * (resource.RLIM_INFINITY,)),
+            "has room": lambda most=resource.RLIM_INFINITY: resource.prlimit(self.run.pid, resource.RLIMIT_FSIZE, (most, resource.RLIM_INFINITY)),
             **verbs_of_peer(self), **verbs_of_files(at),
             "statuses of what is set": lambda: [self.does["asks"](*it) for it in DATA.sets],
             "sends": lambda value: self.peer.send(TRIM, 5, 2, struct.pack(">h", value)),
@@ -148,25 +156,35 @@ class Room(Scene):
             "cut off": lambda name: cut_off(at(name).read_bytes()),
             "ends by itself": lambda name: self.ends(at(name)),
             "ends over the layer": lambda name: self.ends(at(name), **layer_of(at(name))),
+            "ends with room": lambda name, most: self.ends(at(name), most=most),
         }, folder=self.folder, not_kept=NOT_KEPT, kept_again=f"{AGAIN}{self.folder}/")
 
     def serve(self, name, *words, **how):
         self.keep = f"{self.folder}/{name}"
         self.run, _, self.peer = self.checks.serve(self.keep, *words, **how)
 
+    def serve_beside(self, name, *words):
+        """A second device, to which the next steps are, and the first one as the other."""
+        run, peer = self.run, self.peer
+        self.serve(name, *words)
+        self.other = run, peer
+
+    def turn_to_the_other(self):
+        self.other, (self.run, self.peer) = (self.run, self.peer), self.other
+
     def tells(self, form):
         said = stop(self.run)
         return re.fullmatch(form, said) is not None or said
 
-    def ends(self, keep, **layer):
+    def ends(self, keep, most=None, **layer):
         """What a device with this file prints and says, and its status, where it ends by itself."""
-        return self.checks.ran("ocadev", "serve", "--port", 0, "--keep", keep, seconds=30, **layer)
+        return self.checks.ran("ocadev", "serve", "--port", 0, "--keep", keep, seconds=30, **limited(most), **layer)
 
 
 def cut_off(whole):
-    """A file cut off where a line ends, at its beginning, and before its last byte: how long each is, and its bytes."""
+    """A file cut off where a line ends, at its beginning, and before its last byte: how long each is, the number of its last line, and its bytes."""
     ends = [at + 1 for at, byte in enumerate(whole[:-1]) if byte == 10]
-    return [[size, whole[:size]] for size in [0, *ends, len(whole) - 1]]
+    return [[size, max(1, len(whole[:size].splitlines())), whole[:size]] for size in [0, *ends, len(whole) - 1]]
 
 
 def scenes(checks, _):
@@ -219,11 +237,11 @@ def unknown(checks, folder):
     os.chmod(f"{folder}/closed", 0o700)
 
 
-# What may change a file or a folder, and what sends; and what is done before each answer: a new file is made, written and flushed, it takes
-# the place of the file, and the folder is flushed.
+# What may change a file or a folder, and what sends; and what is done at the start and before each answer: a new file is made, written and flushed, it
+# takes the place of the file, and the folder is flushed.
 CHANGING = "openat,open,creat,write,writev,pwrite64,truncate,ftruncate,fsync,rename,renameat,renameat2,link,linkat,unlink,unlinkat,sendto"
 STORE = ["openat cuts/state.new", "write cuts/state.new", "fsync cuts/state.new", "rename cuts/state.new cuts/state",
-         "openat cuts", "fsync cuts", "sendto"]
+         "openat cuts", "fsync cuts"]
 
 
 def changes_in(log, folder):
@@ -259,8 +277,8 @@ def power_cuts(checks, folder):
         os.kill(int(Path(f"/proc/{tracer}/task/{tracer}/children").read_text().split()[0]), signal.SIGTERM)
         device.process.communicate(timeout=30)
     done, texts = changes_in(Path(log).read_text(encoding="ascii", errors="replace"), folder)
-    checks.same("the calls of the system by which it is stored", done, ["openat cuts/state.lock", *5 * STORE])
-    for value, text in enumerate(texts, 1):
+    checks.same("the calls of the system by which it is stored", done, ["openat cuts/state.lock", *STORE, *5 * [*STORE, "sendto"]])
+    for value, text in enumerate(texts):
         Path(keep).write_text(text, encoding="latin-1")
         checks.same("what is written to it", checks.kept(keep), value)
         checks.is_whole("what is written to it", keep)

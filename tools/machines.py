@@ -10,7 +10,8 @@ within 100 ms longer than alone; at least half of the datagrams must have been s
 
 By two links `ocactl` and `ocapanel` set a mute: it is executed, and its answer is lost. Another peer sets it back, and
 the first link goes: with its address or without. A copy may come over the second link only from the first address, if
-that is still there: the command is executed once, whatever the programs say of it.
+that is still there: the command is executed once, whatever the programs say of it. Then `ocapanel` shows by the second
+link what the other peer sets.
 
 It needs root and `ip` (iproute2); else it says so, and tries nothing. The last line is 'N passed, M failed'."""
 import contextlib
@@ -37,7 +38,7 @@ TRIES, SECONDS = 4, 4
 RUNS = [(1, 0, 1), *((hosts, rate, alive) for hosts in (1, 8) for rate, alive in ((1, 122), (5, 122), (20, 122), (1000, 1)))]
 # where the device is by two links, at which the panel's address and the device's are these
 FAR, FIRST, SECOND = "10.98.9.9", ("10.98.1.1", "10.98.1.2"), ("10.98.2.1", "10.98.2.2")
-OWN_PORT, MUTE, UNMUTED = 20001, 4097, b"\2"
+OWN_PORT, MUTE, MUTED, UNMUTED = 20001, 4097, b"\1", b"\2"
 # the commands that mute: what `ocactl` is called with, and what its input is
 BY_OCACTL = [(("set", MUTE, "muted"), ""), (("run",), f"{MUTE} 4 2 1 01\n"),
               (("send", "--target", MUTE, "--level", 4, "--index", 2, "--count", 1, "--params", "01"), "")]
@@ -192,12 +193,19 @@ def by_ocapanel(checks, what, keeps_address):
         host = f"127.0.0.1:{panel.port}"
         values = lambda: asked(host, "GET", "/values?since=0")
         waited(lambda: any(o["ono"] == MUTE and o.get("value") for o in values()["objects"]), 40, 0.05)
-        ticket = asked(host, "POST", "/set", {"ono": MUTE, "value": "muted"})
-        fared = lambda: [told["trouble"] for told in values()["told"] if told["ticket"] == ticket]
+        order = {"ono": MUTE, "set": "muted", "role": "mute", "block": "desk"}
+        tickets = asked(host, "POST", "/orders", {"run": values()["run"], "orders": [order]})["tickets"]
+        fared = lambda: [told["trouble"] for told in values()["told"] if told["ticket"] in tickets]
         cut_between(checks, what, room, keeps_address, lambda: waited(fared, 40, 0.05))
-        notes = b"" if keeps_address else read_until(panel.process.stderr.fileno(), lambda said: b"gone" in said, 20)
-        checks.same(f"{what}: whether the order is said to be done, and the address gone",
-                    (fared() == [None], f"the address {FIRST[0]} is gone" in notes.decode()), (keeps_address, not keeps_address))
+        gone = f"the address {FIRST[0]} is gone\nnote: the device is reached from the address {SECOND[0]} now\n".encode()
+        notes = b"" if keeps_address else read_until(panel.process.stderr.fileno(), lambda said: gone in said, 20)
+        checks.same(f"{what}: whether the order is said to be done, and the address gone, with the new one",
+                    (fared() == [None], gone in notes), (keeps_address, not keeps_address))
+        _, way, other = room
+        other.ask(MUTE, 4, 2, MUTED)
+        its = lambda said: (said["link"]["lost_for"], [o.get("value") for o in said["objects"] if o["ono"] == MUTE])
+        waited(lambda: its(values()) == (None, ["muted"]), 40, 0.05)
+        checks.same(f"{what}: what the page shows then, and how many peers of the device set it", (its(values()), len(way.senders)), ((None, ["muted"]), 1))
 
 
 def one_address(checks):

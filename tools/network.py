@@ -13,6 +13,7 @@ not be done behind that, and are told as lost. The last line is 'N passed, M fai
 import contextlib
 import fcntl
 import os
+import re
 import resource
 import signal
 import socket
@@ -22,6 +23,7 @@ import sys
 import tempfile
 import time
 from collections import defaultdict
+from concurrent.futures import ThreadPoolExecutor
 from pathlib import Path
 
 import checks
@@ -270,6 +272,8 @@ class Stage(Scene):
             "how many of": lambda came, digits: came.count(digits),
             "lines of": lambda name: lines_in(f"{room}/{name}"),
             "serve by a way": self.serves_by_a_way,
+            "suspended": self.suspend,
+            "cut off": lambda: setattr(self.way, "is_cut", True),
             "control": self.control,
             "control read late": self.read_late,
             "time": self.time.set,
@@ -352,6 +356,12 @@ class Stage(Scene):
         self.serves(self.time.settings)
         self.way = self.open.enter_context(Relay(self.port))
 
+    def suspend(self):
+        """The program stands still for 20 seconds."""
+        self.run.send_signal(signal.SIGSTOP)
+        self.time.set(20)
+        self.run.send_signal(signal.SIGCONT)
+
     def control(self, command, words=(), stdout=subprocess.PIPE):
         to = ("--device", f"127.0.0.1:{self.way.port}", "--port", free_port(), "--first-handle", 1)
         streams = {"stdin": subprocess.PIPE, "stdout": stdout, "stderr": subprocess.DEVNULL}
@@ -392,9 +402,33 @@ class Stage(Scene):
         return self.text.replace(b"\0", b"").decode().split("\n")
 
 
+def locks_at_loss(checks, calls=20):
+    """`lock` and `unlock` from the program's own ports, over a way that loses 3 datagrams of 10 each way: none takes the other port, and none is
+    refused by the lock of another call."""
+    with by_itself():
+        _, port = checks.serve()
+        with peers.Lossy(port, 1, 0.3) as way:
+            for call in range(calls):
+                command = "unlock" if call % 4 == 3 else "lock"
+                out, told, _ = checks.ran("ocactl", command, "--device", at(way.front), 4097)
+                checks.same(f"{command} at a loss of 3 in 10, call {call}: notes of another port", re.findall("is used instead", told), [])
+                checks.expect(f"{command} at a loss of 3 in 10, call {call}: it is not refused by its own lock", "Locked" not in out, out)
+
+
+def many_at_once(checks):
+    """Sixty calls of `get`, eight at a time, from the program's own ports, of a device with room for sixteen peers: all are answered."""
+    with by_itself():
+        _, port = checks.serve()
+        words = (f"{checks.folder}/ocactl", "get", "--device", f"127.0.0.1:{port}", "4097")
+        with ThreadPoolExecutor(8) as pool:
+            said = [*pool.map(lambda _: subprocess.run(words, capture_output=True, text=True, timeout=60).stdout, range(60))]
+    for call, out in enumerate(said):
+        checks.same(f"`get` eight at a time, call {call}", out, "4097 muted\n")
+
+
 def scenes(checks):
     play_all(checks, Stage, "network")
 
 
 if __name__ == "__main__":
-    sys.exit(Checks(sys.argv[1]).tried(quiet_turns, is_a_program_there, lines_at_once, a_stalled_neighbour, scenes))
+    sys.exit(Checks(sys.argv[1]).tried(quiet_turns, is_a_program_there, lines_at_once, a_stalled_neighbour, locks_at_loss, many_at_once, scenes))

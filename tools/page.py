@@ -19,7 +19,7 @@ from tables import TOP, data
 
 SOURCES, TARGET = TOP / "crates/oca_web/page", TOP / "crates/oca_web/src/page.rt"
 SCRIPTS = ["words", "link", "orders", "log", "controls", "faders", "strips", "tree", "main"]
-MOST = 45_000
+MOST = 49_152
 # The names that are not the page's own: of the language and the browser, of what the program says, and those that are used as texts too.
 DATA = data("page")
 KEPT = {*DATA.kept.split()}
@@ -86,6 +86,20 @@ def joined(text):
     return re.sub(r"\0let(?![\w$])\s*", ",", "".join(out)).replace("\0", ";")
 
 
+def members_once(text, folder):
+    """The script with the browser's names that stand often behind a point as texts that are said once: `x.textContent` becomes `x[a]`."""
+    tokens = [match[0] for match in TOKEN.finditer(text)]
+    members = [at for at in range(2, len(tokens)) if tokens[at - 1] == "." and tokens[at - 2] not in (".", "?") and re.fullmatch(r"[A-Za-z]{5,}", tokens[at])]
+    counts, taken = Counter(tokens[at] for at in members), {*tokens, *short_names(folder).values()}
+    letters = "abcdefghijklmnopqrstuvwxyzABCDEFGHIJKLMNOPQRSTUVWXYZ"
+    free = (a + b for a in "$_" for b in letters if a + b not in taken)
+    texts = {name: next(free) for name, count in counts.most_common() if count * (len(name) - 3) > len(name) + 6}
+    for at in members:
+        if tokens[at] in texts:
+            tokens[at - 1:at + 1] = "", f"[{texts[tokens[at]]}]"
+    return "let " + ",".join(f'{short}="{name}"' for name, short in texts.items()) + ";" + "".join(tokens)
+
+
 def as_arrow(found):
     """A function that is declared at the top of a script, as an arrow function, which is shorter. So none is called before it is declared."""
     is_async, name, given, body = found.groups(default="")
@@ -98,7 +112,7 @@ def sources(folder):
 
 
 def script(folder):
-    return '"use strict";' + joined(shorten(sources(folder), folder))
+    return '"use strict";' + members_once(joined(shorten(sources(folder), folder)), folder)
 
 
 def page(folder=SOURCES):

@@ -30,7 +30,11 @@ from peers import Lossy, Peer, Served, commands_in
 from scenes import Scene, scenes_of
 from tables import TOP, as_it_stands, each, octets, whole
 
-TREE = (TOP / "examples/stagebox.tree").read_text()
+# A stage box of eight channels without labels, where all is muted and each trim is 0.
+TREE = '4096 100 boolean off no-lock "phantom power"\n' + "".join(
+    f'{n} 100 block lockable "channel {of}"\n{n + 1} {n} mute muted lockable mute\n{n + 2} {n} polarity non-inverted lockable polarity\n'
+    f'{n + 3} {n} int16 -600 600 0 lockable trim\n{n + 4} {n} switch "Mic,Line,Stage left,Off" Mic lockable source\n'
+    for of, n in enumerate(range(4097, 4137, 5), 1))
 MUTE, TRIM = 4098, 4100
 ITS, OWN_PORT = Checks(), free_port()
 ROWS = as_it_stands("panel")
@@ -79,13 +83,14 @@ class Connection(socket.socket):
         self.connect(to)
         self.file = self.makefile("rb")
 
-    def answer(self):
-        """The status, the fields of the head and the text of the next answer; status 0 where none comes."""
+    def answer(self, has_text=True):
+        """The status, the fields of the head and the text of the next answer; status 0 where none comes. The answer to HEAD has no text, whatever its
+        head says."""
         with contextlib.suppress(OSError):
             status = re.match(rb"HTTP/1\.[01] (\d{3})", self.file.readline())
             if status:
                 fields = http.client.parse_headers(self.file)
-                return int(status[1]), fields, self.file.read(int(fields.get("content-length", 0)))
+                return int(status[1]), fields, self.file.read(int(fields.get("content-length", 0)) if has_text else 0)
         return 0, {}, b""
 
     def close(self):
@@ -100,7 +105,7 @@ class Panel(Serving):
         words += () if token else ("--no-token",)
         super().__init__(f"{ITS.folder}/ocapanel", "--device", address(device), "--listen", f"{ip}:{port}", *words, notes=notes, **settings)
         self.told_ip, self.ip, self.host = self.ip, ip, f"{ip}:{self.port}"
-        self.since, self.epoch, self.run, self.shown, self.told = 0, 0, None, {}, {}
+        self.since, self.epoch, self.run, self.shown, self.told, self.objects = 0, 0, None, {}, {}, {}
 
     def connected(self, small=False):
         return Connection((self.ip, self.port), small)
@@ -110,11 +115,12 @@ class Panel(Serving):
         with contextlib.suppress(OSError), self.connected() as s:
             s.settimeout(seconds)
             s.sendall(data)
-            return s.answer()
+            return s.answer(not data.startswith(b"HEAD "))
         return 0, {}, b""
 
     def asks(self, path):
-        return request({"method": "GET", "path": path, "Host": self.host})
+        cookie = self.token and f"ocapanel-{self.port}={self.token}"
+        return request({"method": "GET", "path": path, "Host": self.host, "Cookie": cookie})
 
     def orders_by(self, path, body):
         fields = {"Host": self.host, "Origin": f"http://{self.host}", "Content-Type": "application/json"}
@@ -127,18 +133,37 @@ class Panel(Serving):
         status, _, text = self.exchange(self.orders_by(path, body))
         return status, json.loads(text) if text else None
 
-    def order(self, path, ono, value=None, **more):
-        return self.post(path, {"ono": ono} | ({} if value is None else {"value": value}) | more)
+    def read(self, wanted):
+        """An order with what a page shows of its object: the role, that of its block, and the name of a switch's position. What it says itself stays."""
+        if not isinstance(wanted, dict) or wanted.get("ono") is None:
+            return wanted
+        if wanted["ono"] not in self.objects:
+            self.objects = self.in_tree()
+        one = self.objects.get(wanted["ono"], {})
+        names, at = one.get("names") or [], str(wanted.get("set", ""))
+        named = {"name": names[int(at)]} if at.isdigit() and int(at) < len(names) else {}
+        return {"role": one.get("role", ""), "block": self.objects.get(one.get("in"), {}).get("role", "")} | named | wanted
+
+    def body(self, *wanted, **more):
+        self.run = self.run or self.get("/values")["run"]
+        return {"run": self.run, "orders": [self.read(one) for one in wanted]} | more
+
+    def one(self, verb, ono, value=None, **more):
+        """The body of one order: `verb` is /set, /lock or /unlock."""
+        return self.body({"ono": ono, verb[1:]: True if value is None else value}, **more)
+
+    def order(self, verb, ono, value=None, **more):
+        status, answer = self.post("/orders", self.one(verb, ono, value, **more))
+        return status, answer["tickets"][0] if status == 202 else answer
 
     def orders(self, *wanted, **more):
-        self.run = self.run or self.get("/values")["run"]
-        return self.post("/orders", {"run": self.run, "orders": wanted} | more)
+        return self.post("/orders", self.body(*wanted, **more))
 
     def look(self, extra="&first=0&count=512"):
         """Asks for what changed, as a page does that shows all."""
         values = self.get(f"/values?since={self.since}{extra}")
         if values["epoch"] != self.epoch:
-            self.epoch, self.since, self.shown = values["epoch"], 0, {}
+            self.epoch, self.since, self.shown, self.objects = values["epoch"], 0, {}, {}
             return self.look(extra)
         self.since = values["change"]
         self.shown |= {o["ono"]: o for o in values["objects"]}
@@ -281,7 +306,7 @@ def nulls(fields):
 
 def wanted_fields(row, fields):
     """The fields of the head of the answer that a row describes. The page has its policy too, whatever that says."""
-    wanted = {"content-type": row.get("type"), "set-cookie": row.get("cookie")} | ({} if row.get("bare") else ROWS["protection"])
+    wanted = {"content-type": row.get("type"), "set-cookie": row.get("cookie"), "allow": row.get("allow")} | ({} if row.get("bare") else ROWS["protection"])
     if row.get("type", "").startswith("text/html"):
         wanted["content-security-policy"] = fields.get("content-security-policy", "a policy")
     return sorted((name, it) for name, it in wanted.items() if it)
@@ -390,11 +415,15 @@ class Desk(Bench):
             "orders but": lambda more: self.panel.orders({"ono": MUTE, "set": "muted"}, **nulls(more))[0],
             "posts": lambda path, body: self.panel.post(path, body),
             "fare until": lambda now, *orders: self.panel.settled(self.panel.orders(*orders, before=now - 1)[1]["tickets"]),
+            "page shows": lambda ono, names: self.panel.objects.update({ono: self.panel.in_tree()[ono] | names}),
+            "page reads anew": lambda: self.panel.objects.clear(),
+            "fares on another": self.fares_on_another,
             "how 150 fare": self.fares_at_once,
             "settled": lambda tickets: self.panel.settled(tickets),
             "told from the first on": lambda: [[*it.values()] for it in self.panel.get("/values?since=0&told=1")["told"]],
             "tickets told": self.tickets_told,
             "told": lambda ticket: self.panel.settled([ticket], 0)[0],
+            "is not sent": lambda ticket: self.panel.settled([ticket], 0)[0] in ("not sent: too late", "not sent: the link is lost"),
             "known": known,
             "is shown": lambda ono: self.panel.look() and known(ono) is not None,
             "shown": lambda ono, name: self.panel.look() and known(ono, name),
@@ -437,7 +466,7 @@ class Desk(Bench):
             "connect": self.connects,
             "close": self.closes,
             "send": self.sends,
-            "order at": lambda name, path, body: self.sends(name, self.panel.orders_by(path, body).decode()),
+            "order at": lambda name, verb, ono, value, more={}: self.sends(name, self.panel.orders_by("/orders", self.panel.one(verb, ono, value, **more)).decode()),
             "orders at": self.sends_orders,
             "status at": lambda name: self.ends[name][0].answer()[0],
             "ticket at": self.ticket_at,
@@ -449,7 +478,8 @@ class Desk(Bench):
             "closed": lambda name: [at for at, s in enumerate(self.ends[name]) if not open_ends(self.panel, [s])],
             "are kept": self.are_kept,
             "seconds until closed": self.seconds_until_closed,
-        }, other_tree=TREE.replace(f"{MUTE} 4097 mute muted lockable mute", f"{MUTE} 4097 int16 -5 5 0 lockable mute"))
+        }, other_tree=TREE.replace(f"{MUTE} 4097 mute muted lockable mute", f"{MUTE} 4097 int16 -5 5 0 lockable mute"),
+            other_roles=TREE.replace("channel", "monitor").replace('"Mic,Line,Stage left,Off" Mic', '"Tape,Radio,Stage left,Off" Tape'))
 
     def begins_panel(self, words="", **settings):
         panel = self.panel = self.open.enter_context(Panel(self.way or self.device, *words.split(), **settings))
@@ -545,18 +575,19 @@ class Desk(Bench):
         return told.get(TRIM) is not None
 
     def is_told_right_behind(self, name):
-        """Whether a page that asks right behind the answer to an order is told how it ended: of 40 tries three in a row must be told so, else
+        """Whether a page that asks right behind the answer to an order is told how it ended: of 400 tries three in a row must be told so, else
         what each was. Where the page itself took more than 1 ms it is no try."""
         s, told = self.ends[name][0], []
-        for _ in range(400):
-            s.sendall(self.panel.orders_by("/set", {"ono": 4097, "value": "muted"}))
-            (status, _, ticket), begun = s.answer(), time.monotonic()
-            s.sendall(self.panel.asks("/values?since=0&told=0"))
+        for _ in range(4000):
+            s.sendall(self.panel.orders_by("/orders", self.panel.one("/set", 4097, "muted")))
+            (status, _, text), begun = s.answer(), time.monotonic()
+            ticket = json.loads(text)["tickets"][0] if status == 202 else 0
+            s.sendall(self.panel.asks("/values?since=0&told=0&first=0&count=512"))
             is_try, values = time.monotonic() < begun + 0.001, json.loads(s.answer()[2])
-            told += [status == 202 and int(ticket) in {one["ticket"] for one in values["told"]}] if is_try else []
-            if told[-3:] == 3 * [True] or len(told) == 40:
+            told += [ticket in {one["ticket"] for one in values["told"]}] if is_try else []
+            if told[-3:] == 3 * [True] or len(told) == 400:
                 break
-            self.panel.settled([int(ticket or 0)], 2)  # else the next order would wait behind this one
+            self.panel.settled([ticket], 2)  # else the next order would wait behind this one
         return told[-3:] == 3 * [True] or told
 
     def tickets_told(self, query):
@@ -569,11 +600,37 @@ class Desk(Bench):
         return [[status, len([*those])] for status, those in itertools.groupby(self.panel.order(*order)[0] for _ in range(count))]
 
     def fares_at_once(self):
-        """How 150 orders fare that are sent at once: 64 that mute and unmute, and 86 of the trim, of which the last sets 21."""
-        batches = [[{"ono": MUTE, "set": ("muted", "unmuted")[n % 2]} for n in range(64)]]
-        batches += [[{"ono": TRIM, "set": str(n)} for n in range(size)] for size in (64, 22)]
+        """How 150 orders fare that are sent at once: 64 that mute and unmute eight channels, and 86 of their trims, of which the last sets 21. Those of a
+        channel go one after another, so few are of each."""
+        batches = [[{"ono": MUTE + 5 * (n % 8), "set": ("muted", "unmuted")[n // 8 % 2]} for n in range(64)]]
+        batches += [[{"ono": TRIM + 5 * ((size - 1 - n) % 8), "set": str(n)} for n in range(size)] for size in (64, 22)]
         tickets = [ticket for batch in batches for ticket in self.panel.orders(*batch)[1]["tickets"]]
         return sorted({*self.panel.settled(tickets)}, key=str)
+
+    def fares_on_another(self, gaps, *trees):
+        """How orders fare of a page that read one device, where another one with the same numbers and classes takes its place so many seconds later, and
+        what is then set in that one: [] each time."""
+        told = []
+        for at, gap in enumerate(gaps):
+            it, other = trees[at % 2], trees[(at + 1) % 2]
+            self.panel.objects = {}
+            bodies = [self.panel.one("/set", 4098, "unmuted"), self.panel.one("/set", 4101, "1"), self.panel.one("/lock", 4100)]
+            self.asks_for(0.7, "&shown=0-42")
+            self.device.end()
+            self.asks_for(gap, "&shown=0-42")
+            self.begins(Device(self.device.port, other))
+            tickets = []
+            for body in bodies:
+                tickets += (self.panel.post("/orders", body)[1] or {}).get("tickets", [])
+                self.asks_for(0.1 * (at % 3), "&shown=0-42")
+            fared = {*self.panel.settled(tickets)}
+            is_held = ocactl(self.device.port, *"set 4100 0".split())
+            told.append([ocactl(self.device.port, *"get 4098 4101".split()).split("\n")[:2], is_held, sorted(map(str, fared - self.UNSENT))])
+            check(waited(lambda: self.is_found_anew(0) and self.panel.in_tree()[4097]["role"] == re.search('4097 .*"(.*)"', other)[1], 20) is not None,
+                  f"a device that took the place of another {gap} s later is found")
+        return told
+
+    UNSENT = {"not sent: the device changed", "not sent: too late", "not sent: the link is lost", "lost"}
 
     def swap(self):
         self.panel, self.other = self.other, self.panel
@@ -591,7 +648,7 @@ class Desk(Bench):
     def asks(self, kind, default="order"):
         """Each request of the rows of this kind is answered as its row says, and each answer of the panel, also a refusal, forbids keeping, guessing
         types and framing. The head of an answer has no other field but what the connection adds."""
-        names = ROWS["text"] | {name: str(it) for name, it in self.names.items()}
+        names = ROWS["text"] | {name: str(it) for name, it in self.names.items()} | {"run": self.panel.get("/values")["run"]}
         for row in (one for row in whole(ROWS[kind], names) for one in each(whole(ROWS[default], names) | row, *row)):
             data = request(row)
             status, fields, text = self.panel.exchange(data)
@@ -617,9 +674,10 @@ class Desk(Bench):
             with contextlib.suppress(OSError):
                 s.sendall(octets(text))
 
-    def sends_orders(self, name, path, *bodies):
-        """Sends a question, and behind it these orders, in one piece."""
-        self.sends(name, b"".join([self.panel.asks("/values"), *(self.panel.orders_by(path, body) for body in bodies)]).decode())
+    def sends_orders(self, name, *orders):
+        """Sends a question, and behind it these orders, each in a body of its own, in one piece."""
+        bodies = [self.panel.orders_by("/orders", self.panel.one(*order)) for order in orders]
+        self.sends(name, b"".join([self.panel.asks("/values"), *bodies]).decode())
 
     def ticket_at(self, name):
         """The ticket in the next answer that is none to a question; 0 where it is none to an order either."""
@@ -627,16 +685,14 @@ class Desk(Bench):
         s.setsockopt(socket.SOL_SOCKET, socket.SO_RCVBUF, 1 << 20)
         while (answer := s.answer())[0] == 200:
             pass
-        return int(answer[2]) if answer[0] == 202 else 0
+        return json.loads(answer[2])["tickets"][0] if answer[0] == 202 else 0
 
     def answered(self, name):
-        """How many of these connections are answered."""
-        count = 0
+        """How many of these connections are answered, all of which ask at once."""
         for s in self.ends[name]:
             with contextlib.suppress(OSError):
                 s.sendall(self.panel.asks("/values?since=0"))
-                count += s.answer()[0] == 200
-        return count
+        return sum(s.answer()[0] == 200 for s in self.ends[name])
 
     def whole_answers(self, name, count):
         """How many answers come in twenty seconds, each the same as the first one, which has text; no more than so many are taken."""

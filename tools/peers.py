@@ -169,6 +169,12 @@ class Served(Beside):
     def hears(self, *_):
         return True
 
+    def restart(self):
+        """The device begins anew: it has no session and no lock."""
+        for it in self.tree:
+            it.lock = None
+        self.device = oca.Device(self.tree)
+
     def datagram(self, peer, data, now):
         return self.device.datagram(peer, data, now) if self.hears(peer, data) else ("", [])
 

@@ -8,7 +8,8 @@ The panel sets and lists the amplifier, beside locks of another peer, and lists 
 by a peer, a peer's settings are shown, and closed standard streams change nothing.
 
 The link of the controller in Python is asked at moments that are handed in, and must send and take what PROTOCOL says;
-wrong links must be found. Then it runs against `ocadev serve`, first alone, then over a bad network. `ocactl` must read
+of damaged datagrams it takes what the second implementation takes. Wrong links must be found. Devices whose answers are
+odd are told as such. Then it runs against `ocadev serve`, first alone, then over a bad network. `ocactl` must read
 and be refused what it set and locked. Each command is executed once, and its socket keeps to the rules: one address,
 one command a datagram, handles that rise by one, at most 20 unchanged copies, at most 16 in flight. `ocadev replay`
 must answer each row of worked bytes as it stands there. The last line is 'N passed, M failed'."""
@@ -27,7 +28,8 @@ from types import ModuleType
 
 import oca_profile as oca
 from checks import Checks, Serving, at, bound, ended, free_port, port_said, sockets, waited
-from peers import Lossy, Peer
+from damaged import MESSAGES
+from peers import Lossy, Peer, Served, commands_in, messages_in
 from scenes import Scene, play_all, scenes_of, verbs_of_peer, verbs_of_run
 from tables import TOP, data
 
@@ -141,6 +143,49 @@ def rules(checks, its):
             "heard": lambda digits: what_is_heard(link, bytes.fromhex(digits)),
             "has room": link.has_room,
             "in flight": lambda: sorted(link.flights)}).play(steps)
+    wrong = [it.hex() for it in beside_a_response() if taken_by(its, it) != [tuple(message) for message in messages_in(it, "response")]]
+    checks.same("what is taken of damaged datagrams", wrong[:9], [])
+
+
+def beside_a_response():
+    """Datagrams in which something stands behind or before a response: a message, one with another byte at some place, and one that is cut off;
+    and two that are as large as they may be, and larger."""
+    good = oca.response(7, 0, 1, b"\1")
+    for message in MESSAGES:
+        yield from (message + good, good + message)
+        for place in range(len(message)):
+            yield from (good + message[:place] + bytes([value]) + message[place + 1:] for value in DATA.values)
+            yield from (good + message[:place], message[:place] + good)
+    yield from (oca.pdu(4, bodies) + good for bodies in ([bytes(3)], [bytes(4)], [bytes(5)], [bytes(2), bytes(2)], []))
+    yield from (good * 66 + oca.response(8, 0, 1, bytes(size)) for size in (66, 67))
+
+
+def taken_by(its, datagram):
+    """The responses that the example takes of a datagram; none of one that it refuses."""
+    with contextlib.suppress(struct.error):
+        return [(it.handle, it.status, it.count, it.parameters) for it in its.responses(datagram)]
+    return []
+
+
+class Odd(Served):
+    """A device that answers one method by this status, these parameters and their count, with bytes behind the response."""
+
+    def __init__(self, method, answer, behind):
+        super().__init__()
+        self.method, (self.status, self.count, digits), self.behind = tuple(method), answer, bytes.fromhex(behind)
+        self.parameters = bytes.fromhex(digits)
+
+    def datagram(self, peer, data, now):
+        said, packets = super().datagram(peer, data, now)
+        odd = [oca.response(command.handle, self.status, self.count, self.parameters) + self.behind
+               for command, method in commands_in(data) if method == self.method]
+        return said, odd or packets
+
+
+def odd_answers(checks):
+    for words, method, answer, behind, printed, status in DATA.odd_answers:
+        with Odd(method, answer, behind) as device:
+            checks.same(f"{words}, {method} is answered by {answer} {behind}", ran(*PYTHON, at(device.socket), *words.split()), ([*printed], status))
 
 
 def is_wrong(text):
@@ -189,6 +234,7 @@ class Stage(Scene):
         super().__init__(checks, {
             **verbs_of_run(self),
             "python": lambda words: ran(*PYTHON, self.at, *words.split()),
+            "python at": lambda place, words: ran(*PYTHON, place.replace("PORT", str(device.port)), *words.split()),
             "ocactl": lambda words: ocactl(*words.split()),
             "begins": lambda words: setattr(self, "run", started(*PYTHON, self.at, *words.split())),
             "looks at the lists": self.lists})
@@ -200,7 +246,9 @@ class Stage(Scene):
         wanted = [line.split(" ", 3) for line in tree]
         self.checks.same("list", [[ono, container, role] for ono, _, container, role, _ in rows], [[it[0], *it[2:]] for it in wanted])
         self.checks.same("its classes", {kind for _, kind, *_ in rows}, {"block", "mute", "polarity", "int16", "switch", "boolean"})
-        self.checks.same("its labels", ({label for *_, label in rows}, status), ({'""'}, 0))
+        labels = re.findall(r'^(?:root|object .*) (?:on|off) ("[^"]*")$', (TOP / TREE).read_text(), re.MULTILINE)
+        self.checks.same("its labels", (sorted({label for *_, label in rows}), status), (sorted({'""', *labels}), 0))
+        self.checks.same("some are labelled", len({*labels}) > 3, True)
 
 
 class Watch(Lossy):
@@ -282,6 +330,7 @@ def main():
     for old, new in DATA.wrong:
         checks.finds(" in the example", text, old, new, is_wrong)
     worked(checks)
+    odd_answers(checks)
     with Device(checks.folder) as device:
         for steps, _ in scenes_of("samples", "controller"):
             Stage(checks, device).play(steps)

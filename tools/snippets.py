@@ -1,6 +1,7 @@
 #!/usr/bin/env python3
-"""Runs the sessions of README.md and docs/EMBEDDING.md and compares what is printed, finds their pieces of code in the
-files that they are of, and the examples of doc comments in tests and samples, and looks at the tables of all documents.
+"""Runs the sessions of README.md and of the pages on embedding and compares what is printed, finds their pieces of code in
+the files that they are of, and the examples of doc comments in tests and samples. In all documents it looks at the
+tables, and at what they name of crates/ (named.py).
 
 Usage: snippets.py BIN     BIN is the folder with the programs, which sessions call `bin/`
 
@@ -15,7 +16,12 @@ alone, or in a comment, stands for any lines. A fenced block in a doc comment of
 a sample.
 
 A table's second line is its rule (`|---|`), which stands nowhere else, and each line ends with a bar and has as many
-cells as the first. No item of a list is without a text. The last line is 'N passed, M failed'."""
+cells as the first. No item of a list is without a text.
+
+In a column `Contract` each name in backticks is that of a crate, a function, a type, a clause or a definition. A place, as
+`oca_net/src/udp.rt:476 wait`, is the line where this function begins. Where tables have a column `Definitions`, they name,
+by files, all that the last one rests on, but for what is behind those of a column `Closed definitions`. A link names a file that is
+there. The last line is 'N passed, M failed'."""
 import os
 import re
 import subprocess
@@ -23,9 +29,10 @@ import sys
 import tempfile
 
 from checks import NOTE, Checks, ended
+from named import contracts, links, places, reading
 from tables import TOP
 
-DOCUMENTS = ["README.md", "docs/EMBEDDING.md"]
+DOCUMENTS = ["README.md", "docs/EMBEDDING-C.md", "docs/EMBEDDING.md"]
 RULE = r"\| *:?-{3,}:? *\|"
 
 
@@ -147,8 +154,10 @@ def tables(text):
 
 def main():
     counts, files = Checks(), sorted([*TOP.glob("*.md"), *TOP.glob("docs/*.md")])
-    all_tables = ((f"{file.relative_to(TOP)}:{number}", fault) for file in files for number, fault in tables(file.read_text()))
-    for where, fault in [*(it for name in DOCUMENTS for it in checks_of(name, os.path.abspath(sys.argv[1]))), *examples(), *all_tables]:
+    looks = [(file, look(file.read_text())) for file in files for look in (tables, contracts, places, reading)]
+    looks += [(file, links(file.read_text(), file.parent)) for file in files]
+    found = ((f"{file.relative_to(TOP)}:{number}", fault) for file, its in looks for number, fault in its)
+    for where, fault in [*(it for name in DOCUMENTS for it in checks_of(name, os.path.abspath(sys.argv[1]))), *examples(), *found]:
         counts.expect(where, fault is None, fault)
     return counts.verdict()
 

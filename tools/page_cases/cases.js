@@ -27,7 +27,9 @@ async function answered() {
 
 const part = ono => rows.get(ono).view.main;
 const words = ono => rows.get(ono).strip.message.textContent;
-const sent = () => fake.bodies.flatMap(body => body.orders);
+// What was ordered, without what the person read of its object.
+const plain = orders => orders.map(({ "role": role, "block": block, "name": name, ...rest }) => rest);
+const sent = () => plain(fake.bodies.flatMap(body => body.orders));
 const tell = (ticket, trouble = null) => fake.told.push({ ticket, ono: 0, trouble });
 const click = element => element.onclick({ detail: 1, target: element, preventDefault() {} });
 const options = () => [...$("dialog").children[2].children];
@@ -38,6 +40,13 @@ const flying = (count = 1) => until(() => fake.bodies.length >= count && awaited
 async function walk() {
   fake.epoch++;
   await until(() => program.epoch === fake.epoch && isOpen());
+}
+
+// The device has another object of this number now.
+async function changedTree(ono, more) {
+  fake.objects = fake.objects.map(object => object.ono === ono ? { ...object, ...more } : object);
+  await walk();
+  await started();
 }
 
 async function heard(ago) {
@@ -85,7 +94,7 @@ async function startedWith(objects, value) {
 const PARTS = {
   "fader": ono => rows.get(ono).view.second, "menu": ono => rows.get(ono).strip.menu,
   "select": ono => rows.get(ono).strip.select, "name": ono => rows.get(ono).strip.name, "role": ono => rows.get(ono).strip.role,
-  "option": at => options()[at], "head": () => groups[0].head, "members": () => groups[0].body, "sign": () => groups[0].sign,
+  "option": at => Number.isNaN(at) ? $("dialog").children[2] : options()[at], "head": () => groups[0].head, "members": () => groups[0].body, "sign": () => groups[0].sign,
   "sum": () => groups[0].sum, "cap": ono => [...rows.get(ono).view.second.children].find(one => one.className === "cap"),
 };
 
@@ -97,7 +106,7 @@ function the(what) {
   return path.reduce((element, at) => [...element.children].at(at), found);
 }
 
-let hand, marked = 0;
+let hand, marked = 0, prevented = false;
 const aimed = more => more && more.target ? { ...more, target: the(more.target) } : more;
 const beside = element => element.lastElementChild.hidden ? "" : element.lastElementChild.textContent;
 const DOES = {
@@ -129,6 +138,7 @@ const DOES = {
     globalThis.fetch = (path, how) => how.method === "POST" ? Promise.reject(new TypeError("fetch failed")) : real(path, how);
   },
   "unit": (kind, factor, unit) => fake.units = [{ class: kind, ono: null, factor, unit }],
+  "of another role": (ono, role) => changedTree(ono, { role }), "of another block": (ono, role) => changedTree(ono, { role }),
   "in a group": () => startedWith(inAGroup(), "muted"), "click each": () => mutes().forEach(row => click(row.view.main)),
   "mute each": below => changeMany(mutes().filter(row => row.ono < below), () => "muted", "mute all"),
   "jump": () => {
@@ -143,6 +153,7 @@ const DOES = {
     part(ono).value = text;
     part(ono).oninput({});
   },
+  "enter": what => the(what).onkeydown({ key: "Enter", preventDefault: () => prevented = true }),
   "down": (ono, more) => (hand = drag(ono)).down(aimed(more)), "to": (clientY, more) => hand.to(clientY, aimed(more)),
   "up": more => hand.up(more), "mark": () => marked = fake.paths.length,
   "hide": is => {
@@ -165,10 +176,13 @@ const DOES = {
 const READS = {
   "words": words, "sent": sent, "last sent": () => sent().at(-1), "sent to": () => sent().map(one => one.ono),
   "came": count => fake.bodies.length >= count, "bodies": () => fake.bodies.length,
-  "paths": () => fake.bodies.map(body => body.path), "body sent": at => fake.bodies[at].orders,
+  "paths": () => fake.bodies.map(body => body.path), "body sent": at => plain(fake.bodies[at].orders), "read as": () => fake.bodies.flatMap(body => body.orders),
   "sizes": () => fake.bodies.map(body => body.orders.length), "how many sent": () => sent().length, "times": () => times.length,
   "are bodies": (most, size) => fake.bodies.length <= most && fake.bodies.every(body => body.orders.length <= size),
   "lives for": ms => Math.abs(fake.bodies[0].before - fake.bodies[0].posted - 700000 - ms) < 200,
+  "tabs": () => strips.filter(strip => strip.select.tabIndex === 0).map(strip => strip.rows[0].ono),
+  "focused": () => strips.find(strip => strip.select === document.activeElement).rows[0].ono,
+  "class of strip": ono => rows.get(ono).strip.element.className,
   "waits for": ono => isOut(rows.get(ono), "set"), "unit": ono => rows.get(ono).unit.name,
   "children": what => the(what).children.length, "is short": (what, name) => the(what).getAttribute(name).length < 300,
   "acting": () => [...rows.values()].filter(row => row.view && row.view.main && row.view.main.tagName !== "OUTPUT").length
@@ -188,7 +202,7 @@ const READS = {
   "beside fader": ono => beside(rows.get(ono).view.second), "beside": ono => beside(part(ono).parentNode || part(ono).parent),
   "text": what => the(what).textContent, "value": what => the(what).value,
   "attribute": (what, name) => the(what).getAttribute(name), "class": what => the(what).className,
-  "hidden": what => the(what).hidden, "disabled": what => the(what).disabled,
+  "inert": what => !!the(what).inert, "prevented": () => prevented, "hidden": what => the(what).hidden, "disabled": what => the(what).disabled,
   "has": (what, text) => the(what).textContent.includes(text), "begins": (what, text) => the(what).textContent.startsWith(text),
   "ends": (what, text) => the(what).textContent.endsWith(text), "body": name => document.body.classList.contains(name),
   "title": () => document.title, "state": () => program.state, "run": () => program.run, "read only": () => program.readOnly,
@@ -259,9 +273,13 @@ const CASES = [
     const name = (ono, kind) => unitOf(units, { ono, class: kind })?.name ?? null;
     return [name(3, "int16"), name(4, "int16"), name(3, "int8"), name(3, "int32")];
   }],
-  ["a value in a unit, as it is shown and typed", ["+0.05", "−12.00", "0.00", "5", "-1200", "1", null, null, "600"], async () => {
+  ["k is a thousand of some units, and small letters do where they can't be meant otherwise", ["20000", "20500", "20000", null, null, "3", null], async () => {
+    const value = (unit, text) => typed({ ...rows.get(13), unit: { name: unit, times: 1n, places: 0 }, limits: null }, text).word ?? null;
+    return [value("Hz", "20 kHz"), value("Hz", "20.5khz"), value("Hz", "20k"), value("dB", "1 kdB"), value("mW", "3 MW"), value("mW", "3 mW"), value("ms", "3 s")];
+  }],
+  ["a value in a unit, as it is shown and typed", ["+0.05", "−12.00", "0.00", "5", "-1200", "it has 2 decimals", "−12.00 to +6.00 dB", "−12.00 to +6.00 dB", "600", "300", "“x” is not its unit, dB", "“k” is not its unit, dB"], async () => {
     const row = { ...rows.get(13), unit: { name: "dB", times: 1n, places: 2 }, limits: ["-1200", "600"] };
-    return [...["5", "-1200", "0"].map(word => shown(row, word)), ...["0,05", "−12", "0.006", "-12.01", "6.01", "+6.00 dB"].map(text => typed(row, text))];
+    return [...["5", "-1200", "0"].map(word => shown(row, word)), ...["0,05", "−12", "0.006", "-12.01", "6.01", "+6.00 dB", "3 db", "3 x", "100k"].map(text => typed(row, text)).map(({ word, why }) => word || why)];
   }],
 ];
 
