@@ -15,6 +15,7 @@
 # make library proves and builds the library for C: TARGET=aarch64-unknown-linux-gnu for another kind of processor, which
 #              `make install-library` then puts into a folder of its own
 # make uninstall takes away what was installed
+# make docs    lists the public API by crate in out/API.md
 COMMANDS = 200
 SECONDS = 60
 SCHEDULES = 8000
@@ -26,7 +27,7 @@ LIBRARY = crates/oca_c/out/$(TARGET)/liboca_c.a
 PROGRAMS = ocadev ocactl
 BUILD = python3 gate/build.py bin
 SOURCES = $(shell find crates \( -name out -o -name '*_tests' \) -prune -o \( -name '*.rt' -o -name '*.antt' \) -print 2>/dev/null)
-.PHONY: build ocapanel demo test lossy fuzz world law bench panel-trial library install install-library uninstall clean
+.PHONY: build ocapanel demo test lossy fuzz world law bench panel-trial library install install-library uninstall docs clean
 
 demo:
 	@echo "Building by 'rt try' and running the examples; nothing is proved yet by that. This takes about a minute."
@@ -96,6 +97,9 @@ library: $(LIBRARY)
 
 crates/oca_c/out/$(TARGET)/liboca_c.a: $(foreach name,c calls types pdu model tree session net device control,$(wildcard crates/oca_$(name)/src/*.rt crates/oca_$(name)/src/*/*.rt crates/oca_$(name)/specs/*.antt crates/oca_$(name)/proofs/*.antt))
 	@python3 gate/build.py --library $(TARGET)
+
+docs:
+	@python3 gate/api.py
 
 clean:
 	rm -rf bin crates/*/out out

@@ -1,12 +1,13 @@
 #!/usr/bin/env python3
 """A controller for an OCA device, written from docs/PROTOCOL.md with Python's standard library alone.
 
-    controller.py ADDRESS:PORT list              prints each object: ONO CLASS CONTAINER "ROLE" "LABEL"
-    controller.py ADDRESS:PORT get ONO..         prints the value of each; of a number its least and greatest, too
-    controller.py ADDRESS:PORT set ONO VALUE ..  sets each, in any order
-    controller.py ADDRESS:PORT lock ONO..        locks each, keeps the locks until the input ends, and unlocks them
+    controller.py HOST:PORT list              prints each object: ONO CLASS CONTAINER "ROLE" "LABEL"
+    controller.py HOST:PORT get ONO..         prints the value of each; of a number its least and greatest, too
+    controller.py HOST:PORT set ONO VALUE ..  sets each, in any order; none if a value is missing or fits no object
+    controller.py HOST:PORT lock ONO..        locks each, keeps the locks until the input ends, and unlocks them
 
-Up to 16 commands are in flight at once. The exit status is 4 where the device refused one, 1 where no answer came."""
+Up to 16 commands are in flight at once. The exit status is 0 if all is done, 1 if no answer came, 2 if the arguments
+are invalid, and 4 if the device refused a command or its answer is unreadable."""
 import json
 import os
 import select
@@ -15,13 +16,15 @@ import struct
 import sys
 import time
 from dataclasses import dataclass, field
+from itertools import islice
 
 COMMAND, RESPONSE, KEEP_ALIVE = 1, 3, 4                     # PduType
+SMALLEST = {0: 17, COMMAND: 17, RESPONSE: 10}               # bytes of a message
 SPAN, TRIES, RESEND, IDLE, LATE = 16, 20, 0.25, 2.5, 15.0   # the rules for controllers; times in seconds
-LARGEST, DEEPEST = 1472, 8                                  # bytes of a datagram; objects below each other
+LARGEST, DEEPEST, MOST = 1472, 8, 4096                      # bytes of a datagram; objects below each other, and in all
 ROOT, BLOCK = 100, (1, 1, 3)
 STATUSES = {3: "Locked", 5: "BadONo", 6: "ParameterError", 7: "ParameterOutOfRange", 8: "NotImplemented",
-            9: "InvalidRequest", 11: "BadMethod", 14: "BufferOverflow"}
+            9: "InvalidRequest", 10: "ProcessingFailed", 11: "BadMethod", 14: "BufferOverflow"}
 
 
 def clock():
@@ -31,6 +34,14 @@ def clock():
 
 class Lost(Exception):
     """No answer came in time. Whether the device executed the commands in flight is not known."""
+
+
+class Invalid(Exception):
+    """Arguments that mean nothing."""
+
+
+class Refused(Exception):
+    """What keeps a command from being sent: the answer to an earlier one."""
 
 
 @dataclass(frozen=True)
@@ -51,9 +62,14 @@ class Response:
     count: int
     parameters: bytes
 
-    def shown(self, read):
-        """What is read of the parameters, or the name of the status where it is not OK."""
-        return STATUSES.get(self.status, f"status {self.status}") if self.status else read(self.parameters)
+    def taken(self, read):
+        """Whether the command was carried out and its answer can be read; and what is read of the parameters, or why not."""
+        if self.status:
+            return False, STATUSES.get(self.status, f"status {self.status}")
+        try:
+            return True, read(self.parameters)
+        except (struct.error, ValueError, KeyError):
+            return False, "unreadable answer"
 
 
 @dataclass(frozen=True)
@@ -67,7 +83,7 @@ class Kind:
     def shown(self, parameters):
         """The value in the answer to the get method, LEVEL.1."""
         value, *limits = struct.unpack(">" + self.form * (1 if self.words else 3), parameters)
-        return f"{value} ({limits[0]} to {limits[1]})" if limits else self.words.get(value, value)
+        return f"{value} ({limits[0]} to {limits[1]})" if limits else self.words[value]
 
     def packed(self, word):
         """The parameter of the set method, LEVEL.2."""
@@ -75,12 +91,12 @@ class Kind:
         try:
             return struct.pack(">" + self.form, numbers[word] if numbers else int(word))
         except (KeyError, ValueError, struct.error):
-            sys.exit(f"{word} is no {self.name}")
+            raise Invalid(f"{word} is no {self.name}") from None
 
 
 KINDS = {(1, 1, 1, 2): Kind("mute", 4, "B", {1: "muted", 2: "unmuted"}),
          (1, 1, 1, 3): Kind("polarity", 4, "B", {1: "non-inverted", 2: "inverted"}),
-         (1, 1, 1, 4): Kind("switch", 4, "H"), (1, 1, 1, 1, 1): Kind("boolean", 5, "B", {0: "off", 1: "on"})}
+         (1, 1, 1, 4): Kind("switch", 4, "H"), (1, 1, 1, 1, 1): Kind("boolean", 5, "?", {False: "off", True: "on"})}
 for at, its_name in enumerate("int8 int16 int32 int64 uint8 uint16 uint32 uint64".split()):
     KINDS[1, 1, 1, 1, 2 + at] = Kind(its_name, 5, "bhiqBHIQ"[at])
 
@@ -96,6 +112,27 @@ def class_of(data):
     (count,), data = split(">H", data)
     numbers, data = split(f">{count + 1}H", data)
     return numbers[:count], data
+
+
+def whole_class(data):
+    """The class in the answer to GetClassIdentification."""
+    class_id, rest = class_of(data)
+    if rest:
+        raise struct.error("more than a class")
+    return class_id
+
+
+def members_of(data):
+    """The members in the answer to GetMembers: of each its ONo and its class."""
+    (count,), data = split(">H", data)
+    found = []
+    for _ in range(count):
+        (ono,), data = split(">I", data)
+        class_id, data = class_of(data)
+        found.append((ono, class_id))
+    if data:
+        raise struct.error("more than the members")
+    return found
 
 
 def text_of(data):
@@ -120,17 +157,34 @@ def command(handle, its):
 def responses(datagram):
     """The responses in every PDU of a datagram. One fault, a `struct.error`, makes the whole of it worth nothing."""
     found, rest = [], datagram
+    if not 0 < len(datagram) <= LARGEST:
+        raise struct.error("no datagram")
     while rest:
         (sync, version, size, kind, count), rest = split(">BHIBH", rest)
-        if (sync, version) != (0x3B, 1) or not 11 <= size <= 9 + len(rest) or len(datagram) > LARGEST:
+        if (sync, version) != (0x3B, 1) or not 11 <= size <= 9 + len(rest):
             raise struct.error("no PDU")
         body, rest = rest[:size - 9], rest[size - 9:]
-        while kind == RESPONSE and (count or body):
-            (size, *head), behind = split(">IIBB", body)
-            if count == 0 or not 10 <= size <= len(body):
-                raise struct.error("no response")
-            found.append(Response(*head, behind[:size - 10]))
-            body, count = behind[size - 10:], count - 1
+        if kind != KEEP_ALIVE:
+            found += responses_in(kind, count, body)
+        elif count != 1 or len(body) not in (2, 4):
+            raise struct.error("no keep-alive")
+    return found
+
+
+def responses_in(kind, count, body):
+    """The responses in the messages of a PDU; a PDU of commands has none."""
+    found = []
+    if kind not in SMALLEST:
+        raise struct.error("no PduType")
+    for _ in range(count):
+        (size,), _ = split(">I", body)
+        if not SMALLEST[kind] <= size <= len(body):
+            raise struct.error("no message")
+        if kind == RESPONSE:
+            found.append(Response(*struct.unpack(">IBB", body[4:10]), body[10:size]))
+        body = body[size:]
+    if body:
+        raise struct.error("more than the messages")
     return found
 
 
@@ -225,19 +279,21 @@ class Controller:
 
 def kinds_of(controller, onos):
     """The classes of objects, which must have a value."""
-    answers = controller.ask(Request(ono, 1, 1) for ono in onos)
-    for ono, answer in zip(onos, answers):
-        if answer.status or class_of(answer.parameters)[0] not in KINDS:
-            sys.exit(f"{ono} {answer.shown(lambda _: 'has no value')}")
-    return [KINDS[class_of(answer.parameters)[0]] for answer in answers]
+    kinds = []
+    for ono, answer in zip(onos, controller.ask(Request(ono, 1, 1) for ono in onos)):
+        is_taken, its = answer.taken(whole_class)
+        if not is_taken or its not in KINDS:
+            raise Refused(f"{ono} {'no value' if is_taken else its}")
+        kinds.append(KINDS[its])
+    return kinds
 
 
 def report(controller, asked):
-    """Asks for each request, prints what its reader makes of the answer, and returns the answers."""
-    answers = controller.ask(request for request, _ in asked)
-    for (request, read), answer in zip(asked, answers):
-        print(request.ono, answer.shown(read), flush=True)
-    return answers
+    """Asks for each request, prints what its reader makes of the answer, and returns of each whether it was carried out."""
+    found = [answer.taken(read) for answer, (_, read) in zip(controller.ask(request for request, _ in asked), asked)]
+    for (request, _), (_, said) in zip(asked, found):
+        print(request.ono, said, flush=True)
+    return [is_taken for is_taken, _ in found]
 
 
 def get(controller, *onos):
@@ -255,50 +311,80 @@ def set_each(controller, onos, values):
 
 def lock(controller, *onos):
     """Locks each object until the input ends; the keep-alives of each turn hold the locks meanwhile."""
-    answers = report(controller, [(Request(ono, 1, 3), lambda _: "locked") for ono in onos])
+    locked = report(controller, [(Request(ono, 1, 3), lambda _: "locked") for ono in onos])
     while not select.select([sys.stdin], [], [], 0)[0] or os.read(sys.stdin.fileno(), 4096):
         controller.turn(sys.stdin)
-    held = [ono for ono, answer in zip(onos, answers) if answer.status == 0]
-    return answers + report(controller, [(Request(ono, 1, 4), lambda _: "unlocked") for ono in held])
+    held = [ono for ono, is_held in zip(onos, locked) if is_held]
+    return locked + report(controller, [(Request(ono, 1, 4), lambda _: "unlocked") for ono in held])
 
 
 def members(controller, block=ROOT, depth=1):
-    """Every object below a block as (container, ONo, class), the members of each block behind it."""
+    """Every object below a block as (container, ONo, class), the members of each block behind it; of a block that does
+    not list its members (block, block, why)."""
     (answer,) = controller.ask([Request(block, 3, 5)])
-    (count,), data = split(">H", answer.parameters) if answer.status == 0 else ((0,), b"")
-    for _ in range(count):
-        (ono,), data = split(">I", data)
-        class_id, data = class_of(data)
+    is_taken, its = answer.taken(members_of)
+    if not is_taken:
+        yield block, block, its
+    for ono, class_id in its if is_taken else ():
         yield block, ono, class_id
         if class_id == BLOCK and depth < DEEPEST:
             yield from members(controller, ono, depth + 1)
 
 
 def list_all(controller):
-    """Prints a line for each object."""
-    objects = [(0, ROOT, BLOCK), *members(controller)]
+    """Prints a line for each object, and one for each block that does not list its members."""
+    objects = [(0, ROOT, BLOCK), *islice(members(controller), MOST)]
+    unlisted = [(ono, its) for _, ono, its in objects if isinstance(its, str)]
+    objects = [it for it in objects if not isinstance(it[2], str)]
     answers = controller.ask(Request(ono, *method) for _, ono, _ in objects for method in ((1, 5), (2, 8)))
-    for (container, ono, its), *texts in zip(objects, answers[::2], answers[1::2]):
-        print(ono, KINDS[its].name if its in KINDS else "block", container, *(it.shown(text_of) for it in texts))
-    return answers
+    found = [answer.taken(text_of) for answer in answers]
+    for (container, ono, its), (_, role), (_, label) in zip(objects, found[::2], found[1::2]):
+        name = "block" if its == BLOCK else KINDS[its].name if its in KINDS else ".".join(map(str, its))
+        print(ono, name, container, role, label)
+    for ono, why in unlisted:
+        print(ono, why)
+    return [not unlisted, *(is_taken for is_taken, _ in found)]
 
 
-def main(device, name, *words):
+def device_at(place):
+    """The address and port of a device, by the address or the name of its host."""
+    host, _, port = place.rpartition(":")
+    try:
+        if host and 1 <= int(port) < 2**16:
+            return socket.gethostbyname(host), int(port)
+    except (OSError, ValueError):
+        pass
+    raise Invalid(f"{place} is no HOST:PORT, or nobody knows the host")
+
+
+def numbers(words):
+    """Object numbers."""
+    try:
+        struct.pack(f">{len(words)}I", *map(int, words))
+    except (struct.error, ValueError):
+        raise Invalid("an ONo is a number below 2^32") from None
+    return [*map(int, words)]
+
+
+def main(device="", name="", *words):
     """Runs a command; returns the exit status."""
-    address, port = device.split(":")
-    controller = Controller((address, int(port)))
+    if not {"list": not words, "get": words, "set": words and len(words) % 2 == 0, "lock": words}.get(name):
+        raise Invalid(__doc__)
+    onos = numbers(words[::2] if name == "set" else words)
+    controller = Controller(device_at(device))
     if name == "set":
-        answers = set_each(controller, [int(it) for it in words[::2]], words[1::2])
+        done = set_each(controller, onos, words[1::2])
     else:
-        answers = {"list": list_all, "get": get, "lock": lock}[name](controller, *map(int, words))
-    return 4 if any(it.status for it in answers) else 0
+        done = {"list": list_all, "get": get, "lock": lock}[name](controller, *onos)
+    return 0 if all(done) else 4
 
 
 if __name__ == "__main__":
-    _, *words = sys.argv
-    if len(words) < 2 or words[1] not in ("list", "get", "set", "lock") or (words[1] == "set" and len(words) % 2):
-        sys.exit(__doc__)
     try:
-        sys.exit(main(*words))
-    except Lost as why:
-        sys.exit(f"lost: {why}")
+        sys.exit(main(*sys.argv[1:]))
+    except Lost as fault:
+        print(f"lost: {fault}", file=sys.stderr)
+        sys.exit(1)
+    except (Invalid, Refused) as fault:
+        print(fault, file=sys.stderr)
+        sys.exit(2 if isinstance(fault, Invalid) else 4)
