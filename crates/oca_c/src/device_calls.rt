@@ -1,6 +1,5 @@
 //! What C calls of a device.
-ghost use Rattle.std.specs.Prelude.{◌≡◌, ◌⊎◌, ◌∷◌, ℕ, List, None, IfSome, IfNone, IsSome};
-ghost use Rattle.std.specs.Prelude.{slice_get, length};
+ghost use Rattle.std.specs.Prelude.{◌≡◌, ◌⊎◌, ◌∷◌, ℕ, List, None, IfSome, IfNone, IsSome, slice_get, length};
 ghost use Rattle.oca_types.specs.Sizes.{DeviceSizes};
 ghost use Rattle.oca_tree.specs.declared.object.Object.{Object};
 ghost use Rattle.oca_tree.specs.Objects.{Store};
@@ -357,8 +356,8 @@ pub extern "C" fn oca_device_written(
 
 /// Writes what the device did with the command of the last datagram that has this index, counted from 0 in the order of
 /// the commands. To `out` go the number of the object that the command names, its method (the level in the upper 16
-/// bits, the index in the lower ones), what was done, and a status. What was done is 1 if the command was executed, 2 if
-/// it is a duplicate, 3 if it is too old, and 4 if it asks something else under the handle of a retained command
+/// bits, the index in the lower ones), what was done, and a status. What was done is 1 if the command was executed, 2
+/// if it is a duplicate, 3 if it is too old, and 4 if it asks something else under the handle of a retained command
 /// (`enum oca_command_outcome`). The status is that of an execution (OcaStatus, AES70-2), and 0 otherwise. They are
 /// written as far as there is room. Clock readings and settings at the local front panel leave them as they are.
 ///

@@ -4,7 +4,8 @@ ghost use Rattle.oca_model.specs.declared.request.Request.TheVariants as asked;
 ghost use Rattle.oca_model.specs.declared.value.Value.TheVariants as values;
 ghost use Rattle.oca_tree.specs.LocalChanges.{ToEnabled, ToUnlocked, ToFailing};
 ghost use Rattle.oca_calls.specs.Calls.{HandleSets, KeepsPackets, RefusesBuilding, RefusesClosed};
-ghost use Rattle.oca_calls.specs.FrontCalls.{HandleChanges, HandleLabels, HandleSetsEntry, HandleSetsWords, State, Integer};
+ghost use Rattle.oca_calls.specs.FrontCalls.{HandleChanges, HandleLabels, HandleSetsEntry, HandleSetsWords, State};
+ghost use Rattle.oca_calls.specs.FrontCalls.{Integer};
 ghost use Rattle.oca_calls.specs.Storings.{KeepsUnstored};
 
 use oca_calls::answer::Answer;
@@ -206,7 +207,8 @@ pub extern "C" fn oca_device_set_enabled(
     ensures building { RefusesBuilding handle.old.slot.inner handle.new.slot.inner result }
     ensures packets { KeepsPackets handle.old.slot.inner handle.new.slot.inner }
     ensures unstored { KeepsUnstored handle.old.slot.inner handle.new.slot.inner }
-    ensures sets { HandleChanges result handle.old.slot.inner handle.new.slot.inner ono (ToEnabled enabled) (asked.SetEnabled enabled) }
+    ensures sets { HandleChanges result handle.old.slot.inner handle.new.slot.inner ono
+        (ToEnabled enabled) (asked.SetEnabled enabled) }
 {
     let Some(mut behind) = handle.take(alloc) else {
         return Answer::Closed.number();
@@ -257,7 +259,8 @@ pub extern "C" fn oca_device_set_failing(
     ensures building { RefusesBuilding handle.old.slot.inner handle.new.slot.inner result }
     ensures packets { KeepsPackets handle.old.slot.inner handle.new.slot.inner }
     ensures unstored { KeepsUnstored handle.old.slot.inner handle.new.slot.inner }
-    ensures tells { HandleChanges result handle.old.slot.inner handle.new.slot.inner ono (ToFailing failing) (asked.SetEnabled failing) }
+    ensures tells { HandleChanges result handle.old.slot.inner handle.new.slot.inner ono
+        (ToFailing failing) (asked.SetEnabled failing) }
 {
     let Some(mut behind) = handle.take(alloc) else {
         return Answer::Closed.number();

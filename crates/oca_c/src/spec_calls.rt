@@ -171,7 +171,8 @@ pub extern "C" fn oca_device_spec_of(
 /// positions). For a block the value is not looked at.
 #[unsafe(no_mangle)]
 pub extern "C" fn oca_spec_restore(spec: &mut SpecWords, stored: &SpecWords) -> u32
-    ensures { (answer : AnswerItself) × (result ≡ answer_number answer) × RestoresSpec answer spec.old stored.now spec.new }
+    ensures { (answer : AnswerItself) × (result ≡ answer_number answer) ×
+        RestoresSpec answer spec.old stored.now spec.new }
 {
     restore(spec, stored).number()
 }

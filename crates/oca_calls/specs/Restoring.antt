@@ -51,9 +51,9 @@ IsPossible (readings.Switch r) positions = r.setting < positions
 IsPossible r positions = is_within r ≡ true
 
 -- WHAT WAS STORED IS BROUGHT INTO A STRUCT, with this answer, the first that applies: bad size, where one of them is of
--- another version; other kind, where they are of two classes, or of two numbers of positions; bad range, where these are
--- more than 16; bad text, where the stored label or name is none; out of range, where the value cannot be the object's;
--- none of which changes anything; else done.
+-- another version; other kind, where they are of two classes, or of two numbers of positions; bad range, where these
+-- are more than 16; bad text, where the stored label or name is none; out of range, where the value cannot be the
+-- object's; none of which changes anything; else done.
 abbrev pub PossibleRestores : Option Reading → Answer → SpecWords → SpecWords → SpecWords → Type 0
 PossibleRestores None answer old stored new = (answer ≡ answers.OutOfRange) × (new ≡ old)
 PossibleRestores (Some reading) answer old stored new =

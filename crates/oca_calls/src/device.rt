@@ -1,14 +1,16 @@
 //! What is behind an open handle of a device.
-ghost use Rattle.std.specs.Prelude.{◌≡◌, ◌⊎◌, ◌≤◌, ◌∷◌, [], List, Some, None, IfErr, IfOk, IfSome, IfNone, IsSome, IsTrue};
-ghost use Rattle.std.specs.Prelude.{◌↔◌, length};
+ghost use Rattle.std.specs.Prelude.{◌≡◌, ◌⊎◌, ◌≤◌, ◌∷◌, [], List, Some, None, IfErr, IfOk, IfSome, IfNone, IsSome};
+ghost use Rattle.std.specs.Prelude.{IsTrue, ◌↔◌, length};
 ghost use Rattle.oca_types.specs.Sizes.{DeviceSizes, peer_count, window_size};
 ghost use Rattle.oca_tree.specs.declared.object.Object.{Object};
 ghost use Rattle.oca_tree.specs.Objects.{Store};
 ghost use Rattle.oca_device.specs.Events.{Event, Datagram as DatagramEvent, Tick};
 ghost use Rattle.oca_device.specs.Rooms.{packets_within, told, verdict_within};
 ghost use Rattle.oca_device.specs.Outboxes.{first_packets};
-ghost use Rattle.oca_calls.specs.declared.answer.Answer.TheVariants.{Done, NotStarted, Started, NoMemory as AnswerNoMemory};
-ghost use Rattle.oca_calls.specs.Calls.{AddedBy, AddsSo, Builds, IsPacketRoom, IsSize, RunsBehind, Starts, SwitchAddedBy};
+ghost use Rattle.oca_calls.specs.declared.answer.Answer.TheVariants.{Done, NotStarted, Started};
+ghost use Rattle.oca_calls.specs.declared.answer.Answer.TheVariants.{NoMemory as AnswerNoMemory};
+ghost use Rattle.oca_calls.specs.Calls.{AddedBy, AddsSo, Builds, IsPacketRoom, IsSize};
+ghost use Rattle.oca_calls.specs.Calls.{RunsBehind, Starts, SwitchAddedBy};
 ghost use Rattle.oca_calls.specs.CSpecs.{SpecAddedBy};
 ghost use Rattle.oca_calls.specs.Outputs.{put_words, verdict_words};
 ghost use Rattle.oca_calls.specs.Storings.{all_stored};

@@ -1,7 +1,8 @@
 //! Bringing what was stored of an object into the struct that says what the object is to be.
 ghost use Rattle.std.specs.Prelude.{◌≡◌, ◌⊎◌, ◌≤◌, ◌↔◌, IsTrue};
 ghost use Rattle.oca_calls.specs.Restoring.{AlikeRestore, HasSetTexts, IsPossible, PossibleRestores, RestoresSpec};
-ghost use Rattle.oca_calls.specs.Restoring.{TextsRestore, ValueRestores, VersionsRestore, with_stored, with_stored_value};
+ghost use Rattle.oca_calls.specs.Restoring.{TextsRestore, ValueRestores, VersionsRestore, with_stored};
+ghost use Rattle.oca_calls.specs.Restoring.{with_stored_value};
 
 use crate::answer::Answer;
 use crate::limits::reading_of;

@@ -3,7 +3,8 @@ ghost use Rattle.std.specs.Prelude.{◌≡◌, ◌≤◌, map};
 ghost use Rattle.std.specs.Option.{option_copied};
 ghost use Rattle.oca_tree.specs.Starts.{flags_of};
 ghost use Rattle.oca_calls.specs.Calls.{name_bytes};
-ghost use Rattle.oca_calls.specs.CSpecs.{GivenAddedBy, NamedAddedBy, GivesSpec, SpecAddedBy, texts_of as position_texts};
+ghost use Rattle.oca_calls.specs.CSpecs.{GivenAddedBy, NamedAddedBy, GivesSpec, SpecAddedBy};
+ghost use Rattle.oca_calls.specs.CSpecs.{texts_of as position_texts};
 
 use crate::answer::Answer;
 use crate::name::{MOST_POSITIONS, text_of, texts_of};

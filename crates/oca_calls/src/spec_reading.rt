@@ -121,7 +121,8 @@ fn all_three(
     least: Option<ValueWords>,
     greatest: Option<ValueWords>,
 ) -> Option<ReadingWords>
-    ensures words { IfSome result (λ w. (value ≡ Some w.value) × (least ≡ Some w.least) × (greatest ≡ Some w.greatest)) }
+    ensures words { IfSome result
+        (λ w. (value ≡ Some w.value) × (least ≡ Some w.least) × (greatest ≡ Some w.greatest)) }
     ensures some { IsSome value → IsSome least → IsSome greatest → IsSome result }
 {
     Some(ReadingWords {

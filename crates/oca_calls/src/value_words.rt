@@ -160,7 +160,8 @@ impl RequestWords {
     /// bytes of `params` are 0.
     pub fn of(request: &ValueRequest) -> RequestWords
         ensures words { HasRequestWords request.now result }
-        ensures others { result.params ≡ request.now.params.items ++ drop (length request.now.params.items) (replicate 8 0) }
+        ensures others { result.params ≡ request.now.params.items ++
+            drop (length request.now.params.items) (replicate 8 0) }
     {
         let bytes = request.params.as_slice();
         let mut params = [0; 8];

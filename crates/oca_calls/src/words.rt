@@ -4,8 +4,8 @@ ghost use Rattle.oca_device.specs.Written.{numbers_of};
 ghost use Rattle.oca_calls.specs.LinkCalls.{LiesIn};
 ghost use Rattle.oca_calls.specs.declared.answer.Answer.TheVariants.{Done, TooSmall};
 ghost use Rattle.oca_calls.specs.Numbers.{answer_number};
-ghost use Rattle.oca_calls.specs.Outputs.{WritesToBuffer, class_number, effect_words, lock_number, object_words, put_words};
-ghost use Rattle.oca_calls.specs.Outputs.{verdict_words};
+ghost use Rattle.oca_calls.specs.Outputs.{WritesToBuffer, class_number, effect_words, lock_number, object_words};
+ghost use Rattle.oca_calls.specs.Outputs.{put_words, verdict_words};
 
 use crate::answer::Answer;
 use oca_device::{CommandOutcome, Effect, Verdict};
@@ -49,8 +49,8 @@ pub fn words_of(verdict: Verdict) -> [u32; VERDICT_WORDS]
 }
 
 /// Returns what a device did with a command, as four words for C: the number of the object that the command names, its
-/// method (the level in the upper 16 bits, the index in the lower ones), what was done, and a status. What was done is 1
-/// if the command was executed, 2 if it is a duplicate, 3 if it is too old, and 4 if it asks something else under the
+/// method (the level in the upper 16 bits, the index in the lower ones), what was done, and a status. What was done is
+/// 1 if the command was executed, 2 if it is a duplicate, 3 if it is too old, and 4 if it asks something else under the
 /// handle of a retained command. The status is that of an execution (OcaStatus, AES70-2), and 0 otherwise.
 pub fn effect_words(effect: Effect) -> [u32; EFFECT_WORDS]
     ensures { result ≡ effect_words effect }

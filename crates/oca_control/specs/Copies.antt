@@ -16,8 +16,8 @@ use Rattle.oca_control.specs.declared.outcome.Outcome.{Outcome}
 use Rattle.oca_control.specs.declared.report.DriveReport.{DriveReport}
 use Rattle.oca_control.specs.Limits.{longest_life}
 use Rattle.oca_control.specs.Links.{LinkState, new_link, late_at}
-use Rattle.oca_control.specs.Histories.{Call, Submits, SendsDue, Receives, TakesAnswer, IsCall, clock_of_calls, Sending}
-use Rattle.oca_control.specs.Histories.{sendings}
+use Rattle.oca_control.specs.Histories.{Call, Submits, SendsDue, Receives, TakesAnswer, IsCall}
+use Rattle.oca_control.specs.Histories.{clock_of_calls, Sending, sendings}
 use Rattle.oca_control.specs.Answering.{is_among}
 use Rattle.oca_control.specs.Running.{moments_delivered}
 use Rattle.oca_control.specs.Turning.{SendsInTime, Turns}
@@ -106,10 +106,10 @@ IsAskedAt moments (Submits request now returned) = ⊤
 IsAskedAt moments (Receives from bytes content now returned) = ⊤
 IsAskedAt moments (TakesAnswer h answer) = ⊤
 
--- A LINK BECOMES ANOTHER OVER AN END by calls, each of which is in time. What these calls send is what was handed to the
--- end, and what they receive is what came. The calls of `due` are at moments at which something was delivered, or at
--- these others. Where the end tells, the deliveries are what it delivered, and it took what the calls send, but for the
--- failed sends.
+-- A LINK BECOMES ANOTHER OVER AN END by calls, each of which is in time. What these calls send is what was handed to
+-- the end, and what they receive is what came. The calls of `due` are at moments at which something was delivered, or
+-- at these others. Where the end tells, the deliveries are what it delivered, and it took what the calls send, but for
+-- the failed sends.
 pub record IsMadeInTime (others : List ℕ) (old new : LinkState) (before after : EndState) : Type 0 where
   pub calls : List Call
   pub made : MakesInTime old calls new

@@ -30,7 +30,8 @@ IsWaitOver until closed e l None = (closed ≡ false) × IsBefore until l e
 -- What is known without a turn: the answer, which is taken, or that the link is lost; else that there is no time left;
 -- else nothing.
 abbrev pub EndsWait : (h until : ℕ) → (lost closed : Bool) → EndState → LinkState → Option Outcome → LinkState → Type 0
-EndsWait h until lost closed e old (Some (outcomes.Answered a)) new = Settles h lost old (Some (outcomes.Answered a)) new
+EndsWait h until lost closed e old (Some (outcomes.Answered a)) new =
+    Settles h lost old (Some (outcomes.Answered a)) new
 EndsWait h until lost closed e old (Some (outcomes.Refused fault)) new = ⊥
 EndsWait h until lost closed e old (Some outcomes.Lost) new = Settles h lost old (Some outcomes.Lost) new
 EndsWait h until lost closed e old (Some outcomes.Unanswered) new =

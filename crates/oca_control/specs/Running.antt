@@ -1,8 +1,8 @@
 -- A LINK THAT RUNS OVER AN END: what is done with it by the calls of this crate, at which moments, and that it is asked
 -- in time where the receives of the end return in time. Moments are in milliseconds, and stand in the order of time
 -- here.
-use Rattle.std.specs.Prelude.{◌≡◌, ℕ, ◌+◌, ◌-◌, ◌*◌, ◌<◌, ◌≤◌, max, true, false, ⊤, IsTrue, List, [], ◌∷◌, ◌++◌, Result, Ok}
-use Rattle.std.specs.Prelude.{Err, is_none, length}
+use Rattle.std.specs.Prelude.{◌≡◌, ℕ, ◌+◌, ◌-◌, ◌*◌, ◌<◌, ◌≤◌, max, true, false, ⊤, IsTrue, List, [], ◌∷◌, ◌++◌, Result}
+use Rattle.std.specs.Prelude.{Ok, Err, is_none, length}
 use Rattle.std.specs.List.{flat_map, AllByRecursion}
 use Rattle.oca_types.specs.declared.words.Peer.{Peer}
 use Rattle.oca_types.specs.declared.words.Handle.{Handle}
@@ -17,8 +17,7 @@ use Rattle.oca_control.specs.declared.reception.Reception.{Reception}
 use Rattle.oca_control.specs.declared.report.DriveReport.{DriveReport}
 use Rattle.oca_control.specs.Limits.{repeat_time, most_sendings, longest_life}
 use Rattle.oca_control.specs.Untaken.{Untaken}
-use Rattle.oca_control.specs.Links.{LinkState, present_moment, Decision, GivesNothing, decision, submitted}
-use Rattle.oca_control.specs.Links.{taken}
+use Rattle.oca_control.specs.Links.{LinkState, present_moment, Decision, GivesNothing, decision, submitted, taken}
 use Rattle.oca_control.specs.Histories.{Call, Submits, IsCall, IsHistory, clock_of_calls, sendings}
 use Rattle.oca_control.specs.Answering.{last_asked, IsAskedEvery, IsWaiting, IsSentInTime}
 use Rattle.oca_control.specs.Steps.{ReceivesDatagram}
@@ -62,8 +61,8 @@ ReturnsWithin ms since others before after =
 -- ---- a link that runs
 
 -- A LINK WAS RUN: turns were taken, by `drive` or by `turn`, what was due was sent, by `send_due` or `send_in_time`,
--- commands were begun and answers taken. The moments are those of the deliveries, and those at which commands were begun
--- or what was due was sent.
+-- commands were begun and answers taken. The moments are those of the deliveries, and those at which commands were
+-- begun or what was due was sent.
 pub data IsRun : (moments : List ℕ) (old new : LinkState) → Type 0 where
   NothingDone : {l : LinkState} → IsRun [] l l
   DroveATurn : {ts : List ℕ} {old l new : LinkState} {decisions : List Decision} {n : ℕ} (d : Delivery) →
@@ -80,8 +79,8 @@ pub data IsRun : (moments : List ℕ) (old new : LinkState) → Type 0 where
       IsRun (ts ++ now ∷ []) old new
   Took : {ts : List ℕ} {old l new : LinkState} (h : ℕ) → IsRun ts old l → new ≡ taken h l → IsRun ts old new
 
--- It was run over an end: there are deliveries of which that is so, behind these moments at which a command was begun or
--- what was due was sent. Where the end tells, they are what it delivered.
+-- It was run over an end: there are deliveries of which that is so, behind these moments at which a command was begun
+-- or what was due was sent. Where the end tells, they are what it delivered.
 pub record RunsOver (begun : List ℕ) (old new : LinkState) (before after : EndState) : Type 0 where
   pub deliveries : List Delivery
   pub run : IsRun (begun ++ moments_delivered deliveries) old new
@@ -93,8 +92,8 @@ abbrev pub begun_at : Result Handle ControlFault → ℕ → List ℕ
 begun_at (Ok h) now = now ∷ []
 begun_at (Err fault) now = []
 
--- WHAT IS DONE BY `drive`, `turn`, `send_due`, `send_in_time`, `wait_for`, `wait_until`, `begin` AND `ask` is such a run;
--- so `wait_while`.
+-- WHAT IS DONE BY `drive`, `turn`, `send_due`, `send_in_time`, `wait_for`, `wait_until`, `begin` AND `ask` is such a
+-- run; so `wait_while`.
 pub record EveryCallRuns : Type 0 where
   pub of_drive : (old new : LinkState) (before after : EndState) (report : DriveReport) →
       DrivesEnd old new before after report → RunsOver [] old new before after
@@ -177,12 +176,13 @@ EveryEndInTimeServes =
     (device : Peer) (first opened span ms : ℕ) (before : List Call) (old new : LinkState) (begun : List ℕ)
     (old_end new_end : EndState) →
     0 < span → IsShortPause ms → IsHistory device first opened span before old → NothingIsLeft old →
-    HaveTimeLeft ms old → RunsOver begun old new old_end new_end → IsTrue old_end.tells → ReturnsWithin ms old.moment begun old_end new_end →
+    HaveTimeLeft ms old → RunsOver begun old new old_end new_end → IsTrue old_end.tells →
+    ReturnsWithin ms old.moment begun old_end new_end →
     new.lost ≡ false →
     IsAsked ms old.moment old new
 
--- Nothing is left, and each command has time left; and there are calls after the submit of which the command of a handle
--- is sent in time as long as it is waiting.
+-- Nothing is left, and each command has time left; and there are calls after the submit of which the command of a
+-- handle is sent in time as long as it is waiting.
 pub record CommandIsInTime (device : Peer) (first opened span ms : ℕ) (before : List Call) (request : RequestFields)
     (now : ℕ) (h : Handle) (since : ℕ) (new : LinkState) : Type 0 where
   pub left : NothingIsLeft new
@@ -211,16 +211,16 @@ HasTimeAt ms t u = is_none u.answer ≡ true →
     (t + (most_sendings - u.times) * (repeat_time + ms) ≤ u.submitted + longest_life)
     × (0 < u.times → u.last + (most_sendings + 1 - u.times) * (repeat_time + ms) ≤ u.submitted + longest_life)
 
--- EACH COMMAND IN FLIGHT HAS TIME by its own submit and its own count of sendings, however many there are: at each moment
--- within so many ms of one at which nothing was left and each had time left.
+-- EACH COMMAND IN FLIGHT HAS TIME by its own submit and its own count of sendings, however many there are: at each
+-- moment within so many ms of one at which nothing was left and each had time left.
 abbrev pub EveryCommandHasTimeSoon : Type 0
 EveryCommandHasTimeSoon =
     (device : Peer) (first opened span ms : ℕ) (before : List Call) (l : LinkState) (now : ℕ) →
     0 < span → IsHistory device first opened span before l → NothingIsLeft l → HaveTimeLeft ms l →
     now ≤ l.moment + ms → AllByRecursion (HasTimeAt ms (present_moment now l)) l.untaken
 
--- THE OTHERS DECIDE: once a command was begun each command has time left, where each that waited before has time at that
--- moment; as where none waited. So it is unless the link was lost.
+-- THE OTHERS DECIDE: once a command was begun each command has time left, where each that waited before has time at
+-- that moment; as where none waited. So it is unless the link was lost.
 abbrev pub EveryBegunCommandHasTime : Type 0
 EveryBegunCommandHasTime =
     (device : Peer) (first opened span ms : ℕ) (before : List Call) (old link : LinkState) (request : RequestFields)

@@ -1,12 +1,10 @@
 //! The law of a link, over whole histories. Nothing here runs: the contracts are the law.
-ghost use Rattle.oca_control.specs.Answering.{EveryAnswerIsKept, EveryDueCommandIsSent};
-ghost use Rattle.oca_control.specs.Answering.{EveryCommandIsSentInTime};
+ghost use Rattle.oca_control.specs.Answering.{EveryAnswerIsKept, EveryDueCommandIsSent, EveryCommandIsSentInTime};
 ghost use Rattle.oca_control.specs.Copies.{EveryCopyIsInTime, EveryStepIsInTime, EveryLateLinkStaysLate};
 ghost use Rattle.oca_control.specs.Copies.{EveryCallInTimeGoesOn};
 ghost use Rattle.oca_control.specs.Running.{EveryCallRuns, EveryRunGoesOn, EveryRunIsAsked, EveryEndInTimeServes};
-ghost use Rattle.oca_control.specs.Running.{EveryOwnReceiveRuns};
-ghost use Rattle.oca_control.specs.Running.{EveryBegunCommandIsInTime, EveryBegunCommandHasTime, EveryCommandHasTimeSoon};
-ghost use Rattle.oca_control.specs.Running.{EveryScriptIsKept};
+ghost use Rattle.oca_control.specs.Running.{EveryOwnReceiveRuns, EveryBegunCommandIsInTime, EveryBegunCommandHasTime};
+ghost use Rattle.oca_control.specs.Running.{EveryCommandHasTimeSoon, EveryScriptIsKept};
 ghost use Rattle.oca_control.specs.Receptions.{EveryDatagramIsCounted};
 ghost use Rattle.oca_control.specs.Histories.{EveryHistoryIsLawful, EveryLinkAgreesWithItsCalls, BytesHaveOneContent};
 
@@ -86,8 +84,8 @@ pub fn law_of_sending()
 ///   [`send_in_time`](crate::send_in_time), [`begin`](crate::begin), [`ask`](crate::ask), the waits and
 ///   [`take`](crate::Link::take) do with a link. Its *moments* are those of what the end delivered, and those at which
 ///   commands were begun, or `send_due` or `send_in_time` was called. If a program receives by itself,
-///   [`datagram`](crate::Link::datagram) and then `send_in_time` at the same moment are a run with this moment. No other
-///   call of [`submit`](crate::Link::submit), `due` or `datagram` that a program makes itself is part of a run.
+///   [`datagram`](crate::Link::datagram) and then `send_in_time` at the same moment are a run with this moment. No
+///   other call of [`submit`](crate::Link::submit), `due` or `datagram` that a program makes itself is part of a run.
 /// - `ms` is a number of milliseconds, at most 500. A run is *steady* if each of its moments is at most `ms` after the
 ///   latest one before it, and the first one at most `ms` after the link's clock at the start of the run.
 /// - *Nothing is left to send* if `due` returns `Nothing` at the moment of the link's clock.
@@ -104,9 +102,10 @@ pub fn law_of_sending()
 ///   at once, nothing is left to send, and the command is sent in time as long as it waits, unless the link is lost. If
 ///   `ms` is 50, it is sent again less than 300 ms after each transmission.
 ///
-/// A run is steady over a recording end ([`End`](oca_net::End)) whose receives return within `ms` of one another. An end
-/// in memory ([`MemoryEnd`](oca_net::MemoryEnd)) is such an end if the moments in its list of deliveries are. An end at
-/// a socket is not a recording end. Its run is steady if the program comes back to receive in time, which no law says.
+/// A run is steady over a recording end ([`End`](oca_net::End)) whose receives return within `ms` of one another. An
+/// end in memory ([`MemoryEnd`](oca_net::MemoryEnd)) is such an end if the moments in its list of deliveries are. An
+/// end at a socket is not a recording end. Its run is steady if the program comes back to receive in time, which no law
+/// says.
 pub fn law_of_running()
     ensures calls { EveryCallRuns }
     ensures own_receives { EveryOwnReceiveRuns }
@@ -124,18 +123,18 @@ pub fn law_of_running()
 /// submitted more than 15,000 ms ago has no answer ([`is_late`](crate::is_late)). The function does nothing at run
 /// time.
 ///
-/// - The premise: a list has all calls of a link from some moment on, and `due` is never called at a moment at which the
-///   link is late. The other calls can be any. For the conclusion the link was new when the list begins.
+/// - The premise: a list has all calls of a link from some moment on, and `due` is never called at a moment at which
+///   the link is late. The other calls can be any. For the conclusion the link was new when the list begins.
 /// - The conclusion: each transmission of a command leaves at most 15,000 ms after the submit of the command, by the
 ///   link's clock. This clock is the latest moment that the link was given.
 /// - [`send_in_time`](crate::send_in_time), [`turn`](crate::turn), [`begin`](crate::begin), [`ask`](crate::ask) and the
 ///   waits ask the link only while it is not late. For what such a call does there is a list of calls of the link that
-///   meets the premise and makes the same link. A recording end ([`End`](oca_net::End)) took just what these calls send,
-///   for the link's device and in this order, except for the sends that failed. They receive just the datagrams of at
-///   most 1,472 bytes that it delivered. They ask the link at moments of what it delivered, at the moment given to
-///   `send_in_time`, or at that of the begin. Of an end that does not record, the law says how often was sent.
-/// - Two lists that meet the premise, the second from where the first ends, meet it together. So the conclusion holds of
-///   all that these calls hand to a recording end, one call after another, from a new link on.
+///   meets the premise and makes the same link. A recording end ([`End`](oca_net::End)) took just what these calls
+///   send, for the link's device and in this order, except for the sends that failed. They receive just the datagrams
+///   of at most 1,472 bytes that it delivered. They ask the link at moments of what it delivered, at the moment given
+///   to `send_in_time`, or at that of the begin. Of an end that does not record, the law says how often was sent.
+/// - Two lists that meet the premise, the second from where the first ends, meet it together. So the conclusion holds
+///   of all that these calls hand to a recording end, one call after another, from a new link on.
 /// - A link that is late at a moment is late at each later moment, if nothing is called between.
 pub fn law_copies_in_time()
     ensures copies { EveryCopyIsInTime }

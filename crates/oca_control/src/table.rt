@@ -8,8 +8,7 @@ ghost use Rattle.oca_types.specs.Sizes.{most_command_parameter_bytes, most_param
 ghost use Rattle.oca_types.specs.Moments.{HoldsFrom};
 ghost use Rattle.oca_control.specs.Answers.{answer_fields};
 ghost use Rattle.oca_control.specs.Untaken.{new_untaken, span_has_room, is_late, first_due, waits, answered};
-ghost use Rattle.oca_control.specs.Untaken.{first_answered};
-ghost use Rattle.oca_control.specs.Untaken.{answer_under, without_handle};
+ghost use Rattle.oca_control.specs.Untaken.{first_answered, answer_under, without_handle};
 ghost use Rattle.oca_control.specs.Links.{command_under, due_answer};
 ghost use Rattle.oca_control.specs.Shortening.{shortened_answer};
 ghost use Rattle.oca_control.specs.PrivateSlots.{IsSlotTable, untaken_from, untaken_at, held_at, held_is_due, some_due};

@@ -45,7 +45,8 @@ pub record KeepingState : Type 0 where
 -- a datagram wrote to an object
 abbrev pub is_writing : DeviceSizes → List Object → List Event → Delivery → Bool
 is_writing w tree events (Datagram from bytes now) =
-    nat_le (length bytes) largest_datagram && not (length (written w tree (event.Datagram from bytes now ∷ events)) == 0)
+    nat_le (length bytes) largest_datagram &&
+    not (length (written w tree (event.Datagram from bytes now ∷ events)) == 0)
 is_writing w tree events (Quiet now) = false
 is_writing w tree events Failed = false
 
@@ -139,8 +140,8 @@ sent_of_all behind w tree events (g ∷ groups) =
 
 -- A DEVICE SERVED AN END AND KEPT ITS OBJECTS IN A STORE: there are groups of deliveries that it served; behind each
 -- with answers that wait the store was handed the objects, and these answers left only where it said that it holds
--- them. The end was handed just as many datagrams. What was written and is not stored is told before and after. A number of the report that would pass 64 bits
--- stays at its last value.
+-- them. The end was handed just as many datagrams. What was written and is not stored is told before and after. A
+-- number of the report that would pass 64 bits stays at its last value.
 pub record ServesKeeping (behind is_behind : Bool) (old new : DeviceState) (before after : EndState)
     (idle moved : ElectronicsState) (had has : StoreState) (returned : Report) : Type 0 where
   pub groups : List Group

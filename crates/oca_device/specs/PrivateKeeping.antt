@@ -36,7 +36,8 @@ pub record TakesExactly (due : Bool) (old new : DeviceState) (before after : End
       Represents w old tree events →
       TakesAllBut report.failed_sends before.taken after.taken (at_once was.is_behind w tree events deliveries)
   pub sends : after.sends < last_u64 → (w : DeviceSizes) (tree : List Object) (events : List Event) →
-      Represents w old tree events → after.sends ≡ before.sends + length (at_once was.is_behind w tree events deliveries)
+      Represents w old tree events → after.sends ≡
+      before.sends + length (at_once was.is_behind w tree events deliveries)
   pub following : moved.tells ≡ idle.tells
   pub followed : IsTrue idle.tells → (w : DeviceSizes) (tree : List Object) (events : List Event) →
       Represents w old tree events →
@@ -55,7 +56,8 @@ pub record TakesIn (due : Bool) (old new : DeviceState) (before after : EndState
   pub returns : returned ≡ capped report
   pub takes : TakesExactly due old new before after idle moved was is report
 
--- The store was handed these objects, and what was held was sent where it said that it holds them. Nothing is held then.
+-- The store was handed these objects, and what was held was sent where it said that it holds them. Nothing is held
+-- then.
 pub record SettlesGroup (tree : List Object) (before after : EndState) (was is : KeepingState) (had has : StoreState)
     (failed : ℕ) : Type 0 where
   pub stored : Bool

@@ -81,7 +81,8 @@ pub record ServesMessages (room_for : ℕ) (w : DeviceSizes) (new : DeviceState)
   pub written : new.written ≡ written_by_messages w p ms s
   pub effects : new.effects ≡ effects_of_messages w p ms s
   pub packets : (room : ℕ) (groups : List Pdu) → before ≡ first_packets room (encodings groups) →
-      after ≡ first_packets room (encodings (with_answers groups (shortened_answers room_for (answers_to_messages w p ms s))))
+      after ≡ first_packets room
+      (encodings (with_answers groups (shortened_answers room_for (answers_to_messages w p ms s))))
   pub counts : n ≡ counts_of_messages w p ms s
 
 -- a datagram, when the clock has moved, nothing is written, no command is served and there is room for so many packets
@@ -90,5 +91,6 @@ pub record TakesDatagram (room_for : ℕ) (w : DeviceSizes) (new : DeviceState) 
   pub device : IsIn room_for w new (after_reading w p (read_datagram bytes) s)
   pub written : new.written ≡ written_by_reading w p (read_datagram bytes) s
   pub effects : new.effects ≡ effects_of_reading w p (read_datagram bytes) s
-  pub packets : after ≡ first_packets room (packets_of (shortened_answers room_for (answers_to_reading w p (read_datagram bytes) s)))
+  pub packets : after ≡ first_packets room
+      (packets_of (shortened_answers room_for (answers_to_reading w p (read_datagram bytes) s)))
   pub verdict_is : verdict ≡ verdict_of_reading w p (read_datagram bytes) s

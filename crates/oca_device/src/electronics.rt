@@ -30,8 +30,8 @@ pub trait Electronics {
     /// does nothing if the electronics do not define it. [`serve_keeping`](crate::serve_keeping) tells its store
     /// instead ([`Store::tell`](crate::Store::tell)).
     ///
-    /// `_heard` is what was received, `_bytes` and `_answers` are the datagram and its answers, `_turn` is what the turn
-    /// did, and `_device` is the device after it.
+    /// `_heard` is what was received, `_bytes` and `_answers` are the datagram and its answers, `_turn` is what the
+    /// turn did, and `_device` is the device after it.
     fn tell(
         &mut self,
         _heard: Heard,

@@ -1,6 +1,6 @@
 //! The loop that serves an end and keeps the objects in a store: what was answered is stored.
-ghost use Rattle.std.specs.Prelude.{◌≡◌, ◌+◌, ◌<◌, ◌≤◌, ◌^◌, ◌-◌, ◌==◌, ◌||◌, ◌&&◌, not, false, [], ◌∷◌, ◌++◌, IsTrue, IfOk, length};
-ghost use Rattle.std.specs.Prelude.{if◌then◌else◌, IfSome, min};
+ghost use Rattle.std.specs.Prelude.{◌≡◌, ◌+◌, ◌<◌, ◌≤◌, ◌^◌, ◌-◌, ◌==◌, ◌||◌, ◌&&◌, not, false, [], ◌∷◌, ◌++◌, IsTrue};
+ghost use Rattle.std.specs.Prelude.{IfOk, length, if◌then◌else◌, IfSome, min};
 ghost use Rattle.oca_pdu.specs.Limits.{most_answered};
 ghost use Rattle.oca_net.specs.EndStates.{Receives, SendsAllBut};
 ghost use Rattle.oca_device.specs.Reports.{added, capped, no_turns, one_turn, receives_of};
@@ -345,7 +345,8 @@ fn settle<E: End, S: Store>(
     keeping: &mut Keeping,
     store: &mut S,
 ) -> u64
-    ensures { SettlesGroup device.now.tree (E.state end.old) (E.state end.new) keeping.old keeping.new (S.state store.old)
+    ensures { SettlesGroup device.now.tree (E.state end.old) (E.state end.new) keeping.old keeping.new
+        (S.state store.old)
         (S.state store.new) result }
 {
     let stored = store.store(device.tree());
@@ -362,8 +363,8 @@ fn send_stored<E: End>(end: &mut E, keeping: &Keeping, stored: bool) -> u64
     if stored { keeping.send_held(end) } else { 0 }
 }
 
-/// Takes datagrams in, in at least one turn and at most so many: while answers wait, all that are there, as far as there
-/// is room for the answers to them.
+/// Takes datagrams in, in at least one turn and at most so many: while answers wait, all that are there, as far as
+/// there is room for the answers to them.
 fn take_in<E: End, S: Store, L: Electronics>(
     device: &mut Device,
     end: &mut E,

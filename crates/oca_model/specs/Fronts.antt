@@ -1,6 +1,6 @@
 -- What is read where an encoding stands at the front.
-use Rattle.std.proofs.Common.{◌≡◌, ℕ, ◌<◌, ◌^◌, true, false, Bool, List, [], ◌++◌, length, refl, sym, ap, ◌∙◌}
-use Rattle.std.proofs.Common.{append_assoc, append-nil}
+use Rattle.std.proofs.Common.{◌≡◌, ℕ, ◌<◌, ◌^◌, true, false, Bool, List, [], ◌++◌, length, refl, sym, ap}
+use Rattle.std.proofs.Common.{◌∙◌, append_assoc, append-nil}
 use Rattle.std.specs.Prelude.{Option, Some, FitsSigned}
 use Rattle.std.specs.Str.{chars}
 use Rattle.std.specs.Int.{w8, w16, w32, w64, byte_len}
@@ -8,8 +8,7 @@ use Rattle.oca_types.specs.Fixed.{Codec, IsFixed, unsigned, signed}
 use Rattle.oca_types.specs.Numbers.{unsigned_encoding, bool_encoding}
 use Rattle.oca_types.specs.Reading.{unsigned_at, bool_at, text_at}
 use Rattle.oca_types.specs.Texts.{text_encoding}
-use Rattle.oca_types.proofs.Fixed.{fixed_u8, fixed_u16, fixed_u32, fixed_u64, fixed_i8, fixed_i16, fixed_i32}
-use Rattle.oca_types.proofs.Fixed.{fixed_i64}
+use Rattle.oca_types.proofs.Fixed.{fixed_u8, fixed_u16, fixed_u32, fixed_u64, fixed_i8, fixed_i16, fixed_i32, fixed_i64}
 use Rattle.oca_types.proofs.Texts.{chars_of}
 use Rattle.oca_types.proofs.TextAt.{at_count, front_some}
 use Rattle.oca_model.specs.Parameters.{whole}

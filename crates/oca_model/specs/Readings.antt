@@ -13,7 +13,8 @@ use Rattle.oca_model.specs.declared.reading.Reading.TheVariants.{Int64, Uint8, U
 use Rattle.oca_model.specs.declared.value.Value.{Value}
 use Rattle.oca_model.specs.declared.value.Value.TheVariants as value
 use Rattle.oca_model.specs.Parameters.{whole, pair_at}
-use Rattle.oca_model.specs.Values.{by_type, integer_type, class_of_value, mute_number, polarity_number, mute_of, polarity_of}
+use Rattle.oca_model.specs.Values.{by_type, integer_type, class_of_value, mute_number}
+use Rattle.oca_model.specs.Values.{polarity_number, mute_of, polarity_of}
 
 -- what is said of the numbers of an integer actuator's reading, and of any other reading
 abbrev pub by_range : {Y : Type 0} → (Width → (ℤ → Value) → (Ranged ℤ → Reading) → Ranged ℤ → Y)
@@ -54,7 +55,8 @@ reading_encoding (Polarity state) = unsigned_encoding w8 (polarity_number state)
 reading_encoding (Switch r) = ranged_encoding (unsigned_encoding w16) r
 reading_encoding (Boolean truth) = bool_encoding truth
 reading_encoding reading =
-    by_range (λ w _ _ r. ranged_encoding (signed_encoding w) r) (λ w _ _ r. ranged_encoding (unsigned_encoding w) r) [] reading
+    by_range (λ w _ _ r. ranged_encoding (signed_encoding w) r) (λ w _ _ r. ranged_encoding (unsigned_encoding w) r)
+    [] reading
 
 -- how many parameters it is (ParamCount)
 abbrev pub reading_count : Reading → ℕ

@@ -2,8 +2,7 @@
 ghost use Rattle.std.specs.Prelude.{◌≡◌};
 ghost use Rattle.oca_types.specs.Putting.{Puts};
 ghost use Rattle.oca_model.specs.Readings.{ranged_in, ranged_encoding, value_without_limits, reading_count};
-ghost use Rattle.oca_model.specs.Readings.{reading_encoding};
-ghost use Rattle.oca_model.specs.Readings.{reading_in, value_read};
+ghost use Rattle.oca_model.specs.Readings.{reading_encoding, reading_in, value_read};
 
 use crate::parameters::whole_field;
 use crate::value::{MuteState, PolarityState, Value, mute_of, polarity_of, with_integers};

@@ -1,6 +1,5 @@
 -- What an end says of itself, and what its calls do to that.
-use Rattle.std.specs.Prelude.{◌≡◌, ℕ, ◌+◌, ◌<◌, Bool, ◌||◌, List, ◌++◌, length, IsTrue, IfSome}
-use Rattle.std.specs.Prelude.{◌≤◌, Option}
+use Rattle.std.specs.Prelude.{◌≡◌, ℕ, ◌+◌, ◌<◌, Bool, ◌||◌, List, ◌++◌, length, IsTrue, IfSome, ◌≤◌, Option}
 use Rattle.oca_types.specs.declared.words.Peer.{Peer}
 use Rattle.oca_net.specs.declared.end.Heard.{Heard}
 use Rattle.oca_net.specs.Deliveries.{Delivery, Sent}
@@ -8,10 +7,10 @@ use Rattle.oca_net.specs.Ends.{Delivers, KeepsTime, HoldsOnlyADatagram, is_close
 use Rattle.oca_net.specs.Ends.{taken_after, one_more, last_u64, TakesAllBut}
 
 -- Whether the end tells what it delivers and takes; what it delivered and what it took (the latest last), which say
--- nothing of an end that does not tell; whether it has returned Closed; how many calls failed, how often `receive`
--- was called, failed and closed calls too, and how often `send` was, failed calls too: 64-bit numbers that stay at their
--- last value. Where the end keeps time, the latest moment that it has said. And the earliest and the latest moment that it
--- may say to be its present one, as long as it neither receives nor sends.
+-- nothing of an end that does not tell; whether it has returned Closed; how many calls failed, how often `receive` was
+-- called, failed and closed calls too, and how often `send` was, failed calls too: 64-bit numbers that stay at their
+-- last value. Where the end keeps time, the latest moment that it has said. And the earliest and the latest moment that
+-- it may say to be its present one, as long as it neither receives nor sends.
 pub record EndState : Type 0 where
   pub tells : Bool
   pub delivered : List Delivery

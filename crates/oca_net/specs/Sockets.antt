@@ -1,7 +1,6 @@
 -- An end at a UDP socket. It tells neither what it delivered nor what it took, and is never closed.
-use Rattle.std.specs.Prelude.{◌≡◌, ◌≢◌, ◌<◌, ◌+◌, ◌==◌, ℕ, zero, suc, max, Bool, true, false, if◌then◌else◌, []}
-use Rattle.std.specs.Prelude.{Option, None, Some}
-use Rattle.std.specs.Prelude.{Result, Ok, Err, IsSome, IsSomeAnd}
+use Rattle.std.specs.Prelude.{◌≡◌, ◌≢◌, ◌<◌, ◌+◌, ◌==◌, ℕ, zero, suc, max, Bool, true, false, if◌then◌else◌, [], Option}
+use Rattle.std.specs.Prelude.{None, Some, Result, Ok, Err, IsSome, IsSomeAnd}
 use Rattle.std.specs.IoError.{error_kind}
 use Rattle.std.specs.declared.io.ErrorKind.{ErrorKind}
 use Rattle.std.specs.declared.io.ErrorKind.TheVariants as kind
@@ -69,7 +68,8 @@ abbrev pub says_none : Option Error → Bool
 says_none None = false
 says_none (Some e) = says_none_came (error_kind e)
 
--- The reason that is noted of a call that failed: the one that the system gave, or where it gave none, one of this kind.
+-- The reason that is noted of a call that failed: the one that the system gave, or where it gave none, one of this
+-- kind.
 abbrev pub IsReason : (own_kind : ErrorKind) → (noted given : Option Error) → Type 0
 IsReason own_kind noted None = IsSomeAnd noted (λ e. error_kind e ≡ own_kind)
 IsReason own_kind noted (Some reason) = noted ≡ Some reason
@@ -112,9 +112,9 @@ pub record IsBegunAgain (refused : Option Error) (calls calls_now signals signal
   pub signals_so : signals_now ≡ signals_after refused (many_more signals again)
   pub last : is_interrupted refused ≡ true → again + 1 ≡ most_tries
 
--- Where it is bound, its counts of failures, of receives and of sends, the latest moment that it said, the calls of the system,
--- at which moment the last receive began, by its first look at the clock, and until which it was to wait, why the last
--- receive or send that failed did so, and that of receives and of sends alone.
+-- Where it is bound, its counts of failures, of receives and of sends, the latest moment that it said, the calls of the
+-- system, at which moment the last receive began, by its first look at the clock, and until which it was to wait, why
+-- the last receive or send that failed did so, and that of receives and of sends alone.
 pub record SocketState : Type 0 where
   pub local : Peer
   pub failures : ℕ
@@ -166,8 +166,9 @@ pub record IsBoundAt (ip port : ℕ) (local : Peer) : Type 0 where
   pub address : local.ip ≡ ip
   pub same_port : port ≢ 0 → local.port ≡ port
 
--- An end that was to be bound at one address of the machine, and at this port, is bound here: the address is not 0, which
--- is all of them, so that what the end sends leaves from there or not at all. At port 0 the system chooses the port.
+-- An end that was to be bound at one address of the machine, and at this port, is bound here: the address is not 0,
+-- which is all of them, so that what the end sends leaves from there or not at all. At port 0 the system chooses the
+-- port.
 pub record IsBoundAtOne (port : ℕ) (local : Peer) : Type 0 where
   pub one : local.ip ≢ 0
   pub same_port : port ≢ 0 → local.port ≡ port
@@ -179,8 +180,8 @@ pub record IsBoundFrom (ip port : ℕ) (local : Peer) : Type 0 where
   pub same_port : port ≢ 0 → local.port ≡ port
 
 -- The end after a receive that returned this, and left the calls of the system, its beginning, the moment to wait for
--- and the reason so. Where it did not fail, the moment said is what the last look at the clock gave, or the one before where that is
--- later; where it failed, the reason is kept.
+-- and the reason so. Where it did not fail, the moment said is what the last look at the clock gave, or the one before
+-- where that is later; where it failed, the reason is kept.
 abbrev pub after_heard : Heard → CallState → (begun until : ℕ) → Option Error → SocketState → SocketState
 after_heard h system begun until fault e =
     record {

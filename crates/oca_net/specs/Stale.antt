@@ -1,15 +1,15 @@
 -- An end of a device, over another one, that drops what waited while the device stood still. Moments and times are
 -- milliseconds of the clock of the end inside, but for `latest`.
-use Rattle.std.specs.Prelude.{◌≡◌, ℕ, ◌+◌, ◌-◌, ◌<◌, ◌≤◌, max, min, nat_le, nat_lt, Bool, true, false, ◌&&◌, ◌||◌, if◌then◌else◌}
-use Rattle.std.specs.Prelude.{List, [], Some}
+use Rattle.std.specs.Prelude.{◌≡◌, ℕ, ◌+◌, ◌-◌, ◌<◌, ◌≤◌, max, min, nat_le, nat_lt, Bool, true, false, ◌&&◌, ◌||◌}
+use Rattle.std.specs.Prelude.{if◌then◌else◌, List, [], Some}
 use Rattle.oca_net.specs.declared.end.Heard.{Heard}
 use Rattle.oca_net.specs.declared.end.Heard.TheVariants as heard
 use Rattle.oca_net.specs.Ends.{is_closed, last_u64}
 use Rattle.oca_net.specs.EndStates.{EndState, Receives}
 
 -- The end inside, and the counts of failures and of receives of the end itself. The latest moment that it has said, by
--- its own clock, and by how much that is behind the clock inside. Until when it has listened. Of the last receive: when it
--- was asked, until when it was to wait, and when it was over. Until when it collects what is sent again.
+-- its own clock, and by how much that is behind the clock inside. Until when it has listened. Of the last receive: when
+-- it was asked, until when it was to wait, and when it was over. Until when it collects what is sent again.
 pub record StaleState : Type 0 where
   pub end_state : EndState
   pub failures : ℕ
@@ -74,7 +74,8 @@ collecting = 300
 abbrev pub is_standstill : (from to : ℕ) → Bool
 is_standstill from to = nat_lt (from + standstill) to
 
--- How much of the time between two moments the end's clock leaves out: of a standstill of at most a minute all but 1,000 ms.
+-- How much of the time between two moments the end's clock leaves out: of a standstill of at most a minute all but
+-- 1,000 ms.
 abbrev pub left_out : (from to : ℕ) → ℕ
 left_out from to =
     if is_standstill from to && nat_le (to - from) longest_pardoned then (to - from) - standstill else 0
@@ -94,8 +95,8 @@ pub record DropsAll (last : Heard) (before after : EndState) : Type 0 where
   pub closed : after.closed ≡ (before.closed || is_closed last)
   pub sends : after.sends ≡ before.sends
 
--- What is dropped before a receive, and whether the end inside was closed then: everything that waited, where the device
--- stood still since it listened last, and else nothing.
+-- What is dropped before a receive, and whether the end inside was closed then: everything that waited, where the
+-- device stood still since it listened last, and else nothing.
 abbrev pub DropsFirst : (stood closed : Bool) (before after : EndState) → Type 0
 DropsFirst false closed before after = (closed ≡ false) × (after ≡ before)
 DropsFirst true closed before after = (last : Heard) × DropsAll last before after × (closed ≡ is_closed last)
@@ -116,8 +117,8 @@ at_moment latest (heard.Oversize now) = heard.Oversize latest
 at_moment latest heard.Failed = heard.Failed
 at_moment latest heard.Closed = heard.Closed
 
--- What the end returns, of what the end inside brought: no datagram where the device stood still within the receive, and
--- Closed where that was closed before.
+-- What the end returns, of what the end inside brought: no datagram where the device stood still within the receive,
+-- and Closed where that was closed before.
 abbrev pub handed_on : (stood closed : Bool) (latest : ℕ) → Heard → Heard
 handed_on stood true latest brought = heard.Closed
 handed_on true false latest brought = without_datagram latest brought

@@ -1,10 +1,11 @@
 //! A UDP socket of IPv4, and how long its calls wait.
-ghost use Rattle.std.specs.Prelude.{◌≡◌, ◌≢◌, ◌≤◌, ◌+◌, ◌-◌, IfOk, IfErr, IsOk, OnOk, Some, None, length, min, true, false};
+ghost use Rattle.std.specs.Prelude.{◌≡◌, ◌≢◌, ◌≤◌, ◌+◌, ◌-◌, IfOk, IfErr, IsOk, OnOk, Some, None, length};
+ghost use Rattle.std.specs.Prelude.{min, true, false};
 ghost use Rattle.oca_net.specs.Ends.{last_u64, one_more};
 ghost use Rattle.oca_net.specs.Moments.{milliseconds_of};
 ghost use Rattle.oca_net.specs.PrivateMoments.{IsFresh, wait_of};
-ghost use Rattle.oca_net.specs.Sockets.{IsBoundAt, IsUnheardFor, IsUntakenFor, is_interrupted, is_taken, reason_of};
-ghost use Rattle.oca_net.specs.Sockets.{signals_after};
+ghost use Rattle.oca_net.specs.Sockets.{IsBoundAt, IsUnheardFor, IsUntakenFor, is_interrupted};
+ghost use Rattle.oca_net.specs.Sockets.{is_taken, reason_of, signals_after};
 
 use crate::system;
 use crate::system::System;
@@ -248,8 +249,8 @@ fn from_peer(received: io::Result<(usize, SocketAddr)>) -> io::Result<(usize, Pe
     Ok((n, peer_of(from)?))
 }
 
-/// The address of this machine from which the system reaches a peer, asked from the route. Nothing is sent. It is not 0,
-/// so a socket that is bound there sends from there alone. Err where the system reaches the peer from nowhere.
+/// The address of this machine from which the system reaches a peer, asked from the route. Nothing is sent. It is not
+/// 0, so a socket that is bound there sends from there alone. Err where the system reaches the peer from nowhere.
 pub(crate) fn address_towards<R: Net>(rt: &R, peer: Peer) -> io::Result<u32>
     ensures { IfOk result (λ ip. ip ≢ 0) }
 {

@@ -36,8 +36,8 @@ const WAIT_MS: u64 = 50;
 /// - Within a receive that returned more than 1,000 ms after the moment until which it was to wait. What it brought is
 ///   dropped, and the next receive drops the rest.
 ///
-/// For 300 ms after a standstill a receive that would not wait waits for what is sent again, so a device that stores its
-/// objects serves all of it together. The end has a clock of its own: of a standstill of at most a minute it counts
+/// For 300 ms after a standstill a receive that would not wait waits for what is sent again, so a device that stores
+/// its objects serves all of it together. The end has a clock of its own: of a standstill of at most a minute it counts
 /// 1,000 ms, so that no controller loses its lock for it. A longer standstill counts in full.
 ///
 /// An end that keeps no time never stands still.
@@ -159,7 +159,8 @@ impl<E: End> DropsStale<E> {
         heard
     }
 
-    /// Drops what waits, where the device stood still since it listened last. Returns whether the end inside was closed.
+    /// Drops what waits, where the device stood still since it listened last. Returns whether the end inside was
+    /// closed.
     fn drop_stale(&mut self, packet: &mut Packet) -> bool
         ensures first { DropsFirst (is_standstill self.old.listened self.old.asked) result self.old.end_state
             self.new.end_state }
@@ -185,7 +186,8 @@ impl<E: End> DropsStale<E> {
     fn hand_on(&mut self, brought: Heard, packet: &mut Packet, is_closed: bool) -> Heard
         requires { HoldsOnlyADatagram brought packet.old.items }
         ensures packet { HoldsOnlyADatagram result packet.new.items }
-        ensures handed { result ≡ handed_on (is_standstill self.old.until self.old.ended) is_closed self.new.latest brought }
+        ensures handed { result ≡ handed_on (is_standstill self.old.until self.old.ended)
+            is_closed self.new.latest brought }
         ensures same { self.new ≡ record self.old {
           latest = self.new.latest;
           listened = if is_standstill self.old.until self.old.ended then self.old.until else self.old.ended;
@@ -245,8 +247,8 @@ impl<E: End> End for DropsStale<E> {
         self.hear(packet, now, now.saturating_add(WAIT_MS))
     }
 
-    /// As `receive`, until this moment of its own clock, for at most 1,000 ms. For 300 ms after a standstill it waits until
-    /// these are over, whatever the moment.
+    /// As `receive`, until this moment of its own clock, for at most 1,000 ms. For 300 ms after a standstill it waits
+    /// until these are over, whatever the moment.
     fn receive_by(&mut self, packet: &mut Packet, moment: u64) -> Heard
         ensures end { Receives result packet.new.items (state_of_stale self.old) (state_of_stale self.new) }
         ensures fresh { HearsFresh result self.old self.new }

@@ -45,8 +45,8 @@ pub(crate) struct System<'a, C: Clock> {
     waited: u64,
     /// How many bytes of the last datagram that was handed over were taken, where it was.
     taken: Option<usize>,
-    /// The reason that the system gave where the last receive or send failed, or where the time to wait could not be set
-    /// for the receive.
+    /// The reason that the system gave where the last receive or send failed, or where the time to wait could not be
+    /// set for the receive.
     refused: Option<io::Error>,
     /// How many receives and sends a signal interrupted.
     signals: u64,

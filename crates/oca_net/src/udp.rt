@@ -3,8 +3,8 @@ ghost use Rattle.std.specs.Prelude.{◌≡◌, ◌≤◌, ◌<◌, ◌+◌, ◌-
 ghost use Rattle.std.specs.Prelude.{length, max, min};
 ghost use Rattle.std.specs.IoError.{error_kind};
 ghost use Rattle.oca_net.specs.Ends.{HoldsOnlyADatagram, is_closed, is_failed, largest_datagram, last_u64, one_more};
-ghost use Rattle.oca_net.specs.Sockets.{IsBegunAgain, IsBoundAt, IsBoundAtOne, IsUnheardFor, IsUntakenFor, IsWhy};
-ghost use Rattle.oca_net.specs.Sockets.{ReadsClockAfter, ReturnsMoment};
+ghost use Rattle.oca_net.specs.Sockets.{IsBegunAgain, IsBoundAt, IsBoundAtOne, IsUnheardFor, IsUntakenFor};
+ghost use Rattle.oca_net.specs.Sockets.{IsWhy, ReadsClockAfter, ReturnsMoment};
 ghost use Rattle.oca_net.specs.Sockets.{after_heard, after_sent, fault_of, is_interrupted, is_taken, most_tries};
 ghost use Rattle.oca_net.specs.Sockets.{new_socket, says_none, says_none_came, state_of_socket};
 ghost use Rattle.oca_net.specs.Deliveries.{Datagram};
@@ -313,7 +313,8 @@ impl<'a, C: Clock> UdpEnd<'a, C> {
         ensures open { is_closed result ≡ false }
         ensures said { ReturnsMoment result self.new.moment }
         ensures later { self.old.moment ≤ self.new.moment }
-        ensures end { self.new ≡ after_heard result self.new.system self.new.begun self.new.until self.new.fault self.old }
+        ensures end { self.new ≡
+            after_heard result self.new.system self.new.begun self.new.until self.new.fault self.old }
         ensures behind { ReadsClockAfter result self.new.system }
         ensures why { IsWhy result self.new.fault self.new.system.refused }
         ensures most { self.new.until ≤ moment }
@@ -334,7 +335,8 @@ impl<'a, C: Clock> UdpEnd<'a, C> {
         ensures open { is_closed result ≡ false }
         ensures said { ReturnsMoment result self.new.moment }
         ensures later { self.old.moment ≤ self.new.moment }
-        ensures end { self.new ≡ after_heard result self.new.system self.new.begun self.new.until self.new.fault self.old }
+        ensures end { self.new ≡
+            after_heard result self.new.system self.new.begun self.new.until self.new.fault self.old }
         ensures behind { ReadsClockAfter result self.new.system }
         ensures why { IsWhy result self.new.fault self.new.system.refused }
         ensures begun { self.new.begun ≡ now }
@@ -393,7 +395,8 @@ impl<'a, C: Clock> End for UdpEnd<'a, C> {
         ensures open { is_closed result ≡ false }
         ensures said { ReturnsMoment result self.new.moment }
         ensures later { self.old.moment ≤ self.new.moment }
-        ensures end { self.new ≡ after_heard result self.new.system self.new.begun self.new.until self.new.fault self.old }
+        ensures end { self.new ≡
+            after_heard result self.new.system self.new.begun self.new.until self.new.fault self.old }
         ensures behind { ReadsClockAfter result self.new.system }
         ensures why { IsWhy result self.new.fault self.new.system.refused }
         ensures least { min (self.old.moment + 50) last_u64 ≤ self.new.until }
@@ -410,7 +413,8 @@ impl<'a, C: Clock> End for UdpEnd<'a, C> {
         ensures open { is_closed result ≡ false }
         ensures said { ReturnsMoment result self.new.moment }
         ensures later { self.old.moment ≤ self.new.moment }
-        ensures end { self.new ≡ after_heard result self.new.system self.new.begun self.new.until self.new.fault self.old }
+        ensures end { self.new ≡
+            after_heard result self.new.system self.new.begun self.new.until self.new.fault self.old }
         ensures behind { ReadsClockAfter result self.new.system }
         ensures why { IsWhy result self.new.fault self.new.system.refused }
         ensures most { self.new.until ≤ moment }

@@ -1,8 +1,7 @@
 -- THE LAW OF GETTING THROUGH, over every schedule: a link that is asked often enough gives each command out to the
 -- device until it has the command's answer or is lost; and one copy that arrives, and the one response that comes back,
 -- are enough.
-use Rattle.std.specs.Prelude.{◌≡◌, ◌⊎◌, ℕ, ◌==◌, true, if◌then◌else◌, List, [], ◌∷◌, ◌++◌}
-use Rattle.std.specs.Prelude.{Option, Some, None}
+use Rattle.std.specs.Prelude.{◌≡◌, ◌⊎◌, ℕ, ◌==◌, true, if◌then◌else◌, List, [], ◌∷◌, ◌++◌, Option, Some, None}
 use Rattle.std.specs.List.{slice_get, AllByRecursion, Contains}
 use Rattle.oca_types.specs.declared.words.Peer.{Peer}
 use Rattle.oca_types.specs.declared.words.Handle.{Handle}
@@ -12,17 +11,15 @@ use Rattle.oca_pdu.specs.Messages.{Msg, Commands}
 use Rattle.oca_pdu.specs.Encoding.{pdu_encoding}
 use Rattle.oca_tree.specs.declared.object.Object.{Object}
 use Rattle.oca_control.specs.Untaken.{answer_under}
-use Rattle.oca_control.specs.Links.{LinkState, Request, command_under, submission, decision, due_answer, due_bytes}
-use Rattle.oca_control.specs.Links.{present_moment}
-use Rattle.oca_control.specs.Links.{reception}
+use Rattle.oca_control.specs.Links.{LinkState, Request, command_under, submission, decision, due_answer}
+use Rattle.oca_control.specs.Links.{due_bytes, present_moment, reception}
 use Rattle.oca_control.specs.Histories.{Call, Submits, SendsDue, Receives, TakesAnswer, clock_of_calls, sendings}
 use Rattle.oca_control.specs.Answering.{IsAskedEvery, IsSentInTime}
 use Rattle.oca_pair.specs.declared.outcome.Outcome.TheVariants as outcomes
 use Rattle.oca_pair.specs.declared.start.Start.{Start}
 use Rattle.oca_pair.specs.Networks.{Network, PeerLink, SentDatagram, Setup, opening}
-use Rattle.oca_pair.specs.Steps.{Step, Submit, Due, ToDevice, ToLink, Other, Tick, Local, Take, Renew, Beside, content_read}
-use Rattle.oca_pair.specs.Steps.{after_step}
-use Rattle.oca_pair.specs.Steps.{after_steps, outcome_of_step}
+use Rattle.oca_pair.specs.Steps.{Step, Submit, Due, ToDevice, ToLink, Other, Tick, Local, Take, Renew, Beside}
+use Rattle.oca_pair.specs.Steps.{content_read, after_step, after_steps, outcome_of_step}
 use Rattle.oca_pair.specs.Premises.{are_apart, StepFits, Fit, KeepsItsSession, FindsRoom, SpanFits}
 use Rattle.oca_pair.specs.RoundTrip.{GotItsAnswer, asked, meanwhile, RenewsNothing, ComesBack}
 
@@ -86,8 +83,8 @@ pub record WasSent (p : Peer) (c : CommandFields) (bytes : List ℕ) (n : Networ
   pub bytes_are : bytes ≡ (copy_of p c).bytes
   pub sent : Contains n.to_device (copy_of p c)
 
--- The command waits for its answer. By the calls since its submit it was sent in time, each time as a copy. `Comes k now`
--- is what is asked of a delivery of datagram k at this moment.
+-- The command waits for its answer. By the calls since its submit it was sent in time, each time as a copy. `Comes k
+-- now` is what is asked of a delivery of datagram k at this moment.
 pub record WaitsInTime (Comes : ℕ → ℕ → Type 0) (ms since i : ℕ) (c : CommandFields) (p : Peer) (calls : List Call)
     (n : Network) : Type 0 where
   pub in_time : IsSentInTime ms since (clock_of_calls since calls) (sendings since c.handle calls)

@@ -13,8 +13,8 @@ use Rattle.oca_control.specs.Untaken.{answer_under}
 use Rattle.oca_control.specs.Links.{GivesKeepAlive, present_moment, late_at, decision}
 use Rattle.oca_pair.specs.declared.start.Start.{Start}
 use Rattle.oca_pair.specs.Networks.{Network, PeerLink, SentDatagram, Setup, device_zero_of, opening, zero_of}
-use Rattle.oca_pair.specs.Steps.{Step, Submit, Due, ToDevice, ToLink, Other, Tick, Local, Take, Renew, Beside, given_by}
-use Rattle.oca_pair.specs.Steps.{after_step, after_steps}
+use Rattle.oca_pair.specs.Steps.{Step, Submit, Due, ToDevice, ToLink, Other, Tick, Local, Take, Renew, Beside}
+use Rattle.oca_pair.specs.Steps.{given_by, after_step, after_steps}
 use Rattle.oca_pair.specs.Happenings.{happenings}
 use Rattle.oca_pair.specs.Premises.{are_apart, StepFits, Fit}
 use Rattle.oca_pair.specs.Laws.{Execution, executions_for, executions_under, answer_of, WasSubmitted, WasTaken}
@@ -22,8 +22,8 @@ use Rattle.oca_pair.specs.GettingThrough.{copy_of}
 
 -- ---- when datagrams leave, and when they arrive
 
--- A departure: a datagram that left for the device, and when, by the common clock, in ms. Departures stand in the order of
--- `to_device`.
+-- A departure: a datagram that left for the device, and when, by the common clock, in ms. Departures stand in the order
+-- of `to_device`.
 pub record Departure : Type 0 where
   pub datagram : SentDatagram
   pub at : ℕ
@@ -33,7 +33,8 @@ abbrev pub leaving : Setup → Network → ℕ → Option PeerLink → List Depa
 leaving s n now None = []
 leaving s n now (Some l) =
     let at : ℕ = zero_of s l.peer n + present_moment now l.link in
-    map (λ bytes. record { datagram = record { peer = l.peer; bytes = bytes }; at = at }) (given_by (decision now l.link))
+    map (λ bytes. record { datagram = record { peer = l.peer; bytes = bytes }; at = at })
+    (given_by (decision now l.link))
 
 -- what leaves beside a link at this moment of its clock
 abbrev pub leaving_beside : Setup → Network → ℕ → Option PeerLink → List Departure
@@ -148,6 +149,7 @@ NoCopyInTimeFindsItsSessionForgotten =
     let start : Network = opening w s tree starts in
     let n : Network = after_steps steps start in
     are_apart s.address starts ≡ true → Fit starts steps → AreInTime s i [] (steps ++ ToDevice k now ∷ []) start →
-    slice_get n.links i ≡ Some l → WasSubmitted l.peer c n.submitted → slice_get n.to_device k ≡ Some (copy_of l.peer c) →
+    slice_get n.links i ≡ Some l → WasSubmitted l.peer c n.submitted →
+    slice_get n.to_device k ≡ Some (copy_of l.peer c) →
     list_any (λ x. x.command.handle == c.handle) (executions_for l.peer n) ≡ true →
     list_any (λ x. x.handle == c.handle) (accepted_in_session l.peer now n) ≡ true

@@ -24,8 +24,8 @@ use Rattle.oca_control.specs.Answers.{AnswerFields}
 use Rattle.oca_control.specs.Untaken.{Untaken, answer_under}
 use Rattle.oca_pair.specs.declared.outcome.Outcome.TheVariants as outcomes
 use Rattle.oca_pair.specs.declared.start.Start.{Start}
-use Rattle.oca_pair.specs.Networks.{Network, PeerLink, SentDatagram, SubmittedCommand, TakenAnswer, Setup, opening}
-use Rattle.oca_pair.specs.Networks.{is_renewed, left_behind}
+use Rattle.oca_pair.specs.Networks.{Network, PeerLink, SentDatagram, SubmittedCommand, TakenAnswer, Setup}
+use Rattle.oca_pair.specs.Networks.{opening, is_renewed, left_behind}
 use Rattle.oca_pair.specs.Steps.{Step, ToDevice, Renew, after_step, after_steps, outcome_of_step}
 use Rattle.oca_pair.specs.Happenings.{happenings}
 use Rattle.oca_pair.specs.Premises.{are_apart, Fit, KeepsItsSession, FindsRoom, SpanFits}
@@ -191,8 +191,8 @@ OnlyRenewalsRenew =
     (w : DeviceSizes) (s : Setup) (tree : List Object) (starts : List Start) (steps : List Step) (p : Peer) →
     AllByRecursion IsNoRenewal steps → is_renewed p (after_steps steps (opening w s tree starts)) ≡ false
 
--- A link that was never renewed, whatever became of others: nothing was left behind, and it has the span that it was set
--- up with.
+-- A link that was never renewed, whatever became of others: nothing was left behind, and it has the span that it was
+-- set up with.
 pub record IsAsSetUp (s : Setup) (l : PeerLink) (n : Network) : Type 0 where
   pub nothing_left : left_behind l.peer n ≡ 0
   pub span : l.link.span ≡ s.span l.peer

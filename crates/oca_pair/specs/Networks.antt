@@ -12,10 +12,10 @@ use Rattle.oca_control.specs.Answers.{AnswerFields}
 use Rattle.oca_control.specs.Links.{LinkState, new_link}
 use Rattle.oca_pair.specs.declared.start.Start.{Start}
 
--- HOW A NETWORK IS SET UP: the device's address; and for the first link of each peer its span, and the moment at which it was
--- made, in ms by the link's clock. The clocks of the links run alike: `zero` is the moment of one common clock at which
--- a link's clock showed 0, and `device_zero` that of the device's clock. The device's clock is never faster, and may
--- fall behind: before its event of this number, counted from 0, it leaves out so much time (`left_out`).
+-- HOW A NETWORK IS SET UP: the device's address; and for the first link of each peer its span, and the moment at which
+-- it was made, in ms by the link's clock. The clocks of the links run alike: `zero` is the moment of one common clock
+-- at which a link's clock showed 0, and `device_zero` that of the device's clock. The device's clock is never faster,
+-- and may fall behind: before its event of this number, counted from 0, it leaves out so much time (`left_out`).
 pub record Setup : Type 0 where
   pub address : Peer
   pub span : Peer → ℕ
@@ -46,7 +46,8 @@ pub record TakenAnswer : Type 0 where
   pub answer : AnswerFields
 
 -- a new link in the place of another one: its peer, the moment of the common clock at which its clock showed 0; the
--- handles of the commands that the other one left behind, which had no answer; and what the other one's clock showed last
+-- handles of the commands that the other one left behind, which had no answer; and what the other one's clock showed
+-- last
 pub record Renewal : Type 0 where
   pub peer : Peer
   pub zero : ℕ
@@ -127,4 +128,12 @@ device_address = record { ip = 0x7F000001; port = 65000 }
 
 abbrev pub run_setup : ℕ → Setup
 run_setup span =
-    record { address = device_address; span = λ p. span; made = λ p. 0; device_zero = 0; left_out = λ k. 0; zero = λ p. 0 }
+    record {
+      address = device_address;
+      span = λ p. span;
+      made = λ p. 0;
+      device_zero = 0;
+      left_out = λ k. 0;
+      zero
+          = λ p. 0;
+    }

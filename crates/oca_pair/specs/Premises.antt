@@ -1,5 +1,6 @@
 -- WHAT THE LAWS ASK of a schedule, by the steps and by the datagrams that came to the device.
-use Rattle.std.specs.Prelude.{◌≡◌, ℕ, ◌+◌, ◌-◌, ◌*◌, ◌<◌, ◌≤◌, ◌^◌, Bool, true, not, ◌&&◌, List, [], ◌∷◌, filter, length}
+use Rattle.std.specs.Prelude.{◌≡◌, ℕ, ◌+◌, ◌-◌, ◌*◌, ◌<◌, ◌≤◌, ◌^◌, Bool, true, not, ◌&&◌, List, []}
+use Rattle.std.specs.Prelude.{◌∷◌, filter, length}
 use Rattle.std.specs.List.{list_any, list_all, AllByRecursion}
 use Rattle.oca_types.specs.declared.words.Peer.{Peer}
 use Rattle.oca_types.specs.Peers.{same_peer}
@@ -53,9 +54,8 @@ KeepsItsSession p n =
     let arrivals = admitted n.sizes (happenings n.events) in
     session (last_moment (arrivals_of p arrivals)) p arrivals ≡ arrivals_of p arrivals
 
--- ---- the window is wide enough
--- THE SPAN OF THE LINK FITS THE WINDOW: it is at least 1, and the reply window has room for twice the span less one, and
--- for one more command for each that earlier links of the peer left behind.
+-- ---- the window is wide enough THE SPAN OF THE LINK FITS THE WINDOW: it is at least 1, and the reply window has room
+-- for twice the span less one, and for one more command for each that earlier links of the peer left behind.
 pub record SpanFits (w : DeviceSizes) (l : PeerLink) (n : Network) : Type 0 where
   pub some : 0 < l.link.span
   pub wide : 2 * l.link.span + left_behind l.peer n ≤ w.window + 1

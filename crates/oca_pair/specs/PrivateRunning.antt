@@ -1,5 +1,6 @@
 -- What a network that runs shows of the network that a schedule speaks of.
-use Rattle.std.specs.Prelude.{◌≡◌, ℕ, if◌then◌else◌, Bool, true, false, List, [], ◌∷◌, Option, Some, None, Result, Ok, Err}
+use Rattle.std.specs.Prelude.{◌≡◌, ℕ, if◌then◌else◌, Bool, true, false, List, [], ◌∷◌, Option, Some, None}
+use Rattle.std.specs.Prelude.{Result, Ok, Err}
 use Rattle.std.specs.List.{AllByRecursion}
 use Rattle.std.specs.Option.{option_or}
 use Rattle.oca_types.specs.declared.words.Peer.{Peer}
@@ -15,8 +16,8 @@ use Rattle.oca_pair.specs.declared.running.Running.{Running}
 use Rattle.oca_pair.specs.declared.running.StepFault.{StepFault}
 use Rattle.oca_pair.specs.declared.running.StepFault.TheVariants as faults
 use Rattle.oca_pair.specs.Networks.{Network, PeerLink, SentDatagram, device_address}
-use Rattle.oca_pair.specs.Steps.{Step, has_link, is_there, after_step, outcome_of_step, given_by, content_read}
-use Rattle.oca_pair.specs.Steps.{is_no_lower, renewed_link}
+use Rattle.oca_pair.specs.Steps.{Step, has_link, is_there, after_step, outcome_of_step, given_by}
+use Rattle.oca_pair.specs.Steps.{content_read, is_no_lower, renewed_link}
 
 -- each datagram is of the peer of a link
 abbrev pub AreOfLinks : List PeerLink → List SentDatagram → Type 0
@@ -50,7 +51,8 @@ GivesBy gives.Lost d = d ≡ IsLost
 abbrev pub is_of_peer : Peer → Start → Bool
 is_of_peer p x = same_peer x.peer p
 
--- what stands in the place of a link after a step `Renew`: a new link, where the first handle is no lower than its next one
+-- what stands in the place of a link after a step `Renew`: a new link, where the first handle is no lower than its next
+-- one
 abbrev pub in_its_place : ℕ → ℕ → ℕ → PeerLink → PeerLink
 in_its_place first span now l =
     if is_no_lower first l.link.next then record { peer = l.peer; link = renewed_link first span now l.link } else l

@@ -55,8 +55,8 @@ objects_met now n = objects_held (after_step (Tick now) n)
 
 -- ---- when a command is executed
 
--- THE EXECUTION HAPPENS with the delivery, at this moment, of this datagram: a copy of its command. It meets the objects
--- that the device then holds, and nothing else is executed. What it leaves the device holds.
+-- THE EXECUTION HAPPENS with the delivery, at this moment, of this datagram: a copy of its command. It meets the
+-- objects that the device then holds, and nothing else is executed. What it leaves the device holds.
 pub record HappensWith (k now : ℕ) (p : Peer) (x : Execution) (n : Network) : Type 0 where
   pub copy : slice_get n.to_device k ≡ Some (copy_of p x.command)
   pub met : x.objects ≡ objects_met now n
@@ -84,7 +84,8 @@ pub record IsOfOneExecutionSince (p : Peer) (c : CommandFields) (answer : Answer
   pub answer_is : answer ≡ answer_of execution.reply
 
 -- what the device holds just after it
-abbrev pub objects_left : {p : Peer} {x : Execution} {steps : List Step} {n : Network} → HappensIn p x steps n → List Object
+abbrev pub objects_left : {p : Peer} {x : Execution} {steps : List Step} {n : Network} → HappensIn p x steps n →
+    List Object
 objects_left {p} {x} {steps} {n} at = objects_held (after_step (ToDevice at.k at.now) (after_steps at.first n))
 
 -- ---- REFUSED: where the status is not OK, nothing was changed, and the status is the first that applies.
@@ -129,8 +130,10 @@ pub record AnswersTyped (of : Class) (r : Asked) (answer : AnswerFields) (p : Pe
       answer_in of m answer.count answer.params ≡ Some (answer_given x.objects o r)
   pub left_is : left ≡ with_object x.objects (changed_by o p r)
 
--- The device held the object with this number, and where that is of the class, or every class answers alike, it answers.
-pub record IsAnsweredByItsObject (of : Class) (r : Asked) (target : ℕ) (answer : AnswerFields) (p : Peer) (x : Execution)
+-- The device held the object with this number, and where that is of the class, or every class answers alike, it
+-- answers.
+pub record IsAnsweredByItsObject (of : Class) (r : Asked) (target : ℕ) (answer : AnswerFields) (p : Peer)
+    (x : Execution)
     (left : List Object) : Type 0 where
   pub object : Object
   pub there : object_of x.objects target ≡ Some object
@@ -138,7 +141,8 @@ pub record IsAnsweredByItsObject (of : Class) (r : Asked) (target : ℕ) (answer
 
 -- The device's objects at first are a tree, and their texts and numbers are of their types.
 abbrev pub OksSayWhatIsHeld : Peer → CommandFields → AnswerFields → List Step → Network → Type 0
-OksSayWhatIsHeld p c answer later called = (of : Class) (r : Asked) → IsTree called.tree → All IsOfItsTypes called.tree →
+OksSayWhatIsHeld p c answer later called = (of : Class) (r : Asked) → IsTree called.tree →
+    All IsOfItsTypes called.tree →
     CommandAsks of r c → answer.status ≡ 0 → (said : IsOfOneExecutionSince p c answer later called) →
     IsAnsweredByItsObject of r c.target answer p said.execution (objects_left said.between)
 
@@ -164,8 +168,8 @@ ReadingsWereHeld p c answer later called =
     answer.status ≡ 0 → answer_in of m answer.count answer.params ≡ Some (answers.Reading reading) →
     ReadSo c.target reading later called
 
--- The object with this number, which read so, is set to the value: nothing else of it differs, it reads as the value with
--- the limits that it had, and the other objects are as they were.
+-- The object with this number, which read so, is set to the value: nothing else of it differs, it reads as the value
+-- with the limits that it had, and the other objects are as they were.
 pub record SetsObject (target : ℕ) (value : Value) (met left : List Object) : Type 0 where
   pub object : Object
   pub there : object_of met target ≡ Some object
@@ -211,8 +215,8 @@ OfEachAnswer Holds =
     (answer_under h.0 l.link.untaken ≡ Some answer) ⊎ WasTaken l.peer h.0 answer end.taken →
     Holds l.peer (command_under h.0 request) answer later called
 
--- ---- CLASS: over every schedule, the class of the object with a number is what it was at first, and there are no other
--- numbers.
+-- ---- CLASS: over every schedule, the class of the object with a number is what it was at first, and there are no
+-- other numbers.
 abbrev pub ClassesStay : Type 0
 ClassesStay =
     (w : DeviceSizes) (s : Setup) (tree : List Object) (starts : List Start) (steps : List Step) (number : ℕ) →

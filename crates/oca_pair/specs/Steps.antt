@@ -1,6 +1,6 @@
 -- THE STEPS OF A NETWORK. A schedule is any list of steps, of which the first comes first.
-use Rattle.std.specs.Prelude.{ℕ, ◌+◌, Bool, true, false, not, if◌then◌else◌, nat_le, List, [], ◌∷◌, ◌++◌, map}
-use Rattle.std.specs.Prelude.{filter, length, Option, Some, None, is_none, is_some, Result, Ok, Err}
+use Rattle.std.specs.Prelude.{ℕ, ◌+◌, Bool, true, false, not, if◌then◌else◌, nat_le, List, [], ◌∷◌, ◌++◌, map, filter}
+use Rattle.std.specs.Prelude.{length, Option, Some, None, is_none, is_some, Result, Ok, Err}
 use Rattle.std.specs.List.{list_any, slice_get, slice_set}
 use Rattle.oca_types.specs.declared.words.Peer.{Peer}
 use Rattle.oca_types.specs.declared.words.Handle.{Handle}
@@ -169,8 +169,8 @@ take_outcome (Some answer) =
     outcomes.Answer (record { status = answer.status; count = answer.count; params = record { items = answer.params } })
 take_outcome None = outcomes.NoAnswer
 
--- ---- RENEW: where the first handle is no lower than the one that the link's next command would get, there is a new link in
--- its place, which holds nothing; what was sent for the old one may still arrive. Else nothing is done.
+-- ---- RENEW: where the first handle is no lower than the one that the link's next command would get, there is a new
+-- link in its place, which holds nothing; what was sent for the old one may still arrive. Else nothing is done.
 abbrev pub is_no_lower : ℕ → Option ℕ → Bool
 is_no_lower first None = false
 is_no_lower first (Some next) = nat_le next first
@@ -210,8 +210,8 @@ abbrev pub front_outcome : Option FrontFault → Outcome
 front_outcome None = outcomes.Changed
 front_outcome (Some fault) = outcomes.NotChanged fault
 
--- What is answered to a change at the front. Whether its hardware refuses can be said of each object that can be enabled
--- and disabled there: of each that is there.
+-- What is answered to a change at the front. Whether its hardware refuses can be said of each object that can be
+-- enabled and disabled there: of each that is there.
 abbrev pub local_outcome : List Object → ℕ → LocalChange → Outcome
 local_outcome tree ono (ToValue value) = set_outcome (set_fault tree ono value)
 local_outcome tree ono (ToLabel label) = front_outcome (front_fault tree ono (asked.SetLabel label))

@@ -11,8 +11,8 @@ use Rattle.oca_pair.specs.declared.start.Start.{Start}
 use Rattle.oca_pair.specs.declared.step.Step as declared
 use Rattle.oca_pair.specs.declared.step.Step.TheVariants as given
 use Rattle.oca_pair.specs.Networks.{Network, run_setup, opening}
-use Rattle.oca_pair.specs.Steps.{Step, Submit, Due, ToDevice, ToLink, Other, Tick, Local, Take, Renew, Beside, after_steps}
-use Rattle.oca_pair.specs.Steps.{outcomes_of, first_missing}
+use Rattle.oca_pair.specs.Steps.{Step, Submit, Due, ToDevice, ToLink, Other, Tick, Local, Take, Renew, Beside}
+use Rattle.oca_pair.specs.Steps.{after_steps, outcomes_of, first_missing}
 use Rattle.oca_pair.specs.Premises.{are_apart}
 
 -- a step without where its bytes lie in memory; the clock of a renewed link shows the time of all clocks

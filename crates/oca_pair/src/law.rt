@@ -1,12 +1,13 @@
 //! The laws of networks. The functions run nothing: their contracts are the laws.
 //!
-//! A schedule begins with a device that has heard nothing, and with links that gave nothing out. A step of a schedule can
-//! *renew* a link: a new link with the same address and port takes its place, with any span and a clock of its own. This
-//! happens if a panel goes on with a new link, or if its program is started again. The first handle of the new link must
-//! not be lower than the handle that the next command of the old link would get. So it is above all handles that the old
-//! link and the links before it gave. The laws say nothing of a link with a lower first handle at an address and port that
-//! another link used before. Another step sends a keep-alive *beside* a link: from its address and port, and without the
-//! link. [`run_pair`](crate::run_pair) makes both steps, with one clock for all ([`Step`](crate::Step)).
+//! A schedule begins with a device that has heard nothing, and with links that gave nothing out. A step of a schedule
+//! can *renew* a link: a new link with the same address and port takes its place, with any span and a clock of its own.
+//! This happens if a panel goes on with a new link, or if its program is started again. The first handle of the new
+//! link must not be lower than the handle that the next command of the old link would get. So it is above all handles
+//! that the old link and the links before it gave. The laws say nothing of a link with a lower first handle at an
+//! address and port that another link used before. Another step sends a keep-alive *beside* a link: from its address
+//! and port, and without the link. [`run_pair`](crate::run_pair) makes both steps, with one clock for all
+//! ([`Step`](crate::Step)).
 ghost use Rattle.oca_pair.specs.Happenings.{TheseHappened};
 ghost use Rattle.oca_pair.specs.Premises.{FewFindRoom};
 ghost use Rattle.oca_pair.specs.Laws.{EveryFirstLinkIsAsSetUp, EveryScheduleAnswersItsCommands};
@@ -17,8 +18,8 @@ ghost use Rattle.oca_pair.specs.InTime.{EveryCommandInTimeIsExecutedOnce, EveryA
 ghost use Rattle.oca_pair.specs.InTime.{NoCopyInTimeFindsItsSessionForgotten, EveryRenewalIsInTime};
 ghost use Rattle.oca_pair.specs.InTime.{EverySendingBesideIsInTime};
 ghost use Rattle.oca_pair.specs.AnsweredInTime.{EveryUntakenCommandInTimeIsAnswered, FewerMayStillCome};
-ghost use Rattle.oca_pair.specs.AnsweredInTime.{EveryRenewalIsNoted};
-ghost use Rattle.oca_pair.specs.AnsweredInTime.{EveryRoundTripInTimeBringsTheAnswer, EveryCommandInTimeGetsThrough};
+ghost use Rattle.oca_pair.specs.AnsweredInTime.{EveryRenewalIsNoted, EveryRoundTripInTimeBringsTheAnswer};
+ghost use Rattle.oca_pair.specs.AnsweredInTime.{EveryCommandInTimeGetsThrough};
 ghost use Rattle.oca_pair.specs.Saying.{OfEachAnswer, IsOfOneExecutionSince, RefusalsChangeNothing, OksSayWhatIsHeld};
 ghost use Rattle.oca_pair.specs.Saying.{ReadingsWereHeld, SettingsWereMade, ClassesStay, ClassesMetAreThoseAtFirst};
 
@@ -69,8 +70,8 @@ pub fn law_answers()
 /// - A peer *keeps its session* if each of its admitted datagrams came at most 120,000 ms after the one before it.
 ///
 /// The first law has these premises:
-/// - The link's *span fits the window*: the span `s` ([`Span`](oca_types::Span)) is at least 1, and the reply window has
-///   `w` commands ([`Window`](oca_types::Window)), with `2 * s + k <= w + 1`. Here `k` is 0 if the link was never
+/// - The link's *span fits the window*: the span `s` ([`Span`](oca_types::Span)) is at least 1, and the reply window
+///   has `w` commands ([`Window`](oca_types::Window)), with `2 * s + k <= w + 1`. Here `k` is 0 if the link was never
 ///   *renewed*. If a new link took the place of another one, once or many times, `k` is how many commands the earlier
 ///   links of the peer left unanswered, all together.
 /// - A datagram with a command that is still in flight at its link is delivered to the device.
@@ -81,8 +82,8 @@ pub fn law_answers()
 ///
 /// The second law holds for all sizes: no command of a link is executed twice if its peer kept its session.
 ///
-/// The clause `never`: a schedule without a step that renews a link renews none. The clause `set_up`: if a link was never
-/// renewed, `k` is 0, and the link has the span that it was set up with. Renewals of other links do not matter.
+/// The clause `never`: a schedule without a step that renews a link renews none. The clause `set_up`: if a link was
+/// never renewed, `k` is 0, and the link has the span that it was set up with. Renewals of other links do not matter.
 ///
 /// The third law holds for all sizes: a datagram finds room if at most as many peers as there is room for sent
 /// well-formed datagrams in the last 120,000 ms, its own peer counted.
@@ -111,8 +112,8 @@ pub fn law_never_old()
 /// - A datagram with a command that is still in flight at its link is delivered to the device.
 /// - The datagram finds room, and the link's peer kept its session, this datagram counted.
 ///
-/// The device then sends one datagram to the link. Any steps but a renewal of this link may follow until this datagram is
-/// delivered to the link: no further premise is needed. The conclusions:
+/// The device then sends one datagram to the link. Any steps but a renewal of this link may follow until this datagram
+/// is delivered to the link: no further premise is needed. The conclusions:
 /// - If the command was still in flight just before that delivery, the link then has the command's answer.
 /// - Otherwise the answer was taken earlier.
 /// - The answer is the reply of an execution of that very command for the link's peer.
@@ -154,10 +155,11 @@ pub fn law_getting_through()
 
 /// Laws: over every schedule, no command of a link is executed twice if the link and the network are in time. The laws
 /// hold for all sizes, whatever sessions the device forgot meanwhile, and whatever happened to the other links. They
-/// hold too if the link is *renewed*, once or many times: a new link with the same address and port takes its place, with
-/// any span and a clock of its own, and with a first handle no lower than the handle that the next command of the old link
-/// would get. The premises must then hold for the links before it too. A *schedule* is a list of steps of one device and
-/// some links with different addresses and ports ([`Step`](crate::Step)). The function does nothing at run time.
+/// hold too if the link is *renewed*, once or many times: a new link with the same address and port takes its place,
+/// with any span and a clock of its own, and with a first handle no lower than the handle that the next command of the
+/// old link would get. The premises must then hold for the links before it too. A *schedule* is a list of steps of one
+/// device and some links with different addresses and ports ([`Step`](crate::Step)). The function does nothing at run
+/// time.
 ///
 /// The premises, which are what *in time* means:
 /// - The link is never asked what is due while it is late. It is *asked* if its [`due`](oca_control::Link::due) is
@@ -175,9 +177,9 @@ pub fn law_getting_through()
 /// - If a transmission of a command that was executed comes to the device, the device has not forgotten the session in
 ///   which the command was executed. This coming is in time, too.
 ///
-/// The clauses `renewal` and `beside` say how little *in time* asks: nothing of a renewal, at any moment, and nothing of
-/// the sending of a keep-alive beside the link, which must be in time when it comes. They hold by the definition of *in
-/// time*, and are stated so that no narrower definition can take its place.
+/// The clauses `renewal` and `beside` say how little *in time* asks: nothing of a renewal, at any moment, and nothing
+/// of the sending of a keep-alive beside the link, which must be in time when it comes. They hold by the definition of
+/// *in time*, and are stated so that no narrower definition can take its place.
 ///
 /// A schedule has one device from its beginning to its end. Nothing is proved of a device that is started again.
 pub fn law_once_in_time()

@@ -38,6 +38,7 @@ pub enum Outcome {
     NoAnswer,
     /// `Renew`: a new link took the place of the link.
     Renewed,
-    /// `Renew`: the first handle is lower than the next one of the link, or the link has no handle left. Nothing changed.
+    /// `Renew`: the first handle is lower than the next one of the link, or the link has no handle left. Nothing
+    /// changed.
     NotRenewed,
 }

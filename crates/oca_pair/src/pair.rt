@@ -38,8 +38,8 @@ pub struct Transcript {
 /// - `tree` has the objects of the device, which is at 127.0.0.1:65000 and has sessions of at most 16 peers.
 /// - `window` is the size of the reply window: the device keeps the last 1 to 64 accepted commands of each peer with
 ///   their replies.
-/// - `span` is the span of each link until it is renewed, 1 to 32: a new handle is below the lowest handle in flight plus
-///   the span.
+/// - `span` is the span of each link until it is renewed, 1 to 32: a new handle is below the lowest handle in flight
+///   plus the span.
 /// - `starts` has the address and port of each link, and the handle of its first command. Each link is made at moment
 ///   0.
 /// - `steps` are run in order. [`Step`] says which steps have a moment, in milliseconds.
@@ -73,8 +73,8 @@ pub fn run_pair(
 /// - `tree` has the objects of the device, which is at 127.0.0.1:65000.
 /// - `sizes` has the device's sizes. The reply window keeps the last 1 to 64 accepted commands of each peer with their
 ///   replies. At most 1 to 64 peers have a session at once.
-/// - `span` is the span of each link until it is renewed, 1 to 32: a new handle is below the lowest handle in flight plus
-///   the span.
+/// - `span` is the span of each link until it is renewed, 1 to 32: a new handle is below the lowest handle in flight
+///   plus the span.
 /// - `starts` has the address and port of each link, and the handle of its first command. Each link is made at moment
 ///   0.
 /// - `steps` are run in order. [`Step`] says which steps have a moment, in milliseconds.

@@ -4,14 +4,12 @@ ghost use Rattle.std.specs.Result.{result_err};
 ghost use Rattle.oca_types.specs.Sizes.{sizes_of, span_size};
 ghost use Rattle.oca_tree.specs.LocalChanges.{ToValue, ToLabel, ToEnabled, ToUnlocked, ToFailing};
 ghost use Rattle.oca_control.specs.Links.{Request, submitted, submission, decision, gone_on, received, reception};
-ghost use Rattle.oca_control.specs.Links.{GivesKeepAlive, due_bytes};
-ghost use Rattle.oca_control.specs.Links.{taken};
+ghost use Rattle.oca_control.specs.Links.{GivesKeepAlive, due_bytes, taken};
 ghost use Rattle.oca_control.specs.Untaken.{answer_under};
 ghost use Rattle.oca_pair.specs.Networks.{Network, SentDatagram, started, opening, device_address, run_setup};
 ghost use Rattle.oca_pair.specs.Steps.{Submit, Due as DueStep, ToDevice, ToLink, Other, Tick as TickStep, Local, Take};
-ghost use Rattle.oca_pair.specs.Steps.{Beside, Renew};
-ghost use Rattle.oca_pair.specs.Steps.{sendings_in, hears_datagram, submit_outcome, content_read, take_outcome};
-ghost use Rattle.oca_pair.specs.Steps.{front_outcome};
+ghost use Rattle.oca_pair.specs.Steps.{Beside, Renew, sendings_in, hears_datagram, submit_outcome};
+ghost use Rattle.oca_pair.specs.Steps.{content_read, take_outcome, front_outcome};
 ghost use Rattle.oca_pair.specs.PrivateRunning.{first_heard};
 
 use crate::given::Given;
@@ -126,7 +124,8 @@ impl PeerLink {
     /// Takes a datagram of the device in where it is for this peer.
     fn hear(&mut self, peer: Peer, bytes: &[u8], now: u64) -> Option<Reception>
         ensures answer { result ≡ heard (record { peer = peer; bytes = bytes.now }) self.old }
-        ensures link { self.new ≡ hears_datagram device_address (record { peer = peer; bytes = bytes.now }) now self.old }
+        ensures link { self.new ≡
+            hears_datagram device_address (record { peer = peer; bytes = bytes.now }) now self.old }
     {
         if self.peer() == peer {
             return Some(self.datagram(bytes, now));
@@ -433,7 +432,8 @@ impl Running {
         span: Span,
         now: u64,
     ) -> Result<Outcome, StepFault>
-        ensures { (n : Network) → Shows self.old n → Took result (Renew link first.0 (span_size span) now 0) n self.new }
+        ensures { (n : Network) → Shows self.old n →
+            Took result (Renew link first.0 (span_size span) now 0) n self.new }
     {
         if link >= self.links.len() {
             return Err(StepFault::Missing);

@@ -3,8 +3,8 @@ use oca_tree::Value;
 use oca_types::{Handle, MethodId, Ono, Peer, Span};
 
 /// A step of a *schedule*, which is a list of steps of one device and some links. A step submits a command, asks a link
-/// what is due, delivers a datagram, takes an answer, renews a link, sends a keep-alive beside a link, moves the device's
-/// clock, or changes an object at the device's local front panel.
+/// what is due, delivers a datagram, takes an answer, renews a link, sends a keep-alive beside a link, moves the
+/// device's clock, or changes an object at the device's local front panel.
 ///
 /// Links and datagrams are named by their number, from 0: links in the order of the starts, datagrams in the order in
 /// which they were sent. Datagrams to the device and datagrams to links are counted apart. A datagram can be delivered
@@ -77,9 +77,10 @@ pub enum Step<'a> {
         handle: Handle,
     },
     /// A link is *renewed*: a new link to the device, with the same address and port, takes its place under its number.
-    /// It has this span, is made at `now`, and its first command gets the handle `first`. It has none of the commands and
-    /// answers of the old link, but datagrams that were sent for those can still be delivered. If `first` is lower than
-    /// the handle that the next command of the old link would get, or that link has no handle left, nothing changes.
+    /// It has this span, is made at `now`, and its first command gets the handle `first`. It has none of the commands
+    /// and answers of the old link, but datagrams that were sent for those can still be delivered. If `first` is lower
+    /// than the handle that the next command of the old link would get, or that link has no handle left, nothing
+    /// changes.
     Renew {
         link: usize,
         first: Handle,

@@ -6,8 +6,8 @@ use Rattle.oca_net.specs.EndStates.{EndState, Receives}
 use Rattle.oca_panel.specs.Panels.{PanelState}
 use Rattle.oca_panel.specs.Probes.{SendsKeepAlive}
 
--- A keep-alive of five seconds was sent to the device, then was received once, and this was heard. Nothing else was sent,
--- and all but the end is as it was.
+-- A keep-alive of five seconds was sent to the device, then was received once, and this was heard. Nothing else was
+-- sent, and all but the end is as it was.
 pub record CallsBeside (device : Peer) (heard : Heard) (old new : PanelState) : Type 0 where
   pub between : EndState
   pub bytes : List ℕ

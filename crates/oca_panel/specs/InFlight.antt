@@ -31,7 +31,8 @@ pub record BeginsBehind {T : Type 0} (request : RequestFields) (item : T) (retur
   pub begins : BeginsUnless (is_full queue) request returned old new
   pub behind : more ≡ put_behind queue item returned
 
--- THE FIRST WAS WAITED FOR, as long as a command waits, and is in flight no longer. Where none was in flight nothing changed.
+-- THE FIRST WAS WAITED FOR, as long as a command waits, and is in flight no longer. Where none was in flight nothing
+-- changed.
 abbrev pub FinishesFirst : {T : Type 0} → Option (T × Outcome) → (queue rest : List (ℕ × T)) → PanelState → PanelState
     → Type 0
 FinishesFirst (Some came) queue rest old new =

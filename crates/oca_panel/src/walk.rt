@@ -253,8 +253,10 @@ fn find<E: End>(
     again: bool,
     waiting: &mut Vec<Place>,
 ) -> Result<Found, NoMemory>
-    ensures finds { IfOk result (λ found. Finds again ono waiting.old.items panel.old panel.new found waiting.new.items) }
-    ensures refused { IfErr result (λ why. FindsRefused again ono waiting.old.items panel.old panel.new waiting.new.items) }
+    ensures finds { IfOk result
+        (λ found. Finds again ono waiting.old.items panel.old panel.new found waiting.new.items) }
+    ensures refused { IfErr result
+        (λ why. FindsRefused again ono waiting.old.items panel.old panel.new waiting.new.items) }
 {
     if again {
         return Ok(Found::Again);

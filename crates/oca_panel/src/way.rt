@@ -28,8 +28,8 @@ pub enum LocalPort {
     /// This port. If the device leaves commands from it unanswered, the system chooses another one. At 0 the system
     /// chooses one at once.
     Checked(u16),
-    /// The port of [`OwnPort`]. If it is in use for longer than two seconds, the system chooses another one. If the device
-    /// leaves commands from it unanswered, it is the other port of `OwnPort`, if that one is not in use.
+    /// The port of [`OwnPort`]. If it is in use for longer than two seconds, the system chooses another one. If the
+    /// device leaves commands from it unanswered, it is the other port of `OwnPort`, if that one is not in use.
     Own,
     /// The same, but the call is refused if one of the two ports of [`OwnPort`] is in use.
     OwnAlone,
@@ -75,12 +75,12 @@ impl Way {
     /// Binds a socket from which the device is reached, and chooses the first handle over it.
     ///
     /// A device leaves a command unanswered if its handle is not above those that it heard before from the same port.
-    /// So the device is asked, as [`LocalPort`] says, whether it answers commands from the port. A question that gets no
-    /// answer does not show that the port can't be used, since datagrams can be lost. The port is left only if the device
-    /// returned keep-alives in each of five seconds, and answered none of the some twenty questions meanwhile.
+    /// So the device is asked, as [`LocalPort`] says, whether it answers commands from the port. A question that gets
+    /// no answer does not show that the port can't be used, since datagrams can be lost. The port is left only if the
+    /// device returned keep-alives in each of five seconds, and answered none of the some twenty questions meanwhile.
     ///
-    /// Refused with the system's reason if it refuses the socket, for example since the port is in use, or has no route to
-    /// the device; or if memory was refused.
+    /// Refused with the system's reason if it refuses the socket, for example since the port is in use, or has no route
+    /// to the device; or if memory was refused.
     pub fn reach<'a, C: Net + Clock>(
         self,
         alloc: Global,
@@ -156,8 +156,8 @@ impl Way {
         Ok(waiting)
     }
 
-    /// This end, which was not used, and the first handle over it. The clock is read behind the bind: an earlier user of
-    /// the port has used lower handles.
+    /// This end, which was not used, and the first handle over it. The clock is read behind the bind: an earlier user
+    /// of the port has used lower handles.
     fn reached<'a, C: Net + Clock>(
         self,
         system: &'a C,

@@ -1,6 +1,6 @@
 -- The first fault of bytes that are no datagram (*profile*). The checks are made in the order of the rules below: of
--- the whole, then PDU by PDU, and in a PDU message by message. A rule says that its check fails and that those before it
--- hold. A field that is not wholly inside the datagram fails in its turn; after PduSize there is none, since the PDU
+-- the whole, then PDU by PDU, and in a PDU message by message. A rule says that its check fails and that those before
+-- it hold. A field that is not wholly inside the datagram fails in its turn; after PduSize there is none, since the PDU
 -- then lies inside and has at least 12 bytes.
 use Rattle.std.specs.Prelude.{◌≡◌, ◌≢◌, ℕ, ◌+◌, ◌<◌, ◌≤◌, ◌^◌, ◌⊎◌, Bool, List, [], ◌∷◌, ◌++◌, length}
 use Rattle.std.specs.List.{flat_map, AllByRecursion}

@@ -34,9 +34,9 @@ pub record IsDoneByCall (request : RequestFields) (handle : ℕ) (answer : Answe
   pub held : AreOfDevice old.link.device done.deliveries →
       answer_under handle (all_done (Submits request now ∷ between) old.link).untaken ≡ Some answer
 
--- The call did that alone: the command was submitted at a present moment of the end, and then it was sent and heard until
--- the answer was taken. What was begun or taken meanwhile by other calls is this, in order; none of them took the answer
--- under this handle. Nothing was sent while the link was late.
+-- The call did that alone: the command was submitted at a present moment of the end, and then it was sent and heard
+-- until the answer was taken. What was begun or taken meanwhile by other calls is this, in order; none of them took the
+-- answer under this handle. Nothing was sent while the link was late.
 pub record IsAll (others : List Doing) {request : RequestFields} {handle : ℕ} {answer : AnswerFields}
     {doings : List Doing} {old new : PanelState} (by_call : IsDoneByCall request handle answer doings old new) : Type 0
   where
@@ -63,8 +63,8 @@ pub record HoldsFromSubmit (Holds : OfAnAnswer) (i : ℕ) (p : Peer) (request : 
   pub holds : Holds p (command_under handle request) answer later
       (after_step (Submit i request now) (after_steps first n))
 
--- Of what was done in a call it holds in every network, for all sizes: where the panel's link is the one of this number,
--- and the steps play what was done, and are in time.
+-- Of what was done in a call it holds in every network, for all sizes: where the panel's link is the one of this
+-- number, and the steps play what was done, and are in time.
 abbrev pub HoldsInEachNetwork : OfAnAnswer → RequestFields → ℕ → AnswerFields → List Doing → PanelState → Type 0
 HoldsInEachNetwork Holds request handle answer doings old =
     (w : DeviceSizes) (s : Setup) (tree : List Object) (starts : List Start) (before steps : List Step) (i : ℕ)
@@ -75,8 +75,8 @@ HoldsInEachNetwork Holds request handle answer doings old =
     slice_get n.links i ≡ Some (record { peer = p; link = old.link }) → Plays i p n doings steps →
     HoldsFromSubmit Holds i p request handle answer steps n
 
--- THE CALL KEEPS IT: something was done by it, beside what other calls began and took meanwhile; and whatever that was, it
--- holds in each network whose datagrams are all that came.
+-- THE CALL KEEPS IT: something was done by it, beside what other calls began and took meanwhile; and whatever that was,
+-- it holds in each network whose datagrams are all that came.
 pub record KeepsInNetworks (Holds : OfAnAnswer) (request : RequestFields) (handle : ℕ) (answer : AnswerFields)
     (others : List Doing) (old new : PanelState) : Type 0 where
   pub doings : List Doing

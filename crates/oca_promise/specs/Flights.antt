@@ -46,7 +46,8 @@ takes_by handle outcomes.Unanswered = []
 -- What they began and took, in order.
 pub data AreMade : (doings : List Doing) → (old new : PanelState) → Type 0 where
   NoCall : {s : PanelState} → AreMade [] s s
-  OneBegins : {xs : List Doing} {old s new : PanelState} {request : RequestFields} {returned : Result Handle ControlFault} →
+  OneBegins : {xs : List Doing} {old s new : PanelState} {request : RequestFields}
+      {returned : Result Handle ControlFault} →
       AreMade xs old s → (begins : BeginsIn request returned s new) →
       AreMade (xs ++ begun_by request begins.begins.now returned) old new
   OneWaits : {xs : List Doing} {old s new : PanelState} {handle : ℕ} {outcome : Outcome} → AreMade xs old s →
@@ -79,8 +80,8 @@ EveryFlightIsInTime =
     (request : RequestFields) (handle : ℕ) (others : List Doing) (old new : PanelState) (outcome : Outcome) →
     WasInFlight request handle others old new outcome → NothingIsSentLate old new
 
--- SET: where it says OK, the object, where it is of the value's class, was set to the value by the only execution of the
--- command, which lies between its begin and the taking of its answer.
+-- SET: where it says OK, the object, where it is of the value's class, was set to the value by the only execution of
+-- the command, which lies between its begin and the taking of its answer.
 abbrev pub EverySetInFlightKeeps : Type 0
 EverySetInFlightKeeps =
     (target : ℕ) (value : Value) (request : RequestFields) (handle : ℕ) (others : List Doing) (old new : PanelState)
@@ -97,9 +98,9 @@ EveryReadingInFlightKeeps =
     reading_answered of (outcomes.Answered a) ≡ Ok reading →
     KeepsInNetworks (HadReading target of reading) request handle (answer_fields a) others old new
 
--- ANY METHOD: what is read of it, by a class, is what the object as the only execution met it answers; and this execution
--- left what the request makes of the object, the others being as they were. The object is of the class, or every class
--- answers the request alike.
+-- ANY METHOD: what is read of it, by a class, is what the object as the only execution met it answers; and this
+-- execution left what the request makes of the object, the others being as they were. The object is of the class, or
+-- every class answers the request alike.
 abbrev pub AnsweredSo : ℕ → Class → Asked → Typed → OfAnAnswer
 AnsweredSo target of r typed p c answer later called =
     IsRightAtFirst called.tree → (class_of_ono called.tree target ≡ Some of) ⊎ (is_of_every_class r ≡ true) →

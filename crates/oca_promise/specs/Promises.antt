@@ -51,8 +51,8 @@ pub record CallKeeps (target : ℕ) (of : Class) (r : Asked) (Holds : OfAnAnswer
   pub answered : AsksIn request old new (outcomes.Answered answer)
   pub keeps : KeepsInNetworks Holds request handle (answer_fields answer) [] old new
 
--- ---- SET: the object, where it is of the value's class, was set to the value by the only execution of the command, which
--- lies between the call and its return.
+-- ---- SET: the object, where it is of the value's class, was set to the value by the only execution of the command,
+-- which lies between the call and its return.
 abbrev pub WasSetTo : ℕ → Value → OfAnAnswer
 WasSetTo target value p c answer later called =
     IsRightAtFirst called.tree → class_of_ono called.tree target ≡ Some (class_of_value value) →
@@ -119,8 +119,8 @@ EveryRefusedSetKeeps =
     SetsValue target value old new (Err (trouble.Refused status)) →
     CallKeeps target (class_of_value value) (asked.Set value) (WasRefused status) old new
 
--- ---- GET: the first of its two calls asks the class, and that is the object's; in a network that plays the one and then
--- the other, the object read so, but for the limits, at a moment in the second.
+-- ---- GET: the first of its two calls asks the class, and that is the object's; in a network that plays the one and
+-- then the other, the object read so, but for the limits, at a moment in the second.
 abbrev pub HadClass : ℕ → Class → OfAnAnswer
 HadClass target of p c answer later called = IsRightAtFirst called.tree → class_of_ono called.tree target ≡ Some of
 
@@ -138,7 +138,8 @@ pub record GetKeeps (target : ℕ) (value : Value) (old new : PanelState) : Type
   pub value_call : CallKeeps target of asked.Get (HadReading target of reading) between new
   pub read : (xs ys : List Doing)
       (class_done : IsDoneByCall class_call.request class_call.handle (answer_fields class_call.answer) xs old between)
-      (value_done : IsDoneByCall value_call.request value_call.handle (answer_fields value_call.answer) ys between new) →
+      (value_done : IsDoneByCall value_call.request value_call.handle
+      (answer_fields value_call.answer) ys between new) →
       AreOfDevice old.link.device class_done.done.deliveries →
       AreOfDevice between.link.device value_done.done.deliveries →
       (w : DeviceSizes) (s : Setup) (tree : List Object) (starts : List Start) (before one two : List Step) (i : ℕ)
@@ -156,8 +157,8 @@ EveryGetKeeps =
     (target : ℕ) (value : Value) (old new : PanelState) → GetsValue target old new (Ok value) →
     GetKeeps target value old new
 
--- ---- ROLE AND LABEL: the text is that of the object as the only execution of the question, which lies between the call
--- and its return, met it.
+-- ---- ROLE AND LABEL: the text is that of the object as the only execution of the question, which lies between the
+-- call and its return, met it.
 abbrev pub HadText : (Object → List ℕ) → ℕ → List ℕ → OfAnAnswer
 HadText text_of target text p c answer later called = IsRightAtFirst called.tree →
     (said : IsOfOneExecutionSince p c answer later called)

@@ -13,9 +13,9 @@ use Rattle.oca_panel.specs.Panels.{PanelState}
 use Rattle.oca_panel.specs.Probes.{SendsKeepAlive}
 use Rattle.oca_panel.specs.Renewals.{IsRenewed}
 
--- Where a panel whose link is the one of this number is renewed to the same device, with a first handle no lower than the
--- one that the next command of its link would get, its new link is the one of this number after the step Renew, whenever
--- its clock showed 0.
+-- Where a panel whose link is the one of this number is renewed to the same device, with a first handle no lower than
+-- the one that the next command of its link would get, its new link is the one of this number after the step Renew,
+-- whenever its clock showed 0.
 abbrev pub EveryRenewalIsAStep : Type 0
 EveryRenewalIsAStep =
     (first span : ℕ) (old new : PanelState) (renewed : IsRenewed old.link.device first span old new) (n : Network)
@@ -24,9 +24,9 @@ EveryRenewalIsAStep =
     slice_get (after_step (Renew i first span renewed.now origin) n).links i
     ≡ Some (record { peer = p; link = new.link })
 
--- An end was given a datagram for the link's device; after the step Beside this very datagram is the next one that was sent to
--- the device in the network, where it left at this moment of the link's clock, and the link is the one of this number, as it
--- was.
+-- An end was given a datagram for the link's device; after the step Beside this very datagram is the next one that was
+-- sent to the device in the network, where it left at this moment of the link's clock, and the link is the one of this
+-- number, as it was.
 pub record GoesBeside (before between : EndState) (l : LinkState) (i now : ℕ) (p : Peer) (n : Network) : Type 0 where
   pub bytes : List ℕ
   pub taken : Bool
@@ -43,8 +43,8 @@ EveryKeepAliveIsAStep =
     SendsKeepAlive l.device before between →
     slice_get n.links i ≡ Some (record { peer = p; link = l }) → GoesBeside before between l i now p n
 
--- And so it is of a panel whose link is the one of this number, and which sends its link's device a keep-alive beside it: it
--- goes on with that link.
+-- And so it is of a panel whose link is the one of this number, and which sends its link's device a keep-alive beside
+-- it: it goes on with that link.
 abbrev pub EveryCallBesideIsAStep : Type 0
 EveryCallBesideIsAStep =
     (heard : Heard) (old new : PanelState) (calls : CallsBeside old.link.device heard old new) (n : Network)

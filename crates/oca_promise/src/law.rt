@@ -4,10 +4,9 @@ ghost use Rattle.oca_promise.specs.Calls.{EveryAnsweredCallKeeps, EveryCallIsInT
 ghost use Rattle.oca_promise.specs.Promises.{EverySetKeeps, EveryRefusedSetKeeps, EveryReadingKeeps, EveryGetKeeps};
 ghost use Rattle.oca_promise.specs.Promises.{EveryLockKeeps, EveryUnlockKeeps, EveryClassKeeps, EveryRoleKeeps};
 ghost use Rattle.oca_promise.specs.Promises.{EveryLabelKeeps, EveryMembersKeep, EveryDescriptionKeeps};
-ghost use Rattle.oca_promise.specs.Renewals.{EveryCallBesideIsAStep, EveryKeepAliveIsAStep};
-ghost use Rattle.oca_promise.specs.Renewals.{EveryRenewalIsAStep};
-ghost use Rattle.oca_promise.specs.Flights.{EveryAnsweredFlightKeeps, EveryFlightIsInTime};
-ghost use Rattle.oca_promise.specs.Flights.{EverySetInFlightKeeps, EveryReadingInFlightKeeps, EveryAnswerInFlightKeeps};
+ghost use Rattle.oca_promise.specs.Renewals.{EveryCallBesideIsAStep, EveryKeepAliveIsAStep, EveryRenewalIsAStep};
+ghost use Rattle.oca_promise.specs.Flights.{EveryAnsweredFlightKeeps, EveryFlightIsInTime, EverySetInFlightKeeps};
+ghost use Rattle.oca_promise.specs.Flights.{EveryReadingInFlightKeeps, EveryAnswerInFlightKeeps};
 
 use oca_pair::law_of_what_is_said;
 use oca_pdu::law_reading;
@@ -32,19 +31,20 @@ use oca_pdu::law_reading;
 /// - Get: what `get` returns is the object's value at a moment during the call.
 /// - Reading: what `reading_of` returns is the object's value with its limits at a moment during the call, if the
 ///   object is of the class that was given.
-/// - Members: the numbers are those of the block's members when the device executed the question, which lies between the
-///   call and its return, if the object is a block.
+/// - Members: the numbers are those of the block's members when the device executed the question, which lies between
+///   the call and its return, if the object is a block.
 /// - Lock and unlock: the object was locked for this peer, or its lock was released.
 /// - Class: the class is the object's. So it is of the class that a walk returns of an object.
-/// - Role and label: the text is the object's when the device executed the question, which lies between the call and its
-///   return. So it is of the role that a walk returns of an object.
-/// - Renewal: after [`renew`](oca_panel::Panel::renew) the panel's link is the link of the same network after a step that
-///   renews it, so all this holds of its later calls too. The new link must be to the same device, with a first handle
-///   no lower than the handle that the next command of the old link would get.
-/// - Beside: [`call`](oca_panel::Panel::call) to the link's device sends what a step of the network sends beside the link,
-///   and the panel's link is the link of the same network after that step. So all this holds of its later calls too.
-/// - Keep-alive: [`keep_alive`](oca_panel::keep_alive) to a link's device sends what that step of the network sends, and the
-///   link is the same afterwards. So does each keep-alive of [`probe`](oca_panel::probe).
+/// - Role and label: the text is the object's when the device executed the question, which lies between the call and
+///   its return. So it is of the role that a walk returns of an object.
+/// - Renewal: after [`renew`](oca_panel::Panel::renew) the panel's link is the link of the same network after a step
+///   that renews it, so all this holds of its later calls too. The new link must be to the same device, with a first
+///   handle no lower than the handle that the next command of the old link would get.
+/// - Beside: [`call`](oca_panel::Panel::call) to the link's device sends what a step of the network sends beside the
+///   link, and the panel's link is the link of the same network after that step. So all this holds of its later calls
+///   too.
+/// - Keep-alive: [`keep_alive`](oca_panel::keep_alive) to a link's device sends what that step of the network sends,
+///   and the link is the same afterwards. So does each keep-alive of [`probe`](oca_panel::probe).
 ///
 /// If the end does not record what it delivers, all this holds of some deliveries and an answer that fit the call.
 pub fn law_of_calls()

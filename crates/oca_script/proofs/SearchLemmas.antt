@@ -1,9 +1,8 @@
 -- A search for a byte cuts the text there.
 use Rattle.std.proofs.Common.{◌≡◌, ℕ, suc, zero, ◌+◌, ◌<◌, ◌≤◌, ◌==◌, true, false, List, [], ◌∷◌, length, take, drop, Option, Some, None, refl, sym, ap, arith, cond, add-one}
 use Rattle.std.specs.Option.{option_map}
-use Rattle.std.specs.Prelude.{slice_index}
+use Rattle.std.specs.Prelude.{slice_index, nat_lt, ◌&&◌, Bool}
 use Rattle.memchr.specs.Find.{Passes, Nowhere, is_byte}
-use Rattle.std.specs.Prelude.{nat_lt, ◌&&◌, Bool}
 use Rattle.std.specs.Bool.{MatchBool}
 use Rattle.std.specs.Str.{IsAscii, IsNotAscii}
 use Rattle.std.proofs.lemmas.Bool.{lt-ltb, le-ltb}

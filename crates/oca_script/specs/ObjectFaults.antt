@@ -1,8 +1,9 @@
 -- The faults of a line that lists an object, by their words.
 use Rattle.std.specs.Prelude.{List, codes, ℕ}
 use Rattle.oca_script.specs.declared.object_fault.ObjectFault.{ObjectFault}
-use Rattle.oca_script.specs.declared.object_fault.ObjectFault.TheVariants.{Form, Number, Class, Value, Lockable, Text, Full}
-use Rattle.oca_script.specs.declared.object_fault.ObjectFault.TheVariants.{Reserved, Taken, Container, Depth, Range, NoMemory}
+use Rattle.oca_script.specs.declared.object_fault.ObjectFault.TheVariants.{Form, Number, Class, Value, Lockable, Text}
+use Rattle.oca_script.specs.declared.object_fault.ObjectFault.TheVariants.{Full, Reserved, Taken, Container, Depth}
+use Rattle.oca_script.specs.declared.object_fault.ObjectFault.TheVariants.{Range, NoMemory}
 
 abbrev pub object_fault_word : ObjectFault → List ℕ
 object_fault_word Form = codes "form"

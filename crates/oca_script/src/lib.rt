@@ -2,8 +2,8 @@
 //!
 //! [`lines::serve_lines`] reads lines from a [`Source`] and serves what they ask for one after another. What a line
 //! asks for, and what that does, is a [`Language`]: the device's program has one and the controller's two. What is
-//! printed goes through a [`Printer`] to a [`Sink`]. [`field`] reads the fields of a line, and [`line_field`] those that a
-//! line must have, or says their fault. Nothing here takes memory.
+//! printed goes through a [`Printer`] to a [`Sink`]. [`field`] reads the fields of a line, and [`line_field`] those
+//! that a line must have, or says their fault. Nothing here takes memory.
 #![tactic(auto)]
 
 mod buffer;

@@ -1,8 +1,7 @@
 //! Lines in, lines out: the lines of a source are read in any pieces, served one after another, and what they print is
 //! written.
 ghost use Rattle.std.specs.Prelude.{◌≡◌, ◌+◌, ◌<◌, ◌≤◌, ◌++◌, [], ℕ, List, length, IsTrue, OnOk, OnErr, IfOk, IfErr};
-ghost use Rattle.std.specs.Prelude.{IfSome};
-ghost use Rattle.std.specs.Prelude.{true, false, Ok as ok};
+ghost use Rattle.std.specs.Prelude.{IfSome, true, false, Ok as ok};
 ghost use Rattle.std.specs.Io.KnownBytes.{Consumes, Keeps, IsAtEnd};
 ghost use Rattle.oca_script.specs.Ends.{input, Remembers};
 ghost use Rattle.oca_script.specs.Fields.{fields};

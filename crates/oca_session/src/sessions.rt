@@ -1,7 +1,6 @@
 //! The sessions of all peers.
-ghost use Rattle.std.specs.Prelude.{◌≡◌, ℕ, ◌<◌, ◌≤◌, List, [], ◌∷◌};
-ghost use Rattle.std.specs.Prelude.{◌++◌, length, IfOk, OnOk, IsSome, IfSome, is_some, Some};
-ghost use Rattle.std.specs.Prelude.{vec_len, take, position, All, Contains, ◌==◌, slice_get};
+ghost use Rattle.std.specs.Prelude.{◌≡◌, ℕ, ◌<◌, ◌≤◌, List, [], ◌∷◌, ◌++◌, length, IfOk, OnOk, IsSome, IfSome, is_some};
+ghost use Rattle.std.specs.Prelude.{Some, vec_len, take, position, All, Contains, ◌==◌, slice_get};
 ghost use Rattle.oca_types.specs.declared.words.Peer.{Peer};
 ghost use Rattle.oca_types.specs.Peers.{fields_of};
 ghost use Rattle.oca_types.specs.Replies.{reply_in};

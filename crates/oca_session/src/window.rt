@@ -5,8 +5,8 @@ ghost use Rattle.circular_buffer.specs.Buffer.{buffer};
 ghost use Rattle.oca_types.specs.Peers.{CommandFields, fields_of};
 ghost use Rattle.oca_types.specs.Replies.{reply_in};
 ghost use Rattle.oca_types.specs.Sizes.{most_command_parameter_bytes, most_parameter_bytes};
-ghost use Rattle.oca_session.specs.Accepted.{Entry, retained_of, AgreesWithAccepted, judgement, Fresh, entry_under};
-ghost use Rattle.oca_session.specs.Accepted.{duplicate_or_reused};
+ghost use Rattle.oca_session.specs.Accepted.{Entry, retained_of, AgreesWithAccepted, judgement};
+ghost use Rattle.oca_session.specs.Accepted.{Fresh, entry_under, duplicate_or_reused};
 ghost use Rattle.oca_session.specs.Judging.{as_judgement, judgement_by_window, retained_after};
 ghost use Rattle.oca_session.specs.PrivateCells.{is_under, held_in, AreApart, IsCellOfOldest, AddsCell};
 
@@ -187,7 +187,8 @@ impl<const COMMAND: usize, const ANSWER: usize> ReplyWindow<COMMAND, ANSWER> {
         ensures exact { self.new
             ≡ retained_after self.old (record { command = fields_of command.now; reply = reply_in reply.entry }) }
         ensures accepted { (w : ℕ) (A : List Entry) → AgreesWithAccepted w A self.old →
-            AgreesWithAccepted w (A ++ record { command = fields_of command.now; reply = reply_in reply.entry } ∷ []) self.new }
+            AgreesWithAccepted w (A ++ record { command = fields_of command.now; reply = reply_in reply.entry } ∷ [])
+            self.new }
     {
         self.put(command, reply);
     }

@@ -4,8 +4,9 @@ use Rattle.oca_tree.specs.declared.builder.AddFault.TheVariants as adds
 use Rattle.oca_tree.specs.declared.start.StartFault.{StartFault}
 use Rattle.oca_tree.specs.declared.start.StartFault.TheVariants as starts
 use Rattle.oca_script.specs.declared.object_fault.ObjectFault.{ObjectFault}
-use Rattle.oca_script.specs.declared.object_fault.ObjectFault.TheVariants.{Form, Number, Class, Value, Lockable, Text, Full}
-use Rattle.oca_script.specs.declared.object_fault.ObjectFault.TheVariants.{Reserved, Taken, Container, Depth, Range, NoMemory}
+use Rattle.oca_script.specs.declared.object_fault.ObjectFault.TheVariants.{Form, Number, Class, Value, Lockable, Text}
+use Rattle.oca_script.specs.declared.object_fault.ObjectFault.TheVariants.{Full, Reserved, Taken, Container, Depth}
+use Rattle.oca_script.specs.declared.object_fault.ObjectFault.TheVariants.{Range, NoMemory}
 
 -- why the tree refuses the object of a line
 abbrev pub object_fault_of : AddFault → ObjectFault

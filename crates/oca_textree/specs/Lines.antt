@@ -1,6 +1,6 @@
 -- What a line of a text lists: an object, or a fault.
-use Rattle.std.specs.Prelude.{ℕ, ◌+◌, ◌-◌, ◌*◌, ◌^◌, ◌==◌, ◌&&◌, ◌||◌, not, nat_lt, nat_le, Bool, true, false}
-use Rattle.std.specs.Prelude.{List, [], ◌∷◌, ◌++◌, length, codes, Option, Some, None, is_some, Result, Ok, Err, ℤ, pos}
+use Rattle.std.specs.Prelude.{ℕ, ◌+◌, ◌-◌, ◌*◌, ◌^◌, ◌==◌, ◌&&◌, ◌||◌, not, nat_lt, nat_le, Bool, true, false, List, []}
+use Rattle.std.specs.Prelude.{◌∷◌, ◌++◌, length, codes, Option, Some, None, is_some, Result, Ok, Err, ℤ, pos}
 use Rattle.std.specs.Prelude.{if◌then◌else◌, negsuc, neg_ℤ, nat_abs, int_le, find}
 use Rattle.std.specs.Int.{byte_len}
 use Rattle.std.specs.Option.{option_map}
@@ -13,8 +13,7 @@ use Rattle.oca_script.specs.Fields.{split_at, split_on, number_of}
 use Rattle.oca_model.specs.declared.reading.Ranged.{Ranged}
 use Rattle.oca_model.specs.declared.reading.Reading.{Reading}
 use Rattle.oca_model.specs.declared.reading.Reading.TheVariants as readings
-use Rattle.oca_model.specs.Values.{classes}
-use Rattle.oca_model.specs.Values.{by_type, integer_type}
+use Rattle.oca_model.specs.Values.{classes, by_type, integer_type}
 use Rattle.oca_model.specs.Words.{class_word}
 use Rattle.oca_model.specs.declared.value.MuteState.TheVariants.{Muted, Unmuted}
 use Rattle.oca_model.specs.declared.value.PolarityState.TheVariants.{NonInverted, Inverted}
@@ -130,7 +129,8 @@ limits_of low high rest =
     Ok (record { least = least; greatest = greatest; setting = setting; rest = c.1 })))))))
 
 -- as what reads so, by numbers of its type
-abbrev pub by_limits : {X : Type 0} → (Ranged X → Reading) → (ℤ → X) → ℤ → ℤ → Option (List ℕ) → Result Valued ObjectFault
+abbrev pub by_limits : {X : Type 0} → (Ranged X → Reading) → (ℤ → X) → ℤ → ℤ → Option (List ℕ) →
+    Result Valued ObjectFault
 by_limits of typed low high rest =
     then_by (limits_of low high rest)
     (λ l. Ok (valued (number of (typed l.setting) (typed l.least) (typed l.greatest)) l.rest))
@@ -170,12 +170,14 @@ by_positions rest =
 -- -(n + 1)); a block has no value.
 unfoldable pub value_at : Class → Option (List ℕ) → Result Valued ObjectFault
 value_at class.Mute rest = by_word
-    (one_of (codes "muted") (value.Reads (readings.Mute Muted)) (codes "unmuted") (value.Reads (readings.Mute Unmuted))) rest
+    (one_of (codes "muted") (value.Reads (readings.Mute Muted)) (codes "unmuted")
+    (value.Reads (readings.Mute Unmuted))) rest
 value_at class.Polarity rest =
     by_word (one_of (codes "non-inverted") (value.Reads (readings.Polarity NonInverted)) (codes "inverted")
     (value.Reads (readings.Polarity Inverted))) rest
 value_at class.Boolean rest = by_word
-    (one_of (codes "on") (value.Reads (readings.Boolean true)) (codes "off") (value.Reads (readings.Boolean false))) rest
+    (one_of (codes "on") (value.Reads (readings.Boolean true))
+    (codes "off") (value.Reads (readings.Boolean false))) rest
 value_at class.Switch rest = by_positions rest
 value_at k rest =
     by_type (λ w _ reading.

@@ -26,8 +26,8 @@ pub record IsTyped (block number : ℕ) (spec : Spec) : Type 0 where
 
 -- THE OBJECTS ARE MADE BY CALLS, one after another: a builder begins with the root and adds objects, each with what was
 -- stored of it or without; or the text of a file lists them; then commands are executed, objects are set at the local
--- front panel (to a value, their label, whether they are enabled, unlocked, whether their hardware refuses; or not, where
--- that is refused), and locks are released.
+-- front panel (to a value, their label, whether they are enabled, unlocked, whether their hardware refuses; or not,
+-- where that is refused), and locks are released.
 pub data IsMade : List Object → Type 0 where
   begun : IsMade (root ∷ [])
   begun_with : (start : Start) → IsUtf8 start.label.now → start_fault Block start ≡ None

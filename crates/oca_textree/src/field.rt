@@ -4,8 +4,7 @@ ghost use Rattle.std.specs.Option.{option_copied};
 ghost use Rattle.oca_script.specs.Fields.{split_at};
 ghost use Rattle.oca_textree.specs.Lines.{field_at, plain as plain_field, quoted as quoted_field, ono_of};
 ghost use Rattle.oca_textree.specs.Lines.{has_control as has_control_byte, is_text};
-ghost use Rattle.oca_textree.specs.PrivateLines.{field_view, ono_at, ono_view};
-ghost use Rattle.oca_textree.specs.PrivateLines.{placed_at, placed_view};
+ghost use Rattle.oca_textree.specs.PrivateLines.{field_view, ono_at, ono_view, placed_at, placed_view};
 
 use super::class_word::class;
 use oca_script::ObjectFault;

@@ -29,8 +29,8 @@ const MOST_OBJECTS: u16 = 4096;
 /// - `NUMBER CONTAINER CLASS .. LOCKABLE ROLE` lists an object.
 /// - `object NUMBER CONTAINER CLASS .. LOCKABLE ROLE ENABLED LABEL` lists an object with its enabled flag and label, as
 ///   [`print_tree`](crate::print_tree) prints it.
-/// - `root ENABLED LABEL` has the root's enabled flag and label. It can only be line 1 of the text: in a later line, also
-///   behind a skipped line, it is a fault. The root needs no line: an empty text gives a tree of the root alone.
+/// - `root ENABLED LABEL` has the root's enabled flag and label. It can only be line 1 of the text: in a later line,
+///   also behind a skipped line, it is a fault. The root needs no line: an empty text gives a tree of the root alone.
 /// - Empty lines and lines that begin with `#` are skipped.
 ///
 /// A line ends with a line feed, which the last line may lack. A role, label or name that is not UTF-8 is a fault.

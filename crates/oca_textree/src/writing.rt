@@ -10,8 +10,7 @@ ghost use Rattle.oca_textree.specs.Written.{is_plain as is_plain_text, is_plain_
 ghost use Rattle.oca_textree.specs.Written.{name_part, joined_names, names_field, flag_digit, flags_field, state_word};
 ghost use Rattle.oca_textree.specs.Written.{truth_word, truth_field, limit_field, range_fields, number_fields};
 ghost use Rattle.oca_textree.specs.Written.{holds_mark, holds_comma, position_field, switch_fields, set_fields};
-ghost use Rattle.oca_textree.specs.Written.{value_fields, start_fields, place_fields, lock_word};
-ghost use Rattle.oca_textree.specs.Written.{end_fields, text_of};
+ghost use Rattle.oca_textree.specs.Written.{value_fields, start_fields, place_fields, lock_word, end_fields, text_of};
 ghost use Rattle.oca_textree.specs.PrivateWritten.{IsInteger, IsWritten, few_flags, Fits, stored_flags, end_text};
 ghost use Rattle.oca_textree.specs.PrivateWritten.{root_text, object_text, tree_line_text};
 

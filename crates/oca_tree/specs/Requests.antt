@@ -1,6 +1,5 @@
 -- What an object cannot be asked (AES70-2).
-use Rattle.std.specs.Prelude.{ℕ, ◌==◌, ◌&&◌, not, Bool, true, false, length, nat_lt, slice_index_or}
-use Rattle.std.specs.Prelude.{is_none}
+use Rattle.std.specs.Prelude.{ℕ, ◌==◌, ◌&&◌, not, Bool, true, false, length, nat_lt, slice_index_or, is_none}
 use Rattle.oca_model.specs.declared.request.Request.{Request}
 use Rattle.oca_model.specs.declared.request.Request.TheVariants as asked
 use Rattle.oca_model.specs.declared.value.Value.{Value as Setting}

@@ -1,6 +1,5 @@
 -- What an object reads as, what it answers and what a request makes of it, in the words of both ends (AES70-2).
-use Rattle.std.specs.Prelude.{ℕ, ◌-◌, Bool, false, List, [], length, map, slice_index_or, slice_set}
-use Rattle.std.specs.Prelude.{Option, Some, None}
+use Rattle.std.specs.Prelude.{ℕ, ◌-◌, Bool, false, List, [], length, map, slice_index_or, slice_set, Option, Some, None}
 use Rattle.std.specs.Option.{option_map_or}
 use Rattle.oca_types.specs.declared.words.Peer.{Peer}
 use Rattle.oca_model.specs.declared.answer.Answer.{Answer}

@@ -72,7 +72,8 @@ pub record SetsReading (held : Held) (value : Value) (reading : Reading) : Type 
 -- Each value of an object's class can be read once it was set.
 abbrev pub SettingsAreRead : Type 0
 SettingsAreRead =
-    (held : Held) (value : Value) → class_of held ≡ class_of_value value → (reading : Reading) × SetsReading held value reading
+    (held : Held) (value : Value) → class_of held ≡ class_of_value value →
+    (reading : Reading) × SetsReading held value reading
 
 -- ---- answers that are read
 

@@ -1,6 +1,6 @@
 //! Writing the parameters of an answer.
-ghost use Rattle.std.specs.Prelude.{◌≡◌, ◌≤◌, ◌<◌, ◌+◌, ◌++◌, length, take, drop, slice_index_or, true, false, IfOk};
-ghost use Rattle.std.specs.Prelude.{IfSome};
+ghost use Rattle.std.specs.Prelude.{◌≡◌, ◌≤◌, ◌<◌, ◌+◌, ◌++◌, length, take, drop, slice_index_or, true};
+ghost use Rattle.std.specs.Prelude.{false, IfOk, IfSome};
 ghost use Rattle.std.specs.List.{flat_map, filter};
 ghost use Rattle.std.specs.Int.{w8, w16};
 ghost use Rattle.oca_types.specs.Numbers.{unsigned_encoding};
@@ -175,7 +175,8 @@ fn counted(count: u8, put: Result<(), PutFault>) -> Result<u8, Status>
     }
 }
 
-/// What a value reads as, with its limits; a block has nothing to read. It stands apart, so that a state is put in place.
+/// What a value reads as, with its limits; a block has nothing to read. It stands apart, so that a state is put in
+/// place.
 #[inline(never)]
 #[tactic(auto, unfolding(crate::specs::Trees::IsSoundValue, crate::specs::Typed::reading_held, oca_model::specs::Answers::answer_encoding))]
 fn put_any_reading(out: &mut Params, value: &Value) -> Result<u8, Status>

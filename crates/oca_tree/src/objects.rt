@@ -168,7 +168,8 @@ impl Objects {
         requires count { marks.old.locks ≡ lock_count self.old.list }
         ensures objects { (d : Item) →
             self.new.list
-            ≡ slice_set self.old.list at (changed_by (slice_index_or self.old.list at d) peer (asked_by request.entry)) }
+            ≡ slice_set self.old.list at
+            (changed_by (slice_index_or self.old.list at d) peer (asked_by request.entry)) }
         ensures count { marks.new.locks ≡ lock_count self.new.list }
     {
         change(&mut self.map[at], marks, peer, request);

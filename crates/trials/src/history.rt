@@ -4,10 +4,10 @@
 //! for PEERS sessions and CHANNELS channel strips behind the bench's own objects. The lines after it are its events, in
 //! order: `N P HEX` is a datagram of the peer P at the moment N, `N quiet` a clock reading, and `set ONO CLASS VALUE` a
 //! change at the local front panel, CLASS being `mute`, `polarity`, `switch`, `boolean`, `int8` and so on to `uint64`.
-//! `label ONO HEX`, `enabled ONO 0` or `1`, `unlock ONO` and `failing ONO 0` or `1` are the other changes there.
-//! `again HEX` is a datagram that does not come to the device: it is only read, and written again. `then N P HEX`,
-//! `then N quiet` and `then failed` are entries of the script of an end in memory: a datagram, a receive without one,
-//! and a receive that fails. `serve K` lets the device serve that end, of which the send of the number K, from 0, fails,
+//! `label ONO HEX`, `enabled ONO 0` or `1`, `unlock ONO` and `failing ONO 0` or `1` are the other changes there. `again
+//! HEX` is a datagram that does not come to the device: it is only read, and written again. `then N P HEX`, `then N
+//! quiet` and `then failed` are entries of the script of an end in memory: a datagram, a receive without one, and a
+//! receive that fails. `serve K` lets the device serve that end, of which the send of the number K, from 0, fails,
 //! where there is one, and `drive K` drives a link over it (`ends` tells what is printed then). Both end the script.
 //!
 //! What is printed: `history`, and for each event its verdict; its packets, each behind `> `; `written`

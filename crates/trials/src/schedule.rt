@@ -14,9 +14,9 @@
 //!     N renew LINK H S                             N beside LINK
 //!
 //! `set` sets an object at the local front panel: CLASS is `mute`, `polarity`, `switch`, `boolean`, `int8` and so on to
-//! `uint64`, and VALUE the number of a state, a position, 0 or 1, or an integer of the type. `label`, `enabled`, `unlock`
-//! and `failing` are the other changes there; HEX are the bytes of a text in UTF-8. `renew` puts a new link of first
-//! handle H and span S in the place of a link, and `beside` sends a keep-alive beside a link.
+//! `uint64`, and VALUE the number of a state, a position, 0 or 1, or an integer of the type. `label`, `enabled`,
+//! `unlock` and `failing` are the other changes there; HEX are the bytes of a text in UTF-8. `renew` puts a new link of
+//! first handle H and span S in the place of a link, and `beside` sends a keep-alive beside a link.
 use crate::fields::{Fields, LARGEST_32, LineFault, text_of};
 use oca_pair::{Start, Step};
 use oca_script::field::split_at_byte;

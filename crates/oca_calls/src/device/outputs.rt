@@ -121,10 +121,10 @@ impl DeviceBehind {
         }
     }
 
-    /// Writes what the device did with the command of the last datagram that has this index, counted from 0. To the front
-    /// of `out` go four words, as far as there is room ([`effect_words`](crate::words::effect_words)). Returns `Done`.
-    /// `Nothing` if the last datagram had `index` commands or fewer, was malformed or found no room, or there was none.
-    /// `NotStarted` before the start. After both nothing is written.
+    /// Writes what the device did with the command of the last datagram that has this index, counted from 0. To the
+    /// front of `out` go four words, as far as there is room ([`effect_words`](crate::words::effect_words)). Returns
+    /// `Done`. `Nothing` if the last datagram had `index` commands or fewer, was malformed or found no room, or there
+    /// was none. `NotStarted` before the start. After both nothing is written.
     pub fn effect(&self, index: usize, out: &mut [u32]) -> Answer
         ensures writes { (r : Rooms) (w : DeviceSizes) (T : List Object) (E : List Event) →
             RunsBehind r w self.now T E →

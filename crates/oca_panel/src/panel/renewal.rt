@@ -16,10 +16,11 @@ impl<E: End> Panel<E> {
     /// `first` is the handle of the first command of the new link. It must not be lower than
     /// [`next_handle`](Panel::next_handle): if it is, a command may get no answer, or the answer to a command of an
     /// earlier link. `span` is the new span. Commands of the old link are not sent again, and their answers are lost.
-    /// Those that it left unanswered can still arrive for 100 s after the old link's clock was read last, if the network
-    /// is in time, and then take places of the device's reply window. So that the device never rejects a command in
-    /// flight of the new link as too old, the window needs one place more for each of them (`law_answered_in_time` of
-    /// `oca_pair` has all premises). The panel's `wait` and [`unanswered`](Panel::unanswered) stay.
+    /// Those that it left unanswered can still arrive for 100 s after the old link's clock was read last, if the
+    /// network is in time, and then take places of the device's reply window. So that the device never rejects a
+    /// command in flight of the new link as too old, the window needs one place more for each of them
+    /// (`law_answered_in_time` of `oca_pair` has all premises). The panel's `wait` and
+    /// [`unanswered`](Panel::unanswered) stay.
     pub fn renew(&mut self, device: Peer, first: Handle, span: Span)
         ensures { IsRenewed device first.0 (span_size span) self.old self.new }
     {

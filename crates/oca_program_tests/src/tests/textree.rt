@@ -1,5 +1,5 @@
-//! What texts are written of trees that were set or made, and the words of faults. Texts that list objects, and the fault
-//! of each line that lists none, are rows of `tools/rows/ocadev.toml`.
+//! What texts are written of trees that were set or made, and the words of faults. Texts that list objects, and the
+//! fault of each line that lists none, are rows of `tools/rows/ocadev.toml`.
 mod copies;
 mod faults;
 

@@ -1,5 +1,5 @@
-//! A view of a device goes on over another end once half of the handles are used, and tells when the device was heard, in
-//! memory.
+//! A view of a device goes on over another end once half of the handles are used, and tells when the device was heard,
+//! in memory.
 use super::coming::Coming::{self, Datagram, Quiet};
 use super::coming::end;
 use super::{Row, first_wrong, none_wrong};
@@ -49,8 +49,9 @@ const ANSWERS_BEHIND: &[Coming] = &[
     ),
 ];
 
-/// The commands that the first end took, and those that the second one took at first: the handle and the object of each.
-/// An order of the root waits for its role, which no answer says. So the role is asked first, and again over the second end.
+/// The commands that the first end took, and those that the second one took at first: the handle and the object of
+/// each. An order of the root waits for its role, which no answer says. So the role is asked first, and again over the
+/// second end.
 const TAKEN: &[(u32, u32)] = &[(FIRST, 100), (FIRST + 1, 100), (FIRST + 2, 100)];
 
 const TAKEN_BEHIND: &[(u32, u32)] = &[(1, 100), (2, 100)];

@@ -69,8 +69,8 @@ const DONE_LAST_2: &[u8] =
     b"\x3b\x00\x01\x00\x00\x00\x13\x03\x00\x01\x00\x00\x00\x0a\xff\xff\xff\xfe\x00\x00";
 
 /// Three mutes are set, so many at once: the first handle; the answers to the commands that ask what they are, and then
-/// to those that set them, in the order in which they come; for how many bytes of output there is room; the exit status,
-/// or why the setting is given up; what is printed; and how many commands are sent, each once.
+/// to those that set them, in the order in which they come; for how many bytes of output there is room; the exit
+/// status, or why the setting is given up; what is printed; and how many commands are sent, each once.
 pub struct Setting {
     first: u32,
     coming: &'static [Coming],

@@ -3,13 +3,12 @@ use Rattle.std.specs.List.{AllByRecursion}
 use Rattle.oca_pdu.specs.Messages.{Msg}
 use Rattle.oca_pdu.specs.Datagrams.{datagram_messages, messages_left, read_or_none}
 use Rattle.oca_pdu.specs.Limits.{is_response}
-use Rattle.std.specs.Prelude.{not, count_by}
+use Rattle.std.specs.Prelude.{not, count_by, Result}
 use Rattle.oca_device.specs.Notes.{Admitted}
 use Rattle.oca_device.specs.States.{noted}
 use Rattle.oca_device.specs.Answers.{packets_of, answers_to_reading}
 use Rattle.oca_device.specs.Devices.{IsIn}
 use Rattle.oca_pdu.specs.declared.fault.PduFault.{PduFault}
-use Rattle.std.specs.Prelude.{Result}
 use Rattle.oca_device.specs.Rooms.{shortened_answers}
 use Rattle.oca_device.specs.PrivateServing.{ServesMessages, IsShort}
 use Rattle.oca_device.proofs.Bounds.{most_answers, answers_counted, commands_counted, all_short, few_packets, no_packets}

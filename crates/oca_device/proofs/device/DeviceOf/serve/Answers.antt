@@ -1,10 +1,9 @@
-use Rattle.std.proofs.Common.{ℕ, length, arith, ap, ◌∙◌, sym, subst}
+use Rattle.std.proofs.Common.{ℕ, length, arith, ap, ◌∙◌, sym, subst, List, refl}
 use Rattle.std.specs.Prelude.{IsSome}
 use Rattle.oca_session.specs.Table.{session_of, with_sessions, with_changed, with_heartbeat}
 use Rattle.oca_device.specs.Devices.{DeviceState}
 use Rattle.oca_device.specs.States.{time_of}
 use Rattle.std.proofs.lemmas.List.{append-nil}
-use Rattle.std.proofs.Common.{List, refl}
 use Rattle.oca_pdu.specs.Messages.{Msg, KeepAlive}
 use Rattle.oca_device.specs.Groups.{with_answers, encodings}
 use Rattle.oca_device.specs.Outboxes.{first_packets}

@@ -6,9 +6,8 @@ use Rattle.oca_tree.specs.declared.tree.Done.{Done}
 use Rattle.oca_tree.specs.Execution.{TreeAndReply}
 use Rattle.oca_tree.specs.TypedLaws.{IsOfItsTypes}
 use Rattle.oca_tree.specs.Written.{is_ok, calls_a_write}
-use Rattle.oca_tree.proofs.TypesKept.{command_good}
+use Rattle.oca_tree.proofs.TypesKept.{command_good, command_good}
 use Rattle.oca_tree.proofs.tree.Tree.execute.Goals as goal
-use Rattle.oca_tree.proofs.TypesKept.{command_good}
 use Rattle.oca_tree.proofs.tree.Tree.execute.Goals.{in-Ok, in-Err}
 
 pub returns-clause-wrote : goal.returns-clause-wrote
