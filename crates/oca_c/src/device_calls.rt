@@ -1,17 +1,15 @@
 //! What C calls of a device.
-ghost use Rattle.std.specs.Prelude.{◌≡◌, ◌⊎◌, ◌∷◌, ℕ, List, None, IfSome, IfNone, IsSome, slice_get, length};
-ghost use Rattle.oca_types.specs.Sizes.{DeviceSizes};
-ghost use Rattle.oca_tree.specs.declared.object.Object.{Object};
+ghost use Rattle.std.specs.Prelude.{◌≡◌, ◌⊎◌, ◌∷◌, ℕ, None, IfSome, IfNone, IsSome, slice_get, length};
 ghost use Rattle.oca_tree.specs.Objects.{Store};
 ghost use Rattle.oca_device.specs.Effects.{effects};
-ghost use Rattle.oca_device.specs.Events.{Event, Datagram as DatagramEvent, Tick};
+ghost use Rattle.oca_device.specs.Events.{Datagram as DatagramEvent, Tick};
 ghost use Rattle.oca_device.specs.States.{state_after};
 ghost use Rattle.oca_device.specs.Rooms.{packets_within, told, verdict_within};
 ghost use Rattle.oca_device.specs.Outboxes.{KeptPackets};
 ghost use Rattle.oca_device.specs.Written.{written};
 ghost use Rattle.oca_calls.specs.Calls.{HandleBuilds, HandleRuns, HandleStarts, AnsweredWith, KeepsFirst, KeepsPackets};
-ghost use Rattle.oca_calls.specs.Calls.{Opens, RefusesBuilding, RefusesClosed, RefusesRunning};
-ghost use Rattle.oca_calls.specs.LinkRooms.{Rooms, full_rooms, small_rooms};
+ghost use Rattle.oca_calls.specs.Calls.{Opens, RefusesBuilding, RefusesClosed, RefusesRunning, WhateverHandleRuns};
+ghost use Rattle.oca_calls.specs.LinkRooms.{full_rooms, small_rooms};
 ghost use Rattle.oca_calls.specs.Outputs.{WritesEffect, WritesNextLapse, WritesToBuffer, WritesWords, put_words};
 ghost use Rattle.oca_calls.specs.Outputs.{verdict_words};
 ghost use Rattle.oca_calls.specs.Storings.{HasUnstored, KeepsUnstored, RunsUnstored, all_stored};
@@ -155,8 +153,7 @@ pub extern "C" fn oca_device_datagram_words(
 ) -> u32
     ensures closed { RefusesClosed handle.old.slot.inner handle.new.slot.inner result }
     ensures building { RefusesBuilding handle.old.slot.inner handle.new.slot.inner result }
-    ensures serves { (r : Rooms) (w : DeviceSizes) (T : List Object) (E : List Event) →
-        HandleRuns r w handle.old.slot.inner T E →
+    ensures serves { WhateverHandleRuns handle.old.slot.inner (λ r w T E.
         HandleRuns r w handle.new.slot.inner T (DatagramEvent (record {
           ip = ip;
           port = port;
@@ -169,13 +166,13 @@ pub extern "C" fn oca_device_datagram_words(
           ip = ip;
           port = port;
         }) bytes.now now)) out.old)
-        × (result ≡ 0) }
-    ensures unstored { (r : Rooms) (w : DeviceSizes) (T : List Object) (E : List Event) (noted : Unstored) →
-        HandleRuns r w handle.old.slot.inner T E → HasUnstored handle.old.slot.inner noted →
+        × (result ≡ 0)) }
+    ensures unstored { WhateverHandleRuns handle.old.slot.inner (λ r w T E.
+        (noted : Unstored) → HasUnstored handle.old.slot.inner noted →
         HasUnstored handle.new.slot.inner (unstored_behind noted r.command w T E (record {
           ip = ip;
           port = port;
-        }) bytes.now now) }
+        }) bytes.now now)) }
     ensures unwritten { (result ≡ 0) ⊎ (out.new ≡ out.old) }
 {
     let Some(mut behind) = handle.take(alloc) else {
@@ -199,9 +196,8 @@ pub extern "C" fn oca_device_tick(alloc: Global, handle: &mut DeviceHandle, now:
     ensures building { RefusesBuilding handle.old.slot.inner handle.new.slot.inner result }
     ensures packets { KeepsPackets handle.old.slot.inner handle.new.slot.inner }
     ensures unstored { KeepsUnstored handle.old.slot.inner handle.new.slot.inner }
-    ensures serves { (r : Rooms) (w : DeviceSizes) (T : List Object) (E : List Event) →
-        HandleRuns r w handle.old.slot.inner T E →
-        HandleRuns r w handle.new.slot.inner T (Tick now ∷ E) × (result ≡ 0) }
+    ensures serves { WhateverHandleRuns handle.old.slot.inner (λ r w T E.
+        HandleRuns r w handle.new.slot.inner T (Tick now ∷ E) × (result ≡ 0)) }
 {
     let Some(mut behind) = handle.take(alloc) else {
         return Answer::Closed.number();
@@ -226,9 +222,8 @@ pub extern "C" fn oca_device_next_lapse(
     ensures closed { RefusesClosed handle.old.slot.inner handle.new.slot.inner result }
     ensures building { RefusesBuilding handle.old.slot.inner handle.new.slot.inner result }
     ensures kept { handle.new.slot.inner ≡ handle.old.slot.inner }
-    ensures writes { (r : Rooms) (w : DeviceSizes) (T : List Object) (E : List Event) →
-        HandleRuns r w handle.old.slot.inner T E →
-        WritesNextLapse w (state_after w T E) moment.new result }
+    ensures writes { WhateverHandleRuns handle.old.slot.inner (λ r w T E.
+        WritesNextLapse w (state_after w T E) moment.new result) }
     ensures unwritten { (result ≡ 0) ⊎ (moment.new ≡ moment.old) }
 {
     let Some(behind) = handle.take(alloc) else {
@@ -341,9 +336,8 @@ pub extern "C" fn oca_device_written(
     ensures closed { RefusesClosed handle.old.slot.inner handle.new.slot.inner result }
     ensures building { RefusesBuilding handle.old.slot.inner handle.new.slot.inner result }
     ensures kept { handle.new.slot.inner ≡ handle.old.slot.inner }
-    ensures writes { (r : Rooms) (w : DeviceSizes) (T : List Object) (E : List Event) →
-        HandleRuns r w handle.old.slot.inner T E →
-        WritesWords (written w T E) out.old out.new count.new result }
+    ensures writes { WhateverHandleRuns handle.old.slot.inner (λ r w T E.
+        WritesWords (written w T E) out.old out.new count.new result) }
     ensures unwritten { (result ≡ 0) ⊎ ((result ≡ 14) ⊎ ((out.new ≡ out.old) × (count.new ≡ count.old))) }
 {
     let Some(behind) = handle.take(alloc) else {
@@ -374,9 +368,8 @@ pub extern "C" fn oca_device_effect_words(
     ensures closed { RefusesClosed handle.old.slot.inner handle.new.slot.inner result }
     ensures building { RefusesBuilding handle.old.slot.inner handle.new.slot.inner result }
     ensures kept { handle.new.slot.inner ≡ handle.old.slot.inner }
-    ensures writes { (r : Rooms) (w : DeviceSizes) (T : List Object) (E : List Event) →
-        HandleRuns r w handle.old.slot.inner T E →
-        WritesEffect (slice_get (effects w T E) index) out.old out.new result }
+    ensures writes { WhateverHandleRuns handle.old.slot.inner (λ r w T E.
+        WritesEffect (slice_get (effects w T E) index) out.old out.new result) }
     ensures unwritten { (result ≡ 0) ⊎ (out.new ≡ out.old) }
 {
     let Some(behind) = handle.take(alloc) else {
@@ -428,9 +421,8 @@ pub extern "C" fn oca_device_stored(alloc: Global, handle: &mut DeviceHandle) ->
     ensures closed { RefusesClosed handle.old.slot.inner handle.new.slot.inner result }
     ensures building { RefusesBuilding handle.old.slot.inner handle.new.slot.inner result }
     ensures packets { KeepsPackets handle.old.slot.inner handle.new.slot.inner }
-    ensures notes { (r : Rooms) (w : DeviceSizes) (T : List Object) (E : List Event) →
-        HandleRuns r w handle.old.slot.inner T E →
-        HandleRuns r w handle.new.slot.inner T E × HasUnstored handle.new.slot.inner all_stored × (result ≡ 0) }
+    ensures notes { WhateverHandleRuns handle.old.slot.inner (λ r w T E.
+        HandleRuns r w handle.new.slot.inner T E × HasUnstored handle.new.slot.inner all_stored × (result ≡ 0)) }
 {
     let Some(mut behind) = handle.take(alloc) else {
         return Answer::Closed.number();

@@ -1,12 +1,8 @@
 //! What C calls to read the objects of a device.
-ghost use Rattle.std.specs.Prelude.{◌≡◌, ◌⊎◌, List, length, slice_get};
-ghost use Rattle.oca_types.specs.Sizes.{DeviceSizes};
-ghost use Rattle.oca_tree.specs.declared.object.Object.{Object};
+ghost use Rattle.std.specs.Prelude.{◌≡◌, ◌⊎◌, length, slice_get};
 ghost use Rattle.oca_tree.specs.Readers.{failing_at, info_at, lock_at, setting_at};
 ghost use Rattle.oca_device.specs.States.{known_after, state_after};
-ghost use Rattle.oca_device.specs.Events.{Event};
-ghost use Rattle.oca_calls.specs.Calls.{HandleRuns, RefusesBuilding, RefusesClosed};
-ghost use Rattle.oca_calls.specs.LinkRooms.{Rooms};
+ghost use Rattle.oca_calls.specs.Calls.{RefusesBuilding, RefusesClosed, WhateverHandleRuns};
 ghost use Rattle.oca_calls.specs.Outputs.{WritesFailing, WritesLock, WritesObject, WritesPeer, WritesSetting};
 
 use oca_calls::answer::Answer;
@@ -27,9 +23,8 @@ pub extern "C" fn oca_device_objects(
     ensures closed { RefusesClosed handle.old.slot.inner handle.new.slot.inner result }
     ensures building { RefusesBuilding handle.old.slot.inner handle.new.slot.inner result }
     ensures kept { handle.new.slot.inner ≡ handle.old.slot.inner }
-    ensures writes { (r : Rooms) (w : DeviceSizes) (T : List Object) (E : List Event) →
-        HandleRuns r w handle.old.slot.inner T E →
-        (result ≡ 0) × (count.new ≡ length (state_after w T E).tree) }
+    ensures writes { WhateverHandleRuns handle.old.slot.inner (λ r w T E.
+        (result ≡ 0) × (count.new ≡ length (state_after w T E).tree)) }
     ensures unwritten { (result ≡ 0) ⊎ (count.new ≡ count.old) }
 {
     let Some(behind) = handle.take(alloc) else {
@@ -59,9 +54,8 @@ pub extern "C" fn oca_device_object_words(
     ensures closed { RefusesClosed handle.old.slot.inner handle.new.slot.inner result }
     ensures building { RefusesBuilding handle.old.slot.inner handle.new.slot.inner result }
     ensures kept { handle.new.slot.inner ≡ handle.old.slot.inner }
-    ensures writes { (r : Rooms) (w : DeviceSizes) (T : List Object) (E : List Event) →
-        HandleRuns r w handle.old.slot.inner T E →
-        WritesObject (info_at (state_after w T E).tree index) out.old out.new role.old role.new result }
+    ensures writes { WhateverHandleRuns handle.old.slot.inner (λ r w T E.
+        WritesObject (info_at (state_after w T E).tree index) out.old out.new role.old role.new result) }
     ensures unwritten { (result ≡ 0) ⊎ ((out.new ≡ out.old) × (role.new ≡ role.old)) }
 {
     let Some(behind) = handle.take(alloc) else {
@@ -92,9 +86,8 @@ pub extern "C" fn oca_device_lock(
     ensures closed { RefusesClosed handle.old.slot.inner handle.new.slot.inner result }
     ensures building { RefusesBuilding handle.old.slot.inner handle.new.slot.inner result }
     ensures kept { handle.new.slot.inner ≡ handle.old.slot.inner }
-    ensures writes { (r : Rooms) (w : DeviceSizes) (T : List Object) (E : List Event) →
-        HandleRuns r w handle.old.slot.inner T E →
-        WritesLock (lock_at (state_after w T E).tree ono) kind.new ip.new port.new result }
+    ensures writes { WhateverHandleRuns handle.old.slot.inner (λ r w T E.
+        WritesLock (lock_at (state_after w T E).tree ono) kind.new ip.new port.new result) }
     ensures unwritten { (result ≡ 0) ⊎ ((kind.new ≡ kind.old) × (ip.new ≡ ip.old) × (port.new ≡ port.old)) }
 {
     let Some(behind) = handle.take(alloc) else {
@@ -121,9 +114,8 @@ pub extern "C" fn oca_device_is_failing(
     ensures closed { RefusesClosed handle.old.slot.inner handle.new.slot.inner result }
     ensures building { RefusesBuilding handle.old.slot.inner handle.new.slot.inner result }
     ensures kept { handle.new.slot.inner ≡ handle.old.slot.inner }
-    ensures writes { (r : Rooms) (w : DeviceSizes) (T : List Object) (E : List Event) →
-        HandleRuns r w handle.old.slot.inner T E →
-        WritesFailing (failing_at (state_after w T E).tree ono) failing.new result }
+    ensures writes { WhateverHandleRuns handle.old.slot.inner (λ r w T E.
+        WritesFailing (failing_at (state_after w T E).tree ono) failing.new result) }
     ensures unwritten { (result ≡ 0) ⊎ (failing.new ≡ failing.old) }
 {
     let Some(behind) = handle.take(alloc) else {
@@ -151,9 +143,8 @@ pub extern "C" fn oca_device_setting(
     ensures closed { RefusesClosed handle.old.slot.inner handle.new.slot.inner result }
     ensures building { RefusesBuilding handle.old.slot.inner handle.new.slot.inner result }
     ensures kept { handle.new.slot.inner ≡ handle.old.slot.inner }
-    ensures writes { (r : Rooms) (w : DeviceSizes) (T : List Object) (E : List Event) →
-        HandleRuns r w handle.old.slot.inner T E →
-        WritesSetting (setting_at (state_after w T E).tree ono) reading.new result }
+    ensures writes { WhateverHandleRuns handle.old.slot.inner (λ r w T E.
+        WritesSetting (setting_at (state_after w T E).tree ono) reading.new result) }
     ensures unwritten { (result ≡ 0) ⊎ (reading.new ≡ reading.old) }
 {
     let Some(behind) = handle.take(alloc) else {
@@ -178,9 +169,8 @@ pub extern "C" fn oca_device_peers(
     ensures closed { RefusesClosed handle.old.slot.inner handle.new.slot.inner result }
     ensures building { RefusesBuilding handle.old.slot.inner handle.new.slot.inner result }
     ensures kept { handle.new.slot.inner ≡ handle.old.slot.inner }
-    ensures writes { (r : Rooms) (w : DeviceSizes) (T : List Object) (E : List Event) →
-        HandleRuns r w handle.old.slot.inner T E →
-        (result ≡ 0) × (count.new ≡ length (known_after (state_after w T E))) }
+    ensures writes { WhateverHandleRuns handle.old.slot.inner (λ r w T E.
+        (result ≡ 0) × (count.new ≡ length (known_after (state_after w T E)))) }
     ensures unwritten { (result ≡ 0) ⊎ (count.new ≡ count.old) }
 {
     let Some(behind) = handle.take(alloc) else {
@@ -209,9 +199,8 @@ pub extern "C" fn oca_device_peer(
     ensures closed { RefusesClosed handle.old.slot.inner handle.new.slot.inner result }
     ensures building { RefusesBuilding handle.old.slot.inner handle.new.slot.inner result }
     ensures kept { handle.new.slot.inner ≡ handle.old.slot.inner }
-    ensures writes { (r : Rooms) (w : DeviceSizes) (T : List Object) (E : List Event) →
-        HandleRuns r w handle.old.slot.inner T E →
-        WritesPeer (slice_get (known_after (state_after w T E)) index) ip.new port.new result }
+    ensures writes { WhateverHandleRuns handle.old.slot.inner (λ r w T E.
+        WritesPeer (slice_get (known_after (state_after w T E)) index) ip.new port.new result) }
     ensures unwritten { (result ≡ 0) ⊎ ((ip.new ≡ ip.old) × (port.new ≡ port.old)) }
 {
     let Some(behind) = handle.take(alloc) else {

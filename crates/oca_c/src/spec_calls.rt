@@ -1,13 +1,9 @@
 //! What C calls with a struct that describes an object.
-ghost use Rattle.std.specs.Prelude.{◌≡◌, ◌⊎◌, List, None, IsSome};
-ghost use Rattle.oca_types.specs.Sizes.{DeviceSizes};
-ghost use Rattle.oca_tree.specs.declared.object.Object.{Object};
+ghost use Rattle.std.specs.Prelude.{◌≡◌, ◌⊎◌, None, IsSome};
 ghost use Rattle.oca_tree.specs.Objects.{Store};
 ghost use Rattle.oca_tree.specs.Readers.{info_at, info_of_ono};
 ghost use Rattle.oca_device.specs.States.{state_after};
-ghost use Rattle.oca_device.specs.Events.{Event};
-ghost use Rattle.oca_calls.specs.LinkRooms.{Rooms};
-ghost use Rattle.oca_calls.specs.Calls.{HandleBuilds, HandleRuns, RefusesBuilding, RefusesClosed, RefusesRunning};
+ghost use Rattle.oca_calls.specs.Calls.{HandleBuilds, RefusesBuilding, RefusesClosed, RefusesRunning, WhateverHandleRuns};
 ghost use Rattle.oca_calls.specs.CSpecs.{HandleAddsSpec, OpensWith, WritesSpec};
 ghost use Rattle.oca_calls.specs.WrittenAgain.{WrittenMakesAgain};
 ghost use Rattle.oca_calls.specs.Numbers.{answer_number};
@@ -113,9 +109,8 @@ pub extern "C" fn oca_device_spec(
     ensures closed { RefusesClosed handle.old.slot.inner handle.new.slot.inner result }
     ensures building { RefusesBuilding handle.old.slot.inner handle.new.slot.inner result }
     ensures kept { handle.new.slot.inner ≡ handle.old.slot.inner }
-    ensures writes { (r : Rooms) (w : DeviceSizes) (T : List Object) (E : List Event) →
-        HandleRuns r w handle.old.slot.inner T E →
-        WritesSpec (state_after w T E).tree (info_at (state_after w T E).tree index) spec.old spec.new result }
+    ensures writes { WhateverHandleRuns handle.old.slot.inner (λ r w T E.
+        WritesSpec (state_after w T E).tree (info_at (state_after w T E).tree index) spec.old spec.new result) }
     ensures again { WrittenMakesAgain }
     ensures unwritten { (result ≡ 0) ⊎ (spec.new ≡ spec.old) }
 {
@@ -144,9 +139,8 @@ pub extern "C" fn oca_device_spec_of(
     ensures closed { RefusesClosed handle.old.slot.inner handle.new.slot.inner result }
     ensures building { RefusesBuilding handle.old.slot.inner handle.new.slot.inner result }
     ensures kept { handle.new.slot.inner ≡ handle.old.slot.inner }
-    ensures writes { (r : Rooms) (w : DeviceSizes) (T : List Object) (E : List Event) →
-        HandleRuns r w handle.old.slot.inner T E →
-        WritesSpec (state_after w T E).tree (info_of_ono (state_after w T E).tree ono) spec.old spec.new result }
+    ensures writes { WhateverHandleRuns handle.old.slot.inner (λ r w T E.
+        WritesSpec (state_after w T E).tree (info_of_ono (state_after w T E).tree ono) spec.old spec.new result) }
     ensures again { WrittenMakesAgain }
     ensures unwritten { (result ≡ 0) ⊎ (spec.new ≡ spec.old) }
 {

@@ -49,6 +49,19 @@ HandleBuilds behind built = IsSomeAnd behind (λ b. Builds b built)
 abbrev pub HandleRuns : Rooms → DeviceSizes → Option DeviceBehind → List Object → List Event → Type 0
 HandleRuns r w behind tree events = IsSomeAnd behind (λ b. RunsBehind r w b tree events)
 
+-- This is so of the rooms, the sizes, the opening tree and the events, whichever the device represents; and behind an
+-- open handle.
+abbrev pub WhateverRunsBehind : DeviceBehind → (Rooms → DeviceSizes → List Object → List Event → Type 0) → Type 0
+WhateverRunsBehind behind IsSo =
+    (r : Rooms) (w : DeviceSizes) (tree : List Object) (events : List Event) →
+    RunsBehind r w behind tree events → IsSo r w tree events
+
+abbrev pub WhateverHandleRuns
+    : Option DeviceBehind → (Rooms → DeviceSizes → List Object → List Event → Type 0) → Type 0
+WhateverHandleRuns behind IsSo =
+    (r : Rooms) (w : DeviceSizes) (tree : List Object) (events : List Event) →
+    HandleRuns r w behind tree events → IsSo r w tree events
+
 -- behind an open handle this is kept of the packets that answer
 abbrev pub HasPackets : Option DeviceBehind → KeptPackets → Type 0
 HasPackets behind kept = IsSomeAnd behind (λ b. b.outbox ≡ kept)

@@ -1,22 +1,21 @@
 //! A device of either size.
-ghost use Rattle.std.specs.Prelude.{◌≡◌, ◌≤◌, ◌∷◌, [], List, true, false, IfOk, MatchOption, length, slice_get};
+ghost use Rattle.std.specs.Prelude.{◌≡◌, ◌≤◌, ◌∷◌, [], true, false, IfOk, MatchOption, length, slice_get};
 ghost use Rattle.std.specs.Result.{result_err};
-ghost use Rattle.oca_types.specs.Sizes.{DeviceSizes, sizes_of};
+ghost use Rattle.oca_types.specs.Sizes.{sizes_of};
 ghost use Rattle.oca_pdu.specs.Limits.{most_answered};
-ghost use Rattle.oca_tree.specs.declared.object.Object.{Object};
 ghost use Rattle.oca_tree.specs.LocalChanges.{front_fault, ToValue, ToLabel, ToEnabled, ToUnlocked, ToFailing};
 ghost use Rattle.oca_tree.specs.Readers.{failing_at};
 ghost use Rattle.oca_tree.specs.Settings.{set_fault};
 ghost use Rattle.oca_model.specs.declared.request.Request.TheVariants as asked;
 ghost use Rattle.oca_device.specs.Effects.{effects};
-ghost use Rattle.oca_device.specs.Events.{Event, Datagram as DatagramEvent, Tick, Local};
+ghost use Rattle.oca_device.specs.Events.{Datagram as DatagramEvent, Tick, Local};
 ghost use Rattle.oca_device.specs.Outboxes.{first_packets};
 ghost use Rattle.oca_device.specs.Rooms.{packets_within, told, verdict_within};
 ghost use Rattle.oca_device.specs.States.{known_after, state_after};
 ghost use Rattle.oca_device.specs.Written.{numbers_of, written};
 ghost use Rattle.oca_device.specs.Lapses.{IsNextLapse, NeverLapses};
-ghost use Rattle.oca_calls.specs.LinkRooms.{Rooms, rooms_of};
-ghost use Rattle.oca_calls.specs.DeviceRooms.{RunsWithin};
+ghost use Rattle.oca_calls.specs.LinkRooms.{rooms_of};
+ghost use Rattle.oca_calls.specs.DeviceRooms.{AppendsWithin, RunsWithin, WhateverItRuns};
 
 use oca_device::{BoundedOutbox, Device, Effect, SmallDevice, Verdict};
 use oca_tree::{FrontFault, SetFault, Tree, Value};
@@ -74,19 +73,15 @@ impl AnyDevice {
         now: u64,
         outbox: &mut BoundedOutbox,
     ) -> Verdict
-        ensures serves { (r : Rooms) (w : DeviceSizes) (T : List Object) (E : List Event) →
-            RunsWithin r w self.old T E →
-            RunsWithin r w self.new T (DatagramEvent from (told r.command bytes.now) now ∷ E) }
-        ensures packets { (r : Rooms) (w : DeviceSizes) (T : List Object) (E : List Event) →
-            RunsWithin r w self.old T E →
-            outbox.new ≡ first_packets outbox.old.room
-            (packets_within r.answer w T E (DatagramEvent from (told r.command bytes.now) now)) }
-        ensures few { (r : Rooms) (w : DeviceSizes) (T : List Object) (E : List Event) →
-            RunsWithin r w self.old T E →
-            length (packets_within r.answer w T E (DatagramEvent from (told r.command bytes.now) now)) ≤ most_answered }
-        ensures verdict { (r : Rooms) (w : DeviceSizes) (T : List Object) (E : List Event) →
-            RunsWithin r w self.old T E →
-            result ≡ verdict_within r.command w T E from bytes.now now }
+        ensures serves { WhateverItRuns self.old (λ r w T E.
+            RunsWithin r w self.new T (DatagramEvent from (told r.command bytes.now) now ∷ E)) }
+        ensures packets { WhateverItRuns self.old (λ r w T E. outbox.new ≡ first_packets outbox.old.room
+            (packets_within r.answer w T E (DatagramEvent from (told r.command bytes.now) now))) }
+        ensures few { WhateverItRuns self.old (λ r w T E.
+            length (packets_within r.answer w T E (DatagramEvent from (told r.command bytes.now) now)) ≤
+            most_answered) }
+        ensures verdict { WhateverItRuns self.old (λ r w T E.
+            result ≡ verdict_within r.command w T E from bytes.now now) }
     {
         match &mut self.device {
             EitherSize::Full(device) => device.datagram_within(from, bytes, now, outbox),
@@ -96,8 +91,7 @@ impl AnyDevice {
 
     /// Moves the device's clock on, as [`Device::tick`] does.
     pub fn tick(&mut self, now: u64)
-        ensures { (r : Rooms) (w : DeviceSizes) (T : List Object) (E : List Event) → RunsWithin r w self.old T E →
-            RunsWithin r w self.new T (Tick now ∷ E) }
+        ensures { AppendsWithin self.old self.new (Tick now) }
     {
         match &mut self.device {
             EitherSize::Full(device) => device.tick(now),
@@ -107,8 +101,8 @@ impl AnyDevice {
 
     /// Returns the moment at which a lock or a session lapses next, as [`Device::next_lapse`] does.
     pub fn next_lapse(&self) -> Option<u64>
-        ensures { (r : Rooms) (w : DeviceSizes) (T : List Object) (E : List Event) → RunsWithin r w self.now T E →
-            MatchOption result (NeverLapses w (state_after w T E)) (λ t. IsNextLapse w (state_after w T E) t) }
+        ensures { WhateverItRuns self.now (λ r w T E.
+            MatchOption result (NeverLapses w (state_after w T E)) (λ t. IsNextLapse w (state_after w T E) t)) }
     {
         match &self.device {
             EitherSize::Full(device) => device.next_lapse(),
@@ -118,11 +112,9 @@ impl AnyDevice {
 
     /// Sets an object to a value at the local front panel, as [`Device::set`] does.
     pub fn set(&mut self, ono: Ono, value: Value) -> Result<(), SetFault>
-        ensures represents { (r : Rooms) (w : DeviceSizes) (T : List Object) (E : List Event) →
-            RunsWithin r w self.old T E →
-            RunsWithin r w self.new T (Local ono.0 (ToValue value) ∷ E) }
-        ensures fault { (r : Rooms) (w : DeviceSizes) (T : List Object) (E : List Event) → RunsWithin r w self.old T E →
-            result_err result ≡ set_fault (state_after w T E).tree ono.0 value }
+        ensures represents { AppendsWithin self.old self.new (Local ono.0 (ToValue value)) }
+        ensures fault { WhateverItRuns self.old (λ r w T E.
+            result_err result ≡ set_fault (state_after w T E).tree ono.0 value) }
     {
         match &mut self.device {
             EitherSize::Full(device) => device.set(ono, value),
@@ -132,11 +124,9 @@ impl AnyDevice {
 
     /// Gives an object a label at the local front panel, as [`Device::set_label`] does.
     pub fn set_label(&mut self, ono: Ono, label: &str) -> Result<(), FrontFault>
-        ensures represents { (r : Rooms) (w : DeviceSizes) (T : List Object) (E : List Event) →
-            RunsWithin r w self.old T E →
-            RunsWithin r w self.new T (Local ono.0 (ToLabel label.now) ∷ E) }
-        ensures fault { (r : Rooms) (w : DeviceSizes) (T : List Object) (E : List Event) → RunsWithin r w self.old T E →
-            result_err result ≡ front_fault (state_after w T E).tree ono.0 (asked.SetLabel label.now) }
+        ensures represents { AppendsWithin self.old self.new (Local ono.0 (ToLabel label.now)) }
+        ensures fault { WhateverItRuns self.old (λ r w T E.
+            result_err result ≡ front_fault (state_after w T E).tree ono.0 (asked.SetLabel label.now)) }
     {
         match &mut self.device {
             EitherSize::Full(device) => device.set_label(ono, label),
@@ -146,11 +136,9 @@ impl AnyDevice {
 
     /// Enables or disables an object at the local front panel, as [`Device::set_enabled`] does.
     pub fn set_enabled(&mut self, ono: Ono, enabled: bool) -> Result<(), FrontFault>
-        ensures represents { (r : Rooms) (w : DeviceSizes) (T : List Object) (E : List Event) →
-            RunsWithin r w self.old T E →
-            RunsWithin r w self.new T (Local ono.0 (ToEnabled enabled) ∷ E) }
-        ensures fault { (r : Rooms) (w : DeviceSizes) (T : List Object) (E : List Event) → RunsWithin r w self.old T E →
-            result_err result ≡ front_fault (state_after w T E).tree ono.0 (asked.SetEnabled enabled) }
+        ensures represents { AppendsWithin self.old self.new (Local ono.0 (ToEnabled enabled)) }
+        ensures fault { WhateverItRuns self.old (λ r w T E.
+            result_err result ≡ front_fault (state_after w T E).tree ono.0 (asked.SetEnabled enabled)) }
     {
         match &mut self.device {
             EitherSize::Full(device) => device.set_enabled(ono, enabled),
@@ -160,11 +148,9 @@ impl AnyDevice {
 
     /// Releases the lock of an object at the local front panel, as [`Device::unlock`] does.
     pub fn unlock(&mut self, ono: Ono) -> Result<(), FrontFault>
-        ensures represents { (r : Rooms) (w : DeviceSizes) (T : List Object) (E : List Event) →
-            RunsWithin r w self.old T E →
-            RunsWithin r w self.new T (Local ono.0 ToUnlocked ∷ E) }
-        ensures fault { (r : Rooms) (w : DeviceSizes) (T : List Object) (E : List Event) → RunsWithin r w self.old T E →
-            result_err result ≡ front_fault (state_after w T E).tree ono.0 asked.Unlock }
+        ensures represents { AppendsWithin self.old self.new (Local ono.0 ToUnlocked) }
+        ensures fault { WhateverItRuns self.old (λ r w T E.
+            result_err result ≡ front_fault (state_after w T E).tree ono.0 asked.Unlock) }
     {
         match &mut self.device {
             EitherSize::Full(device) => device.unlock(ono),
@@ -174,11 +160,9 @@ impl AnyDevice {
 
     /// Sets whether the hardware of an object refuses changes, as [`Device::set_failing`] does.
     pub fn set_failing(&mut self, ono: Ono, failing: bool) -> Result<(), FrontFault>
-        ensures represents { (r : Rooms) (w : DeviceSizes) (T : List Object) (E : List Event) →
-            RunsWithin r w self.old T E →
-            RunsWithin r w self.new T (Local ono.0 (ToFailing failing) ∷ E) }
-        ensures fault { (r : Rooms) (w : DeviceSizes) (T : List Object) (E : List Event) → RunsWithin r w self.old T E →
-            result_err result ≡ front_fault (state_after w T E).tree ono.0 (asked.SetEnabled failing) }
+        ensures represents { AppendsWithin self.old self.new (Local ono.0 (ToFailing failing)) }
+        ensures fault { WhateverItRuns self.old (λ r w T E.
+            result_err result ≡ front_fault (state_after w T E).tree ono.0 (asked.SetEnabled failing)) }
     {
         match &mut self.device {
             EitherSize::Full(device) => device.set_failing(ono, failing),
@@ -188,8 +172,7 @@ impl AnyDevice {
 
     /// Whether the hardware of an object refuses changes, as [`Device::is_failing`] tells.
     pub fn is_failing(&self, ono: Ono) -> Option<bool>
-        ensures { (r : Rooms) (w : DeviceSizes) (T : List Object) (E : List Event) → RunsWithin r w self.now T E →
-            result ≡ failing_at (state_after w T E).tree ono.0 }
+        ensures { WhateverItRuns self.now (λ r w T E. result ≡ failing_at (state_after w T E).tree ono.0) }
     {
         match &self.device {
             EitherSize::Full(device) => device.is_failing(ono),
@@ -199,8 +182,7 @@ impl AnyDevice {
 
     /// Returns a reference to the objects as they are now.
     pub fn tree(&self) -> &Tree
-        ensures { (r : Rooms) (w : DeviceSizes) (T : List Object) (E : List Event) → RunsWithin r w self.now T E →
-            result.now ≡ (state_after w T E).tree }
+        ensures { WhateverItRuns self.now (λ r w T E. result.now ≡ (state_after w T E).tree) }
     {
         match &self.device {
             EitherSize::Full(device) => device.tree(),
@@ -210,8 +192,7 @@ impl AnyDevice {
 
     /// How many peers have a session: 0 to 64.
     pub fn sessions(&self) -> usize
-        ensures { (r : Rooms) (w : DeviceSizes) (T : List Object) (E : List Event) → RunsWithin r w self.now T E →
-            result ≡ length (known_after (state_after w T E)) }
+        ensures { WhateverItRuns self.now (λ r w T E. result ≡ length (known_after (state_after w T E))) }
     {
         match &self.device {
             EitherSize::Full(device) => device.sessions(),
@@ -221,8 +202,7 @@ impl AnyDevice {
 
     /// The peer of the session with the index `index`, as [`Device::peer_at`] tells.
     pub fn peer_at(&self, index: usize) -> Option<Peer>
-        ensures { (r : Rooms) (w : DeviceSizes) (T : List Object) (E : List Event) → RunsWithin r w self.now T E →
-            result ≡ slice_get (known_after (state_after w T E)) index }
+        ensures { WhateverItRuns self.now (λ r w T E. result ≡ slice_get (known_after (state_after w T E)) index) }
     {
         match &self.device {
             EitherSize::Full(device) => device.peer_at(index),
@@ -233,9 +213,7 @@ impl AnyDevice {
     /// The numbers of the objects that the last datagram wrote to, as [`Device::written`] tells.
     pub fn written(&self) -> &[Ono]
         ensures written { numbers_of result.now ≡ self.now.device.written }
-        ensures represented { (r : Rooms) (w : DeviceSizes) (T : List Object) (E : List Event) →
-            RunsWithin r w self.now T E →
-            numbers_of result.now ≡ written w T E }
+        ensures represented { WhateverItRuns self.now (λ r w T E. numbers_of result.now ≡ written w T E) }
     {
         match &self.device {
             EitherSize::Full(device) => device.written(),
@@ -245,8 +223,7 @@ impl AnyDevice {
 
     /// What the device did with each command of the last datagram, as [`Device::effects`] tells.
     pub fn effects(&self) -> &[Effect]
-        ensures { (r : Rooms) (w : DeviceSizes) (T : List Object) (E : List Event) → RunsWithin r w self.now T E →
-            result.now ≡ effects w T E }
+        ensures { WhateverItRuns self.now (λ r w T E. result.now ≡ effects w T E) }
     {
         match &self.device {
             EitherSize::Full(device) => device.effects(),

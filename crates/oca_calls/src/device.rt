@@ -1,21 +1,20 @@
 //! What is behind an open handle of a device.
-ghost use Rattle.std.specs.Prelude.{◌≡◌, ◌⊎◌, ◌≤◌, ◌∷◌, [], List, Some, None, IfErr, IfOk, IfSome, IfNone, IsSome};
+ghost use Rattle.std.specs.Prelude.{◌≡◌, ◌⊎◌, ◌≤◌, ◌∷◌, [], Some, None, IfErr, IfOk, IfSome, IfNone, IsSome};
 ghost use Rattle.std.specs.Prelude.{IsTrue, ◌↔◌, length};
-ghost use Rattle.oca_types.specs.Sizes.{DeviceSizes, peer_count, window_size};
-ghost use Rattle.oca_tree.specs.declared.object.Object.{Object};
+ghost use Rattle.oca_types.specs.Sizes.{peer_count, window_size};
 ghost use Rattle.oca_tree.specs.Objects.{Store};
-ghost use Rattle.oca_device.specs.Events.{Event, Datagram as DatagramEvent, Tick};
+ghost use Rattle.oca_device.specs.Events.{Datagram as DatagramEvent, Tick};
 ghost use Rattle.oca_device.specs.Rooms.{packets_within, told, verdict_within};
 ghost use Rattle.oca_device.specs.Outboxes.{first_packets};
 ghost use Rattle.oca_calls.specs.declared.answer.Answer.TheVariants.{Done, NotStarted, Started};
 ghost use Rattle.oca_calls.specs.declared.answer.Answer.TheVariants.{NoMemory as AnswerNoMemory};
 ghost use Rattle.oca_calls.specs.Calls.{AddedBy, AddsSo, Builds, IsPacketRoom, IsSize};
-ghost use Rattle.oca_calls.specs.Calls.{RunsBehind, Starts, SwitchAddedBy};
+ghost use Rattle.oca_calls.specs.Calls.{RunsBehind, Starts, SwitchAddedBy, WhateverRunsBehind};
 ghost use Rattle.oca_calls.specs.CSpecs.{SpecAddedBy};
 ghost use Rattle.oca_calls.specs.Outputs.{put_words, verdict_words};
 ghost use Rattle.oca_calls.specs.Storings.{all_stored};
 ghost use Rattle.oca_calls.specs.WaitingAnswers.{unstored_behind};
-ghost use Rattle.oca_calls.specs.LinkRooms.{Rooms, rooms_of};
+ghost use Rattle.oca_calls.specs.LinkRooms.{rooms_of};
 
 use crate::answer::Answer;
 use crate::any_device::AnyDevice;
@@ -242,17 +241,15 @@ impl DeviceBehind {
     /// The words of the verdict ([`words_of`](crate::words::words_of)) go to the front of `out`, as many as it has room
     /// for. Returns `Done`. `NotStarted` before the start: then nothing is changed or written.
     pub fn datagram(&mut self, from: Peer, bytes: &[u8], now: u64, out: &mut [u32]) -> Answer
-        ensures serves { (r : Rooms) (w : DeviceSizes) (T : List Object) (E : List Event) →
-            RunsBehind r w self.old T E →
+        ensures serves { WhateverRunsBehind self.old (λ r w T E.
             RunsBehind r w self.new T (DatagramEvent from (told r.command bytes.now) now ∷ E)
             × (self.new.outbox ≡ first_packets self.old.outbox.room
             (packets_within r.answer w T E (DatagramEvent from (told r.command bytes.now) now)))
             × (length (packets_within r.answer w T E (DatagramEvent from (told r.command bytes.now) now)) ≤ 122)
             × (out.new ≡ put_words (verdict_words (verdict_within r.command w T E from bytes.now now)) out.old)
-            × (result ≡ Done) }
-        ensures unstored { (r : Rooms) (w : DeviceSizes) (T : List Object) (E : List Event) →
-            RunsBehind r w self.old T E →
-            self.new.unstored ≡ unstored_behind self.old.unstored r.command w T E from bytes.now now }
+            × (result ≡ Done)) }
+        ensures unstored { WhateverRunsBehind self.old (λ r w T E.
+            self.new.unstored ≡ unstored_behind self.old.unstored r.command w T E from bytes.now now) }
         ensures building { self.old.device ≡ None → (result ≡ NotStarted) × (self.new ≡ self.old) }
         ensures unwritten { (result ≡ Done) ⊎ (out.new ≡ out.old) }
     {
@@ -271,9 +268,8 @@ impl DeviceBehind {
     /// was silent for more than 120,000 ms. A moment earlier than the latest one so far is taken as that latest one.
     /// Returns `Done`. `NotStarted` before the start: then nothing is changed.
     pub fn tick(&mut self, now: u64) -> Answer
-        ensures serves { (r : Rooms) (w : DeviceSizes) (T : List Object) (E : List Event) →
-            RunsBehind r w self.old T E →
-            RunsBehind r w self.new T (Tick now ∷ E) × (result ≡ Done) }
+        ensures serves { WhateverRunsBehind self.old (λ r w T E.
+            RunsBehind r w self.new T (Tick now ∷ E) × (result ≡ Done)) }
         ensures packets { self.new.outbox ≡ self.old.outbox }
         ensures unstored { self.new.unstored ≡ self.old.unstored }
         ensures building { self.old.device ≡ None → (result ≡ NotStarted) × (self.new ≡ self.old) }

@@ -1,18 +1,15 @@
 //! Setting the objects of the device behind a handle at its local front panel.
-ghost use Rattle.std.specs.Prelude.{◌≡◌, ◌∷◌, List, Option, None, IsSome, IsUtf8};
-ghost use Rattle.oca_types.specs.Sizes.{DeviceSizes};
-ghost use Rattle.oca_tree.specs.declared.object.Object.{Object};
+ghost use Rattle.std.specs.Prelude.{◌≡◌, ◌∷◌, Option, None, IsSome, IsUtf8};
 ghost use Rattle.oca_tree.specs.Settings.{set_fault};
 ghost use Rattle.oca_tree.specs.LocalChanges.{ToValue, ToLabel, ToEnabled, ToUnlocked, ToFailing};
 ghost use Rattle.oca_device.specs.States.{state_after};
-ghost use Rattle.oca_device.specs.Events.{Event, Local};
+ghost use Rattle.oca_device.specs.Events.{Local};
 ghost use Rattle.oca_calls.specs.declared.answer.Answer.TheVariants.{NotStarted, BadText};
-ghost use Rattle.oca_calls.specs.Calls.{RunsBehind, set_answers};
+ghost use Rattle.oca_calls.specs.Calls.{RunsBehind, set_answers, WhateverRunsBehind};
 ghost use Rattle.oca_model.specs.declared.value.Value.{Value as ValueItself};
 ghost use Rattle.oca_model.specs.declared.request.Request.TheVariants as asked;
 ghost use Rattle.oca_calls.specs.CValues.{AreWordsOf};
 ghost use Rattle.oca_calls.specs.FrontCalls.{ChangesFront, SetsEntry, SetsFrontFound, SetsWords, State, Integer};
-ghost use Rattle.oca_calls.specs.LinkRooms.{Rooms};
 
 use super::DeviceBehind;
 use crate::answer::Answer;
@@ -29,9 +26,8 @@ impl DeviceBehind {
     /// `OutOfRange` if a switch has no such position or the position is disabled, or a number is outside the object's
     /// limits. In all cases the packets, and whether answers wait, stay as they are.
     pub fn set(&mut self, ono: u32, value: Value) -> Answer
-        ensures sets { (r : Rooms) (w : DeviceSizes) (T : List Object) (E : List Event) → RunsBehind r w self.old T E →
-            RunsBehind r w self.new T (Local ono (ToValue value) ∷ E)
-            × (result ≡ set_answers (set_fault (state_after w T E).tree ono value)) }
+        ensures sets { WhateverRunsBehind self.old (λ r w T E. RunsBehind r w self.new T (Local ono (ToValue value) ∷ E)
+            × (result ≡ set_answers (set_fault (state_after w T E).tree ono value))) }
         ensures packets { self.new.outbox ≡ self.old.outbox }
         ensures unstored { self.new.unstored ≡ self.old.unstored }
         ensures building { self.old.device ≡ None → (result ≡ NotStarted) × (self.new ≡ self.old) }
@@ -49,8 +45,8 @@ impl DeviceBehind {
     /// `Done`. Otherwise the first of these that applies, and then nothing is changed. `NotStarted` before the start.
     /// `NoValue` if `words` hold no value. Then the answers of [`set`](DeviceBehind::set).
     pub fn set_words(&mut self, ono: u32, words: ValueWords) -> Answer
-        ensures sets { (r : Rooms) (w : DeviceSizes) (T : List Object) (E : List Event) → RunsBehind r w self.old T E →
-            (value : Option ValueItself) × AreWordsOf words value × SetsWords r w result self.new T E ono value }
+        ensures sets { WhateverRunsBehind self.old (λ r w T E.
+            (value : Option ValueItself) × AreWordsOf words value × SetsWords r w result self.new T E ono value) }
         ensures packets { self.new.outbox ≡ self.old.outbox }
         ensures unstored { self.new.unstored ≡ self.old.unstored }
         ensures building { self.old.device ≡ None → (result ≡ NotStarted) × (self.new ≡ self.old) }
@@ -69,8 +65,7 @@ impl DeviceBehind {
     /// `NotStarted` before the start. `NoObject` if no object has the number `ono`. `NoSetting` if the object is a
     /// block. `OtherKind` if it is of another class. `OutOfRange` if `state` is neither 1 nor 2.
     pub fn set_state(&mut self, ono: u32, state: u8) -> Answer
-        ensures sets { (r : Rooms) (w : DeviceSizes) (T : List Object) (E : List Event) → RunsBehind r w self.old T E →
-            SetsEntry r w result self.new T E ono (State state) }
+        ensures sets { WhateverRunsBehind self.old (λ r w T E. SetsEntry r w result self.new T E ono (State state)) }
         ensures packets { self.new.outbox ≡ self.old.outbox }
         ensures unstored { self.new.unstored ≡ self.old.unstored }
         ensures building { self.old.device ≡ None → (result ≡ NotStarted) × (self.new ≡ self.old) }
@@ -87,8 +82,7 @@ impl DeviceBehind {
     /// start. `NoObject` if no object has the number `ono`. `NoSetting` if the object is a block. `OtherKind` if its
     /// class is not one of integers. `OutOfRange` if `number` is outside the object's limits.
     pub fn set_integer(&mut self, ono: u32, number: i128) -> Answer
-        ensures sets { (r : Rooms) (w : DeviceSizes) (T : List Object) (E : List Event) → RunsBehind r w self.old T E →
-            SetsEntry r w result self.new T E ono (Integer number) }
+        ensures sets { WhateverRunsBehind self.old (λ r w T E. SetsEntry r w result self.new T E ono (Integer number)) }
         ensures packets { self.new.outbox ≡ self.old.outbox }
         ensures unstored { self.new.unstored ≡ self.old.unstored }
         ensures building { self.old.device ≡ None → (result ≡ NotStarted) × (self.new ≡ self.old) }
@@ -102,8 +96,7 @@ impl DeviceBehind {
 
     /// Sets an object to the value that was found for it, where one was.
     fn set_found(&mut self, ono: u32, found: Result<Value, SetFault>) -> Answer
-        ensures sets { (r : Rooms) (w : DeviceSizes) (T : List Object) (E : List Event) → RunsBehind r w self.old T E →
-            SetsFrontFound r w result self.new T E ono found }
+        ensures sets { WhateverRunsBehind self.old (λ r w T E. SetsFrontFound r w result self.new T E ono found) }
         ensures packets { self.new.outbox ≡ self.old.outbox }
         ensures unstored { self.new.unstored ≡ self.old.unstored }
     {
@@ -118,9 +111,8 @@ impl DeviceBehind {
     /// `BadText` if the bytes are not UTF-8. `NoObject` if no object has the number `ono`. `BadText` if the label has
     /// more than 64 bytes.
     pub fn set_label(&mut self, ono: u32, label: &[u8]) -> Answer
-        ensures labels { IsUtf8 label.now → (r : Rooms) (w : DeviceSizes) (T : List Object) (E : List Event) →
-            RunsBehind r w self.old T E →
-            ChangesFront r w result self.new T E ono (ToLabel label.now) (asked.SetLabel label.now) }
+        ensures labels { IsUtf8 label.now → WhateverRunsBehind self.old (λ r w T E.
+            ChangesFront r w result self.new T E ono (ToLabel label.now) (asked.SetLabel label.now)) }
         ensures other { (IsUtf8 label.now → ⊥) → IsSome self.old.device →
             (result ≡ BadText) × (self.new ≡ self.old) }
         ensures packets { self.new.outbox ≡ self.old.outbox }
@@ -138,9 +130,8 @@ impl DeviceBehind {
 
     /// Gives an object this label, once the device is started.
     fn give_label(&mut self, ono: u32, label: &str) -> Answer
-        ensures labels { (r : Rooms) (w : DeviceSizes) (T : List Object) (E : List Event) →
-            RunsBehind r w self.old T E →
-            ChangesFront r w result self.new T E ono (ToLabel label.now) (asked.SetLabel label.now) }
+        ensures labels { WhateverRunsBehind self.old (λ r w T E.
+            ChangesFront r w result self.new T E ono (ToLabel label.now) (asked.SetLabel label.now)) }
         ensures packets { self.new.outbox ≡ self.old.outbox }
         ensures unstored { self.new.unstored ≡ self.old.unstored }
     {
@@ -156,8 +147,8 @@ impl DeviceBehind {
     /// Enables or disables an object at the local front panel. A lock does not refuse it. Returns `Done`. `NotStarted`
     /// before the start, or `NoObject` if no object has the number `ono`: then nothing is changed.
     pub fn set_enabled(&mut self, ono: u32, enabled: bool) -> Answer
-        ensures sets { (r : Rooms) (w : DeviceSizes) (T : List Object) (E : List Event) → RunsBehind r w self.old T E →
-            ChangesFront r w result self.new T E ono (ToEnabled enabled) (asked.SetEnabled enabled) }
+        ensures sets { WhateverRunsBehind self.old (λ r w T E.
+            ChangesFront r w result self.new T E ono (ToEnabled enabled) (asked.SetEnabled enabled)) }
         ensures packets { self.new.outbox ≡ self.old.outbox }
         ensures unstored { self.new.unstored ≡ self.old.unstored }
         ensures building { self.old.device ≡ None → (result ≡ NotStarted) × (self.new ≡ self.old) }
@@ -175,9 +166,8 @@ impl DeviceBehind {
     /// Returns `Done`. Otherwise the first of these that applies, and then nothing is changed. `NotStarted` before the
     /// start. `NoObject` if no object has the number `ono`. `Nothing` if the object is not locked.
     pub fn unlock(&mut self, ono: u32) -> Answer
-        ensures unlocks { (r : Rooms) (w : DeviceSizes) (T : List Object) (E : List Event) →
-            RunsBehind r w self.old T E →
-            ChangesFront r w result self.new T E ono ToUnlocked asked.Unlock }
+        ensures unlocks { WhateverRunsBehind self.old (λ r w T E.
+            ChangesFront r w result self.new T E ono ToUnlocked asked.Unlock) }
         ensures packets { self.new.outbox ≡ self.old.outbox }
         ensures unstored { self.new.unstored ≡ self.old.unstored }
         ensures building { self.old.device ≡ None → (result ≡ NotStarted) × (self.new ≡ self.old) }
@@ -197,8 +187,8 @@ impl DeviceBehind {
     /// Returns `Done`. `NotStarted` before the start, or `NoObject` if no object has the number `ono`: then nothing is
     /// changed.
     pub fn set_failing(&mut self, ono: u32, failing: bool) -> Answer
-        ensures tells { (r : Rooms) (w : DeviceSizes) (T : List Object) (E : List Event) → RunsBehind r w self.old T E →
-            ChangesFront r w result self.new T E ono (ToFailing failing) (asked.SetEnabled failing) }
+        ensures tells { WhateverRunsBehind self.old (λ r w T E.
+            ChangesFront r w result self.new T E ono (ToFailing failing) (asked.SetEnabled failing)) }
         ensures packets { self.new.outbox ≡ self.old.outbox }
         ensures unstored { self.new.unstored ≡ self.old.unstored }
         ensures building { self.old.device ≡ None → (result ≡ NotStarted) × (self.new ≡ self.old) }

@@ -1,19 +1,15 @@
 //! What the device behind a handle tells.
-ghost use Rattle.std.specs.Prelude.{◌≡◌, ◌⊎◌, List, None, IfSome, IfNone, IsSome, length, slice_get};
-ghost use Rattle.oca_types.specs.Sizes.{DeviceSizes};
-ghost use Rattle.oca_tree.specs.declared.object.Object.{Object};
+ghost use Rattle.std.specs.Prelude.{◌≡◌, ◌⊎◌, None, IfSome, IfNone, IsSome, length, slice_get};
 ghost use Rattle.oca_tree.specs.Readers.{failing_at, info_at, info_of_ono, lock_at, setting_at};
 ghost use Rattle.oca_device.specs.States.{known_after, state_after};
 ghost use Rattle.oca_device.specs.Effects.{effects};
-ghost use Rattle.oca_device.specs.Events.{Event};
 ghost use Rattle.oca_device.specs.Written.{written};
 ghost use Rattle.oca_calls.specs.declared.answer.Answer.TheVariants.{Done, NotStarted, Nothing, TooSmall};
 ghost use Rattle.oca_calls.specs.Numbers.{answer_number};
-ghost use Rattle.oca_calls.specs.Calls.{RunsBehind};
 ghost use Rattle.oca_calls.specs.CSpecs.{WritesSpec};
 ghost use Rattle.oca_calls.specs.Outputs.{WritesEffect, WritesFailing, WritesLock, WritesNextLapse, WritesObject};
 ghost use Rattle.oca_calls.specs.Outputs.{WritesPeer, WritesSetting, WritesToBuffer, WritesWords};
-ghost use Rattle.oca_calls.specs.LinkRooms.{Rooms};
+ghost use Rattle.oca_calls.specs.Calls.{WhateverRunsBehind};
 
 use super::DeviceBehind;
 use crate::answer::Answer;
@@ -29,9 +25,8 @@ impl DeviceBehind {
     /// `Done`. `Nothing` if there is no such moment within 64 bits, as without sessions, or `NotStarted` before the
     /// start: then nothing is written.
     pub fn next_lapse(&self, moment: &mut u64) -> Answer
-        ensures writes { (r : Rooms) (w : DeviceSizes) (T : List Object) (E : List Event) →
-            RunsBehind r w self.now T E →
-            WritesNextLapse w (state_after w T E) moment.new (answer_number result) }
+        ensures writes { WhateverRunsBehind self.now (λ r w T E.
+            WritesNextLapse w (state_after w T E) moment.new (answer_number result)) }
         ensures building { self.now.device ≡ None → result ≡ NotStarted }
         ensures unwritten { (result ≡ Done) ⊎ (moment.new ≡ moment.old) }
     {
@@ -101,9 +96,8 @@ impl DeviceBehind {
     /// for all: then it gets the first of them, and `count` is written too. `NotStarted` before the start: then nothing
     /// is written.
     pub fn written(&self, out: &mut [u32], count: &mut usize) -> Answer
-        ensures writes { (r : Rooms) (w : DeviceSizes) (T : List Object) (E : List Event) →
-            RunsBehind r w self.now T E →
-            WritesWords (written w T E) out.old out.new count.new (answer_number result) }
+        ensures writes { WhateverRunsBehind self.now (λ r w T E.
+            WritesWords (written w T E) out.old out.new count.new (answer_number result)) }
         ensures building { self.now.device ≡ None → result ≡ NotStarted }
         ensures unwritten { (result ≡ Done)
             ⊎ ((result ≡ TooSmall) ⊎ ((out.new ≡ out.old) × (count.new ≡ count.old))) }
@@ -126,9 +120,8 @@ impl DeviceBehind {
     /// `Done`. `Nothing` if the last datagram had `index` commands or fewer, was malformed or found no room, or there
     /// was none. `NotStarted` before the start. After both nothing is written.
     pub fn effect(&self, index: usize, out: &mut [u32]) -> Answer
-        ensures writes { (r : Rooms) (w : DeviceSizes) (T : List Object) (E : List Event) →
-            RunsBehind r w self.now T E →
-            WritesEffect (slice_get (effects w T E) index) out.old out.new (answer_number result) }
+        ensures writes { WhateverRunsBehind self.now (λ r w T E.
+            WritesEffect (slice_get (effects w T E) index) out.old out.new (answer_number result)) }
         ensures building { self.now.device ≡ None → result ≡ NotStarted }
         ensures unwritten { (result ≡ Done) ⊎ (out.new ≡ out.old) }
     {
@@ -160,9 +153,8 @@ impl DeviceBehind {
     /// Writes to `count` how many objects the device has, the root counted: 1 to 4,096. Returns `Done`. `NotStarted`
     /// before the start: then nothing is written.
     pub fn objects(&self, count: &mut usize) -> Answer
-        ensures writes { (r : Rooms) (w : DeviceSizes) (T : List Object) (E : List Event) →
-            RunsBehind r w self.now T E →
-            (result ≡ Done) × (count.new ≡ length (state_after w T E).tree) }
+        ensures writes { WhateverRunsBehind self.now (λ r w T E.
+            (result ≡ Done) × (count.new ≡ length (state_after w T E).tree)) }
         ensures building { self.now.device ≡ None → result ≡ NotStarted }
         ensures unwritten { (result ≡ Done) ⊎ (count.new ≡ count.old) }
     {
@@ -179,10 +171,9 @@ impl DeviceBehind {
     /// role. Each is written as far as there is room. Returns `Done`. `Nothing` if there are `index` objects or fewer,
     /// or `NotStarted` before the start: then nothing is written.
     pub fn object(&self, index: usize, out: &mut [u32], role: &mut [u8]) -> Answer
-        ensures writes { (r : Rooms) (w : DeviceSizes) (T : List Object) (E : List Event) →
-            RunsBehind r w self.now T E →
+        ensures writes { WhateverRunsBehind self.now (λ r w T E.
             WritesObject (info_at (state_after w T E).tree index) out.old out.new role.old role.new
-            (answer_number result) }
+            (answer_number result)) }
         ensures building { self.now.device ≡ None → result ≡ NotStarted }
         ensures unwritten { (result ≡ Done) ⊎ ((out.new ≡ out.old) × (role.new ≡ role.old)) }
     {
@@ -202,10 +193,9 @@ impl DeviceBehind {
     /// the start, `BadSize` if `out.size` is not 1,248 (the size of the struct in bytes), `Nothing` if there are
     /// `index` objects or fewer.
     pub fn spec(&self, index: usize, out: &mut SpecWords) -> Answer
-        ensures writes { (r : Rooms) (w : DeviceSizes) (T : List Object) (E : List Event) →
-            RunsBehind r w self.now T E →
+        ensures writes { WhateverRunsBehind self.now (λ r w T E.
             WritesSpec (state_after w T E).tree (info_at (state_after w T E).tree index) out.old out.new
-            (answer_number result) }
+            (answer_number result)) }
         ensures building { self.now.device ≡ None → (result ≡ NotStarted) × (out.new ≡ out.old) }
         ensures unwritten { (result ≡ Done) ⊎ (out.new ≡ out.old) }
     {
@@ -219,10 +209,9 @@ impl DeviceBehind {
     /// `Done`. Otherwise nothing is written: `NotStarted` before the start, `BadSize` if `out.size` is not 1,248 (the
     /// size of the struct in bytes), `Nothing` if no object has the number.
     pub fn spec_of(&self, ono: u32, out: &mut SpecWords) -> Answer
-        ensures writes { (r : Rooms) (w : DeviceSizes) (T : List Object) (E : List Event) →
-            RunsBehind r w self.now T E →
+        ensures writes { WhateverRunsBehind self.now (λ r w T E.
             WritesSpec (state_after w T E).tree (info_of_ono (state_after w T E).tree ono) out.old out.new
-            (answer_number result) }
+            (answer_number result)) }
         ensures building { self.now.device ≡ None → (result ≡ NotStarted) × (out.new ≡ out.old) }
         ensures unwritten { (result ≡ Done) ⊎ (out.new ≡ out.old) }
     {
@@ -235,9 +224,8 @@ impl DeviceBehind {
     /// Writes to `count` how many peers have a session: 0 to 64. Returns `Done`. `NotStarted` before the start: then
     /// nothing is written.
     pub fn peers(&self, count: &mut usize) -> Answer
-        ensures writes { (r : Rooms) (w : DeviceSizes) (T : List Object) (E : List Event) →
-            RunsBehind r w self.now T E →
-            (result ≡ Done) × (count.new ≡ length (known_after (state_after w T E))) }
+        ensures writes { WhateverRunsBehind self.now (λ r w T E.
+            (result ≡ Done) × (count.new ≡ length (known_after (state_after w T E)))) }
         ensures building { self.now.device ≡ None → result ≡ NotStarted }
         ensures unwritten { (result ≡ Done) ⊎ (count.new ≡ count.old) }
     {
@@ -253,9 +241,8 @@ impl DeviceBehind {
     /// forgotten, the later ones move down by one. Returns `Done`. `Nothing` if there are `index` sessions or fewer, or
     /// `NotStarted` before the start: then nothing is written.
     pub fn peer(&self, index: usize, ip: &mut u32, port: &mut u16) -> Answer
-        ensures writes { (r : Rooms) (w : DeviceSizes) (T : List Object) (E : List Event) →
-            RunsBehind r w self.now T E →
-            WritesPeer (slice_get (known_after (state_after w T E)) index) ip.new port.new (answer_number result) }
+        ensures writes { WhateverRunsBehind self.now (λ r w T E.
+            WritesPeer (slice_get (known_after (state_after w T E)) index) ip.new port.new (answer_number result)) }
         ensures building { self.now.device ≡ None → result ≡ NotStarted }
         ensures unwritten { (result ≡ Done) ⊎ ((ip.new ≡ ip.old) × (port.new ≡ port.old)) }
     {
@@ -275,9 +262,8 @@ impl DeviceBehind {
     /// lets them read. Returns `Done`. `Nothing` if the object is not locked or no object has the number `ono`, or
     /// `NotStarted` before the start: then nothing is written.
     pub fn lock(&self, ono: u32, kind: &mut u32, ip: &mut u32, port: &mut u16) -> Answer
-        ensures writes { (r : Rooms) (w : DeviceSizes) (T : List Object) (E : List Event) →
-            RunsBehind r w self.now T E →
-            WritesLock (lock_at (state_after w T E).tree ono) kind.new ip.new port.new (answer_number result) }
+        ensures writes { WhateverRunsBehind self.now (λ r w T E.
+            WritesLock (lock_at (state_after w T E).tree ono) kind.new ip.new port.new (answer_number result)) }
         ensures building { self.now.device ≡ None → result ≡ NotStarted }
         ensures unwritten { (result ≡ Done) ⊎ ((kind.new ≡ kind.old) × (ip.new ≡ ip.old) × (port.new ≡ port.old)) }
     {
@@ -297,9 +283,8 @@ impl DeviceBehind {
     /// [`set_failing`](DeviceBehind::set_failing) last set it. False before the first such call. Returns `Done`.
     /// `NoObject` if no object has the number `ono`, or `NotStarted` before the start: then nothing is written.
     pub fn is_failing(&self, ono: u32, failing: &mut bool) -> Answer
-        ensures writes { (r : Rooms) (w : DeviceSizes) (T : List Object) (E : List Event) →
-            RunsBehind r w self.now T E →
-            WritesFailing (failing_at (state_after w T E).tree ono) failing.new (answer_number result) }
+        ensures writes { WhateverRunsBehind self.now (λ r w T E.
+            WritesFailing (failing_at (state_after w T E).tree ono) failing.new (answer_number result)) }
         ensures building { self.now.device ≡ None → result ≡ NotStarted }
         ensures unwritten { (result ≡ Done) ⊎ (failing.new ≡ failing.old) }
     {
@@ -318,9 +303,8 @@ impl DeviceBehind {
     /// number without its sign: 1 or 2 for a state, 0 or 1 for a Boolean. Returns `Done`. `NotStarted` before the
     /// start, or `Nothing` if the object is a block or no object has the number `ono`: then nothing is written.
     pub fn reading(&self, ono: u32, reading: &mut Reading) -> Answer
-        ensures writes { (r : Rooms) (w : DeviceSizes) (T : List Object) (E : List Event) →
-            RunsBehind r w self.now T E →
-            WritesSetting (setting_at (state_after w T E).tree ono) reading.new (answer_number result) }
+        ensures writes { WhateverRunsBehind self.now (λ r w T E.
+            WritesSetting (setting_at (state_after w T E).tree ono) reading.new (answer_number result)) }
         ensures building { self.now.device ≡ None → result ≡ NotStarted }
         ensures unwritten { (result ≡ Done) ⊎ (reading.new ≡ reading.old) }
     {
