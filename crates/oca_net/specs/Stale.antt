@@ -124,13 +124,20 @@ handed_on stood true latest brought = heard.Closed
 handed_on true false latest brought = without_datagram latest brought
 handed_on false false latest brought = at_moment latest brought
 
--- the latest moment that the end has said, behind a receive in which the device did not stand still
+-- the latest moment that the end has said, after a receive in which the device did not stand still
 abbrev pub moment_after : (behind latest : ℕ) → Heard → ℕ
 moment_after behind latest (heard.Datagram from now) = max latest (now - behind)
 moment_after behind latest (heard.Quiet now) = max latest (now - behind)
 moment_after behind latest (heard.Oversize now) = max latest (now - behind)
 moment_after behind latest heard.Failed = latest
 moment_after behind latest heard.Closed = latest
+
+-- THE END'S CLOCK is the clock inside without what it leaves out, and never goes back. What is dropped does not move
+-- it.
+abbrev pub latest_after : (stood closed : Bool) (behind latest : ℕ) → Heard → ℕ
+latest_after stood true behind latest brought = latest
+latest_after true false behind latest brought = latest
+latest_after false false behind latest brought = moment_after behind latest brought
 
 -- A RECEIVE HANDS ON NOTHING THAT WAITED OVER A STANDSTILL. What waited is dropped first, where the device stood still
 -- since it listened last. Then the end inside is received from once. Where the device stood still beyond the moment
@@ -144,6 +151,7 @@ pub record HearsFresh (heard : Heard) (old new : StaleState) : Type 0 where
   pub bytes : List ℕ
   pub received : Receives brought bytes between new.end_state
   pub handed : heard ≡ handed_on (is_standstill new.until new.ended) closed new.latest brought
+  pub clock : new.latest ≡ latest_after (is_standstill new.until new.ended) closed new.behind old.latest brought
   pub collected : new.collects ≤ new.until
   pub behind : new.behind ≡ min (old.behind + left_out old.listened new.asked) last_u64
   pub listened : new.listened ≡ (if is_standstill new.until new.ended then new.until else new.ended)

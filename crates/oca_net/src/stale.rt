@@ -1,7 +1,8 @@
 //! An end for a device that drops what waited while the device stood still.
 ghost use Rattle.std.specs.Prelude.{◌≡◌, ◌+◌, ◌-◌, ◌≤◌, ◌<◌, max, min, false, if◌then◌else◌};
 ghost use Rattle.oca_net.specs.Ends.{HoldsOnlyADatagram, IsHeardBy, failures_after, last_u64, one_more};
-ghost use Rattle.oca_net.specs.Stale.{DropsAll, DropsFirst, HearsFresh, handed_on, left_out, is_standstill};
+ghost use Rattle.oca_net.specs.Stale.{DropsAll, DropsFirst, HearsFresh, handed_on, is_standstill, latest_after};
+ghost use Rattle.oca_net.specs.Stale.{left_out};
 
 use crate::count::step;
 use crate::end::{End, Heard};
@@ -188,6 +189,8 @@ impl<E: End> DropsStale<E> {
         ensures packet { HoldsOnlyADatagram result packet.new.items }
         ensures handed { result ≡ handed_on (is_standstill self.old.until self.old.ended)
             is_closed self.new.latest brought }
+        ensures clock { self.new.latest
+            ≡ latest_after (is_standstill self.old.until self.old.ended) is_closed self.old.behind self.old.latest brought }
         ensures same { self.new ≡ record self.old {
           latest = self.new.latest;
           listened = if is_standstill self.old.until self.old.ended then self.old.until else self.old.ended;
@@ -230,9 +233,9 @@ impl<E: End> DropsStale<E> {
 }
 
 impl<E: End> End for DropsStale<E> {
-    ghost use Rattle.std.specs.Prelude.{◌≡◌, ◌≤◌, ◌+◌, length, min};
+    ghost use Rattle.std.specs.Prelude.{◌≡◌, ◌≤◌, ◌+◌, ◌-◌, ℕ, length, max, min};
     ghost use Rattle.oca_net.specs.Ends.{largest_datagram, last_u64};
-    ghost use Rattle.oca_net.specs.EndStates.{Receives, Sends};
+    ghost use Rattle.oca_net.specs.EndStates.{IsPresent, Receives, Sends};
     ghost use Rattle.oca_net.specs.Stale.{HearsFresh, state_of_stale};
 
     ghost state = { state_of_stale };
@@ -260,6 +263,8 @@ impl<E: End> End for DropsStale<E> {
 
     /// The present moment of its own clock.
     fn now(&self) -> u64
+        ensures clock { (inside : ℕ) × IsPresent inside self.now.end_state
+            × (result ≡ max self.now.latest (inside - self.now.behind)) }
         ensures later { self.now.latest ≤ result }
         ensures fits { result ≤ last_u64 }
     {
