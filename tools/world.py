@@ -5,7 +5,7 @@ against the laws of networks and against the second implementation (oca_profile.
 Usage: world.py BIN COUNT [SEED]     COUNT schedules over every pair of sizes that fits; BIN is the folder with `trials`
        world.py BIN broken W S       prints the directed schedule for a window of W and a span of S, with what it led to
 
-The checks, by the statements of the laws (docs/DEFINITIONS.md, section 8, and crates/oca_pair/specs), on a transcript alone.
+The checks, by the statements of the laws (docs/DEFINITIONS.md, and crates/oca_pair/specs), on a transcript alone.
 A peer keeps its session while its admitted datagrams come at most 120,000 ms apart.
  answers     a link's answer is what an execution gave of the command that it submitted under that handle, for its peer
  only        that is the only execution for the peer under the handle, if the peer kept its session

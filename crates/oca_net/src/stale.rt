@@ -39,7 +39,8 @@ const WAIT_MS: u64 = 50;
 ///
 /// For 300 ms after a standstill a receive that would not wait waits for what is sent again, so a device that stores
 /// its objects serves all of it together. The end has a clock of its own: of a standstill of at most a minute it counts
-/// 1,000 ms, so that no controller loses its lock for it. A longer standstill counts in full.
+/// 1,000 ms, so that no controller with heartbeats of 1 s or more (this project's: 5 s) loses its lock for it. A longer
+/// standstill counts in full.
 ///
 /// An end that keeps no time never stands still.
 pub struct DropsStale<E: End> {
