@@ -181,6 +181,7 @@ const READS = {
   "are bodies": (most, size) => fake.bodies.length <= most && fake.bodies.every(body => body.orders.length <= size),
   "lives for": ms => Math.abs(fake.bodies[0].before - fake.bodies[0].posted - 700000 - ms) < 200,
   "tabs": () => strips.filter(strip => strip.select.tabIndex === 0).map(strip => strip.rows[0].ono),
+  "tab of a new strip": () => newStrip(null, [rows.get(11)], "").select.tabIndex,
   "focused": () => strips.find(strip => strip.select === document.activeElement).rows[0].ono,
   "class of strip": ono => rows.get(ono).strip.element.className,
   "waits for": ono => isOut(rows.get(ono), "set"), "unit": ono => rows.get(ono).unit.name,

@@ -42,12 +42,12 @@ const stateWord = state => STATES[state][1].toLowerCase();
 function warning(state) {
   const device = program.device || "The device", old = rows.size ? "What you see is old, and nothing is sent. " : "Nothing was heard of it yet. ", waits = "This page goes on by itself.";
   switch (state) {
-    case "shut": return ["The panel program does not let this page in.", "Open the address that ocapanel printed when it was started; it has the token in it."];
+    case "shut": return ["The panel program does not let this page in.", "Open the address that ocapanel printed at its start."];
     case "stale": return ["The panel program gives no answer" + (program.heardClock ? " since " + program.heardClock : "") + ".",
       old + "See whether ocapanel runs, and start it again. " + waits];
     case "silent": return [device + " gives no answer for " + seconds(deviceAge()) + ".", old + waits];
-    case "lost": return [device + (rows.size ? " is lost." : " gives no answer."), old + "See to the device's power and network. Locks of this panel may be gone. " + waits];
-    case "read": return !program.opensAt && (now() - program.waitsSince > 1500 || program.found) ? [device + " is being read: " + program.found + " objects so far.", "If this stays, see whether the address is right and the device is on."] : ["", ""];
+    case "lost": return [device + (rows.size ? " is lost." : " gives no answer."), old + "Check its power and network. Locks of this panel may be gone. " + waits];
+    case "read": return !program.opensAt && (now() - program.waitsSince > 1500 || program.found) ? [device + " is being read: " + program.found + " objects so far.", "If this stays, check the address, and whether the device is on."] : ["", ""];
     default: return ["", ""];
   }
 }
@@ -166,12 +166,13 @@ function drawAges() {
   }
 }
 
+// What was said of an object before its state is known again stays.
 function stateChanged(row, key) {
-  row.key = key;
   sumsAreOld = true;
   const note = notes.get(row.ono);
   if (note && note.how === "lost") note.read = true;
-  else notes.delete(row.ono);
+  else if (row.key) notes.delete(row.ono);
+  row.key = key;
 }
 
 async function take(values, ranges, askedAt) {

@@ -35,14 +35,14 @@ function wordsOf(row) {
   return row.kind === "unknown" ? "a class that is not known here" : row.unsure ? UNSURE : "";
 }
 
-// The message line of a strip: the same words of several objects once.
+// The message line of a strip: the same words of several objects once, and what is not confirmed only if nothing else is said.
 function drawMessage(strip) {
   if (!strip || !strip.message) return;
-  const byWords = new Map();
+  const byWords = new Map(), list = rowsOf(strip), isSaid = list.some(row => notes.has(row.ono));
   let onlyHints = true;
-  for (const row of rowsOf(strip)) {
+  for (const row of list) {
     const words = wordsOf(row), said = notes.get(row.ono);
-    if (!words) continue;
+    if (!words || isSaid && words === UNSURE) continue;
     byWords.set(words, [...byWords.get(words) || [], row === strip.block ? "block" : nameOf(row)]);
     onlyHints = onlyHints && (said ? said.how === "hint" : words === UNSURE);
   }

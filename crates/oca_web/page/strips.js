@@ -70,6 +70,7 @@ function newStrip(block, members, title) {
   strip.wide = members.length > 6 || count(row => row.kind === "mute") > 1 || count(isLevel) > 1 || count(row => row.long) > 0;
   strip.element = make("section", "strip " + (strip.wide ? "wide" : "slim"));
   strip.select = make("button", "select");
+  strip.select.tabIndex = -1;
   strip.name = make("span");
   strip.role = make("small");
   strip.name.id = "strip-" + strips.length;
