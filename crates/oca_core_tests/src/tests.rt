@@ -1,4 +1,23 @@
 //! A module for each crate, and what they share.
+
+/// A table that is laid out by hand: a row a line, however long.
+macro_rules! rows { ($($row:tt)*) => { &[$($row)*] }; }
+
+/// The peer at this port of 127.0.0.1.
+macro_rules! peer { ($port:expr) => { Peer { ip: 0x7f00_0001, port: $port } }; }
+
+/// An end that delivers this and takes at most so many datagrams, and what else is said of it.
+macro_rules! delivers {
+    ($entries:expr, $room:expr $(, $field:ident: $value:expr)*) => {
+        Ending {
+            entries: $entries,
+            room: $room,
+            $($field: $value,)*
+            ..Ending { quiet: 0, entries: &[], room: 0, fail_send: None }
+        }
+    };
+}
+
 mod answers;
 mod control;
 mod device;
@@ -12,7 +31,7 @@ mod session;
 mod tree;
 mod types;
 
-use oca_types::{Packet, Peer, Peers, Sizes, Window};
+use oca_types::{Peers, Sizes, Window};
 use std::alloc::Global;
 use std::fmt::Display;
 use std::process::Abort;
@@ -52,6 +71,29 @@ fn none_wrong(rt: &impl Abort, group: &str, tables: &[Option<usize>]) {
     }
 }
 
+/// A step of a script: what is done with something, or is seen of it, and what must come of that.
+trait Agrees<T> {
+    /// Whether that comes of it.
+    fn agrees(&self, on: &mut T) -> bool;
+}
+
+/// The first step of a script of which something else comes.
+fn first_wrong_step<T, S: Agrees<T>>(on: &mut T, steps: &[S]) -> Option<usize> {
+    for (at, step) in steps.iter().enumerate() {
+        if !step.agrees(on) {
+            return Some(at);
+        }
+    }
+    None
+}
+
+/// No step of the script of this name comes out otherwise.
+fn no_step_wrong(rt: &impl Abort, name: &str, wrong: Option<usize>) {
+    if let Some(step) = wrong {
+        panic!(rt; "{name}: step {step}");
+    }
+}
+
 /// Whether a value prints these words.
 fn prints<T: Display>(alloc: Global, value: &T, words: &str) -> bool {
     match value.to_string(alloc) {
@@ -67,25 +109,6 @@ impl<T: Display> Row for Words<T> {
     /// Whether it prints them.
     fn agrees(&self, alloc: Global) -> bool {
         prints(alloc, &self.0, self.1)
-    }
-}
-
-/// A script by its name: calls, one after another, and what each must answer.
-trait Script {
-    /// The name.
-    fn name(&self) -> &'static str;
-
-    /// The first call that is answered otherwise; the last number where there is nothing to call. The packet is empty
-    /// before the first.
-    fn wrong_step(&self, rt: &HostRuntime, packet: &mut Packet) -> Option<usize>;
-}
-
-/// Plays scripts: each call is answered as they say.
-fn play<S: Script>(abort: &impl Abort, rt: &HostRuntime, scripts: &[S]) {
-    let mut packet = Packet::new();
-    for script in scripts {
-        packet.clear();
-        none_wrong(abort, script.name(), &[script.wrong_step(rt, &mut packet)]);
     }
 }
 
@@ -107,14 +130,6 @@ fn first_other<T, W: Wanted<T>>(found: &[T], wanted: &[W]) -> Option<usize> {
         None
     } else {
         Some(wanted.len())
-    }
-}
-
-/// 127.0.0.1 with this port.
-fn peer(port: u16) -> Peer {
-    Peer {
-        ip: 0x7f00_0001,
-        port,
     }
 }
 

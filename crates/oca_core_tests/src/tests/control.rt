@@ -1,30 +1,40 @@
 //! What the clauses leave open: that calls succeed, runs through a link's life, and a loop over an end in memory.
 //! A script is a list of calls with what each must answer, and an assertion tells which of them was answered otherwise.
-mod asking;
-mod datagrams;
-mod deadlines;
-mod driving;
+
+/// What a link did: turns, what it sent, keep-alives, answers, failed receives and sends, and whether it is lost.
+macro_rules! drove {
+    ($turns:expr, $sent:expr, $keep_alives:expr, $answered:expr, $receives:expr, $sends:expr, $lost:expr) => {
+        DriveReport {
+            turns: $turns,
+            sent: $sent,
+            keep_alives: $keep_alives,
+            answered: $answered,
+            failed_receives: $receives,
+            failed_sends: $sends,
+            lost: $lost,
+        }
+    };
+}
+
 mod ends;
-mod handles;
-mod links;
-mod questions;
+pub mod links;
 mod reports;
-mod sending;
-mod small;
 mod standstill;
 
-use oca_types::Peer;
+use oca_types::{MethodId, Ono, Peer, Request};
 
 /// The address of the device.
-pub const DEVICE: Peer = Peer {
-    ip: 0x7f00_0001,
-    port: 65000,
-};
+pub const DEVICE: Peer = peer!(65000);
 
 /// Another address than the device's.
-pub const STRANGER: Peer = Peer {
-    ip: 0x7f00_0001,
-    port: 65001,
+pub const STRANGER: Peer = peer!(65001);
+
+/// A GetState of the object 4097.
+pub const GET_STATE: Request = Request {
+    target: Ono(4097),
+    method: MethodId { level: 4, index: 1 },
+    count: 0,
+    params: &[],
 };
 
 /// A GetState of the object 4097 under the handle 1.

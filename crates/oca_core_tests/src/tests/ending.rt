@@ -3,6 +3,7 @@ ghost use Rattle.std.specs.Prelude.{IsTrue};
 
 use super::Wanted;
 use super::control::{DEVICE, response};
+use super::device::parts::{Part, bytes_of};
 use oca_net::{End, MemoryEnd, Scripted};
 use oca_types::{Packet, Peer};
 use std::alloc::Global;
@@ -12,6 +13,8 @@ use std::alloc::Global;
 pub enum Entry {
     /// Bytes of a peer at a moment.
     Datagram(Peer, &'static [u8], u64),
+    /// A datagram of these parts of a peer at a moment.
+    Parts(Peer, &'static [Part], u64),
     /// The device's response to the command of a handle, at a moment.
     Response(u8, u64),
     /// Silence at a moment.
@@ -45,33 +48,11 @@ fn datagram(alloc: Global, from: Peer, bytes: &[u8], now: u64) -> Option<Scripte
 fn scripted(alloc: Global, entry: Entry) -> Option<Scripted> {
     match entry {
         Entry::Datagram(from, bytes, now) => datagram(alloc, from, bytes, now),
+        Entry::Parts(from, parts, now) => datagram(alloc, from, bytes_of(parts).as_slice(), now),
         Entry::Response(handle, now) => datagram(alloc, DEVICE, &response(handle), now),
         Entry::Quiet(now) => Some(Scripted::Quiet { now }),
         Entry::Failed => Some(Scripted::Failed),
     }
-}
-
-/// Adds an entry.
-fn add(alloc: Global, script: &mut Vec<Scripted>, entry: Entry) -> bool {
-    match scripted(alloc, entry) {
-        Some(entry) => script.push(entry).is_ok(),
-        None => false,
-    }
-}
-
-/// Adds so many silences, each 250 ms, and then the entries.
-fn add_all(alloc: Global, script: &mut Vec<Scripted>, quiet: u64, entries: &[Entry]) -> bool {
-    for turn in 0..quiet {
-        if !add(alloc, script, Entry::Quiet(turn.saturating_mul(250))) {
-            return false;
-        }
-    }
-    for entry in entries {
-        if !add(alloc, script, *entry) {
-            return false;
-        }
-    }
-    true
 }
 
 /// Asks for an end that tells.
@@ -81,26 +62,25 @@ fn is_given<E: End>(_end: &E) -> bool
     true
 }
 
-/// An end that will deliver this, with this room, one of whose sends fails. It tells.
-fn telling(
-    alloc: Global,
-    script: Vec<Scripted>,
-    room: usize,
-    fail_send: Option<u64>,
-) -> Option<MemoryEnd> {
-    match MemoryEnd::new(alloc, script, room, fail_send) {
-        Ok(end) if is_given(&end) => Some(end),
-        _ => None,
+/// So many silences, each 250 ms, and then the entries.
+fn script_of(alloc: Global, ending: Ending) -> Option<Vec<Scripted>> {
+    let mut script = Vec::new(alloc);
+    for turn in 0..ending.quiet {
+        let now = turn.saturating_mul(250);
+        script.push(Scripted::Quiet { now }).ok()?;
     }
+    for entry in ending.entries {
+        script.push(scripted(alloc, *entry)?).ok()?;
+    }
+    Some(script)
 }
 
-/// The end.
+/// The end. It tells.
 pub fn end_of(alloc: Global, ending: Ending) -> Option<MemoryEnd> {
-    let mut script = Vec::new(alloc);
-    if add_all(alloc, &mut script, ending.quiet, ending.entries) {
-        telling(alloc, script, ending.room, ending.fail_send)
-    } else {
-        None
+    let script = script_of(alloc, ending)?;
+    match MemoryEnd::new(alloc, script, ending.room, ending.fail_send) {
+        Ok(end) if is_given(&end) => Some(end),
+        _ => None,
     }
 }
 

@@ -221,26 +221,18 @@ const GET_REQUESTS: &[Gets] = &[
     Gets(Class::Int16, Some((5, 1))),
 ];
 
-const ANSWERS: &[Reads] = &[
+const ANSWERS: &[Reads] = rows! {
     Reads(Class::Mute, &[1], Some(Value::Mute(MuteState::Muted))),
     Reads(Class::Mute, &[3], None),
     Reads(Class::Mute, &[1, 1], None),
-    Reads(
-        Class::Polarity,
-        &[2],
-        Some(Value::Polarity(PolarityState::Inverted)),
-    ),
+    Reads(Class::Polarity, &[2], Some(Value::Polarity(PolarityState::Inverted))),
     Reads(Class::Switch, &[0, 1, 0, 0, 0, 2], Some(Value::Switch(1))),
     Reads(Class::Boolean, &[0], Some(Value::Boolean(false))),
-    Reads(
-        Class::Int16,
-        &[255, 196, 253, 168, 2, 88],
-        Some(Value::Int16(-60)),
-    ),
+    Reads(Class::Int16, &[255, 196, 253, 168, 2, 88], Some(Value::Int16(-60))),
     Reads(Class::Int16, &[255, 196, 253, 168, 2], None),
     Reads(Class::Uint8, &[10, 0, 100], Some(Value::Uint8(10))),
     Reads(Class::Block, &[], None),
-];
+};
 
 const VALUES: &[IsEncoded] = &[
     IsEncoded(Value::Mute(MuteState::Unmuted), &[2]),
@@ -262,40 +254,18 @@ const NO_VALUES: &[IsNoValue] = &[
     IsNoValue(Class::Block, &[], ValueFault::Malformed),
 ];
 
-const READINGS: &[HasLimits] = &[
+const READINGS: &[HasLimits] = rows! {
     HasLimits(Class::Mute, Reading::Mute(MuteState::Muted), 1, &[1]),
     HasLimits(Class::Boolean, Reading::Boolean(true), 1, &[1]),
-    HasLimits(
-        Class::Switch,
-        Reading::Switch(Ranged {
-            setting: 1,
-            least: 0,
-            greatest: 2,
-        }),
-        3,
-        &[0, 1, 0, 0, 0, 2],
-    ),
+    HasLimits(Class::Switch, Reading::Switch(Ranged { setting: 1, least: 0, greatest: 2 }), 3, &[0, 1, 0, 0, 0, 2]),
     HasLimits(
         Class::Int16,
-        Reading::Int16(Ranged {
-            setting: -60,
-            least: -600,
-            greatest: 600,
-        }),
+        Reading::Int16(Ranged { setting: -60, least: -600, greatest: 600 }),
         3,
         &[255, 196, 253, 168, 2, 88],
     ),
-    HasLimits(
-        Class::Uint8,
-        Reading::Uint8(Ranged {
-            setting: 10,
-            least: 0,
-            greatest: 100,
-        }),
-        3,
-        &[10, 0, 100],
-    ),
-];
+    HasLimits(Class::Uint8, Reading::Uint8(Ranged { setting: 10, least: 0, greatest: 100 }), 3, &[10, 0, 100]),
+};
 
 /// An Int16 at 0, from -600 to 600.
 const TRIM: Reading = Reading::Int16(Ranged {
@@ -355,20 +325,10 @@ const STATUSES: &[Status] = &[
     Status(15, None),
 ];
 
-const MEMBERS: &[Members] = &[
-    Members(
-        &[
-            0, 2, 0, 0, 16, 1, 0, 1, 0, 1, 0, 2, 0, 0, 16, 2, 0, 2, 0, 1, 0, 9, 0, 1,
-        ],
-        Some(&[4097, 4098]),
-    ),
-    Members(
-        &[
-            0, 2, 0, 0, 16, 1, 0, 1, 0, 1, 0, 2, 0, 0, 16, 2, 0, 2, 0, 1, 0, 9, 0,
-        ],
-        None,
-    ),
-];
+const MEMBERS: &[Members] = rows! {
+    Members(&[0, 2, 0, 0, 16, 1, 0, 1, 0, 1, 0, 2, 0, 0, 16, 2, 0, 2, 0, 1, 0, 9, 0, 1], Some(&[4097, 4098])),
+    Members(&[0, 2, 0, 0, 16, 1, 0, 1, 0, 1, 0, 2, 0, 0, 16, 2, 0, 2, 0, 1, 0, 9, 0], None),
+};
 
 const NAMES: &[Names] = &[
     Names(&[0, 2, 0, 1, 65, 0, 0], Some(2)),

@@ -6,24 +6,19 @@ mod refusals;
 mod sockets;
 mod stale;
 
-use super::Script;
+use super::{Agrees, first_wrong_step, no_step_wrong};
 use oca_net::{End, Heard, UdpEnd};
 use oca_types::{Packet, Peer};
 use std::net::{Ipv4Addr, UdpSocket};
+use std::process::Abort;
 use std::time::Instant;
 
 /// 127.0.0.1.
 const LOCALHOST: u32 = 0x7f00_0001;
 
-const A: Peer = Peer {
-    ip: LOCALHOST,
-    port: 9001,
-};
+const A: Peer = peer!(9001);
 
-const B: Peer = Peer {
-    ip: LOCALHOST,
-    port: 9002,
-};
+const B: Peer = peer!(9002);
 
 /// The most bytes of a datagram.
 const LARGEST: usize = 1472;
@@ -57,28 +52,17 @@ fn heard_by_now<E: End>(end: &mut E, packet: &mut Packet) -> (u64, Heard, u64) {
     (before, heard, end.now())
 }
 
-/// The clock before the sockets of a script were bound, and after, and where they are.
-#[derive(Clone, Copy)]
-struct Begun {
+/// Two ends and a socket without one, the port of that, a packet, and the clock before they were bound, and after.
+#[derive(Drop)]
+pub struct Machine<'a> {
+    rt: &'a HostRuntime,
     before: Instant,
     bound: Instant,
-    first: Peer,
-    second: Peer,
-    plain: Peer,
-}
-
-/// A call of two ends and a socket without one, and what it must answer.
-trait Call {
-    /// Whether it is answered so.
-    fn agrees(
-        &self,
-        rt: &HostRuntime,
-        begun: &Begun,
-        first: &mut SocketEnd<'_>,
-        second: &mut SocketEnd<'_>,
-        plain: &UdpSocket,
-        packet: &mut Packet,
-    ) -> bool;
+    first: SocketEnd<'a>,
+    second: SocketEnd<'a>,
+    plain: UdpSocket,
+    plain_port: u16,
+    packet: Packet,
 }
 
 /// The clock.
@@ -97,116 +81,49 @@ fn port_of(plain: &UdpSocket) -> Option<u16> {
     }
 }
 
-/// What is known where the sockets are bound.
-fn begin(
-    rt: &HostRuntime,
-    before: Instant,
-    first: Peer,
-    second: Peer,
-    plain: &UdpSocket,
-) -> Option<Begun> {
-    Some(Begun {
+/// New sockets; none where the system has none, or no clock.
+fn bound(rt: &HostRuntime) -> Option<Machine<'_>> {
+    let before = instant(rt)?;
+    let (Some(first), Some(second), Ok(plain)) = (
+        end_here(rt),
+        end_here(rt),
+        UdpSocket::bind(rt, (Ipv4Addr::LOCALHOST, 0u16)),
+    ) else {
+        return None;
+    };
+    let (Some(bound), Some(plain_port)) = (instant(rt), port_of(&plain)) else {
+        return None;
+    };
+    Some(Machine {
+        rt,
         before,
-        bound: instant(rt)?,
+        bound,
         first,
         second,
-        plain: Peer {
-            ip: LOCALHOST,
-            port: port_of(plain)?,
-        },
+        plain,
+        plain_port,
+        packet: Packet::new(),
     })
 }
 
-/// The first call that is answered otherwise.
-fn first_wrong_call<C: Call>(
-    rt: &HostRuntime,
-    begun: &Begun,
-    first: &mut SocketEnd<'_>,
-    second: &mut SocketEnd<'_>,
-    plain: &UdpSocket,
-    packet: &mut Packet,
-    calls: &[C],
-) -> Option<usize> {
-    for (at, call) in calls.iter().enumerate() {
-        if !call.agrees(rt, begun, first, second, plain, packet) {
-            return Some(at);
-        }
-    }
-    None
-}
-
-/// The same at a socket without an end; the last number where nothing is known of it.
-fn wrong_beside<C: Call>(
-    rt: &HostRuntime,
-    before: Instant,
-    first: &mut SocketEnd<'_>,
-    second: &mut SocketEnd<'_>,
-    plain: &UdpSocket,
-    packet: &mut Packet,
-    calls: &[C],
-) -> Option<usize> {
-    match begin(rt, before, first.local(), second.local(), plain) {
-        Some(begun) => first_wrong_call(rt, &begun, first, second, plain, packet, calls),
-        None => Some(usize::MAX),
-    }
-}
-
-/// The same between two ends; the last number where there is no socket without one.
-fn wrong_between<C: Call>(
-    rt: &HostRuntime,
-    before: Instant,
-    first: &mut SocketEnd<'_>,
-    second: &mut SocketEnd<'_>,
-    packet: &mut Packet,
-    calls: &[C],
-) -> Option<usize> {
-    match UdpSocket::bind(rt, (Ipv4Addr::LOCALHOST, 0u16)) {
-        Ok(plain) => wrong_beside(rt, before, first, second, &plain, packet, calls),
-        Err(_) => Some(usize::MAX),
-    }
-}
-
-/// The same at an end; the last number where there is no other.
-fn wrong_at<C: Call>(
-    rt: &HostRuntime,
-    before: Instant,
-    first: &mut SocketEnd<'_>,
-    packet: &mut Packet,
-    calls: &[C],
-) -> Option<usize> {
-    match end_here(rt) {
-        Some(mut second) => wrong_between(rt, before, first, &mut second, packet, calls),
-        None => Some(usize::MAX),
-    }
-}
-
-/// The same at new ends; the last number where there are none.
-fn wrong_since<C: Call>(
-    rt: &HostRuntime,
-    before: Instant,
-    packet: &mut Packet,
-    calls: &[C],
-) -> Option<usize> {
-    match end_here(rt) {
-        Some(mut first) => wrong_at(rt, before, &mut first, packet, calls),
-        None => Some(usize::MAX),
-    }
-}
-
 /// Calls of new sockets, by their name.
-struct AtSockets<C: 'static>(&'static str, &'static [C]);
+struct AtSockets<'s, C>(&'s str, &'s [C]);
 
-impl<C: Call> Script for AtSockets<C> {
-    /// The name.
-    fn name(&self) -> &'static str {
-        self.0
+/// The first call that is answered otherwise; the last number where there are no sockets.
+fn wrong_call<'a, C: Agrees<Machine<'a>>>(rt: &'a HostRuntime, calls: &[C]) -> Option<usize> {
+    match bound(rt) {
+        Some(mut on) => first_wrong_step(&mut on, calls),
+        None => Some(usize::MAX),
     }
+}
 
-    /// The first call that is answered otherwise; the last number where there are no sockets or no clock.
-    fn wrong_step(&self, rt: &HostRuntime, packet: &mut Packet) -> Option<usize> {
-        match instant(rt) {
-            Some(before) => wrong_since(rt, before, packet, self.1),
-            None => Some(usize::MAX),
-        }
+/// Plays scripts: each call is answered as they say.
+fn play<'a, 's, C: Agrees<Machine<'a>>>(
+    abort: &impl Abort,
+    rt: &'a HostRuntime,
+    scripts: &[AtSockets<'s, C>],
+) {
+    for script in scripts {
+        no_step_wrong(abort, script.0, wrong_call(rt, script.1));
     }
 }

@@ -1,31 +1,16 @@
-//! Scripts of a link over an end in memory.
-use super::links::{agrees as link_agrees, is_answer, link};
-use super::{DEVICE, Gave, links};
-use crate::tests::Script;
-use crate::tests::ending::{Ending, end_of};
+//! Commands over an end in memory: asked, waited for and driven.
+use super::links::Step::{IsLost, Submits, Takes};
+use super::links::{agrees as link_agrees, is_answer};
+use super::{ANSWER, COMMAND, DEVICE, GET_STATE, Gave, KEEP_ALIVE, STRANGER, links};
+use crate::tests::ending::{Ending, Entry, end_of};
+use crate::tests::{Agrees, first_wrong_step, no_step_wrong};
 use oca_control::{
     ControlFault, DriveReport, Link, Outcome, ask, drive, send_due, send_in_time, wait_for,
     wait_until, wait_while,
 };
 use oca_net::MemoryEnd;
-use oca_types::{Handle, MethodId, Ono, Packet, Request};
+use oca_types::{Handle, Packet, Span};
 use std::alloc::Global;
-
-/// A GetState of the object 4097.
-const GET_STATE: Request = Request {
-    target: Ono(4097),
-    method: MethodId { level: 4, index: 1 },
-    count: 0,
-    params: &[],
-};
-
-/// An end that is quiet for 30 turns, each 250 ms.
-pub const QUIET: Ending = Ending {
-    quiet: 30,
-    entries: &[],
-    room: 32,
-    fail_send: None,
-};
 
 /// How a command fared.
 #[derive(Clone, Copy)]
@@ -76,133 +61,220 @@ pub fn is_outcome(outcome: &Outcome, want: Fared) -> bool {
     }
 }
 
-/// Asks a GetState of 4097.
-fn asked(link: &mut Link, end: &mut MemoryEnd, turns: u32) -> Outcome {
-    ask(link, end, GET_STATE, turns)
+/// Whether the answer to a command is asked for, or waited for, and the command fares so.
+fn fares(link: &mut Link, end: &mut MemoryEnd, step: Step) -> bool {
+    let (outcome, want) = match step {
+        Asks(turns, want) => (ask(link, end, GET_STATE, turns), want),
+        Waits(handle, turns, want) => (wait_for(link, end, Handle(handle), turns), want),
+        WaitsUntil(handle, until, want) => (wait_until(link, end, Handle(handle), until), want),
+        WaitsWhile(handle, ms, want) => (wait_while(link, end, Handle(handle), ms), want),
+        _ => return false,
+    };
+    is_outcome(&outcome, want)
 }
 
-/// Waits for the answer under a handle.
-fn waited(link: &mut Link, end: &mut MemoryEnd, handle: u32, turns: u32) -> Outcome {
-    wait_for(link, end, Handle(handle), turns)
-}
-
-/// Waits for the answer under a handle until a moment.
-fn waited_until(link: &mut Link, end: &mut MemoryEnd, handle: u32, until: u64) -> Outcome {
-    wait_until(link, end, Handle(handle), until)
-}
-
-/// Waits for the answer under a handle for so many milliseconds.
-fn waited_while(link: &mut Link, end: &mut MemoryEnd, handle: u32, milliseconds: u32) -> Outcome {
-    wait_while(link, end, Handle(handle), milliseconds)
-}
-
-/// Drives the link.
-fn driven(link: &mut Link, end: &mut MemoryEnd, turns: u32) -> DriveReport {
-    drive(link, end, turns)
-}
-
-/// Sends what is due.
-fn sends_due(link: &mut Link, end: &mut MemoryEnd, now: u64) -> DriveReport {
-    send_due(link, end, now)
-}
-
-/// Sends what is due, in time.
-fn sent_in_time(link: &mut Link, end: &mut MemoryEnd, now: u64) -> DriveReport {
-    send_in_time(link, end, now)
-}
-
-/// What was handed over, in no turn and without a failure.
-fn given(sent: u64, keep_alives: u64) -> DriveReport {
-    DriveReport {
-        turns: 0,
-        sent,
-        keep_alives,
-        answered: 0,
-        failed_receives: 0,
-        failed_sends: 0,
-        lost: false,
-    }
-}
-
-/// Whether the datagram of this number went to the device with these bytes.
-fn is_sent(end: &MemoryEnd, number: usize, bytes: &[u8]) -> bool {
-    match end.taken().get(number) {
-        Some((to, packet)) => *to == DEVICE && packet.as_slice() == bytes,
-        None => false,
-    }
-}
-
-/// Whether the step is answered so.
-fn agrees(link: &mut Link, end: &mut MemoryEnd, packet: &mut Packet, step: Step) -> bool {
+/// Whether the end took or delivered this.
+fn shows(end: &MemoryEnd, step: Step) -> bool {
     match step {
-        At(step) => link_agrees(link, packet, step),
-        Asks(turns, want) => is_outcome(&asked(link, end, turns), want),
-        Waits(handle, turns, want) => is_outcome(&waited(link, end, handle, turns), want),
-        WaitsUntil(handle, until, want) => is_outcome(
-            &waited_until(link, end, handle, until),
-            want,
-        ),
-        WaitsWhile(handle, ms, want) => is_outcome(&waited_while(link, end, handle, ms), want),
-        SendsDue(now, sent, keep_alives) => sends_due(link, end, now) == given(sent, keep_alives),
-        SendsInTime(now, sent, lost) => sent_in_time(link, end, now)
-            == DriveReport {
-                lost,
-                ..given(sent, 0)
-            },
-        Drives(turns, want) => driven(link, end, turns) == want,
         Delivered(count) => end.delivered().len() == count,
         Taken(count) => end.taken().len() == count,
-        Sent(number, bytes) => is_sent(end, number, bytes),
+        Sent(number, bytes) => match end.taken().get(number) {
+            Some((to, packet)) => *to == DEVICE && packet.as_slice() == bytes,
+            None => false,
+        },
+        _ => false,
     }
 }
+
+/// A link, the packet that it gave last, and an end.
+#[derive(Drop)]
+struct Bench {
+    link: Link,
+    packet: Packet,
+    end: MemoryEnd,
+}
+
+impl Agrees<Bench> for Step {
+    /// Whether the step is answered so.
+    fn agrees(&self, on: &mut Bench) -> bool {
+        let (link, end) = (&mut on.link, &mut on.end);
+        match *self {
+            At(step) => link_agrees(link, &mut on.packet, step),
+            SendsDue(now, sent, beats) => {
+                send_due(link, end, now) == drove!(0, sent, beats, 0, 0, 0, false)
+            }
+            SendsInTime(now, sent, lost) => {
+                send_in_time(link, end, now) == drove!(0, sent, 0, 0, 0, 0, lost)
+            }
+            Drives(turns, want) => drive(link, end, turns) == want,
+            other => shows(end, other) || fares(link, end, other),
+        }
+    }
+}
+
+// A command is sent once, and its answer is taken. Its link is then closed.
+const ASKED: &[Step] = &[
+    Asks(5, Fared::Answered(ANSWER)),
+    Taken(1),
+    Sent(0, COMMAND),
+    At(Takes(1, None)),
+    Asks(3, Fared::Unanswered),
+];
+
+// What the link refuses asks the end nothing. An answer that is there takes no turn.
+const REFUSED: &[Step] = &[
+    At(Submits(0, Ok(1))),
+    Asks(5, Fared::Refused(ControlFault::SpanFull)),
+    Taken(0),
+    Delivered(0),
+    Drives(1, drove!(1, 0, 0, 1, 0, 0, false)),
+    Waits(1, 9, Fared::Answered(ANSWER)),
+    Delivered(1),
+];
+
+// What is due is sent, and again after 250 ms.
+const ALL: &[Step] = &[
+    At(Submits(0, Ok(1))),
+    At(Submits(0, Ok(2))),
+    SendsDue(0, 2, 0),
+    SendsDue(249, 0, 0),
+    SendsDue(250, 2, 0),
+    Taken(4),
+];
+
+// A send that fails and a receive that fails are counted, and the command is sent again.
+const REPEATED: &[Step] = &[
+    At(Submits(0, Ok(1))),
+    Drives(3, drove!(3, 2, 0, 0, 1, 1, false)),
+    Taken(1),
+];
+
+// A command is sent at 0 and then each 250 ms, 20 times; at 5,000 the link is lost, which ends the loop.
+const LOST: &[Step] = &[
+    At(Submits(0, Ok(1))),
+    Drives(30, drove!(21, 20, 0, 0, 0, 0, true)),
+    At(IsLost(true)),
+    Delivered(21),
+    Taken(20),
+    Asks(30, Fared::Lost),
+    Delivered(21),
+];
+
+// From 0 to 7,250 there are two times 2,500 ms of silence.
+const KEEP_ALIVES: &[Step] = &[
+    Drives(31, drove!(30, 0, 2, 0, 0, 0, false)),
+    Taken(2),
+    Sent(0, KEEP_ALIVE),
+    Sent(1, KEEP_ALIVE),
+];
+
+/// A stranger's datagram.
+const JUNK: Entry = Entry::Datagram(STRANGER, &[0x3b], 10);
+
+const FLOOD: &[Entry] = &[
+    JUNK,
+    JUNK,
+    JUNK,
+    Entry::Failed,
+    Entry::Response(1, 499),
+    JUNK,
+    Entry::Response(2, 1499),
+];
+
+// Strangers' datagrams end no wait.
+const GOES_ON: &[Step] = &[
+    Asks(0, Fared::Unanswered),
+    WaitsUntil(1, 500, Fared::Answered(ANSWER)),
+    Delivered(5),
+    Asks(0, Fared::Unanswered),
+    WaitsWhile(2, 1001, Fared::Answered(ANSWER)),
+    Delivered(7),
+];
+
+const LATE: &[Entry] = &[
+    Entry::Quiet(499),
+    Entry::Quiet(500),
+    Entry::Response(1, 501),
+];
+
+// A wait ends at its moment, and takes no turn from then on; an answer is taken at the next. It ends at a closed end.
+const ENDS: &[Step] = &[
+    Asks(0, Fared::Unanswered),
+    WaitsUntil(1, 500, Fared::Unanswered),
+    Delivered(2),
+    WaitsWhile(1, 0, Fared::Unanswered),
+    Delivered(2),
+    WaitsWhile(1, 1, Fared::Answered(ANSWER)),
+    Asks(0, Fared::Unanswered),
+    WaitsUntil(2, 5_000, Fared::Unanswered),
+];
+
+// After 200 seconds without a turn a command is lost. An answer that comes all the same is taken.
+const AFTER_A_STANDSTILL: &[Step] = &[
+    Asks(9, Fared::Lost),
+    Taken(1),
+    Delivered(1),
+    Waits(1, 9, Fared::Answered(ANSWER)),
+    Taken(2),
+    Sent(1, KEEP_ALIVE),
+];
+
+// Copies follow within 15 seconds of the submit alone.
+const IN_TIME: &[Step] = &[
+    Asks(0, Fared::Unanswered),
+    SendsInTime(249, 0, false),
+    SendsInTime(250, 1, false),
+    SendsInTime(15_000, 1, false),
+    SendsInTime(15_001, 0, true),
+    Taken(3),
+];
+
+const OF_30_TURNS: Ending = delivers!(&[], 32, quiet: 30);
+
+const OF_FAILURES: Ending =
+    delivers!(&[Entry::Quiet(0), Entry::Failed, Entry::Quiet(250)], 4, fail_send: Some(0));
 
 /// A script by its name, over a link at the moment 0 of this span, and an end.
-pub struct OverEnd {
-    pub name: &'static str,
-    pub span: u8,
-    pub ending: Ending,
-    pub steps: &'static [Step],
+struct OverEnd(&'static str, u8, Ending, &'static [Step]);
+
+/// Commands that are asked and waited for.
+const ASKING: &[OverEnd] = rows! {
+    OverEnd("a_command_is_answered", 16, delivers!(&[Entry::Response(1, 10)], 4), ASKED),
+    OverEnd("a_command_is_refused", 1, delivers!(&[Entry::Response(1, 10)], 4), REFUSED),
+    OverEnd("strangers_end_no_wait", 16, delivers!(FLOOD, 32), GOES_ON),
+    OverEnd("a_wait_ends_at_its_moment", 16, delivers!(LATE, 32), ENDS),
+    OverEnd("a_command_is_lost_in_a_standstill", 16,
+        delivers!(&[Entry::Quiet(200_000), Entry::Response(1, 200_001)], 32), AFTER_A_STANDSTILL),
+};
+
+/// What is sent, and links that are driven.
+const DRIVING: &[OverEnd] = rows! {
+    OverEnd("all_that_is_due_is_sent", 16, delivers!(&[], 32), ALL),
+    OverEnd("nothing_is_sent_too_late", 16, delivers!(&[], 32), IN_TIME),
+    OverEnd("a_send_that_fails_is_repeated", 16, OF_FAILURES, REPEATED),
+    OverEnd("a_loop_ends_where_the_link_is_lost", 16, OF_30_TURNS, LOST),
+    OverEnd("keep_alives_are_sent", 16, OF_30_TURNS, KEEP_ALIVES),
+};
+
+/// The first step that is answered otherwise; the last number where there is no such span or no end.
+fn wrong_step(alloc: Global, script: &OverEnd) -> Option<usize> {
+    let (Some(span), Some(end)) = (Span::new(script.1), end_of(alloc, script.2)) else {
+        return Some(usize::MAX);
+    };
+    let mut on = Bench {
+        link: Link::new(DEVICE, Handle(1), 0, span),
+        packet: Packet::new(),
+        end,
+    };
+    first_wrong_step(&mut on, script.3)
 }
 
-/// The first step that is answered otherwise.
-fn first_wrong(
-    link: &mut Link,
-    end: &mut MemoryEnd,
-    packet: &mut Packet,
-    steps: &[Step],
-) -> Option<usize> {
-    for (at, step) in steps.iter().enumerate() {
-        if !agrees(link, end, packet, *step) {
-            return Some(at);
-        }
+#[test]
+fn scripts(rt: HostRuntime) {
+    for script in ASKING {
+        no_step_wrong(&rt, script.0, wrong_step(rt.alloc(), script));
     }
-    None
-}
-
-/// The first step over a link that is answered otherwise; the last number where there is no room for the end.
-fn wrong_over(
-    alloc: Global,
-    link: &mut Link,
-    packet: &mut Packet,
-    script: &OverEnd,
-) -> Option<usize> {
-    match end_of(alloc, script.ending) {
-        Some(mut end) => first_wrong(link, &mut end, packet, script.steps),
-        None => Some(usize::MAX),
-    }
-}
-
-impl Script for OverEnd {
-    /// The name.
-    fn name(&self) -> &'static str {
-        self.name
-    }
-
-    /// The first step that is answered otherwise; the last number where there is no such span.
-    fn wrong_step(&self, rt: &HostRuntime, packet: &mut Packet) -> Option<usize> {
-        match link(1, self.span) {
-            Some(mut link) => wrong_over(rt.alloc(), &mut link, packet, self),
-            None => Some(usize::MAX),
-        }
+    for script in DRIVING {
+        no_step_wrong(&rt, script.0, wrong_step(rt.alloc(), script));
     }
 }

@@ -1,7 +1,10 @@
-//! Scripts of a link alone.
-use super::{COMMAND, DEVICE, Gave, response};
-use crate::tests::Script;
-use oca_control::{Answer, ControlFault, Due, Link, Reception};
+//! A link alone, of either size: what is sent and when, handles and spans, datagrams of any bytes, and what it tells.
+use super::{ANSWER, COMMAND, DEVICE, Gave, KEEP_ALIVE, STRANGER, response};
+use crate::tests::no_step_wrong;
+use oca_control::{
+    Answer, ControlFault, Due, Link, LinkOf, Reception, SmallLink, is_late, law_of_answering,
+    law_of_histories, law_of_sending,
+};
 use oca_types::{Handle, MethodId, Ono, Packet, Peer, Span};
 
 /// What happens to a link, and what it must answer. Moments are in milliseconds.
@@ -9,9 +12,7 @@ use oca_types::{Handle, MethodId, Ono, Packet, Peer, Span};
 pub enum Step {
     /// A GetState of 4097 is submitted at a moment: its handle, or why it is refused.
     Submits(u64, Result<u32, ControlFault>),
-    /// Such commands are submitted at 0, and get the handles from the first to below the second.
-    SubmitsMany(u32, u32),
-    /// A SetState of 4097 with so many parameter bytes is submitted at 0.
+    /// A SetState of 4097 with so many parameter bytes, at most 1,446, is submitted at 0.
     SubmitsLong(usize, Result<u32, ControlFault>),
     /// What is due at a moment.
     Gives(u64, Due),
@@ -26,112 +27,80 @@ pub enum Step {
     Hears(Peer, &'static [u8], u64, Reception),
     /// The device's response to the command of a handle comes at a moment.
     HearsResponse(u8, u64, Reception),
-    /// That response comes from another address.
-    HearsStranger(Peer, u64, Reception),
-    /// A datagram of 146 responses to the command of the handle 1, of status 5, comes from the device at a moment.
-    HearsMost(u64, Reception),
-    /// A datagram of 1,473 bytes comes from the device at a moment.
-    HearsOversize(u64, Reception),
+    /// A response to the command of a handle comes at a moment, with the status 0, ParamCount 1 and so many parameter
+    /// bytes, at most 1,446.
+    HearsLong(u8, u16, u64, Reception),
     /// The answer under a handle is taken.
     Takes(u32, Option<Gave>),
     /// When something is due next.
     NextDue(Option<u64>),
     /// The lowest handle whose answer came.
     Answered(Option<u32>),
+    /// Whether the command of a handle has no answer.
+    InFlight(u32, bool),
     /// The handle of the next command.
     Next(Option<u32>),
     /// When the device was heard last.
     LastHeard(u64),
     /// Whether the link is lost.
     IsLost(bool),
+    /// Whether the link is late at a moment.
+    IsLate(u64, bool),
 }
 
 use Step::*;
 
-/// A link at the moment 0.
-pub fn link(first: u32, span: u8) -> Option<Link> {
-    let span = Span::new(span)?;
-    Some(Link::new(DEVICE, Handle(first), 0, span))
-}
+/// Parameter bytes, more than a command may have.
+const BYTES: &[u8] = &[7; 1446];
 
-/// Whether a command was submitted so.
-fn is_handle(submitted: Result<Handle, ControlFault>, want: Result<u32, ControlFault>) -> bool {
-    match submitted {
+/// Whether a command is submitted so, with method 4.2 where it has so many parameter bytes.
+fn submits<const C: usize, const A: usize>(
+    link: &mut LinkOf<C, A>,
+    size: Option<usize>,
+    now: u64,
+    want: Result<u32, ControlFault>,
+) -> bool {
+    let (index, count, size) = match size {
+        Some(size) => (2, 1, size),
+        None => (1, 0, 0),
+    };
+    let params = BYTES.get(..size).unwrap_or_default();
+    match link.submit(Ono(4097), MethodId { level: 4, index }, count, params, now) {
         Ok(handle) => want == Ok(handle.0),
         Err(fault) => want == Err(fault),
     }
 }
 
-/// No parameters.
-const NONE: &[u8] = &[];
-
-/// Submits a GetState of the object 4097.
-fn submit(link: &mut Link, now: u64) -> Result<Handle, ControlFault> {
-    link.submit(Ono(4097), MethodId { level: 4, index: 1 }, 0, NONE, now)
-}
-
-/// Whether the commands that are submitted get the handles from `first` to below `end`.
-fn submits_many(link: &mut Link, first: u32, end: u32) -> bool {
-    for handle in first..end {
-        if !is_handle(submit(link, 0), Ok(handle)) {
+/// Whether the command of the handle 1 is due at each of these multiples of 250 ms, with the bytes that it had at
+/// first.
+fn repeats<const C: usize, const A: usize>(
+    link: &mut LinkOf<C, A>,
+    moments: (u64, u64),
+    packet: &mut Packet,
+) -> bool {
+    for count in moments.0..moments.1 {
+        let due = link.due(count.saturating_mul(250), packet);
+        if due != Due::Send(Handle(1)) || packet.as_slice() != COMMAND {
             return false;
         }
     }
     true
 }
 
-/// Parameter bytes, more than a command may have.
-const PARAMS: &[u8] = &[7; 1446];
-
-/// Whether a SetState of 4097 with so many parameter bytes, at most 1,446, is submitted so.
-fn submits_long(link: &mut Link, size: usize, want: Result<u32, ControlFault>) -> bool {
-    match PARAMS.get(..size) {
-        Some(params) => is_handle(
-            link.submit(Ono(4097), MethodId { level: 4, index: 2 }, 1, params, 0),
-            want,
-        ),
-        None => false,
-    }
+/// A response with so many parameter bytes. The numbers are the sizes of the PDU and of the message.
+fn long_response(handle: u8, size: u16) -> Packet {
+    let params = BYTES.get(..usize::from(size)).unwrap_or_default();
+    let pdu = u32::from(size).saturating_add(19).to_be_bytes();
+    let message = u32::from(size).saturating_add(10).to_be_bytes();
+    let mut packet = Packet::new();
+    let _ = packet.try_extend_from_slice(&[0x3b, 0, 1]);
+    let _ = packet.try_extend_from_slice(&pdu);
+    let _ = packet.try_extend_from_slice(&[3, 0, 1]);
+    let _ = packet.try_extend_from_slice(&message);
+    let _ = packet.try_extend_from_slice(&[0, 0, 0, handle, 0, 1]);
+    let _ = packet.try_extend_from_slice(params);
+    packet
 }
-
-/// Whether the command of the handle 1 is due at a moment, with the bytes that it had at first.
-fn is_sent(link: &mut Link, now: u64, packet: &mut Packet) -> bool {
-    link.due(now, packet) == Due::Send(Handle(1)) && packet.as_slice() == COMMAND
-}
-
-/// Whether it is due at each of these multiples of 250 ms.
-fn repeats(link: &mut Link, first: u64, end: u64, packet: &mut Packet) -> bool {
-    for count in first..end {
-        if !is_sent(link, count.saturating_mul(250), packet) {
-            return false;
-        }
-    }
-    true
-}
-
-/// What becomes of the response to the command of a handle.
-fn hear(link: &mut Link, from: Peer, handle: u8, now: u64) -> Reception {
-    link.datagram(from, &response(handle), now)
-}
-
-/// The head of a datagram of 146 messages.
-const MOST_HEAD: &[u8] = &[0x3b, 0, 1, 0, 0, 5, 0xbd, 3, 0, 146];
-
-/// A response of the status 5 to the command of the handle 1.
-const OF_STATUS_5: &[u8] = &[0, 0, 0, 10, 0, 0, 0, 1, 5, 0];
-
-/// Whether a datagram of 146 responses is taken so, as many as a datagram holds. The packet holds it then.
-fn hears_most(link: &mut Link, packet: &mut Packet, now: u64, want: Reception) -> bool {
-    packet.clear();
-    let _ = packet.try_extend_from_slice(MOST_HEAD);
-    for _ in 0..146 {
-        let _ = packet.try_extend_from_slice(OF_STATUS_5);
-    }
-    link.datagram(DEVICE, packet.as_slice(), now) == want
-}
-
-/// A datagram of 1,473 bytes.
-const OVERSIZE: &[u8] = &[0x3b; 1473];
 
 /// Whether an answer is this one.
 pub fn is_answer(answer: &Answer, want: Gave) -> bool {
@@ -139,13 +108,15 @@ pub fn is_answer(answer: &Answer, want: Gave) -> bool {
 }
 
 /// Whether this is taken under the handle.
-fn takes(link: &mut Link, handle: u32, want: Option<Gave>) -> bool {
-    match link.take(Handle(handle)) {
-        Some(answer) => match want {
-            Some(want) => is_answer(&answer, want),
-            None => false,
-        },
-        None => want.is_none(),
+fn takes<const C: usize, const A: usize>(
+    link: &mut LinkOf<C, A>,
+    handle: u32,
+    want: Option<Gave>,
+) -> bool {
+    match (link.take(Handle(handle)), want) {
+        (Some(answer), Some(want)) => is_answer(&answer, want),
+        (None, None) => true,
+        _ => false,
     }
 }
 
@@ -157,59 +128,202 @@ fn is_number(found: Option<Handle>, want: Option<u32>) -> bool {
     }
 }
 
-/// Whether the step is answered so.
-pub fn agrees(link: &mut Link, packet: &mut Packet, step: Step) -> bool {
+/// Whether the link tells this of itself.
+fn tells<const C: usize, const A: usize>(link: &LinkOf<C, A>, step: Step) -> bool {
     match step {
-        Submits(now, want) => is_handle(submit(link, now), want),
-        SubmitsMany(first, end) => submits_many(link, first, end),
-        SubmitsLong(size, want) => submits_long(link, size, want),
-        Gives(now, want) => link.due(now, packet) == want,
-        Repeats(first, end) => repeats(link, first, end, packet),
-        Gave(want) => packet.as_slice() == want,
-        GaveLen(want) => packet.len() == want,
-        Hears(from, bytes, now, want) => link.datagram(from, bytes, now) == want,
-        HearsResponse(handle, now, want) => hear(link, DEVICE, handle, now) == want,
-        HearsStranger(from, now, want) => hear(link, from, 1, now) == want,
-        HearsMost(now, want) => hears_most(link, packet, now, want),
-        HearsOversize(now, want) => link.datagram(DEVICE, OVERSIZE, now) == want,
-        Takes(handle, want) => takes(link, handle, want),
         NextDue(want) => link.next_due() == want,
         Answered(want) => is_number(link.answered(), want),
+        InFlight(handle, want) => link.is_in_flight(Handle(handle)) == want,
         Next(want) => is_number(link.next_handle(), want),
         LastHeard(want) => link.last_heard() == want,
         IsLost(want) => link.is_lost() == want,
+        IsLate(now, want) => is_late(link, now) == want,
+        _ => false,
     }
 }
 
-/// A script by its name, over a link at the moment 0 of this span, whose first command gets this handle.
-pub struct OverLink {
-    pub name: &'static str,
-    pub first: u32,
-    pub span: u8,
-    pub steps: &'static [Step],
+/// Whether the step is answered so.
+pub fn agrees<const C: usize, const A: usize>(
+    link: &mut LinkOf<C, A>,
+    packet: &mut Packet,
+    step: Step,
+) -> bool {
+    match step {
+        Submits(now, want) => submits(link, None, now, want),
+        SubmitsLong(size, want) => submits(link, Some(size), 0, want),
+        Gives(now, want) => link.due(now, packet) == want,
+        Repeats(first, end) => repeats(link, (first, end), packet),
+        Gave(want) => packet.as_slice() == want,
+        GaveLen(want) => packet.len() == want,
+        Hears(from, bytes, now, want) => link.datagram(from, bytes, now) == want,
+        HearsResponse(handle, now, want) => link.datagram(DEVICE, &response(handle), now) == want,
+        HearsLong(handle, size, now, want) => {
+            link.datagram(DEVICE, long_response(handle, size).as_slice(), now) == want
+        }
+        Takes(handle, want) => takes(link, handle, want),
+        other => tells(link, other),
+    }
 }
 
-/// The first step that is answered otherwise.
-fn first_wrong(link: &mut Link, packet: &mut Packet, steps: &[Step]) -> Option<usize> {
+// Silence of 2,500 ms gives a keep-alive of 5 seconds.
+const SILENCE: &[Step] = &[
+    Gives(2_499, Due::Nothing),
+    Gave(&[]),
+    NextDue(Some(2_500)),
+    Gives(2_500, Due::KeepAlive),
+    Gave(KEEP_ALIVE),
+];
+
+// A command is sent 20 times, 250 ms apart. A lost link still hands answers on.
+const TWENTY: &[Step] = &[
+    Submits(0, Ok(1)),
+    Repeats(0, 1),
+    Gives(249, Due::Nothing),
+    Repeats(1, 20),
+    IsLost(false),
+    NextDue(Some(5_000)),
+    Gives(5_000, Due::Lost),
+    Gave(&[]),
+    IsLost(true),
+    Submits(5_000, Err(ControlFault::Lost)),
+    HearsResponse(1, 5_001, Reception::Answered(1)),
+    Takes(1, Some(ANSWER)),
+    Takes(1, None),
+];
+
+// A command has at most 1,445 bytes of parameters, and its datagram 1,472.
+const LONG: &[Step] = &[
+    SubmitsLong(1_446, Err(ControlFault::TooLong)),
+    SubmitsLong(1_445, Ok(1)),
+    Gives(0, Due::Send(Handle(1))),
+    GaveLen(1_472),
+];
+
+// No handle follows 4294967295.
+const LAST: &[Step] = &[
+    Next(Some(4_294_967_294)),
+    Submits(0, Ok(4_294_967_294)),
+    Submits(0, Ok(4_294_967_295)),
+    Next(None),
+    Submits(0, Err(ControlFault::HandlesSpent)),
+];
+
+// The next handle stays below the lowest one in flight plus the span.
+const SPAN_OF_ONE: &[Step] = &[Submits(0, Ok(1)), Submits(0, Err(ControlFault::SpanFull))];
+
+/// Two responses in one PDU, to the commands of the handles 1 and 2.
+const TWO: &[u8] = &[
+    0x3b, 0, 1, 0, 0, 0, 0x1f, 3, 0, 2, 0, 0, 0, 0x0b, 0, 0, 0, 1, 0, 1, 1, 0, 0, 0, 0x0b, 0, 0, 0,
+    2, 0, 1, 1,
+];
+
+// Each response counts once. Of the answers that came and were not taken, the one with the lowest handle is named.
+const BOTH: &[Step] = &[
+    Submits(0, Ok(1)),
+    Submits(0, Ok(2)),
+    Answered(None),
+    Hears(DEVICE, TWO, 5, Reception::Answered(2)),
+    Hears(DEVICE, TWO, 6, Reception::NothingNew),
+    Answered(Some(1)),
+    Takes(1, Some(ANSWER)),
+    Answered(Some(2)),
+];
+
+// The address is looked at first, then the grammar; commands and answers to nothing are ignored. A well-formed datagram
+// of the device alone moves the moment at which it was heard last.
+const OTHERS: &[Step] = &[
+    Submits(0, Ok(1)),
+    Hears(STRANGER, KEEP_ALIVE, 1, Reception::Stranger),
+    Hears(STRANGER, &[], 1, Reception::Stranger),
+    Hears(DEVICE, &[], 1, Reception::Malformed),
+    Hears(DEVICE, &[0x3b; 1473], 1, Reception::Malformed),
+    LastHeard(0),
+    Hears(DEVICE, COMMAND, 1, Reception::NothingNew),
+    HearsResponse(9, 1, Reception::NothingNew),
+    LastHeard(1),
+];
+
+// At a small link a command has at most 64 bytes of parameters.
+const SMALL_COMMANDS: &[Step] = &[
+    SubmitsLong(65, Err(ControlFault::TooLong)),
+    SubmitsLong(64, Ok(1)),
+    Gives(0, Due::Send(Handle(1))),
+    GaveLen(91),
+    IsLate(15_000, false),
+    IsLate(15_001, true),
+];
+
+// There an answer with 264 bytes of parameters is stored as it came. One with more becomes BufferOverflow without
+// parameters, and its command is not sent again.
+const SMALL_ANSWERS: &[Step] = &[
+    Submits(0, Ok(1)),
+    Submits(0, Ok(2)),
+    Gives(0, Due::Send(Handle(1))),
+    Gives(0, Due::Send(Handle(2))),
+    HearsLong(1, 264, 10, Reception::Answered(1)),
+    InFlight(2, true),
+    HearsLong(2, 265, 20, Reception::Answered(1)),
+    InFlight(2, false),
+    Gives(250, Due::Nothing),
+    Takes(2, Some((14, 0, &[]))),
+    Takes(1, Some((0, 1, &[7; 264]))),
+];
+
+/// A script by its name, over a link at the moment 0 of this span, whose first command gets this handle.
+struct OverLink(&'static str, u32, u8, &'static [Step]);
+
+/// The scripts.
+const SCRIPTS: &[OverLink] = rows! {
+    OverLink("a_keep_alive_after_2500_ms", 1, 16, SILENCE),
+    OverLink("twenty_sendings_lose_the_link", 1, 16, TWENTY),
+    OverLink("the_most_parameters", 1, 16, LONG),
+    OverLink("the_last_handle_is_used", 4_294_967_294, 16, LAST),
+    OverLink("a_span_of_one", 1, 1, SPAN_OF_ONE),
+    OverLink("two_answers_in_one_datagram", 1, 16, BOTH),
+    OverLink("other_senders_and_other_bytes", 1, 16, OTHERS),
+};
+
+/// Scripts over a small link.
+const OF_SMALL: &[OverLink] = rows! {
+    OverLink("a_command_has_at_most_64_bytes", 1, 16, SMALL_COMMANDS),
+    OverLink("an_answer_of_more_than_264_bytes_is_shortened", 1, 16, SMALL_ANSWERS),
+};
+
+/// The first step that is answered otherwise over this link.
+fn wrong_step<const C: usize, const A: usize>(
+    link: &mut LinkOf<C, A>,
+    steps: &[Step],
+) -> Option<usize> {
+    let mut packet = Packet::new();
     for (at, step) in steps.iter().enumerate() {
-        if !agrees(link, packet, *step) {
+        if !agrees(link, &mut packet, *step) {
             return Some(at);
         }
     }
     None
 }
 
-impl Script for OverLink {
-    /// The name.
-    fn name(&self) -> &'static str {
-        self.name
-    }
+/// The span of a script; that which nobody chose where it has none.
+fn span_of(script: &OverLink) -> Span {
+    Span::new(script.2).unwrap_or(Span::default())
+}
 
-    /// The first step that is answered otherwise; the last number where there is no such span.
-    fn wrong_step(&self, _rt: &HostRuntime, packet: &mut Packet) -> Option<usize> {
-        match link(self.first, self.span) {
-            Some(mut link) => first_wrong(&mut link, packet, self.steps),
-            None => Some(usize::MAX),
-        }
+#[test]
+fn scripts(rt: HostRuntime) {
+    // The laws of a link can be called.
+    law_of_histories();
+    law_of_answering();
+    law_of_sending();
+    for script in SCRIPTS {
+        let mut link = Link::new(DEVICE, Handle(script.1), 0, span_of(script));
+        no_step_wrong(&rt, script.0, wrong_step(&mut link, script.3));
+    }
+}
+
+#[test]
+fn scripts_of_a_small_link(rt: HostRuntime) {
+    for script in OF_SMALL {
+        let mut link = SmallLink::new(DEVICE, Handle(script.1), 0, span_of(script));
+        no_step_wrong(&rt, script.0, wrong_step(&mut link, script.3));
     }
 }

@@ -1,18 +1,17 @@
 //! The loop that keeps the objects in a store, over an end in memory.
-use super::super::peer;
-use super::benches::{Played, play};
-use super::parts::is_of;
-use super::serving::{Delivery, NO_TURN, end_with};
 use super::*;
+use crate::tests::ending::Entry::{self, Parts, Quiet};
+use crate::tests::ending::{Ending, end_of};
+use crate::tests::{Agrees, first_wrong_step, no_step_wrong};
 use arrayvec::ArrayVec;
-use oca_device::{Device, Keeping, NoElectronics, Outbox, Report, Store, serve_keeping};
+use oca_device::{Keeping, NoElectronics, Store, serve_keeping};
 use oca_net::{End, Heard, MemoryEnd};
 use oca_tree::Tree;
 use oca_types::{Packet, Peer};
 use std::alloc::Global;
 
-/// What a store is told of a turn: what it did, the moment, how many bytes its datagram and how many answers it has, and
-/// to how many objects the last datagram wrote.
+/// What a store is told of a turn: what it did, the moment, how many bytes its datagram and how many answers it has,
+/// and to how many objects the last datagram wrote.
 #[derive(Clone, Copy, Default, PartialEq, Eq)]
 struct Told {
     report: Report,
@@ -118,319 +117,200 @@ impl<E: End> End for Noting<E> {
     }
 }
 
-/// What the loop does in at most so many turns.
+/// What the loop does in at most so many turns: what is reported, whether something written is then not stored, what
+/// the end has then taken, all of it for the first peer, which receives so far might wait, of the first 8, and what the
+/// store was told so far, of the first 8.
 #[derive(Clone, Copy)]
-struct Run {
-    turns: u64,
-    /// What is reported.
-    report: Report,
-    /// Whether something written is then not stored.
-    is_behind: bool,
-    /// What the end has then taken, all of it for the first peer.
-    taken: &'static [Part],
-    /// Which receives so far might wait, of the first 8.
-    waits: &'static [bool],
-    /// What the store was told so far, of the first 8.
-    told: &'static [Told],
-}
+struct Run(
+    u64,
+    Report,
+    bool,
+    &'static [Part],
+    &'static [bool],
+    &'static [Told],
+);
 
-/// An end whose loop keeps the objects in a store that fails at first.
-#[derive(Clone, Copy)]
-struct Kept {
-    name: &'static str,
-    /// What the end delivers.
-    deliveries: &'static [Delivery],
-    /// What is done.
-    runs: &'static [Run],
+/// A device and its outbox, the end, and the store with what waits for it.
+#[derive(Drop)]
+struct Bench {
+    device: Device,
+    outbox: Outbox,
+    end: Noting<MemoryEnd>,
+    keeping: Keeping,
+    store: FailsOnce,
 }
 
 /// Whether the end has taken these datagrams for the first peer, and no others.
 fn has_taken(end: &MemoryEnd, parts: &[Part]) -> bool {
     for (at, part) in parts.iter().enumerate() {
         match end.taken().get(at) {
-            Some((to, packet)) if *to == peer(A) && is_of(packet.as_slice(), &[*part]) => {}
+            Some((to, packet)) if *to == A && is_of(packet.as_slice(), &[*part]) => {}
             _ => return false,
         }
     }
     end.taken().len() == parts.len()
 }
 
-/// Whether the loop does what it must.
-fn agrees(
-    device: &mut Device,
-    outbox: &mut Outbox,
-    end: &mut Noting<MemoryEnd>,
-    keeping: &mut Keeping,
-    store: &mut FailsOnce,
-    run: Run,
-) -> bool {
+/// The loop runs for at most so many turns.
+fn served(on: &mut Bench, turns: u64) -> Report {
     let mut none = NoElectronics;
-    let report = serve_keeping(device, end, outbox, keeping, store, &mut none, run.turns);
-    report == run.report
-        && keeping.is_behind() == run.is_behind
-        && has_taken(&end.end, run.taken)
-        && end.waits.as_slice() == run.waits
-        && store.told.as_slice() == run.told
+    serve_keeping(
+        &mut on.device,
+        &mut on.end,
+        &mut on.outbox,
+        &mut on.keeping,
+        &mut on.store,
+        &mut none,
+        turns,
+    )
 }
 
-/// The first run in which the loop does something else.
-fn first_wrong(
-    device: &mut Device,
-    outbox: &mut Outbox,
-    end: &mut Noting<MemoryEnd>,
-    keeping: &mut Keeping,
-    runs: &[Run],
-) -> Option<usize> {
-    let mut store = FailsOnce {
-        has_failed: false,
-        told: ArrayVec::new(),
+impl Agrees<Bench> for Run {
+    /// Whether the loop does what it must.
+    fn agrees(&self, on: &mut Bench) -> bool {
+        let Run(turns, report, is_behind, taken, waits, told) = *self;
+        served(on, turns) == report
+            && on.keeping.is_behind() == is_behind
+            && has_taken(&on.end.end, taken)
+            && on.end.waits.as_slice() == waits
+            && on.store.told.as_slice() == told
+    }
+}
+
+/// What the store is told of one turn.
+macro_rules! told {
+    ($report:expr, $now:expr, $bytes:expr, $answers:expr, $written:expr) => {
+        Told { report: $report, now: $now, bytes: $bytes, answers: $answers, written: $written }
     };
-    for (at, run) in runs.iter().enumerate() {
-        if !agrees(device, outbox, end, keeping, &mut store, *run) {
-            return Some(at);
-        }
-    }
-    None
 }
-
-impl Played for Kept {
-    /// The play's name.
-    fn name(&self) -> &'static str {
-        self.name
-    }
-
-    /// Windows of 32 commands.
-    fn setup(&self) -> Setup {
-        Setup::Window(32)
-    }
-
-    /// The first run in which the loop does something else; the last number where there is no end, or nothing that
-    /// holds answers back.
-    fn wrong_with(&self, alloc: Global, device: &mut Device, outbox: &mut Outbox) -> Option<usize> {
-        match (
-            end_with(alloc, self.deliveries, 4, None),
-            Keeping::new(alloc),
-        ) {
-            (Some(end), Ok(mut keeping)) => {
-                let mut end = Noting {
-                    end,
-                    waits: ArrayVec::new(),
-                };
-                first_wrong(device, outbox, &mut end, &mut keeping, self.runs)
-            }
-            _ => Some(usize::MAX),
-        }
-    }
-}
-
-/// A turn with a command.
-const ONE_EXECUTED: Report = Report {
-    turns: 1,
-    executed: 1,
-    ..NO_TURN
-};
-
-/// A turn with a duplicate.
-const ONE_KEPT: Report = Report {
-    turns: 1,
-    kept: 1,
-    ..NO_TURN
-};
-
-/// A turn in which nothing came.
-const ONE_QUIET: Report = Report {
-    turns: 1,
-    quiet: 1,
-    ..NO_TURN
-};
-
-/// A turn with a command, and one with a duplicate.
-const ONE_OF_EACH: Report = Report {
-    turns: 2,
-    executed: 1,
-    kept: 1,
-    ..NO_TURN
-};
 
 /// SetState was executed, and answered.
-const SET: Told = Told {
-    report: ONE_EXECUTED,
-    now: 0,
-    bytes: 28,
-    answers: 1,
-    written: 1,
-};
+const SET: Told = told!(report!(1, 1, 0, 0), 0, 28, 1, 1);
 
 /// Its duplicate came, and was answered.
-const AGAIN: Told = Told {
-    report: ONE_KEPT,
-    now: 0,
-    bytes: 28,
-    answers: 1,
-    written: 0,
-};
+const AGAIN: Told = told!(report!(1, 0, 1, 0), 0, 28, 1, 0);
 
 /// GetState was executed, and answered.
-const READ: Told = Told {
-    report: ONE_EXECUTED,
-    now: 0,
-    bytes: 27,
-    answers: 1,
-    written: 0,
-};
+const READ: Told = told!(report!(1, 1, 0, 0), 2, 27, 1, 0);
 
 /// Nothing came, and the last datagram wrote to nothing.
-const NOTHING_CAME: Told = Told {
-    report: ONE_QUIET,
-    now: 0,
-    bytes: 0,
-    answers: 0,
-    written: 0,
-};
+const QUIET: Told = told!(report!(1, 0, 0, 1), 3, 0, 0, 0);
+
+const SETS: &[Part] = &[Part::SetState(5, 2)];
+
+const GETS: &[Part] = &[Part::GetState(6)];
 
 /// The answer to SetState is dropped where the store fails. Its duplicate is answered once the store holds the objects,
 /// behind the answer to GetState, which does not wait. While answers wait, no receive does.
-const ANSWERS_WHAT_IS_STORED: Kept = Kept {
-    name: "answers_what_is_stored",
-    deliveries: &[
-        Delivery::Datagram(A, 0, &[Part::SetState(5, 2)]),
-        Delivery::Datagram(A, 1, &[Part::SetState(5, 2)]),
-        Delivery::Datagram(A, 2, &[Part::GetState(6)]),
-    ],
-    runs: &[
-        Run {
-            turns: 1,
-            report: ONE_EXECUTED,
-            is_behind: true,
-            taken: &[],
-            waits: &[true],
-            told: &[SET],
-        },
-        Run {
-            turns: 9,
-            report: ONE_OF_EACH,
-            is_behind: false,
-            taken: &[Part::State(6, 2), Part::Done(5)],
-            waits: &[true, true, false, false],
-            told: &[SET, Told { now: 1, ..AGAIN }, Told { now: 2, ..READ }],
-        },
-    ],
-};
+const ANSWERS_WHAT_IS_STORED: Kept = Kept(
+    "answers_what_is_stored",
+    &[Parts(A, SETS, 0), Parts(A, SETS, 1), Parts(A, GETS, 2)],
+    rows! {
+        Run(1, report!(1, 1, 0, 0), true, &[], &[true], &[SET]),
+        Run(9, report!(2, 1, 1, 0), false, &[Part::State(6, 2), Part::Done(5)], &[true, true, false, false],
+            &[SET, Told { now: 1, ..AGAIN }, READ]),
+    },
+);
 
 /// The objects are stored as soon as nothing comes: what comes behind that is answered behind it.
-const STORES_WHERE_NOTHING_COMES: Kept = Kept {
-    name: "stores_where_nothing_comes",
-    deliveries: &[
-        Delivery::Datagram(A, 0, &[Part::SetState(5, 2)]),
-        Delivery::Quiet(1),
-        Delivery::Datagram(A, 2, &[Part::SetState(5, 2)]),
-        Delivery::Quiet(3),
-        Delivery::Datagram(A, 4, &[Part::GetState(6)]),
+const STORES_WHERE_NOTHING_COMES: Kept = Kept(
+    "stores_where_nothing_comes",
+    &[
+        Parts(A, SETS, 0),
+        Quiet(1),
+        Parts(A, SETS, 2),
+        Quiet(3),
+        Parts(A, GETS, 4),
     ],
-    runs: &[Run {
-        turns: 9,
-        report: Report {
-            turns: 5,
-            executed: 2,
-            kept: 1,
-            quiet: 2,
-            ..NO_TURN
-        },
-        is_behind: false,
-        taken: &[Part::Done(5), Part::State(6, 2)],
-        waits: &[true, false, true, false, true, true],
-        told: &[
-            SET,
-            Told {
-                now: 1,
-                written: 1,
-                ..NOTHING_CAME
-            },
-            Told { now: 2, ..AGAIN },
-            Told {
-                now: 3,
-                ..NOTHING_CAME
-            },
-            Told { now: 4, ..READ },
-        ],
-    }],
-};
+    rows! {
+        Run(9, report!(5, 2, 1, 2), false, &[Part::Done(5), Part::State(6, 2)], &[true, false, true, false, true, true],
+            &[
+                SET, Told { now: 1, written: 1, ..QUIET }, Told { now: 2, ..AGAIN }, QUIET, Told { now: 4, ..READ },
+            ]),
+    },
+);
 
 /// The objects are stored once for 64 datagrams, and then for what comes behind them.
-const STORES_ONCE_FOR_64: Kept = Kept {
-    name: "stores_once_for_64",
-    deliveries: &[Delivery::Datagram(A, 0, &[Part::SetState(5, 2)]); 65],
-    runs: &[Run {
-        turns: 70,
-        report: Report {
-            turns: 65,
-            executed: 1,
-            kept: 64,
-            ..NO_TURN
-        },
-        is_behind: false,
-        taken: &[Part::Done(5)],
-        waits: &[true, false, false, false, false, false, false, false],
-        told: &[SET, AGAIN, AGAIN, AGAIN, AGAIN, AGAIN, AGAIN, AGAIN],
-    }],
-};
+const STORES_ONCE_FOR_64: Kept = Kept(
+    "stores_once_for_64",
+    &[Parts(A, SETS, 0); 65],
+    rows! {
+        Run(70, report!(65, 1, 64, 0), false, &[Part::Done(5)],
+            &[true, false, false, false, false, false, false, false],
+            &[SET, AGAIN, AGAIN, AGAIN, AGAIN, AGAIN, AGAIN, AGAIN]),
+    },
+);
 
 /// A keep-alive.
 const BEAT: &[u8] = &[0x3b, 0, 1, 0, 0, 0, 0x0b, 4, 0, 1, 0, 1];
 
 /// While at most 244 packets wait, one datagram more is taken in before the objects are stored.
-const STORES_BEFORE_IT_IS_FULL: Kept = Kept {
-    name: "stores_before_it_is_full",
-    deliveries: &[
-        Delivery::Datagram(A, 0, &[Part::SetState(5, 2), Part::Times(119, BEAT)]),
-        Delivery::Datagram(A, 0, &[Part::SetState(5, 2), Part::Times(120, BEAT)]),
-        Delivery::Datagram(A, 0, &[Part::SetState(5, 2), Part::Times(2, BEAT)]),
-        Delivery::Datagram(A, 0, &[Part::SetState(5, 2)]),
-        Delivery::Datagram(A, 0, &[Part::SetState(5, 2)]),
-    ],
-    runs: &[Run {
-        turns: 9,
-        report: Report {
-            turns: 5,
-            executed: 1,
-            kept: 4,
-            ..NO_TURN
-        },
-        is_behind: false,
-        taken: &[Part::Done(5)],
-        waits: &[true, false, false, false, true, false],
-        told: &[
-            Told {
-                bytes: 1456,
-                answers: 120,
-                ..SET
-            },
-            Told {
-                bytes: 1468,
-                answers: 121,
-                ..AGAIN
-            },
-            Told {
-                bytes: 52,
-                answers: 3,
-                ..AGAIN
-            },
+const STORES_BEFORE_IT_IS_FULL: Kept = Kept(
+    "stores_before_it_is_full",
+    rows! {
+        Parts(A, &[Part::SetState(5, 2), Part::Times(119, BEAT)], 0),
+        Parts(A, &[Part::SetState(5, 2), Part::Times(120, BEAT)], 0),
+        Parts(A, &[Part::SetState(5, 2), Part::Times(2, BEAT)], 0),
+        Parts(A, SETS, 0),
+        Parts(A, SETS, 0),
+    },
+    rows! {
+        Run(9, report!(5, 1, 4, 0), false, &[Part::Done(5)], &[true, false, false, false, true, false], &[
+            Told { bytes: 1456, answers: 120, ..SET },
+            Told { bytes: 1468, answers: 121, ..AGAIN },
+            Told { bytes: 52, answers: 3, ..AGAIN },
             AGAIN,
             AGAIN,
-        ],
-    }],
+        ]),
+    },
+);
+
+/// An end whose loop keeps the objects in a store that fails at first: a name, what the end delivers, and what is done.
+struct Kept(&'static str, &'static [Entry], &'static [Run]);
+
+const PLAYS: &[Kept] = rows! {
+    ANSWERS_WHAT_IS_STORED,
+    STORES_WHERE_NOTHING_COMES,
+    STORES_ONCE_FOR_64,
+    STORES_BEFORE_IT_IS_FULL,
 };
+
+/// What a play is run on; none where memory is refused.
+fn bench_of(alloc: Global, play: &Kept) -> Option<Bench> {
+    let (Some(device), Ok(outbox), Some(end), Ok(keeping)) = (
+        device_of(alloc, Setup::Window(32)),
+        Outbox::new(alloc),
+        end_of(alloc, delivers!(play.1, 4)),
+        Keeping::new(alloc),
+    ) else {
+        return None;
+    };
+    Some(Bench {
+        device,
+        outbox,
+        end: Noting {
+            end,
+            waits: ArrayVec::new(),
+        },
+        keeping,
+        store: FailsOnce {
+            has_failed: false,
+            told: ArrayVec::new(),
+        },
+    })
+}
+
+/// The first run in which the loop does something else; the last number where it has nothing to run on.
+fn wrong_run(alloc: Global, play: &Kept) -> Option<usize> {
+    match bench_of(alloc, play) {
+        Some(mut on) => first_wrong_step(&mut on, play.2),
+        None => Some(usize::MAX),
+    }
+}
 
 #[test]
 fn keeps(rt: HostRuntime) {
-    play(
-        &rt,
-        rt.alloc(),
-        &[
-            ANSWERS_WHAT_IS_STORED,
-            STORES_WHERE_NOTHING_COMES,
-            STORES_ONCE_FOR_64,
-            STORES_BEFORE_IT_IS_FULL,
-        ],
-    );
+    for play in PLAYS {
+        no_step_wrong(&rt, play.0, wrong_run(rt.alloc(), play));
+    }
 }

@@ -1,16 +1,13 @@
-//! In which order a turn sends the answers, tells the electronics and stores the objects: no clause says it, since an end,
-//! electronics and a store know nothing of each other.
-use oca_device::{Device, Electronics, Keeping, Outbox, Store, serve_keeping, serve_with};
-use oca_net::{End, Heard, MemoryEnd, Scripted};
-use oca_tree::{Tree, bench};
-use oca_types::{Ono, Packet, Peer, Window};
+//! In which order a turn sends the answers, tells the electronics and stores the objects: no clause says it, since an
+//! end, electronics and a store know nothing of each other.
+use super::{A, Setup, device_of};
+use crate::tests::ending::{Ending, Entry, end_of};
+use oca_device::{Electronics, Keeping, Outbox, Store, serve_keeping, serve_with};
+use oca_net::{End, Heard, MemoryEnd};
+use oca_tree::Tree;
+use oca_types::{Ono, Packet, Peer};
 use std::alloc::Global;
 use std::cell::Cell;
-
-const A: Peer = Peer {
-    ip: 0x7f00_0001,
-    port: 9001,
-};
 
 /// A command that sets the mute 4097 to Unmuted, under handle 1.
 const UNMUTES: [u8; 28] = [
@@ -114,18 +111,11 @@ impl Store for Stored<'_> {
     }
 }
 
+const COMES: &[Entry] = &[Entry::Datagram(A, &UNMUTES, 0)];
+
 /// An end that delivers the command; where memory is refused, none.
 fn end(alloc: Global, count: &Cell<u32>) -> Option<Sending<'_, MemoryEnd>> {
-    let bytes = UNMUTES.to_vec(alloc).ok()?;
-    let script = vec![in alloc;
-        Scripted::Datagram {
-            from: A,
-            bytes,
-            now: 0
-        },
-    ]
-    .ok()?;
-    let end = MemoryEnd::new(alloc, script, 1, None).ok()?;
+    let end = end_of(alloc, delivers!(COMES, 1))?;
     Some(Sending {
         end,
         count,
@@ -133,17 +123,12 @@ fn end(alloc: Global, count: &Cell<u32>) -> Option<Sending<'_, MemoryEnd>> {
     })
 }
 
-/// The device that has the mute 4097; where memory is refused, none.
-fn device(alloc: Global) -> Option<Device> {
-    Device::new(alloc, bench(alloc).ok()?, Window::default()).ok()
-}
-
 #[test]
 fn answers_leave_before_the_electronics_are_told(rt: HostRuntime) {
     let count = Cell::new(0);
     let (Some(mut end), Some(mut device), Ok(mut outbox)) = (
         end(rt.alloc(), &count),
-        device(rt.alloc()),
+        device_of(rt.alloc(), Setup::Window(32)),
         Outbox::new(rt.alloc()),
     ) else {
         panic!(rt; "no memory");
@@ -161,7 +146,7 @@ fn a_change_is_told_then_stored_then_answered(rt: HostRuntime) {
     let count = Cell::new(0);
     let (Some(mut end), Some(mut device), Ok(mut outbox), Ok(mut keeping)) = (
         end(rt.alloc(), &count),
-        device(rt.alloc()),
+        device_of(rt.alloc(), Setup::Window(32)),
         Outbox::new(rt.alloc()),
         Keeping::new(rt.alloc()),
     ) else {

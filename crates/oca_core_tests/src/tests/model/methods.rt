@@ -89,7 +89,7 @@ impl Row for IsOfAnother {
     }
 }
 
-pub const REQUESTS: &[Asks] = &[
+pub const REQUESTS: &[Asks] = rows! {
     Asks(Class::Mute, Method::GetClassIdentification, (1, 1), 0, &[]),
     Asks(Class::Mute, Method::GetLockable, (1, 2), 0, &[]),
     Asks(Class::Mute, Method::LockTotal, (1, 3), 0, &[]),
@@ -108,73 +108,25 @@ pub const REQUESTS: &[Asks] = &[
     Asks(Class::Switch, Method::GetPosition, (4, 1), 0, &[]),
     Asks(Class::Switch, Method::SetPosition, (4, 2), 1, &[0, 1]),
     Asks(Class::Switch, Method::GetPositionName, (4, 3), 1, &[0, 1]),
-    Asks(
-        Class::Switch,
-        Method::SetPositionName,
-        (4, 4),
-        2,
-        &[0, 1, 0, 1, 65],
-    ),
+    Asks(Class::Switch, Method::SetPositionName, (4, 4), 2, &[0, 1, 0, 1, 65]),
     Asks(Class::Switch, Method::GetPositionNames, (4, 5), 0, &[]),
-    Asks(
-        Class::Switch,
-        Method::SetPositionNames,
-        (4, 6),
-        1,
-        &[0, 2, 0, 1, 65, 0, 0],
-    ),
-    Asks(
-        Class::Switch,
-        Method::GetPositionEnabled,
-        (4, 7),
-        1,
-        &[0, 1],
-    ),
-    Asks(
-        Class::Switch,
-        Method::SetPositionEnabled,
-        (4, 8),
-        2,
-        &[0, 1, 0],
-    ),
+    Asks(Class::Switch, Method::SetPositionNames, (4, 6), 1, &[0, 2, 0, 1, 65, 0, 0]),
+    Asks(Class::Switch, Method::GetPositionEnabled, (4, 7), 1, &[0, 1]),
+    Asks(Class::Switch, Method::SetPositionEnabled, (4, 8), 2, &[0, 1, 0]),
     Asks(Class::Switch, Method::GetPositionEnableds, (4, 9), 0, &[]),
-    Asks(
-        Class::Switch,
-        Method::SetPositionEnableds,
-        (4, 10),
-        1,
-        &[0, 2, 1, 0],
-    ),
+    Asks(Class::Switch, Method::SetPositionEnableds, (4, 10), 1, &[0, 2, 1, 0]),
     Asks(Class::Int16, Method::GetSetting, (5, 1), 0, &[]),
     Asks(Class::Int16, Method::SetSetting, (5, 2), 1, &[255, 196]),
-];
+};
 
-pub const REFUSALS: &[Refuses] = &[
+pub const REFUSALS: &[Refuses] = rows! {
     Refuses(Class::Mute, Method::SetState, 1, &[3], ValueFault::Unlisted),
-    Refuses(
-        Class::Mute,
-        Method::SetState,
-        2,
-        &[3],
-        ValueFault::Malformed,
-    ),
+    Refuses(Class::Mute, Method::SetState, 2, &[3], ValueFault::Malformed),
     Refuses(Class::Mute, Method::SetState, 1, &[], ValueFault::Malformed),
     Refuses(Class::Mute, Method::GetRole, 1, &[], ValueFault::Malformed),
     Refuses(Class::Mute, Method::GetRole, 0, &[1], ValueFault::Malformed),
-    Refuses(
-        Class::Mute,
-        Method::SetLabel,
-        1,
-        &[0, 2, 65],
-        ValueFault::Malformed,
-    ),
-    Refuses(
-        Class::Int16,
-        Method::SetSetting,
-        1,
-        &[1],
-        ValueFault::Malformed,
-    ),
+    Refuses(Class::Mute, Method::SetLabel, 1, &[0, 2, 65], ValueFault::Malformed),
+    Refuses(Class::Int16, Method::SetSetting, 1, &[1], ValueFault::Malformed),
     Refuses(
         Class::Switch,
         Method::SetPositionEnableds,
@@ -182,54 +134,24 @@ pub const REFUSALS: &[Refuses] = &[
         &[0, 17, 1, 1, 1, 1, 1, 1, 1, 1, 1, 1, 1, 1, 1, 1, 1, 1, 1],
         ValueFault::Malformed,
     ),
-];
+};
 
 pub const OF_OTHERS: &[IsOfAnother] = &[
     IsOfAnother(Class::Int8, Value::Uint8(1)),
     IsOfAnother(Class::Block, Value::Boolean(true)),
 ];
 
-pub const ANSWERS: &[Answers] = &[
+pub const ANSWERS: &[Answers] = rows! {
     Answers(Class::Mute, Method::Unlock, Shape::Done, 0, &[]),
     Answers(Class::Mute, Method::SetState, Shape::Done, 0, &[]),
     Answers(Class::Mute, Method::GetLockable, Shape::Truth, 1, &[1]),
     Answers(Class::Mute, Method::GetRole, Shape::Text, 1, &[0, 1, 65]),
-    Answers(
-        Class::Mute,
-        Method::GetOwner,
-        Shape::Owner,
-        1,
-        &[0, 0, 0, 100],
-    ),
+    Answers(Class::Mute, Method::GetOwner, Shape::Owner, 1, &[0, 0, 0, 100]),
     Answers(Class::Mute, Method::GetState, Shape::Reading, 1, &[2]),
-    Answers(
-        Class::Switch,
-        Method::GetPosition,
-        Shape::Reading,
-        3,
-        &[0, 1, 0, 0, 0, 2],
-    ),
-    Answers(
-        Class::Switch,
-        Method::GetPositionNames,
-        Shape::Names,
-        1,
-        &[0, 2, 0, 1, 65, 0, 0],
-    ),
-    Answers(
-        Class::Switch,
-        Method::GetPositionEnableds,
-        Shape::Flags,
-        1,
-        &[0, 2, 1, 0],
-    ),
-    Answers(
-        Class::Mute,
-        Method::GetClassIdentification,
-        Shape::Class,
-        1,
-        &[0, 4, 0, 1, 0, 1, 0, 1, 0, 2, 0, 2],
-    ),
+    Answers(Class::Switch, Method::GetPosition, Shape::Reading, 3, &[0, 1, 0, 0, 0, 2]),
+    Answers(Class::Switch, Method::GetPositionNames, Shape::Names, 1, &[0, 2, 0, 1, 65, 0, 0]),
+    Answers(Class::Switch, Method::GetPositionEnableds, Shape::Flags, 1, &[0, 2, 1, 0]),
+    Answers(Class::Mute, Method::GetClassIdentification, Shape::Class, 1, &[0, 4, 0, 1, 0, 1, 0, 1, 0, 2, 0, 2]),
     Answers(
         Class::Block,
         Method::GetMembers,
@@ -242,11 +164,9 @@ pub const ANSWERS: &[Answers] = &[
         Method::GetMembersRecursive,
         Shape::Descendants,
         1,
-        &[
-            0, 1, 0, 0, 16, 1, 0, 4, 0, 1, 0, 1, 0, 1, 0, 2, 0, 2, 0, 0, 16, 0,
-        ],
+        &[0, 1, 0, 0, 16, 1, 0, 4, 0, 1, 0, 1, 0, 1, 0, 2, 0, 2, 0, 0, 16, 0],
     ),
-];
+};
 
 pub const NO_ANSWERS: &[AnswersNothing] = &[
     AnswersNothing(Class::Mute, Method::GetState, 1, &[3]),

@@ -1,9 +1,10 @@
 //! Ends in memory.
 use super::{A, B, LARGEST, heard_by_now, hold, sends};
 use crate::tests::ending::{Ending, Entry, Took, end_of};
-use crate::tests::{Script, first_other, play};
+use crate::tests::{Agrees, first_other, first_wrong_step, no_step_wrong};
 use oca_net::{End, Heard, MemoryEnd};
 use oca_types::{Packet, Peer};
+use std::alloc::Global;
 
 /// A call of an end, and what it must answer.
 #[derive(Clone, Copy)]
@@ -24,57 +25,43 @@ enum Step {
 
 use Step::*;
 
-/// Whether a receive answers so, and the packet then holds these bytes.
-fn hears(end: &mut MemoryEnd, packet: &mut Packet, heard: Heard, bytes: &[u8]) -> bool {
-    end.receive(packet) == heard && packet.as_slice() == bytes
+/// An end, and the packet that it receives into.
+#[derive(Drop)]
+struct Bench {
+    end: MemoryEnd,
+    packet: Packet,
 }
 
-/// Whether the call is answered so.
-fn agrees(end: &mut MemoryEnd, packet: &mut Packet, step: Step) -> bool {
-    match step {
-        Hears(heard, bytes) => hears(end, packet, heard, bytes),
-        HearsByNow(before, heard, after) => heard_by_now(end, packet) == (before, heard, after),
-        Sends(to, bytes, taken) => sends(end, to, bytes, taken),
-        Failures(count) => end.failures() == count,
-        Delivered(entries) => first_other(end.delivered(), entries).is_none(),
-        Taken(wanted) => first_other(end.taken(), wanted).is_none(),
-    }
-}
-
-/// What the packet holds before the first call.
-const HELD: &[u8] = &[1, 2, 3];
-
-/// The first call that is answered otherwise. The packet holds bytes before the first.
-fn first_wrong(end: &mut MemoryEnd, packet: &mut Packet, steps: &[Step]) -> Option<usize> {
-    hold(packet, HELD);
-    for (at, step) in steps.iter().enumerate() {
-        if !agrees(end, packet, *step) {
-            return Some(at);
+impl Agrees<Bench> for Step {
+    /// Whether the call is answered so.
+    fn agrees(&self, on: &mut Bench) -> bool {
+        let (end, packet) = (&mut on.end, &mut on.packet);
+        match *self {
+            Hears(heard, bytes) => end.receive(packet) == heard && packet.as_slice() == bytes,
+            HearsByNow(before, heard, after) => heard_by_now(end, packet) == (before, heard, after),
+            Sends(to, bytes, taken) => sends(end, to, bytes, taken),
+            Failures(count) => end.failures() == count,
+            Delivered(entries) => first_other(end.delivered(), entries).is_none(),
+            Taken(wanted) => first_other(end.taken(), wanted).is_none(),
         }
     }
-    None
 }
 
-/// An end and its calls.
-pub struct InMemory {
-    name: &'static str,
-    ending: Ending,
-    steps: &'static [Step],
-}
+/// An end and its calls, by their name.
+struct InMemory(&'static str, Ending, &'static [Step]);
 
-impl Script for InMemory {
-    /// The name.
-    fn name(&self) -> &'static str {
-        self.name
-    }
-
-    /// The first call that is answered otherwise; the last number where there is no end.
-    fn wrong_step(&self, rt: &HostRuntime, packet: &mut Packet) -> Option<usize> {
-        match end_of(rt.alloc(), self.ending) {
-            Some(mut end) => first_wrong(&mut end, packet, self.steps),
-            None => Some(usize::MAX),
-        }
-    }
+/// The first call that is answered otherwise; the last number where there is no end. The packet holds bytes before the
+/// first.
+fn wrong_call(alloc: Global, script: &InMemory) -> Option<usize> {
+    let Some(end) = end_of(alloc, script.1) else {
+        return Some(usize::MAX);
+    };
+    let mut on = Bench {
+        end,
+        packet: Packet::new(),
+    };
+    hold(&mut on.packet, &[1, 2, 3]);
+    first_wrong_step(&mut on, script.2)
 }
 
 /// Datagrams of 2, 1,473 and 1,472 bytes, and between them silence and a receive that fails.
@@ -99,19 +86,6 @@ const IN_ORDER: &[Step] = &[
     Hears(Heard::Closed, &[]),
     Hears(Heard::Closed, &[]),
     Failures(1),
-];
-
-// After nine receives the whole script was delivered, the datagram of 1,473 bytes too.
-const SHOWN: &[Step] = &[
-    Hears(Heard::Datagram { from: A, now: 5 }, &[0x3b, 0x00]),
-    Hears(Heard::Quiet { now: 7 }, &[]),
-    Hears(Heard::Oversize { now: 8 }, &[]),
-    Hears(Heard::Failed, &[]),
-    Hears(Heard::Datagram { from: B, now: 6 }, &[9; LARGEST]),
-    Hears(Heard::Closed, &[]),
-    Hears(Heard::Closed, &[]),
-    Hears(Heard::Closed, &[]),
-    Hears(Heard::Closed, &[]),
     Delivered(ENTRIES),
 ];
 
@@ -125,69 +99,17 @@ const TO_THE_ROOM: &[Step] = &[
     Taken(&[Took(A, &[1]), Took(B, &[3, 4])]),
 ];
 
-const BEYOND: &[Step] = &[
-    Sends(A, &[1], false),
-    Sends(A, &[2], true),
-    Sends(A, &[3], false),
-    Failures(2),
-    Taken(&[Took(A, &[2])]),
-];
+const NO_TIME: &[Step] = &[HearsByNow(0, Heard::Quiet { now: 7 }, 0)];
 
-/// The scripts.
-const SCRIPTS: &[InMemory] = &[
-    InMemory {
-        name: "delivers_its_script_in_order",
-        ending: Ending {
-            quiet: 0,
-            entries: ENTRIES,
-            room: 0,
-            fail_send: None,
-        },
-        steps: IN_ORDER,
-    },
-    InMemory {
-        name: "shows_what_it_delivered",
-        ending: Ending {
-            quiet: 0,
-            entries: ENTRIES,
-            room: 0,
-            fail_send: None,
-        },
-        steps: SHOWN,
-    },
-    InMemory {
-        name: "takes_up_to_its_room",
-        ending: Ending {
-            quiet: 0,
-            entries: &[],
-            room: 2,
-            fail_send: Some(1),
-        },
-        steps: TO_THE_ROOM,
-    },
-    InMemory {
-        name: "counts_sends_beyond_the_room",
-        ending: Ending {
-            quiet: 0,
-            entries: &[],
-            room: 1,
-            fail_send: Some(0),
-        },
-        steps: BEYOND,
-    },
-    InMemory {
-        name: "an_end_in_memory_keeps_no_time",
-        ending: Ending {
-            quiet: 0,
-            entries: &[Entry::Quiet(7)],
-            room: 1,
-            fail_send: None,
-        },
-        steps: &[HearsByNow(0, Heard::Quiet { now: 7 }, 0)],
-    },
-];
+const SCRIPTS: &[InMemory] = rows! {
+    InMemory("delivers_its_script_in_order", delivers!(ENTRIES, 0), IN_ORDER),
+    InMemory("takes_up_to_its_room", delivers!(&[], 2, fail_send: Some(1)), TO_THE_ROOM),
+    InMemory("an_end_in_memory_keeps_no_time", delivers!(&[Entry::Quiet(7)], 1), NO_TIME),
+};
 
 #[test]
 fn scripts(rt: HostRuntime) {
-    play(&rt, &rt, SCRIPTS);
+    for script in SCRIPTS {
+        no_step_wrong(&rt, script.0, wrong_call(rt.alloc(), script));
+    }
 }

@@ -1,9 +1,9 @@
 //! How long a receive waits, and what its moments are. No clause says what a clock tells, so these tests alone refuse
 //! an end whose moments lag or stand still, or that waits longer or shorter than it says.
 use super::{
-    AtSockets, Begun, Call, HELD, LOCALHOST, SocketEnd, heard_by_now, hold, instant, sends,
+    AtSockets, HELD, LOCALHOST, Machine, SocketEnd, heard_by_now, hold, instant, play, sends,
 };
-use crate::tests::{none_wrong, play, wrong_unless};
+use crate::tests::Agrees;
 use oca_net::{CountsSleep, End, Heard, UdpEnd};
 use oca_types::Packet;
 use std::cell::Cell;
@@ -128,17 +128,11 @@ fn told(end: &mut SocketEnd<'_>, packet: &mut Packet) -> (u64, Option<u64>) {
 }
 
 /// Whether the moments follow one another after a pause.
-fn follows(
-    rt: &HostRuntime,
-    end: &mut SocketEnd<'_>,
-    packet: &mut Packet,
-    begun: &Begun,
-    pause: u64,
-) -> bool {
-    thread::sleep(rt, Duration::from_millis(pause));
-    let least = since(rt, begun.bound);
-    let (asked, heard) = told(end, packet);
-    match (least, heard, since(rt, begun.before)) {
+fn follows(on: &mut Machine<'_>, pause: u64) -> bool {
+    thread::sleep(on.rt, Duration::from_millis(pause));
+    let least = since(on.rt, on.bound);
+    let (asked, heard) = told(&mut on.first, &mut on.packet);
+    match (least, heard, since(on.rt, on.before)) {
         (Some(least), Some(heard), Some(most)) => {
             least <= asked && asked <= heard && heard <= most
         }
@@ -174,25 +168,21 @@ fn hears_by(end: &mut SocketEnd<'_>, packet: &mut Packet, bytes: &[u8], moment: 
     }
 }
 
-impl Call for Step {
+impl Agrees<Machine<'_>> for Step {
     /// Whether it is answered so by the first end.
-    fn agrees(
-        &self,
-        rt: &HostRuntime,
-        begun: &Begun,
-        first: &mut SocketEnd<'_>,
-        _second: &mut SocketEnd<'_>,
-        _plain: &UdpSocket,
-        packet: &mut Packet,
-    ) -> bool {
+    fn agrees(&self, on: &mut Machine<'_>) -> bool {
+        if let Follows(pause) = *self {
+            return follows(on, pause);
+        }
+        let (first, packet) = (&mut on.first, &mut on.packet);
         match *self {
-            Follows(pause) => follows(rt, first, packet, begun, pause),
-            IsTimed => is_timed(first, packet),
             Quiet(receives, most) => shortest_quiet(first, packet, receives) < most,
-            TwentyPast(most) => are_past(rt, first, packet, most),
+            TwentyPast(most) => are_past(on.rt, first, packet, most),
             Echoes(bytes, moment) => {
-                sends(first, begun.first, bytes, true) && hears_by(first, packet, bytes, moment)
+                let here = first.local();
+                sends(first, here, bytes, true) && hears_by(first, packet, bytes, moment)
             }
+            IsTimed | Follows(_) => is_timed(first, packet),
         }
     }
 }
@@ -236,17 +226,14 @@ const IN_TURN: &[Step] = &[
 ];
 
 /// The scripts.
-const SCRIPTS: &[AtSockets<Step>] = &[
+const SCRIPTS: &[AtSockets<'static, Step>] = rows! {
     AtSockets("moments_are_milliseconds_since_bind", PAUSES),
     AtSockets("an_end_at_a_socket_keeps_time", &[IsTimed]),
     AtSockets("a_quiet_receive_takes_50_milliseconds", NO_MOMENT),
     AtSockets("a_receive_waits_until_its_moment", BY_A_MOMENT),
-    AtSockets(
-        "a_receive_by_a_moment_that_is_past_does_not_wait",
-        BY_THE_PAST,
-    ),
+    AtSockets("a_receive_by_a_moment_that_is_past_does_not_wait", BY_THE_PAST),
     AtSockets("each_wait_has_its_own_time", IN_TURN),
-];
+};
 
 /// A system whose clock gives the milliseconds that it is set to, and nothing where it is not set.
 #[derive(Drop)]
@@ -377,7 +364,8 @@ fn has_the_date(rt: &HostRuntime, clock: &CountsSleep<'_, HostRuntime>) -> bool 
     }
 }
 
-/// Whether an end over a clock that counts sleep gives moments that rise with it, and it is not behind this moment then.
+/// Whether an end over a clock that counts sleep gives moments that rise with it, and it is not behind this moment
+/// then.
 fn goes_on(
     rt: &HostRuntime,
     packet: &mut Packet,
@@ -405,16 +393,11 @@ fn scripts(rt: HostRuntime) {
 }
 
 #[test]
-fn clocks(rt: HostRuntime) {
-    let mut packet = Packet::new();
-    none_wrong(
-        &rt,
-        "moments_do_not_go_back",
-        &[wrong_reading(&rt, &mut packet)],
-    );
-    none_wrong(
-        &rt,
-        "a_clock_that_counts_sleep_goes_on",
-        &[wrong_unless(counts_sleep(&rt, &mut packet))],
-    );
+fn moments_do_not_go_back(rt: HostRuntime) {
+    assert_eq!(rt; wrong_reading(&rt, &mut Packet::new()), None);
+}
+
+#[test]
+fn a_clock_that_counts_sleep_goes_on(rt: HostRuntime) {
+    assert!(rt; counts_sleep(&rt, &mut Packet::new()));
 }

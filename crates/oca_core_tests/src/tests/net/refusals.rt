@@ -1,13 +1,11 @@
 //! Where no end is bound, why, and the words of that; and the descriptor of one that is.
-use super::{AtSockets, Begun, Call, LOCALHOST, SocketEnd};
-use crate::tests::{Words, first_wrong, none_wrong, play, prints, wrong_unless};
+use super::{AtSockets, LOCALHOST, Machine, SocketEnd, play};
+use crate::tests::{Agrees, Words, first_wrong, none_wrong, prints};
 use oca_net::{
     BindError, BindFault, UdpEnd, fill_standard_descriptors, is_gone, is_refused as host_refuses,
 };
-use oca_types::{Packet, Peer};
-use std::alloc::Global;
+use oca_types::Peer;
 use std::io::ErrorKind;
-use std::net::UdpSocket;
 use std::os::fd::{AsFd, AsRawFd};
 
 /// 192.0.2.1, an address of no machine, at a port of the system's choice.
@@ -74,9 +72,9 @@ pub enum Place {
 }
 
 /// Where it is.
-fn peer(begun: &Begun, place: Place) -> Peer {
+fn peer(on: &Machine<'_>, place: Place) -> Peer {
     match place {
-        Place::InUse => begun.first,
+        Place::InUse => on.first.local(),
         Place::Nowhere => NO_MACHINE,
     }
 }
@@ -101,60 +99,39 @@ pub enum Step {
 
 use Step::*;
 
-impl Call for Step {
+impl Agrees<Machine<'_>> for Step {
     /// Whether it is answered so.
-    fn agrees(
-        &self,
-        rt: &HostRuntime,
-        begun: &Begun,
-        first: &mut SocketEnd<'_>,
-        _second: &mut SocketEnd<'_>,
-        _plain: &UdpSocket,
-        _packet: &mut Packet,
-    ) -> bool {
+    fn agrees(&self, on: &mut Machine<'_>) -> bool {
+        let (rt, first) = (on.rt, on.first.local());
         match *self {
-            IsRefused(at) => matches!(bound(rt, peer(begun, at)), Err(BindFault::Io)),
-            IsRefusedFor(at, kind, text) => is_refused_for(rt, peer(begun, at), kind, text),
-            HasAProgram => !host_refuses(rt, LOCALHOST, begun.first),
+            IsRefused(at) => matches!(bound(rt, peer(on, at)), Err(BindFault::Io)),
+            IsRefusedFor(at, kind, text) => is_refused_for(rt, peer(on, at), kind, text),
+            HasAProgram => !host_refuses(rt, LOCALHOST, first),
             IsTowards => {
-                is_towards(rt, begun.first, 0)
-                    && is_towards(rt, begun.first, free_port(rt))
-                    && is_towards_nowhere(rt, begun.first, begun.first.port, ErrorKind::AddrInUse)
+                is_towards(rt, first, 0)
+                    && is_towards(rt, first, free_port(rt))
+                    && is_towards_nowhere(rt, first, first.port, ErrorKind::AddrInUse)
             }
-            HasItsAddress => !is_gone(rt, begun.first.ip) && is_gone(rt, NO_MACHINE.ip),
-            HasADescriptor => has_a_descriptor(first),
+            HasItsAddress => !is_gone(rt, first.ip) && is_gone(rt, NO_MACHINE.ip),
+            HasADescriptor => has_a_descriptor(&on.first),
         }
     }
 }
 
-const REASONS: &[Step] = &[
-    IsRefusedFor(
-        Place::InUse,
-        ErrorKind::AddrInUse,
-        "Address already in use (os error 98)",
-    ),
-    IsRefusedFor(
-        Place::Nowhere,
-        ErrorKind::AddrNotAvailable,
-        "Cannot assign requested address (os error 99)",
-    ),
-];
+const REASONS: &[Step] = rows! {
+    IsRefusedFor(Place::InUse, ErrorKind::AddrInUse, "Address already in use (os error 98)"),
+    IsRefusedFor(Place::Nowhere, ErrorKind::AddrNotAvailable, "Cannot assign requested address (os error 99)"),
+};
 
 /// The scripts.
-const SCRIPTS: &[AtSockets<Step>] = &[
-    AtSockets(
-        "a_port_in_use_is_refused",
-        &[IsRefused(Place::InUse), IsRefused(Place::Nowhere)],
-    ),
+const SCRIPTS: &[AtSockets<'static, Step>] = rows! {
+    AtSockets("a_port_in_use_is_refused", &[IsRefused(Place::InUse), IsRefused(Place::Nowhere)]),
     AtSockets("a_refused_socket_has_the_systems_reason", REASONS),
     AtSockets("a_host_refuses_a_port_that_no_program_has", &[HasAProgram]),
-    AtSockets(
-        "an_end_for_a_device_is_at_one_address_and_the_port",
-        &[IsTowards],
-    ),
+    AtSockets("an_end_for_a_device_is_at_one_address_and_the_port", &[IsTowards]),
     AtSockets("an_address_that_is_there_is_not_gone", &[HasItsAddress]),
     AtSockets("an_end_has_a_descriptor", &[HasADescriptor]),
-];
+};
 
 /// A port of this machine of the system's choice.
 const HERE: Peer = Peer {
@@ -177,45 +154,22 @@ fn is_free_again(rt: &HostRuntime) -> bool {
     }
 }
 
-/// Whether the standard descriptors are there.
-fn are_filled(rt: &HostRuntime) -> bool {
-    fill_standard_descriptors(rt).is_ok()
-}
-
 /// The faults in words.
 const FAULTS: &[Words<BindFault>] = &[
     Words(BindFault::Io, "socket failed"),
     Words(BindFault::NoMemory, "no memory"),
 ];
 
-/// Whether the error has the words of its fault.
-fn error_reads(alloc: Global) -> bool {
-    prints(alloc, &BindError::NoMemory, "no memory")
-}
-
 #[test]
 fn scripts(rt: HostRuntime) {
-    none_wrong(
-        &rt,
-        "standard_descriptors",
-        &[wrong_unless(are_filled(&rt))],
-    );
+    assert!(rt; fill_standard_descriptors(&rt).is_ok());
     play(&rt, &rt, SCRIPTS);
 }
 
 #[test]
 fn rows(rt: HostRuntime) {
-    none_wrong(
-        &rt,
-        "a_port_is_free_once_its_end_is_gone",
-        &[wrong_unless(is_free_again(&rt))],
-    );
-    none_wrong(
-        &rt,
-        "faults_in_words",
-        &[
-            first_wrong(rt.alloc(), FAULTS),
-            wrong_unless(error_reads(rt.alloc())),
-        ],
-    );
+    // A port is free once its end is gone.
+    assert!(rt; is_free_again(&rt));
+    none_wrong(&rt, "faults_in_words", &[first_wrong(rt.alloc(), FAULTS)]);
+    assert!(rt; prints(rt.alloc(), &BindError::NoMemory, "no memory"));
 }

@@ -1,8 +1,8 @@
 //! Ends at UDP sockets, in one process: what is sent lies at the socket until it is received, so no thread is needed.
 //! Each port is the system's choice. No clause says what goes through a socket, so these tests alone refuse an end that
 //! always returns Quiet or Failed, that drops datagrams, or that sends nothing and returns true.
-use super::{AtSockets, Begun, Call, HELD, LARGEST, LOCALHOST, SocketEnd, hold, sends};
-use crate::tests::play;
+use super::{AtSockets, HELD, LARGEST, LOCALHOST, Machine, SocketEnd, hold, play, sends};
+use crate::tests::Agrees;
 use oca_net::{End, Heard};
 use oca_types::{Packet, Peer};
 use std::io::ErrorKind;
@@ -48,15 +48,12 @@ pub enum Step {
 use Step::*;
 
 /// Where the socket is.
-fn place(begun: &Begun, who: Holder) -> Peer {
+fn place(on: &Machine<'_>, who: Holder) -> Peer {
     match who {
-        First => begun.first,
-        Second => begun.second,
-        Plain => begun.plain,
-        Nobody => Peer {
-            ip: LOCALHOST,
-            port: 0,
-        },
+        First => on.first.local(),
+        Second => on.second.local(),
+        Plain => peer!(on.plain_port),
+        Nobody => peer!(0),
         Everyone => Peer {
             ip: 0xffff_ffff,
             port: 9,
@@ -113,29 +110,42 @@ fn failed_for(end: &SocketEnd<'_>, wanted: Option<ErrorKind>) -> bool {
     kind == wanted && end.last_failed_receive().is_none()
 }
 
-impl Call for Step {
+/// Whether the socket sends these bytes there, and they are taken, or not.
+fn is_sent(on: &mut Machine<'_>, who: Holder, to: Peer, bytes: &[u8], taken: bool) -> bool {
+    match who {
+        First => sends(&mut on.first, to, bytes, taken),
+        Second => sends(&mut on.second, to, bytes, taken),
+        Plain => plain_sends(&on.plain, to, bytes, taken),
+        Nobody | Everyone => false,
+    }
+}
+
+/// Whether the socket hears these bytes of this peer.
+fn is_heard(on: &mut Machine<'_>, who: Holder, from: Peer, bytes: &[u8]) -> bool {
+    match who {
+        First => end_hears(&mut on.first, &mut on.packet, from, bytes),
+        Second => end_hears(&mut on.second, &mut on.packet, from, bytes),
+        Plain => plain_hears(&on.plain, from, bytes),
+        Nobody | Everyone => false,
+    }
+}
+
+impl Agrees<Machine<'_>> for Step {
     /// Whether it is answered so.
-    fn agrees(
-        &self,
-        _rt: &HostRuntime,
-        begun: &Begun,
-        first: &mut SocketEnd<'_>,
-        second: &mut SocketEnd<'_>,
-        plain: &UdpSocket,
-        packet: &mut Packet,
-    ) -> bool {
+    fn agrees(&self, on: &mut Machine<'_>) -> bool {
         match *self {
-            Granted(least) => first.send_buffer() >= least,
-            AreBound => are_bound(begun.first, begun.second),
-            Sends(First, to, bytes, taken) => sends(first, place(begun, to), bytes, taken),
-            Sends(Second, to, bytes, taken) => sends(second, place(begun, to), bytes, taken),
-            Sends(Plain, to, bytes, taken) => plain_sends(plain, place(begun, to), bytes, taken),
-            Hears(First, from, bytes) => end_hears(first, packet, place(begun, from), bytes),
-            Hears(Second, from, bytes) => end_hears(second, packet, place(begun, from), bytes),
-            Hears(Plain, from, bytes) => plain_hears(plain, place(begun, from), bytes),
-            HearsOversize => hears_oversize(first, packet),
-            LastFailure(reason) => failed_for(first, reason),
-            Sends(..) | Hears(..) => false,
+            Granted(least) => on.first.send_buffer() >= least,
+            AreBound => are_bound(on.first.local(), on.second.local()),
+            Sends(who, to, bytes, taken) => {
+                let to = place(on, to);
+                is_sent(on, who, to, bytes, taken)
+            }
+            Hears(who, from, bytes) => {
+                let from = place(on, from);
+                is_heard(on, who, from, bytes)
+            }
+            HearsOversize => hears_oversize(&mut on.first, &mut on.packet),
+            LastFailure(reason) => failed_for(&on.first, reason),
         }
     }
 }
@@ -193,7 +203,7 @@ const REFUSED: &[Step] = &[
 const BUFFER: &[Step] = &[Granted(425_984)];
 
 /// The scripts.
-const SCRIPTS: &[AtSockets<Step>] = &[
+const SCRIPTS: &[AtSockets<'static, Step>] = &[
     AtSockets("two_ends_exchange_datagrams", EXCHANGE),
     AtSockets("hears_1472_bytes_whole_and_1473_as_oversize", AT_THE_LIMIT),
     AtSockets("hears_empty_and_longest_datagrams", EMPTY_AND_LONGEST),

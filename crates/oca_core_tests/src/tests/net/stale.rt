@@ -85,37 +85,19 @@ const BRINGS: &[(Option<(Peer, usize)>, u64)] = &[
 ];
 
 /// When the device asks, and what it hears.
-const HEARS: &[(u64, Heard)] = &[
+const HEARS: &[(u64, Heard)] = rows! {
     (0, Heard::Datagram { from: A, now: 10 }),
-    (
-        1_010,
-        Heard::Datagram {
-            from: B,
-            now: 1_010,
-        },
-    ),
+    (1_010, Heard::Datagram { from: B, now: 1_010 }),
     // 990 ms of the standstill are not counted.
-    (
-        3_000,
-        Heard::Datagram {
-            from: A,
-            now: 2_015,
-        },
-    ),
+    (3_000, Heard::Datagram { from: A, now: 2_015 }),
     // What came after the standstill is dropped.
     (3_010, Heard::Quiet { now: 2_015 }),
     // It listened until 3,300: 3,700 ms more are not counted.
-    (
-        8_000,
-        Heard::Datagram {
-            from: A,
-            now: 3_311,
-        },
-    ),
+    (8_000, Heard::Datagram { from: A, now: 3_311 }),
     // A standstill of over a minute is counted in full.
     (100_000, Heard::Quiet { now: 95_360 }),
     (102_000, Heard::Closed),
-];
+};
 
 /// A script of these receives; where memory is refused, none.
 fn script(alloc: Global) -> Option<Vec<Scripted>> {

@@ -1,111 +1,300 @@
-//! Networks with the bench device, and what schedules over them led to.
-use super::A_PORT;
-use super::rows::{Row, Seen, Steps, script_of};
-use crate::tests::{Script, first_other, wrong_unless};
-use oca_pair::{PairFault, Start, Step, Transcript, run_pair, run_pair_with_sizes};
-use oca_tree::{Tree, bench};
-use oca_types::{Handle, LOOPBACK, Packet, Peer, Peers, Sizes, Span, Window};
+//! Networks with the bench device, steps as data with what each must lead to, and what schedules over them led to.
+use crate::tests::{Wanted, first_other};
+use oca_control::{ControlFault, Reception};
+use oca_device::Verdict;
+use oca_pair::{Outcome, PairFault, Start, Step, Transcript, run_pair, run_pair_with_sizes};
+use oca_tree::{FrontFault, SetFault, Value, bench};
+use oca_types::{Handle, LOOPBACK, MethodId, Ono, Peer, Peers, Sizes, Span, Window};
 use std::alloc::Global;
 
-/// The sizes and the links of a network with the bench device.
+/// What a step led to, but for the bytes of an answer's parameters, of which it has the number.
 #[derive(Clone, Copy)]
-pub struct Network {
-    /// The window, at the device.
-    pub window: u8,
-    /// How many peers have sessions, where that is chosen.
-    pub peers: Option<u8>,
-    /// The span, at the links.
-    pub span: u8,
-    /// Of each link the port at 127.0.0.1 and the first handle.
-    pub starts: &'static [(u16, u32)],
+pub enum Seen {
+    Submitted(u32),
+    Refused(ControlFault),
+    Sent(usize),
+    Nothing,
+    Lost,
+    /// The device executed so many commands, and met so many duplicates, old commands and reused handles.
+    Served(u32, u32, u32, u32),
+    /// The device did not serve the datagram.
+    Device(Verdict),
+    Link(Reception),
+    Ticked,
+    Set,
+    NotSet(SetFault),
+    Changed,
+    NotChanged(FrontFault),
+    /// Status, ParamCount and the number of parameter bytes.
+    Answer(u8, u8, usize),
+    NoAnswer,
+    Renewed,
+    NotRenewed,
 }
 
-/// A link of A, with the sizes that are chosen where nothing else is.
-pub const ONE_LINK: Network = Network {
-    window: 32,
-    peers: None,
-    span: 16,
-    starts: &[(A_PORT, 1)],
-};
-
-/// What a schedule led to.
-#[derive(Clone, Copy)]
-pub struct Ran {
-    /// The first step that led to something else.
-    pub wrong: Option<usize>,
-    /// How many datagrams were sent to the device.
-    pub to_device: usize,
-    /// How many datagrams were sent to links.
-    pub to_links: usize,
-    /// The last byte of the last datagram that was sent to a link.
-    pub last_byte: Option<u8>,
-    /// How many sessions the device has.
-    pub sessions: usize,
+/// Whether the device's verdict is this.
+fn is_verdict(verdict: Verdict, want: Seen) -> bool {
+    match (verdict, want) {
+        (
+            Verdict::Served {
+                executed,
+                kept,
+                old,
+                reused,
+            },
+            Seen::Served(new, duplicates, late, again),
+        ) => executed == new && kept == duplicates && old == late && reused == again,
+        (Verdict::Served { .. }, _) => false,
+        (other, Seen::Device(wanted)) => other == wanted,
+        _ => false,
+    }
 }
+
+impl Wanted<Outcome> for Seen {
+    /// Whether a step led to this.
+    fn is(&self, outcome: &Outcome) -> bool {
+        match (outcome, *self) {
+            (Outcome::Submitted(handle), Seen::Submitted(wanted)) => handle.0 == wanted,
+            (Outcome::Refused(fault), Seen::Refused(wanted)) => *fault == wanted,
+            (Outcome::Sent(number), Seen::Sent(wanted)) => *number == wanted,
+            (Outcome::Nothing, Seen::Nothing) => true,
+            (Outcome::Lost, Seen::Lost) => true,
+            (Outcome::Device(verdict), _) => is_verdict(*verdict, *self),
+            (Outcome::Link(reception), Seen::Link(wanted)) => *reception == wanted,
+            (Outcome::Ticked, Seen::Ticked) => true,
+            (Outcome::Set, Seen::Set) => true,
+            (Outcome::NotSet(fault), Seen::NotSet(wanted)) => *fault == wanted,
+            (Outcome::Changed, Seen::Changed) => true,
+            (Outcome::NotChanged(fault), Seen::NotChanged(wanted)) => *fault == wanted,
+            (Outcome::Answer(answer), Seen::Answer(status, count, size)) => {
+                answer.status == status && answer.count == count && answer.params.len() == size
+            }
+            (Outcome::NoAnswer, Seen::NoAnswer) => true,
+            (Outcome::Renewed, Seen::Renewed) => true,
+            (Outcome::NotRenewed, Seen::NotRenewed) => true,
+            _ => false,
+        }
+    }
+}
+
+/// A step, and what it must lead to. Where no link is named it is the first one; moments are in milliseconds.
+#[derive(Clone, Copy)]
+pub enum Row {
+    /// GetState of 4097 is submitted at a moment.
+    Gets(u64, Seen),
+    /// SetState of 4097 to Unmuted is submitted at a moment.
+    Unmutes(u64, Seen),
+    /// What is due at a moment is sent.
+    Due(u64, Seen),
+    /// What is due is sent 20 times, each 250 ms from 0 on.
+    Repeats,
+    /// A datagram is delivered to the device at a moment.
+    ToDevice(usize, u64, Seen),
+    /// A datagram is delivered to its link at a moment.
+    ToLink(usize, u64, Seen),
+    /// The bytes of a peer are delivered to the device at a moment.
+    Other(Peer, &'static [u8], u64, Seen),
+    /// The object with this number is set at the local front panel.
+    Sets(u32, Value, Seen),
+    /// The object with this number gets a label at the local front panel.
+    Labels(u32, &'static str, Seen),
+    /// The object with this number is enabled or disabled at the local front panel.
+    Enables(u32, bool, Seen),
+    /// The lock of the object with this number is released at the local front panel.
+    Unlocks(u32, Seen),
+    /// The hardware of the object with this number refuses to be changed, or no longer does.
+    Fails(u32, bool, Seen),
+    /// The answer under a handle is taken.
+    Takes(u32, Seen),
+    /// The link is renewed, with a first handle and a span, at a moment.
+    Renews(u32, u8, u64, Seen),
+    /// A keep-alive is sent beside the link, at a moment.
+    Beside(u64, Seen),
+    /// The clock is read at a moment.
+    Ticks(u64, Seen),
+}
+
+/// The steps of a schedule, and what each must lead to.
+#[derive(Drop)]
+struct Steps {
+    steps: Vec<Step<'static>>,
+    wants: Vec<Seen>,
+}
+
+/// Adds a step.
+fn add(script: &mut Steps, step: Step<'static>, want: Seen) -> Option<()> {
+    script.steps.push(step).ok()?;
+    script.wants.push(want).ok()
+}
+
+/// The first link submits method 4.1 or 4.2 of 4097.
+fn submit(index: u16, count: u8, params: &'static [u8], now: u64) -> Step<'static> {
+    Step::Submit {
+        link: 0,
+        target: Ono(4097),
+        method: MethodId { level: 4, index },
+        count,
+        params,
+        now,
+    }
+}
+
+/// The first link is renewed.
+fn renew(first: u32, size: u8, now: u64) -> Step<'static> {
+    Step::Renew {
+        link: 0,
+        first: Handle(first),
+        span: Span::new(size).unwrap_or(Span::default()),
+        now,
+    }
+}
+
+/// The step of a row, and what it must lead to; of many steps the first one.
+fn step_of(row: Row) -> (Step<'static>, Seen) {
+    let link = 0;
+    match row {
+        Row::Gets(now, want) => (submit(1, 0, &[], now), want),
+        Row::Unmutes(now, want) => (submit(2, 1, &[2], now), want),
+        Row::Due(now, want) => (Step::Due { link, now }, want),
+        Row::Repeats => (Step::Due { link, now: 0 }, Seen::Sent(0)),
+        Row::ToDevice(k, now, want) => (Step::ToDevice { k, now }, want),
+        Row::ToLink(k, now, want) => (Step::ToLink { k, now }, want),
+        Row::Other(from, bytes, now, want) => (Step::Other { from, bytes, now }, want),
+        Row::Renews(first, size, now, want) => (renew(first, size, now), want),
+        Row::Beside(now, want) => (Step::Beside { link, now }, want),
+        Row::Ticks(now, want) => (Step::Tick { now }, want),
+        other => front_step(other),
+    }
+}
+
+/// The step of a row that takes an answer, or changes an object at the local front panel.
+fn front_step(row: Row) -> (Step<'static>, Seen) {
+    match row {
+        Row::Takes(handle, want) => (
+            Step::Take {
+                link: 0,
+                handle: Handle(handle),
+            },
+            want,
+        ),
+        Row::Sets(ono, value, want) => (
+            Step::Local {
+                ono: Ono(ono),
+                value,
+            },
+            want,
+        ),
+        Row::Labels(ono, label, want) => (
+            Step::Label {
+                ono: Ono(ono),
+                label,
+            },
+            want,
+        ),
+        Row::Enables(ono, enabled, want) => (
+            Step::Enable {
+                ono: Ono(ono),
+                enabled,
+            },
+            want,
+        ),
+        Row::Fails(ono, failing, want) => (
+            Step::Fail {
+                ono: Ono(ono),
+                failing,
+            },
+            want,
+        ),
+        Row::Unlocks(ono, want) => (Step::Unlock { ono: Ono(ono) }, want),
+        _ => (Step::Tick { now: 0 }, Seen::Ticked),
+    }
+}
+
+/// Adds the steps of a row.
+fn add_row(script: &mut Steps, row: Row) -> Option<()> {
+    let (step, want) = step_of(row);
+    add(script, step, want)?;
+    if let Row::Repeats = row {
+        for count in 1..20u64 {
+            let now = count.saturating_mul(250);
+            add(
+                script,
+                Step::Due { link: 0, now },
+                Seen::Sent(count as usize),
+            )?;
+        }
+    }
+    Some(())
+}
+
+/// The steps of these parts.
+fn script_of(alloc: Global, parts: &[&[Row]]) -> Option<Steps> {
+    let mut script = Steps {
+        steps: Vec::new(alloc),
+        wants: Vec::new(alloc),
+    };
+    for rows in parts {
+        for row in *rows {
+            add_row(&mut script, *row)?;
+        }
+    }
+    Some(script)
+}
+
+/// The window of a network with the bench device, how many peers have sessions, where that is chosen, the span of its
+/// links, and of each the port at 127.0.0.1. The first handle is 1.
+#[derive(Clone, Copy)]
+pub struct Network(pub u8, pub Option<u8>, pub u8, pub &'static [u16]);
+
+/// What a schedule led to: the first step that led to something else, how many datagrams were sent to the device and
+/// how many to links, the last byte of the last one that was sent to a link, and how many sessions the device has.
+#[derive(Clone, Copy)]
+pub struct Ran(
+    pub Option<usize>,
+    pub usize,
+    pub usize,
+    pub Option<u8>,
+    pub usize,
+);
 
 /// A schedule of these parts by its name, and what it must lead to.
-pub struct Case {
-    pub name: &'static str,
-    pub network: Network,
-    pub parts: &'static [&'static [Row]],
-    pub want: Result<Ran, PairFault>,
-}
+pub struct Case(
+    pub &'static str,
+    pub Network,
+    pub &'static [&'static [Row]],
+    pub Result<Ran, PairFault>,
+);
 
-/// A start of a link at a port.
-fn start(port: u16, first: u32) -> Start {
-    Start {
-        peer: Peer { ip: LOOPBACK, port },
-        first_handle: Handle(first),
+/// The starts of links at these ports.
+fn starts_of(alloc: Global, ports: &[u16]) -> Option<Vec<Start>> {
+    let mut starts = Vec::new(alloc);
+    for port in ports {
+        let peer = Peer {
+            ip: LOOPBACK,
+            port: *port,
+        };
+        let first_handle = Handle(1);
+        starts.push(Start { peer, first_handle }).ok()?;
     }
+    Some(starts)
 }
 
-/// Adds the starts of the links.
-fn add_starts(starts: &mut Vec<Start>, links: &[(u16, u32)]) -> bool {
-    for (port, first) in links {
-        if starts.push(start(*port, *first)).is_err() {
-            return false;
-        }
-    }
-    true
-}
-
-/// The sizes of a network: the window, where it is chosen how many peers have sessions, and the span.
-#[derive(Clone, Copy)]
-struct Chosen {
-    window: Window,
-    peers: Option<Peers>,
-    span: Span,
-}
-
-/// The sizes of a network, where they are sizes.
-fn sizes_of(network: &Network) -> Option<Chosen> {
-    let peers = match network.peers {
-        Some(count) => Some(Peers::new(count)?),
-        None => None,
-    };
-    Some(Chosen {
-        window: Window::new(network.window)?,
-        peers,
-        span: Span::new(network.span)?,
-    })
-}
-
-/// Runs the steps over a device with these objects.
+/// Runs the steps over a network; none where memory is refused, or a size is none.
 fn run(
     alloc: Global,
-    tree: Tree,
-    chosen: Chosen,
-    starts: &[Start],
+    network: Network,
     steps: &[Step<'_>],
-) -> Result<Transcript, PairFault> {
-    let window = chosen.window;
-    match chosen.peers {
-        Some(peers) => {
-            let sizes = Sizes { window, peers };
-            run_pair_with_sizes(alloc, tree, sizes, chosen.span, starts, steps)
-        }
-        None => run_pair(alloc, tree, window, chosen.span, starts, steps),
-    }
+) -> Option<Result<Transcript, PairFault>> {
+    let (window, span) = (Window::new(network.0)?, Span::new(network.2)?);
+    let peers = Peers::new(network.1.unwrap_or(1))?;
+    let (Ok(tree), Some(starts)) = (bench(alloc), starts_of(alloc, network.3)) else {
+        return None;
+    };
+    let starts = starts.as_slice();
+    Some(match network.1 {
+        Some(_) => run_pair_with_sizes(alloc, tree, Sizes { window, peers }, span, starts, steps),
+        None => run_pair(alloc, tree, window, span, starts, steps),
+    })
 }
 
 /// The last byte of the last datagram that was sent to a link.
@@ -116,74 +305,21 @@ fn last_byte(transcript: &Transcript) -> Option<u8> {
 
 /// Whether a run led to this.
 fn is_ran(transcript: &Transcript, wants: &[Seen], want: Ran) -> bool {
-    first_other(transcript.log.as_slice(), wants) == want.wrong
-        && transcript.to_device.len() == want.to_device
-        && transcript.to_links.len() == want.to_links
-        && last_byte(transcript) == want.last_byte
-        && transcript.device.sessions() == want.sessions
+    first_other(transcript.log.as_slice(), wants) == want.0
+        && transcript.to_device.len() == want.1
+        && transcript.to_links.len() == want.2
+        && last_byte(transcript) == want.3
+        && transcript.device.sessions() == want.4
 }
 
-/// Whether a run is to lead to this.
-fn is_wanted(transcript: &Transcript, wants: &[Seen], want: Result<Ran, PairFault>) -> bool {
-    match want {
-        Ok(want) => is_ran(transcript, wants, want),
-        Err(_) => false,
-    }
-}
-
-/// Whether a run is to be refused for this reason.
-fn is_refused(fault: PairFault, want: Result<Ran, PairFault>) -> bool {
-    match want {
-        Ok(_) => false,
-        Err(want) => fault == want,
-    }
-}
-
-/// Whether a run over a device with these objects leads to this.
-fn is_led_to(
-    alloc: Global,
-    tree: Tree,
-    chosen: Chosen,
-    starts: &[Start],
-    script: &Steps,
-    want: Result<Ran, PairFault>,
-) -> bool {
-    match run(alloc, tree, chosen, starts, script.steps.as_slice()) {
-        Ok(transcript) => is_wanted(&transcript, script.wants.as_slice(), want),
-        Err(fault) => is_refused(fault, want),
-    }
-}
-
-/// Whether the script leads to what the case says over the bench device.
-fn leads(alloc: Global, case: &Case, starts: &[Start], script: &Steps) -> bool {
-    let Some(chosen) = sizes_of(&case.network) else {
+/// Whether the case is so.
+pub fn is_so(alloc: Global, case: &Case) -> bool {
+    let Some(script) = script_of(alloc, case.2) else {
         return false;
     };
-    match bench(alloc) {
-        Ok(tree) => is_led_to(alloc, tree, chosen, starts, script, case.want),
-        Err(_) => false,
-    }
-}
-
-/// Whether the case is so from these starts.
-fn is_so_from(alloc: Global, case: &Case, starts: &[Start]) -> bool {
-    match script_of(alloc, case.parts) {
-        Some(script) => leads(alloc, case, starts, &script),
-        None => false,
-    }
-}
-
-impl Script for Case {
-    /// The name.
-    fn name(&self) -> &'static str {
-        self.name
-    }
-
-    /// Whether it leads to something else.
-    fn wrong_step(&self, rt: &HostRuntime, _packet: &mut Packet) -> Option<usize> {
-        let mut starts = Vec::new(rt.alloc());
-        let is_so = add_starts(&mut starts, self.network.starts)
-            && is_so_from(rt.alloc(), self, starts.as_slice());
-        wrong_unless(is_so)
+    match (run(alloc, case.1, script.steps.as_slice()), case.3) {
+        (Some(Ok(transcript)), Ok(want)) => is_ran(&transcript, script.wants.as_slice(), want),
+        (Some(Err(fault)), Err(want)) => fault == want,
+        _ => false,
     }
 }

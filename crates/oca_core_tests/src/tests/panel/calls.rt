@@ -30,20 +30,7 @@ fn is_one(taken: &[(Peer, Packet)]) -> bool {
     }
 }
 
-pub const ROWS: &[Over<Called>] = &[
-    Over {
-        answers: DONE,
-        wait: 0,
-        span: None,
-        asked: Called(Heard::Datagram {
-            from: DEVICE,
-            now: 10,
-        }),
-    },
-    Over {
-        answers: &[],
-        wait: 0,
-        span: None,
-        asked: Called(Heard::Closed),
-    },
-];
+pub const ROWS: &[Over<Called>] = rows! {
+    Over(DONE, 0, None, Called(Heard::Datagram { from: DEVICE, now: 10 })),
+    Over(&[], 0, None, Called(Heard::Closed)),
+};

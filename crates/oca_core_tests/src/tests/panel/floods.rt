@@ -1,46 +1,28 @@
 //! A panel to whose end strangers send.
 use crate::tests::Row;
-use crate::tests::control::{DEVICE, STRANGER};
+use crate::tests::control::{DEVICE, GET_STATE, STRANGER};
 use crate::tests::ending::{Ending, Entry, end_of};
 use oca_control::Outcome;
 use oca_net::MemoryEnd;
 use oca_panel::Panel;
-use oca_types::{Handle, MethodId, Ono, Request, Span};
+use oca_types::{Handle, Span};
 use std::alloc::Global;
-
-/// A GetState of the object 4097.
-const GET_STATE: Request = Request {
-    target: Ono(4097),
-    method: MethodId { level: 4, index: 1 },
-    count: 0,
-    params: &[],
-};
 
 /// A stranger's datagram.
 const JUNK: Entry = Entry::Datagram(STRANGER, &[0x3b], 10);
 
 /// Strangers' datagrams, silence until the moment 300, and then the answer.
-const FLOOD: Ending = Ending {
-    quiet: 0,
-    entries: &[
-        JUNK,
-        JUNK,
-        JUNK,
-        JUNK,
-        JUNK,
-        JUNK,
-        JUNK,
-        JUNK,
+const FLOOD: Ending = delivers!(
+    &[
         JUNK,
         JUNK,
         JUNK,
         JUNK,
         Entry::Quiet(300),
-        Entry::Response(7, 400),
+        Entry::Response(7, 400)
     ],
-    room: 32,
-    fail_send: None,
-};
+    32
+);
 
 /// For how many milliseconds a command waits, and whether it is answered.
 pub struct Flooded(u32, bool);

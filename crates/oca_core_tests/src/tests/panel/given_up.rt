@@ -29,23 +29,8 @@ impl Asked for GivenUp {
     }
 }
 
-pub const ROWS: &[Over<GivenUp>] = &[
-    Over {
-        answers: DONE,
-        wait: 0,
-        span: None,
-        asked: GivenUp(0, None),
-    },
-    Over {
-        answers: DONE,
-        wait: 0,
-        span: None,
-        asked: GivenUp(1, Some(Handle(7))),
-    },
-    Over {
-        answers: DONE,
-        wait: 0,
-        span: None,
-        asked: GivenUp(2, Some(Handle(7))),
-    },
-];
+pub const ROWS: &[Over<GivenUp>] = rows! {
+    Over(DONE, 0, None, GivenUp(0, None)),
+    Over(DONE, 0, None, GivenUp(1, Some(Handle(7)))),
+    Over(DONE, 0, None, GivenUp(2, Some(Handle(7)))),
+};

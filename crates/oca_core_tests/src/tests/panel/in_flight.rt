@@ -66,26 +66,11 @@ impl Asked for Statuses {
 }
 
 /// What is answered to the first command and to the second over a panel with a span of 2.
-pub const ROWS: &[Over<Statuses>] = &[
-    Over {
-        answers: &[(0, 0, &[]), (0, 0, &[])],
-        wait: 500,
-        span: Some(2),
-        asked: Statuses([0, 0]),
-    },
-    Over {
-        answers: &[(0, 0, &[]), (5, 0, &[])],
-        wait: 500,
-        span: Some(2),
-        asked: Statuses([0, 5]),
-    },
-    Over {
-        answers: &[(5, 0, &[]), (0, 0, &[])],
-        wait: 500,
-        span: Some(2),
-        asked: Statuses([5, 0]),
-    },
-];
+pub const ROWS: &[Over<Statuses>] = rows! {
+    Over(&[(0, 0, &[]), (0, 0, &[])], 500, Some(2), Statuses([0, 0])),
+    Over(&[(0, 0, &[]), (5, 0, &[])], 500, Some(2), Statuses([0, 5])),
+    Over(&[(5, 0, &[]), (0, 0, &[])], 500, Some(2), Statuses([5, 0])),
+};
 
 /// The example of the queue's doc comment: which of two mutes was refused last.
 fn mutes(mut panel: Panel<MemoryEnd>) -> Result<Option<u32>, ControlFault> {

@@ -32,11 +32,7 @@ enum Asks {
 
 /// What is asked, the answers, and what is sent: of each command its handle, its target, its method, ParamCount and its
 /// parameters.
-struct Exchange {
-    asked: Asks,
-    answers: &'static [Answer],
-    sent: &'static [Sent],
-}
+struct Exchange(Asks, &'static [Answer], &'static [Sent]);
 
 /// The answer to GetClassIdentification of an OcaMute: 1.1.1.2, version 2.
 const MUTE: Answer = (0, 1, &[0, 4, 0, 1, 0, 1, 0, 1, 0, 2, 0, 2]);
@@ -47,138 +43,72 @@ const INT16: Answer = (0, 1, &[0, 5, 0, 1, 0, 1, 0, 1, 0, 1, 0, 3, 0, 2]);
 /// GetClassIdentification of 4097, under the handle 7.
 const CLASS_ASKED: &[u8] = &[0, 0, 0, 7, 0, 0, 0x10, 1, 0, 1, 0, 1, 0];
 
+/// GetState of 4097, under the handle 8.
+const STATE_ASKED: &[u8] = &[0, 0, 0, 8, 0, 0, 0x10, 1, 0, 4, 0, 1, 0];
+
+/// GetSetting of 4097, under the handle 8.
+const SETTING_ASKED: &[u8] = &[0, 0, 0, 8, 0, 0, 0x10, 1, 0, 5, 0, 1, 0];
+
+/// An answer without parameters.
+const DONE: Answer = (0, 0, &[]);
+
+/// What the Int16 actuator is set to.
+const READING: Reading = Reading::Int16(Ranged {
+    setting: -60,
+    least: -800,
+    greatest: 100,
+});
+
 /// What an object is, what it has, and what it is set to.
-const VALUES: &[Exchange] = &[
-    Exchange {
-        asked: Asks::Class(Class::Mute),
-        answers: &[MUTE],
-        sent: &[Sent(CLASS_ASKED)],
-    },
-    Exchange {
-        asked: Asks::Fields(&[1, 1, 1, 9]),
-        answers: &[(0, 1, &[0, 4, 0, 1, 0, 1, 0, 1, 0, 9, 0, 2])],
-        sent: &[Sent(CLASS_ASKED)],
-    },
-    Exchange {
-        asked: Asks::Get(Value::Mute(MuteState::Unmuted)),
-        answers: &[MUTE, (0, 1, &[2])],
-        sent: &[
-            Sent(CLASS_ASKED),
-            Sent(&[0, 0, 0, 8, 0, 0, 0x10, 1, 0, 4, 0, 1, 0]),
-        ],
-    },
-    Exchange {
-        asked: Asks::Reads(Reading::Int16(Ranged {
-            setting: -60,
-            least: -800,
-            greatest: 100,
-        })),
-        answers: &[INT16, (0, 3, &[0xff, 0xc4, 0xfc, 0xe0, 0, 100])],
-        sent: &[
-            Sent(CLASS_ASKED),
-            Sent(&[0, 0, 0, 8, 0, 0, 0x10, 1, 0, 5, 0, 1, 0]),
-        ],
-    },
-    Exchange {
-        asked: Asks::Set(Value::Int16(-60)),
-        answers: &[(0, 0, &[])],
-        sent: &[Sent(&[0, 0, 0, 7, 0, 0, 0x10, 1, 0, 5, 0, 2, 1, 0xff, 0xc4])],
-    },
-    Exchange {
-        asked: Asks::TwoSets(Value::Mute(MuteState::Muted), Value::Switch(3)),
-        answers: &[(0, 0, &[]), (0, 0, &[])],
-        sent: &[
-            Sent(&[0, 0, 0, 7, 0, 0, 0x10, 1, 0, 4, 0, 2, 1, 1]),
-            Sent(&[0, 0, 0, 8, 0, 0, 0x10, 1, 0, 4, 0, 2, 1, 0, 3]),
-        ],
-    },
-];
+const VALUES: &[Exchange] = rows! {
+    Exchange(Asks::Class(Class::Mute), &[MUTE], &[Sent(CLASS_ASKED)]),
+    Exchange(Asks::Fields(&[1, 1, 1, 9]), &[(0, 1, &[0, 4, 0, 1, 0, 1, 0, 1, 0, 9, 0, 2])], &[Sent(CLASS_ASKED)]),
+    Exchange(Asks::Get(Value::Mute(MuteState::Unmuted)), &[MUTE, (0, 1, &[2])],
+        &[Sent(CLASS_ASKED), Sent(STATE_ASKED)]),
+    Exchange(Asks::Reads(READING), &[INT16, (0, 3, &[0xff, 0xc4, 0xfc, 0xe0, 0, 100])],
+        &[Sent(CLASS_ASKED), Sent(SETTING_ASKED)]),
+    Exchange(Asks::Set(Value::Int16(-60)), &[DONE],
+        &[Sent(&[0, 0, 0, 7, 0, 0, 0x10, 1, 0, 5, 0, 2, 1, 0xff, 0xc4])]),
+    Exchange(Asks::TwoSets(Value::Mute(MuteState::Muted), Value::Switch(3)), &[DONE, DONE], &[
+        Sent(&[0, 0, 0, 7, 0, 0, 0x10, 1, 0, 4, 0, 2, 1, 1]),
+        Sent(&[0, 0, 0, 8, 0, 0, 0x10, 1, 0, 4, 0, 2, 1, 0, 3]),
+    ]),
+};
 
 /// Locks, and what every object has.
-const LOCKS_AND_LABELS: &[Exchange] = &[
-    Exchange {
-        asked: Asks::Lock,
-        answers: &[(0, 0, &[])],
-        sent: &[Sent(&[0, 0, 0, 7, 0, 0, 0x10, 1, 0, 1, 0, 3, 0])],
-    },
-    Exchange {
-        asked: Asks::Unlock,
-        answers: &[(0, 0, &[])],
-        sent: &[Sent(&[0, 0, 0, 7, 0, 0, 0x10, 1, 0, 1, 0, 4, 0])],
-    },
-    Exchange {
-        asked: Asks::Label("Ü"),
-        answers: &[(0, 1, &[0, 1, 0xc3, 0x9c])],
-        sent: &[Sent(&[0, 0, 0, 7, 0, 0, 0x10, 1, 0, 2, 0, 8, 0])],
-    },
-    Exchange {
-        asked: Asks::SetLabel("Mic"),
-        answers: &[(0, 0, &[])],
-        sent: &[Sent(&[
-            0, 0, 0, 7, 0, 0, 0x10, 1, 0, 2, 0, 9, 1, 0, 3, b'M', b'i', b'c',
-        ])],
-    },
-    Exchange {
-        asked: Asks::Role("A"),
-        answers: &[(0, 1, &[0, 1, b'A'])],
-        sent: &[Sent(&[0, 0, 0, 7, 0, 0, 0x10, 1, 0, 1, 0, 5, 0])],
-    },
-    Exchange {
-        asked: Asks::Enabled(true),
-        answers: &[(0, 1, &[1])],
-        sent: &[Sent(&[0, 0, 0, 7, 0, 0, 0x10, 1, 0, 2, 0, 1, 0])],
-    },
-];
+const LOCKS_AND_LABELS: &[Exchange] = rows! {
+    Exchange(Asks::Lock, &[DONE], &[Sent(&[0, 0, 0, 7, 0, 0, 0x10, 1, 0, 1, 0, 3, 0])]),
+    Exchange(Asks::Unlock, &[DONE], &[Sent(&[0, 0, 0, 7, 0, 0, 0x10, 1, 0, 1, 0, 4, 0])]),
+    Exchange(Asks::Label("Ü"), &[(0, 1, &[0, 1, 0xc3, 0x9c])], &[Sent(&[0, 0, 0, 7, 0, 0, 0x10, 1, 0, 2, 0, 8, 0])]),
+    Exchange(Asks::SetLabel("Mic"), &[DONE],
+        &[Sent(&[0, 0, 0, 7, 0, 0, 0x10, 1, 0, 2, 0, 9, 1, 0, 3, b'M', b'i', b'c'])]),
+    Exchange(Asks::Role("A"), &[(0, 1, &[0, 1, b'A'])], &[Sent(&[0, 0, 0, 7, 0, 0, 0x10, 1, 0, 1, 0, 5, 0])]),
+    Exchange(Asks::Enabled(true), &[(0, 1, &[1])], &[Sent(&[0, 0, 0, 7, 0, 0, 0x10, 1, 0, 2, 0, 1, 0])]),
+};
+
+/// A list of the mute 4098.
+const MEMBERS: Answer = (
+    0,
+    1,
+    &[0, 1, 0, 0, 0x10, 2, 0, 4, 0, 1, 0, 1, 0, 1, 0, 2, 0, 2],
+);
 
 /// Lists and names of positions.
-const LISTS: &[Exchange] = &[
-    Exchange {
-        asked: Asks::Members(&[4098]),
-        answers: &[(
-            0,
-            1,
-            &[0, 1, 0, 0, 0x10, 2, 0, 4, 0, 1, 0, 1, 0, 1, 0, 2, 0, 2],
-        )],
-        sent: &[Sent(&[0, 0, 0, 7, 0, 0, 0x10, 1, 0, 3, 0, 5, 0])],
-    },
-    Exchange {
-        asked: Asks::Name(258, "B"),
-        answers: &[(0, 1, &[0, 1, b'B'])],
-        sent: &[Sent(&[0, 0, 0, 7, 0, 0, 0x10, 1, 0, 4, 0, 3, 1, 1, 2])],
-    },
-    Exchange {
-        asked: Asks::Names(&["", "B"]),
-        answers: &[(0, 1, &[0, 2, 0, 0, 0, 1, b'B'])],
-        sent: &[Sent(&[0, 0, 0, 7, 0, 0, 0x10, 1, 0, 4, 0, 5, 0])],
-    },
-];
+const LISTS: &[Exchange] = rows! {
+    Exchange(Asks::Members(&[4098]), &[MEMBERS], &[Sent(&[0, 0, 0, 7, 0, 0, 0x10, 1, 0, 3, 0, 5, 0])]),
+    Exchange(Asks::Name(258, "B"), &[(0, 1, &[0, 1, b'B'])],
+        &[Sent(&[0, 0, 0, 7, 0, 0, 0x10, 1, 0, 4, 0, 3, 1, 1, 2])]),
+    Exchange(Asks::Names(&["", "B"]), &[(0, 1, &[0, 2, 0, 0, 0, 1, b'B'])],
+        &[Sent(&[0, 0, 0, 7, 0, 0, 0x10, 1, 0, 4, 0, 5, 0])]),
+};
 
 /// Where no value is given, and why.
-const FAILURES: &[Exchange] = &[
-    Exchange {
-        asked: Asks::Fails(Trouble::Refused(3)),
-        answers: &[(3, 0, &[])],
-        sent: &[Sent(CLASS_ASKED)],
-    },
-    Exchange {
-        asked: Asks::Fails(Trouble::Unreadable),
-        answers: &[MUTE, (0, 1, &[9])],
-        sent: &[
-            Sent(CLASS_ASKED),
-            Sent(&[0, 0, 0, 8, 0, 0, 0x10, 1, 0, 4, 0, 1, 0]),
-        ],
-    },
-    Exchange {
-        asked: Asks::Fails(Trouble::NoValue),
-        answers: &[(0, 1, &[0, 3, 0, 1, 0, 1, 0, 3, 0, 2])],
-        sent: &[Sent(CLASS_ASKED)],
-    },
-    Exchange {
-        asked: Asks::Fails(Trouble::Unanswered),
-        answers: &[],
-        sent: &[Sent(CLASS_ASKED)],
-    },
-];
+const FAILURES: &[Exchange] = rows! {
+    Exchange(Asks::Fails(Trouble::Refused(3)), &[(3, 0, &[])], &[Sent(CLASS_ASKED)]),
+    Exchange(Asks::Fails(Trouble::Unreadable), &[MUTE, (0, 1, &[9])], &[Sent(CLASS_ASKED), Sent(STATE_ASKED)]),
+    Exchange(Asks::Fails(Trouble::NoValue), &[(0, 1, &[0, 3, 0, 1, 0, 1, 0, 3, 0, 2])], &[Sent(CLASS_ASKED)]),
+    Exchange(Asks::Fails(Trouble::Unanswered), &[], &[Sent(CLASS_ASKED)]),
+};
 
 /// Whether the text is this.
 fn is_text(read: Result<Text, Trouble>, expected: &str) -> bool {
@@ -289,10 +219,9 @@ impl Wanted<(Peer, Packet)> for Sent {
 impl Row for Exchange {
     /// Whether what is asked of a panel comes out so, and just this is sent.
     fn agrees(&self, alloc: Global) -> bool {
-        match panel(alloc, self.answers, 10, None) {
+        match panel(alloc, self.1, 10, None) {
             Some(mut panel) => {
-                comes_out(&mut panel, &self.asked)
-                    && first_other(panel.end().taken(), self.sent).is_none()
+                comes_out(&mut panel, &self.0) && first_other(panel.end().taken(), self.2).is_none()
             }
             None => false,
         }
@@ -300,47 +229,30 @@ impl Row for Exchange {
 }
 
 /// What is not done, as a text.
-const TEXTS: &[Words<Trouble>] = &[
+const TEXTS: &[Words<Trouble>] = rows! {
     Words(Trouble::Refused(3), "Locked"),
     Words(Trouble::Refused(200), "status 200"),
     Words(Trouble::Unreadable, "unreadable answer"),
     Words(Trouble::NoValue, "no value"),
     Words(Trouble::NoSuchWord, "no such value"),
-    Words(
-        Trouble::NotSubmitted(ControlFault::HandlesSpent),
-        "not sent: no handle is left",
-    ),
+    Words(Trouble::NotSubmitted(ControlFault::HandlesSpent), "not sent: no handle is left"),
     Words(Trouble::Lost, "lost"),
     Words(Trouble::Unanswered, "no answer"),
-];
+};
 
 #[test]
-fn values(rt: HostRuntime) {
-    none_wrong(&rt, "objects", &[first_wrong(rt.alloc(), VALUES)]);
-}
-
-#[test]
-fn locks_and_labels(rt: HostRuntime) {
+fn exchanges(rt: HostRuntime) {
+    let alloc = rt.alloc();
+    let wrong = [
+        first_wrong(alloc, VALUES),
+        first_wrong(alloc, LOCKS_AND_LABELS),
+        first_wrong(alloc, LISTS),
+        first_wrong(alloc, FAILURES),
+        first_wrong(alloc, TEXTS),
+    ];
     none_wrong(
         &rt,
-        "locks and labels",
-        &[first_wrong(rt.alloc(), LOCKS_AND_LABELS)],
+        "values, locks and labels, lists, failures and texts",
+        &wrong,
     );
-}
-
-#[test]
-fn lists_and_failures(rt: HostRuntime) {
-    none_wrong(
-        &rt,
-        "lists and failures",
-        &[
-            first_wrong(rt.alloc(), LISTS),
-            first_wrong(rt.alloc(), FAILURES),
-        ],
-    );
-}
-
-#[test]
-fn texts(rt: HostRuntime) {
-    none_wrong(&rt, "texts", &[first_wrong(rt.alloc(), TEXTS)]);
 }

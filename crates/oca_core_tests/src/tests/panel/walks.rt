@@ -97,17 +97,7 @@ impl Asked for Finds {
 }
 
 /// The walks ask each object once.
-pub const WALKS: &[Over<Finds>] = &[
-    Over {
-        answers: ANSWERS,
-        wait: 500,
-        span: None,
-        asked: Finds(STEPS, ANSWERS.len()),
-    },
-    Over {
-        answers: OTHERS,
-        wait: 500,
-        span: None,
-        asked: Finds(OTHER_STEPS, OTHERS.len()),
-    },
-];
+pub const WALKS: &[Over<Finds>] = rows! {
+    Over(ANSWERS, 500, None, Finds(STEPS, ANSWERS.len())),
+    Over(OTHERS, 500, None, Finds(OTHER_STEPS, OTHERS.len())),
+};

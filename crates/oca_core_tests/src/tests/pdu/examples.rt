@@ -1,9 +1,4 @@
 //! The worked examples: datagrams of one message, and one of two.
-use super::faults::has_refused_fronts;
-use super::variations::{are_given_back, is_written_again};
-use crate::tests::Row;
-use std::alloc::Global;
-
 /// GetState of 4097, handle 1.
 pub const GET_STATE: &[u8] = &[
     0x3B, 0, 1, 0, 0, 0, 0x1A, 1, 0, 1, 0, 0, 0, 0x11, 0, 0, 0, 1, 0, 0, 0x10, 1, 0, 4, 0, 1, 0,
@@ -84,32 +79,3 @@ pub const TWO_COMMANDS: &[u8] = &[
 
 /// A keep-alive of 5 seconds.
 pub const FIVE_SECONDS: &[u8] = &[0x3B, 0, 1, 0, 0, 0, 0x0B, 4, 0, 1, 0, 5];
-
-/// A worked example of one message.
-pub struct Single(&'static [u8]);
-
-impl Row for Single {
-    /// Whether each front of it is refused in its place, it is written again as it is, and so is it with any one byte
-    /// changed.
-    fn agrees(&self, _alloc: Global) -> bool {
-        has_refused_fronts(self.0) && is_written_again(self.0) && are_given_back(self.0)
-    }
-}
-
-pub const SINGLE: &[Single] = &[
-    Single(GET_STATE),
-    Single(MUTED),
-    Single(SET_STATE),
-    Single(DONE),
-    Single(SET_SETTING),
-    Single(SETTING),
-    Single(GET_MEMBERS),
-    Single(MEMBERS),
-    Single(LOCKED),
-    Single(ROLE),
-    Single(SET_LABEL),
-    Single(LABEL),
-    Single(ONE_SECOND),
-    Single(MILLISECONDS),
-    Single(FIVE_SECONDS),
-];

@@ -9,26 +9,6 @@ use oca_pdu::{WriteFault, extend_response, write_response};
 use oca_types::{Handle, Packet, Reply, Status};
 use std::alloc::Global;
 
-/// Responses of the handles from the first on, below the end, and what adding each of them answers.
-#[derive(Clone, Copy)]
-struct More {
-    first: u32,
-    end: u32,
-    answer: Answer,
-    added: Result<(), WriteFault>,
-}
-
-/// A PDU of one response, the responses that are added to it, and the packet then.
-pub struct Script {
-    handle: u32,
-    answer: Answer,
-    more: &'static [More],
-    /// The first bytes of the packet.
-    front: &'static [u8],
-    length: usize,
-    messages: usize,
-}
-
 /// A packet with a PDU of one response, where it has room.
 fn one_response(handle: Handle, reply: &Reply) -> Option<Packet>
     ensures { IfSome result (λ p. HoldsResponses p.items) }
@@ -48,165 +28,47 @@ fn one_more(packet: &mut Packet, handle: u32, reply: &Reply) -> Result<(), Write
     extend_response(packet, Handle(handle), reply)
 }
 
-/// The same bytes once more.
-fn copied(packet: &Packet) -> Packet {
-    let mut copy = Packet::new();
-    let _ = copy.try_extend_from_slice(packet.as_slice());
-    copy
-}
+/// A PDU of one response under handle 1, another one under handle 2 and what adding it answers, the first bytes of the
+/// packet then, how many they are, and how many messages.
+pub struct Joins(
+    Answer,
+    Answer,
+    Result<(), WriteFault>,
+    &'static [u8],
+    usize,
+    usize,
+);
 
-/// Whether one response more is answered so, and leaves the packet as it was where it is refused.
-fn is_added(packet: &mut Packet, handle: u32, more: More) -> bool
-    requires { HoldsResponses packet.old.items }
-    ensures { HoldsResponses packet.new.items }
-{
-    let before = copied(packet);
-    let answer = more.answer;
-    let reply = reply(answer.status, answer.count, answer.params);
-    let added = one_more(packet, handle, &reply);
-    added == more.added && (added.is_ok() || packet.as_slice() == before.as_slice())
-}
-
-/// Whether each of these responses is answered so.
-fn are_added(packet: &mut Packet, more: More) -> bool
-    requires { HoldsResponses packet.old.items }
-    ensures { HoldsResponses packet.new.items }
-{
-    for handle in more.first..more.end {
-        if !is_added(packet, handle, more) {
-            return false;
-        }
-    }
-    true
-}
-
-/// Whether the responses of each row are answered so.
-fn all_are_added(packet: &mut Packet, rows: &[More]) -> bool
-    requires { HoldsResponses packet.old.items }
-{
-    for more in rows {
-        if !are_added(packet, *more) {
-            return false;
-        }
-    }
-    true
-}
-
-/// Whether the packet is as the script says.
-fn is_of(packet: &Packet, script: &Script) -> bool {
-    packet.as_slice().starts_with(script.front)
-        && packet.len() == script.length
-        && messages_in(packet.as_slice()) == script.messages
-}
-
-/// Whether the script goes so over a packet with its first response.
-fn goes_over(packet: &mut Packet, script: &Script) -> bool
-    requires { HoldsResponses packet.old.items }
-{
-    all_are_added(packet, script.more) && is_of(packet, script)
-}
-
-impl Row for Script {
-    /// Whether the script goes so over a packet of its own.
+impl Row for Joins {
+    /// Whether it is answered so, and the packet is so.
     fn agrees(&self, _alloc: Global) -> bool {
-        let answer = self.answer;
-        let reply = reply(answer.status, answer.count, answer.params);
-        match one_response(Handle(self.handle), &reply) {
-            Some(mut packet) => goes_over(&mut packet, self),
-            None => false,
-        }
+        let (one, two) = (self.0, self.1);
+        let first = reply(one.status, one.count, one.params);
+        let second = reply(two.status, two.count, two.params);
+        let Some(mut packet) = one_response(Handle(1), &first) else {
+            return false;
+        };
+        one_more(&mut packet, 2, &second) == self.2
+            && packet.as_slice().starts_with(self.3)
+            && packet.len() == self.4
+            && messages_in(packet.as_slice()) == self.5
     }
 }
 
-/// A reply of one parameter, the byte 1.
-const ONE: Answer = Answer {
-    status: Status::Ok,
-    count: 1,
-    params: &[1],
-};
+/// A reply of one parameter, these bytes.
+macro_rules! one {
+    ($params:expr) => { Answer { status: Status::Ok, count: 1, params: $params } };
+}
 
-/// A response joins the PDU before it.
-const TWO: Script = Script {
-    handle: 1,
-    answer: ONE,
-    more: &[More {
-        first: 2,
-        end: 3,
-        answer: ONE,
-        added: Ok(()),
-    }],
-    front: &[
-        0x3B, 0, 1, 0, 0, 0, 0x1F, 3, 0, 2, 0, 0, 0, 0x0B, 0, 0, 0, 1, 0, 1, 1, 0, 0, 0, 0x0B, 0,
-        0, 0, 2, 0, 1, 1,
-    ],
-    length: 32,
-    messages: 2,
-};
+/// The PDU of two answers, each of one byte.
+const TWO: &[u8] = &[
+    0x3B, 0, 1, 0, 0, 0, 0x1F, 3, 0, 2, 0, 0, 0, 0x0B, 0, 0, 0, 1, 0, 1, 1, 0, 0, 0, 0x0B, 0, 0, 0,
+    2, 0, 1, 1,
+];
 
-/// A reply without parameters.
-const LOCKED: Answer = Answer {
-    status: Status::Locked,
-    count: 0,
-    params: &[],
+/// A response joins the PDU before it, up to exactly 1,472 bytes.
+pub const JOINED: &[Joins] = rows! {
+    Joins(one!(&[1]), one!(&[1]), Ok(()), TWO, 32, 2),
+    Joins(one!(&[7; 700]), one!(&[8; 743]), Err(WriteFault::TooLong), &[0x3B, 0, 1, 0, 0, 0x02, 0xCF, 3, 0, 1], 720, 1),
+    Joins(one!(&[7; 700]), one!(&[8; 742]), Ok(()), &[0x3B, 0, 1, 0, 0, 0x05, 0xBF, 3, 0, 2], 1472, 2),
 };
-
-/// 146 responses without parameters fit, and no more.
-const AS_MANY: Script = Script {
-    handle: 0,
-    answer: Answer {
-        status: Status::Ok,
-        ..LOCKED
-    },
-    more: &[
-        More {
-            first: 1,
-            end: 146,
-            answer: LOCKED,
-            added: Ok(()),
-        },
-        More {
-            first: 146,
-            end: 147,
-            answer: LOCKED,
-            added: Err(WriteFault::TooLong),
-        },
-    ],
-    front: &[0x3B, 0, 1, 0, 0, 0x05, 0xBD, 3, 0, 146],
-    length: 1470,
-    messages: 146,
-};
-
-/// Responses fit up to exactly 1,472 bytes.
-const OF_1472: Script = Script {
-    handle: 1,
-    answer: Answer {
-        params: &[7; 700],
-        ..ONE
-    },
-    more: &[
-        More {
-            first: 2,
-            end: 3,
-            answer: Answer {
-                params: &[8; 743],
-                ..ONE
-            },
-            added: Err(WriteFault::TooLong),
-        },
-        More {
-            first: 2,
-            end: 3,
-            answer: Answer {
-                params: &[8; 742],
-                ..ONE
-            },
-            added: Ok(()),
-        },
-    ],
-    front: &[0x3B, 0, 1, 0, 0, 0x05, 0xBF, 3, 0, 2],
-    length: 1472,
-    messages: 2,
-};
-
-/// The scripts.
-pub const SCRIPTS: &[Script] = &[TWO, AS_MANY, OF_1472];

@@ -41,35 +41,13 @@ pub const LARGEST: &[Refused] = &[
     Refused(&[Changed(GET_STATE, 8, &[0xFF, 0xFF])], 7, 8),
     Refused(&[Changed(GET_STATE, 3, &[0xFF, 0xFF, 0xFF, 0xFF])], 9, 3),
     Refused(&[Changed(GET_STATE, 10, &[0xFF, 0xFF, 0xFF, 0xFF])], 8, 10),
-];
-
-/// Where a datagram of one message is refused of which so many bytes are left.
-fn refusal_of_front(length: usize) -> (u8, u16) {
-    match length {
-        0 => (1, 0),
-        1 | 2 => (9, 1),
-        _ => (9, 3),
-    }
-}
-
-/// Whether each front of the bytes is refused there.
-pub fn has_refused_fronts(bytes: &[u8]) -> bool {
-    for length in 0..bytes.len() {
-        let front = bytes.get(..length).unwrap_or_default();
-        if refusal(front) != refusal_of_front(length) {
-            return false;
-        }
-    }
-    true
-}
-
-/// A second PDU that is cut off.
-pub const CUT_OFF: &[Refused] = &[Refused(&[All(GET_STATE), Front(ONE_SECOND, 11)], 9, 30)];
-
-/// 146 responses of 10 bytes.
-const RESPONSES: &[Part] = &[
-    All(&[0x3B, 0, 1, 0, 0, 0x05, 0xBD, 3, 0, 146]),
-    Times(146, &[0, 0, 0, 10, 0, 0, 0, 9, 0, 0]),
+    // a second PDU that is cut off, and a byte more than a datagram may have
+    Refused(&[All(GET_STATE), Front(ONE_SECOND, 11)], 9, 30),
+    Refused(
+        &[All(COMMANDS_HEAD), Times(86, ONE_COMMAND), All(&[0])],
+        2,
+        1472,
+    ),
 ];
 
 /// A header of 86 commands, and they.
@@ -91,14 +69,6 @@ impl Row for Accepted {
 pub const ACCEPTED: &[Accepted] = &[
     Accepted(&[Changed(GET_STATE, 26, &[5])], 27, 1),
     Accepted(&[All(TWO_COMMANDS)], 44, 2),
-    Accepted(RESPONSES, 1470, 146),
     Accepted(&[All(COMMANDS_HEAD), Times(86, ONE_COMMAND)], 1472, 86),
     Accepted(&[All(GET_STATE), All(ONE_SECOND), All(MUTED)], 60, 3),
 ];
-
-/// A byte more than a datagram may have.
-pub const TOO_LONG: &[Refused] = &[Refused(
-    &[All(COMMANDS_HEAD), Times(86, ONE_COMMAND), All(&[0])],
-    2,
-    1472,
-)];

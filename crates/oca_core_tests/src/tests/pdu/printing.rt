@@ -13,7 +13,7 @@ impl Row for Kind {
     }
 }
 
-pub const KINDS: &[Kind] = &[
+pub const KINDS: &[Kind] = rows! {
     Kind(PduFaultKind::Empty, 1, "no bytes"),
     Kind(PduFaultKind::TooLong, 2, "too many bytes"),
     Kind(PduFaultKind::Sync, 3, "no sync byte 3B"),
@@ -22,12 +22,8 @@ pub const KINDS: &[Kind] = &[
     Kind(PduFaultKind::PduType, 6, "PduType is not 0, 1, 3 or 4"),
     Kind(PduFaultKind::Count, 7, "MessageCount is wrong"),
     Kind(PduFaultKind::MessageSize, 8, "a message has a wrong size"),
-    Kind(
-        PduFaultKind::Truncated,
-        9,
-        "the datagram ends within a field or a PDU",
-    ),
-];
+    Kind(PduFaultKind::Truncated, 9, "the datagram ends within a field or a PDU"),
+};
 
 /// Bytes that are refused, and the words.
 pub struct Told(&'static [u8], &'static str);
@@ -43,12 +39,10 @@ impl Row for Told {
 }
 
 /// A fault is printed with its place.
-pub const PLACES: &[Told] = &[Told(
-    &[0x3B, 0],
-    "the datagram ends within a field or a PDU, at offset 1",
-)];
+pub const PLACES: &[Told] = rows! {
+    Told(&[0x3B, 0], "the datagram ends within a field or a PDU, at offset 1"),
+};
 
-pub const OF_WRITES: &[Words<WriteFault>] = &[Words(
-    WriteFault::TooLong,
-    "the packet would pass 1,472 bytes",
-)];
+pub const OF_WRITES: &[Words<WriteFault>] = rows! {
+    Words(WriteFault::TooLong, "the packet would pass 1,472 bytes"),
+};

@@ -24,60 +24,27 @@ pub enum Read {
 /// The datagram of a worked example, and its messages in order.
 pub struct Messages(&'static [u8], &'static [Read]);
 
-pub const MESSAGES: &[Messages] = &[
+pub const MESSAGES: &[Messages] = rows! {
     Messages(GET_STATE, &[Read::Command(true, 1, 4097, (4, 1), 0, &[])]),
     Messages(MUTED, &[Read::Response(1, 0, 1, &[1])]),
     Messages(SET_STATE, &[Read::Command(true, 2, 4097, (4, 2), 1, &[1])]),
     Messages(DONE, &[Read::Response(2, 0, 0, &[])]),
-    Messages(
-        SET_SETTING,
-        &[Read::Command(true, 7, 4100, (5, 2), 1, &[0xFD, 0xA8])],
-    ),
-    Messages(
-        SETTING,
-        &[Read::Response(9, 0, 3, &[0xFD, 0xA8, 0xFD, 0xA8, 2, 0x58])],
-    ),
+    Messages(SET_SETTING, &[Read::Command(true, 7, 4100, (5, 2), 1, &[0xFD, 0xA8])]),
+    Messages(SETTING, &[Read::Response(9, 0, 3, &[0xFD, 0xA8, 0xFD, 0xA8, 2, 0x58])]),
     Messages(GET_MEMBERS, &[Read::Command(true, 5, 100, (3, 5), 0, &[])]),
-    Messages(
-        MEMBERS,
-        &[Read::Response(
-            5,
-            0,
-            1,
-            &[0, 1, 0, 0, 0x10, 0, 0, 3, 0, 1, 0, 1, 0, 3, 0, 2],
-        )],
-    ),
+    Messages(MEMBERS, &[Read::Response(5, 0, 1, &[0, 1, 0, 0, 0x10, 0, 0, 3, 0, 1, 0, 1, 0, 3, 0, 2])]),
     Messages(LOCKED, &[Read::Response(1, 3, 0, &[])]),
-    Messages(
-        ROLE,
-        &[Read::Response(2, 0, 1, &[0, 4, 0x6D, 0x75, 0x74, 0x65])],
-    ),
-    Messages(
-        SET_LABEL,
-        &[Read::Command(
-            true,
-            1,
-            4097,
-            (2, 9),
-            1,
-            &[0, 5, 0x42, 0xC3, 0xBC, 0x68, 0x6E, 0x65],
-        )],
-    ),
-    Messages(
-        LABEL,
-        &[Read::Response(2, 0, 1, &[0, 5, 0x42, 0xC3, 0xBC, 0x68, 0x6E, 0x65])],
-    ),
+    Messages(ROLE, &[Read::Response(2, 0, 1, &[0, 4, 0x6D, 0x75, 0x74, 0x65])]),
+    Messages(SET_LABEL, &[Read::Command(true, 1, 4097, (2, 9), 1, &[0, 5, 0x42, 0xC3, 0xBC, 0x68, 0x6E, 0x65])]),
+    Messages(LABEL, &[Read::Response(2, 0, 1, &[0, 5, 0x42, 0xC3, 0xBC, 0x68, 0x6E, 0x65])]),
     Messages(ONE_SECOND, &[Read::KeepAlive(Form::Seconds(1))]),
     Messages(MILLISECONDS, &[Read::KeepAlive(Form::Millis(1500))]),
     Messages(FIVE_SECONDS, &[Read::KeepAlive(Form::Seconds(5))]),
     Messages(
         TWO_COMMANDS,
-        &[
-            Read::Command(true, 1, 4097, (4, 1), 0, &[]),
-            Read::Command(true, 2, 4098, (4, 1), 0, &[]),
-        ],
+        &[Read::Command(true, 1, 4097, (4, 1), 0, &[]), Read::Command(true, 2, 4098, (4, 1), 0, &[])],
     ),
-];
+};
 
 /// Whether a command has these numbers.
 fn is_command_of(command: &Command<'_>, handle: u32, target: u32, method: (u16, u16)) -> bool {

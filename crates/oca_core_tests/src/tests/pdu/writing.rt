@@ -144,20 +144,15 @@ const STATE_2: Answer = Answer {
 };
 
 /// A response takes the place of a packet's bytes, where they are as many and where they are not.
-const REPLACED: &[Step] = &[
+const REPLACED: &[Step] = rows! {
     Bytes(SETTING),
     Replace(0x01020304, ROLE),
-    Holds(&[
-        0x3B, 0, 1, 0, 0, 0, 0x19, 3, 0, 1, 0, 0, 0, 0x10, 1, 2, 3, 4, 0, 1, 0, 4, 0x6D, 0x75,
-        0x74, 0x65,
-    ]),
+    Holds(&[0x3B, 0, 1, 0, 0, 0, 0x19, 3, 0, 1, 0, 0, 0, 0x10, 1, 2, 3, 4, 0, 1, 0, 4, 0x6D, 0x75, 0x74, 0x65]),
     Replace(1, STATE_1),
     Holds(MUTED),
     Replace(1, STATE_2),
-    Holds(&[
-        0x3B, 0, 1, 0, 0, 0, 0x14, 3, 0, 1, 0, 0, 0, 0x0B, 0, 0, 0, 1, 0, 1, 2,
-    ]),
-];
+    Holds(&[0x3B, 0, 1, 0, 0, 0, 0x14, 3, 0, 1, 0, 0, 0, 0x0B, 0, 0, 0, 1, 0, 1, 2]),
+};
 
 /// What is written is the worked example, and only the PDU of a response is of responses.
 const OF_COMMANDS: &[Step] = &[

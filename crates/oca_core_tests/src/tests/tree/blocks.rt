@@ -24,11 +24,9 @@ const DESK_IS: &[Row] = &[
 ];
 
 /// The member of the root.
-const ROOT_MEMBERS: &[Row] = &[Reads(
-    GET_MEMBERS,
-    1,
-    &[0, 1, 0, 0, 0x10, 0, 0, 3, 0, 1, 0, 1, 0, 3, 0, 2],
-)];
+const ROOT_MEMBERS: &[Row] = rows! {
+    Reads(GET_MEMBERS, 1, &[0, 1, 0, 0, 0x10, 0, 0, 3, 0, 1, 0, 1, 0, 3, 0, 2]),
+};
 
 /// The methods of a block that are left out, and those that it does not have.
 const NO_METHODS: &[Row] = &[
@@ -44,7 +42,7 @@ const NO_METHODS: &[Row] = &[
 ];
 
 // Each method of a block.
-const BLOCKS: &[At] = &[
+const BLOCKS: &[At] = rows! {
     At(100, ROOT_IS),
     At(100, COMMON),
     At(4096, DESK_IS),
@@ -53,12 +51,9 @@ const BLOCKS: &[At] = &[
     At(4096, LOCKABLE),
     At(100, ROOT_MEMBERS),
     At(4096, NO_METHODS),
-    At(
-        4097,
-        &[Does(GET_MEMBERS, BadMethod), Does((3, 1), BadMethod)],
-    ),
+    At(4097, &[Does(GET_MEMBERS, BadMethod), Does((3, 1), BadMethod)]),
     At(100, &[Measures(GET_MEMBERS_RECURSIVE, Status::Ok, 1, 146)]),
-];
+};
 
 // What is listed of a block: its members, and all that lies in it.
 const TWO_MUTES: &[Addition] = &[
@@ -82,16 +77,10 @@ const INNER: &[u8] = &[
     0, 1, 0, 0, 0x10, 2, 0, 4, 0, 1, 0, 1, 0, 1, 0, 2, 0, 2, 0, 0, 0x10, 0,
 ];
 
-const LISTS: &[At] = &[
-    At(
-        100,
-        &[
-            Reads(GET_MEMBERS, 1, MEMBERS),
-            Reads(GET_MEMBERS_RECURSIVE, 1, DESCENDANTS),
-        ],
-    ),
+const LISTS: &[At] = rows! {
+    At(100, &[Reads(GET_MEMBERS, 1, MEMBERS), Reads(GET_MEMBERS_RECURSIVE, 1, DESCENDANTS)]),
     At(4096, &[Reads(GET_MEMBERS_RECURSIVE, 1, INNER)]),
-];
+};
 
 /// An Int16 actuator.
 const TRIM: Spec<'static> = Spec {
@@ -120,39 +109,15 @@ const TOO_LONG: &[At] = &[At(
     &[Measures(GET_MEMBERS_RECURSIVE, BufferOverflow, 0, 0)],
 )];
 
-/// The script over the bench device.
-const OF_THE_BENCH: &[Script] = &[Script {
-    name: "methods_of_blocks",
-    over: Bench,
-    parts: BLOCKS,
-}];
-
-/// Scripts over other trees.
-const OF_OTHERS: &[Script] = &[
-    Script {
-        name: "members_and_descendants",
-        over: Built(TWO_MUTES),
-        parts: LISTS,
-    },
-    Script {
-        name: "an_answer_has_its_limit_1",
-        over: Built(OF_65),
-        parts: OF_1432_BYTES,
-    },
-    Script {
-        name: "an_answer_has_its_limit_2",
-        over: Built(OF_65_AND_A_MUTE),
-        parts: OF_1452_BYTES,
-    },
-    Script {
-        name: "an_answer_has_its_limit_3",
-        over: Built(OF_66),
-        parts: TOO_LONG,
-    },
-];
+const SCRIPTS: &[Script] = rows! {
+    Script("methods_of_blocks", Bench, BLOCKS),
+    Script("members_and_descendants", Built(TWO_MUTES), LISTS),
+    Script("an_answer_has_its_limit_1", Built(OF_65), OF_1432_BYTES),
+    Script("an_answer_has_its_limit_2", Built(OF_65_AND_A_MUTE), OF_1452_BYTES),
+    Script("an_answer_has_its_limit_3", Built(OF_66), TOO_LONG),
+};
 
 #[test]
 fn scripts(rt: HostRuntime) {
-    play(&rt, rt.alloc(), OF_THE_BENCH);
-    play(&rt, rt.alloc(), OF_OTHERS);
+    play(&rt, rt.alloc(), SCRIPTS);
 }

@@ -7,89 +7,27 @@ use super::words::*;
 use oca_tree::{Kind, Setting, Spec};
 use oca_types::Status;
 
-const INT8: Spec<'static> = Spec {
-    role: "number",
-    lockable: false,
-    kind: Kind::Int8 {
-        setting: -1,
-        least: i8::MIN,
-        greatest: i8::MAX,
-    },
-};
+/// An integer with these limits.
+macro_rules! integer {
+    ($kind:ident, $setting:expr, $type:ty) => {
+        Spec {
+            role: "number",
+            lockable: false,
+            kind: Kind::$kind { setting: $setting, least: <$type>::MIN, greatest: <$type>::MAX },
+        }
+    };
+}
 
-const INT16: Spec<'static> = Spec {
-    kind: Kind::Int16 {
-        setting: -1,
-        least: i16::MIN,
-        greatest: i16::MAX,
-    },
-    ..INT8
+const INTEGERS: &[Addition] = rows! {
+    One(100, 4096, integer!(Int8, -1, i8), Ok(())),
+    One(100, 4097, integer!(Int16, -1, i16), Ok(())),
+    One(100, 4098, integer!(Int32, -1, i32), Ok(())),
+    One(100, 4099, integer!(Int64, -1, i64), Ok(())),
+    One(100, 4100, integer!(Uint8, 1, u8), Ok(())),
+    One(100, 4101, integer!(Uint16, 1, u16), Ok(())),
+    One(100, 4102, integer!(Uint32, 1, u32), Ok(())),
+    One(100, 4103, integer!(Uint64, 1, u64), Ok(())),
 };
-
-const INT32: Spec<'static> = Spec {
-    kind: Kind::Int32 {
-        setting: -1,
-        least: i32::MIN,
-        greatest: i32::MAX,
-    },
-    ..INT8
-};
-
-const INT64: Spec<'static> = Spec {
-    kind: Kind::Int64 {
-        setting: -1,
-        least: i64::MIN,
-        greatest: i64::MAX,
-    },
-    ..INT8
-};
-
-const UINT8: Spec<'static> = Spec {
-    kind: Kind::Uint8 {
-        setting: 1,
-        least: 0,
-        greatest: u8::MAX,
-    },
-    ..INT8
-};
-
-const UINT16: Spec<'static> = Spec {
-    kind: Kind::Uint16 {
-        setting: 1,
-        least: 0,
-        greatest: u16::MAX,
-    },
-    ..INT8
-};
-
-const UINT32: Spec<'static> = Spec {
-    kind: Kind::Uint32 {
-        setting: 1,
-        least: 0,
-        greatest: u32::MAX,
-    },
-    ..INT8
-};
-
-const UINT64: Spec<'static> = Spec {
-    kind: Kind::Uint64 {
-        setting: 1,
-        least: 0,
-        greatest: u64::MAX,
-    },
-    ..INT8
-};
-
-const INTEGERS: &[Addition] = &[
-    One(100, 4096, INT8, Ok(())),
-    One(100, 4097, INT16, Ok(())),
-    One(100, 4098, INT32, Ok(())),
-    One(100, 4099, INT64, Ok(())),
-    One(100, 4100, UINT8, Ok(())),
-    One(100, 4101, UINT16, Ok(())),
-    One(100, 4102, UINT32, Ok(())),
-    One(100, 4103, UINT64, Ok(())),
-];
 
 const OF_INT32: &[u8] = &[255, 255, 255, 255, 128, 0, 0, 0, 127, 255, 255, 255];
 
@@ -105,60 +43,36 @@ const OF_UINT64: &[u8] = &[
 ];
 
 // The setting and the limits of each.
-const SETTINGS: &[At] = &[
+const SETTINGS: &[At] = rows! {
     At(4096, &[Reads(GET_SETTING, 3, &[255, 128, 127])]),
-    At(
-        4097,
-        &[Reads(GET_SETTING, 3, &[255, 255, 128, 0, 127, 255])],
-    ),
+    At(4097, &[Reads(GET_SETTING, 3, &[255, 255, 128, 0, 127, 255])]),
     At(4098, &[Reads(GET_SETTING, 3, OF_INT32)]),
     At(4099, &[Reads(GET_SETTING, 3, OF_INT64)]),
     At(4100, &[Reads(GET_SETTING, 3, &[1, 0, 255])]),
     At(4101, &[Reads(GET_SETTING, 3, &[0, 1, 0, 0, 255, 255])]),
     At(4102, &[Reads(GET_SETTING, 3, OF_UINT32)]),
     At(4103, &[Reads(GET_SETTING, 3, OF_UINT64)]),
-];
+};
 
 // A number is set in its own width, and in no other.
-const WIDTHS: &[At] = &[
-    At(
-        4098,
-        &[Sends(SET_SETTING, 1, &[0, 0, 1], Status::ParameterError)],
-    ),
-    At(
-        4103,
-        &[
-            Sends(
-                SET_SETTING,
-                1,
-                &[255, 255, 255, 255, 255, 255, 255, 255],
-                Status::Ok,
+const WIDTHS: &[At] = rows! {
+    At(4098, &[Sends(SET_SETTING, 1, &[0, 0, 1], Status::ParameterError)]),
+    At(4103, &[
+        Sends(SET_SETTING, 1, &[255, 255, 255, 255, 255, 255, 255, 255], Status::Ok),
+        Holds(
+            Some(
+                Setting::Number { setting: 18_446_744_073_709_551_615, least: 0, greatest: 18_446_744_073_709_551_615 },
             ),
-            Holds(Some(Setting::Number {
-                setting: 18_446_744_073_709_551_615,
-                least: 0,
-                greatest: 18_446_744_073_709_551_615,
-            })),
-        ],
-    ),
-];
+        ),
+    ]),
+};
 
-/// The script of what is read.
-const READ: &[Script] = &[Script {
-    name: "every_integer_type",
-    over: Built(INTEGERS),
-    parts: SETTINGS,
-}];
-
-/// The script of what is set.
-const SET: &[Script] = &[Script {
-    name: "widths_of_integers",
-    over: Built(INTEGERS),
-    parts: WIDTHS,
-}];
+const SCRIPTS: &[Script] = rows! {
+    Script("every_integer_type", Built(INTEGERS), SETTINGS),
+    Script("widths_of_integers", Built(INTEGERS), WIDTHS),
+};
 
 #[test]
 fn scripts(rt: HostRuntime) {
-    play(&rt, rt.alloc(), READ);
-    play(&rt, rt.alloc(), SET);
+    play(&rt, rt.alloc(), SCRIPTS);
 }

@@ -46,30 +46,18 @@ pub const LOCKABLE: &[Row] = &[
 pub const DESK: &[u8] = &[0, 0, 0x10, 0];
 
 /// What the mute is.
-const MUTE_IS: &[Row] = &[
-    Reads(
-        GET_CLASS_IDENTIFICATION,
-        1,
-        &[0, 4, 0, 1, 0, 1, 0, 1, 0, 2, 0, 2],
-    ),
+const MUTE_IS: &[Row] = rows! {
+    Reads(GET_CLASS_IDENTIFICATION, 1, &[0, 4, 0, 1, 0, 1, 0, 1, 0, 2, 0, 2]),
     Reads(GET_ROLE, 1, &[0, 4, 0x6D, 0x75, 0x74, 0x65]),
     Reads(GET_OWNER, 1, DESK),
-];
+};
 
 /// What the polarity is.
-const POLARITY_IS: &[Row] = &[
-    Reads(
-        GET_CLASS_IDENTIFICATION,
-        1,
-        &[0, 4, 0, 1, 0, 1, 0, 1, 0, 3, 0, 2],
-    ),
-    Reads(
-        GET_ROLE,
-        1,
-        &[0, 8, 0x70, 0x6F, 0x6C, 0x61, 0x72, 0x69, 0x74, 0x79],
-    ),
+const POLARITY_IS: &[Row] = rows! {
+    Reads(GET_CLASS_IDENTIFICATION, 1, &[0, 4, 0, 1, 0, 1, 0, 1, 0, 3, 0, 2]),
+    Reads(GET_ROLE, 1, &[0, 8, 0x70, 0x6F, 0x6C, 0x61, 0x72, 0x69, 0x74, 0x79]),
     Reads(GET_OWNER, 1, DESK),
-];
+};
 
 /// The state of a mute or a polarity.
 const STATES: &[Row] = &[
@@ -100,38 +88,26 @@ const MUTE_AND_POLARITY: &[At] = &[
 ];
 
 /// What the Int16 actuator is.
-const TRIM_IS: &[Row] = &[
-    Reads(
-        GET_CLASS_IDENTIFICATION,
-        1,
-        &[0, 5, 0, 1, 0, 1, 0, 1, 0, 1, 0, 3, 0, 2],
-    ),
+const TRIM_IS: &[Row] = rows! {
+    Reads(GET_CLASS_IDENTIFICATION, 1, &[0, 5, 0, 1, 0, 1, 0, 1, 0, 1, 0, 3, 0, 2]),
     Reads(GET_ROLE, 1, &[0, 4, 0x74, 0x72, 0x69, 0x6D]),
     Reads(GET_OWNER, 1, DESK),
-];
+};
 
 /// The setting of the Int16 actuator.
-const TRIM_ROWS: &[Row] = &[
+const TRIM_ROWS: &[Row] = rows! {
     Reads(GET_SETTING, 3, &[0, 0, 0xFD, 0xA8, 0x02, 0x58]),
     Sends(SET_SETTING, 1, &[0xFF, 0xFF], Status::Ok),
     Reads(GET_SETTING, 3, &[0xFF, 0xFF, 0xFD, 0xA8, 0x02, 0x58]),
-    Holds(Some(Setting::Number {
-        setting: -1,
-        least: -600,
-        greatest: 600,
-    })),
-];
+    Holds(Some(Setting::Number { setting: -1, least: -600, greatest: 600 })),
+};
 
 /// What the Boolean actuator is.
-const LAMP_IS: &[Row] = &[
-    Reads(
-        GET_CLASS_IDENTIFICATION,
-        1,
-        &[0, 5, 0, 1, 0, 1, 0, 1, 0, 1, 0, 1, 0, 2],
-    ),
+const LAMP_IS: &[Row] = rows! {
+    Reads(GET_CLASS_IDENTIFICATION, 1, &[0, 5, 0, 1, 0, 1, 0, 1, 0, 1, 0, 1, 0, 2]),
     Reads(GET_ROLE, 1, &[0, 4, 0x6C, 0x61, 0x6D, 0x70]),
     Reads(GET_OWNER, 1, DESK),
-];
+};
 
 /// The setting of the Boolean actuator.
 const LAMP_ROWS: &[Row] = &[
@@ -142,15 +118,11 @@ const LAMP_ROWS: &[Row] = &[
 ];
 
 /// What the Uint8 actuator is.
-const DIMMER_IS: &[Row] = &[
-    Reads(
-        GET_CLASS_IDENTIFICATION,
-        1,
-        &[0, 5, 0, 1, 0, 1, 0, 1, 0, 1, 0, 6, 0, 2],
-    ),
+const DIMMER_IS: &[Row] = rows! {
+    Reads(GET_CLASS_IDENTIFICATION, 1, &[0, 5, 0, 1, 0, 1, 0, 1, 0, 1, 0, 6, 0, 2]),
     Reads(GET_ROLE, 1, &[0, 3, 0x64, 0x69, 0x6D]),
     Reads(GET_OWNER, 1, DESK),
-];
+};
 
 /// The setting of the Uint8 actuator, which can't be locked.
 const DIMMER_ROWS: &[Row] = &[
@@ -180,22 +152,12 @@ const BASIC_ACTUATORS: &[At] = &[
     At(4102, DIMMER_ROWS),
 ];
 
-/// The script of a mute and a polarity.
-const OF_STATES: &[Script] = &[Script {
-    name: "methods_of_mute_and_polarity",
-    over: Bench,
-    parts: MUTE_AND_POLARITY,
-}];
-
-/// The script of basic actuators.
-const OF_SETTINGS: &[Script] = &[Script {
-    name: "methods_of_basic_actuators",
-    over: Bench,
-    parts: BASIC_ACTUATORS,
-}];
+const SCRIPTS: &[Script] = rows! {
+    Script("methods_of_mute_and_polarity", Bench, MUTE_AND_POLARITY),
+    Script("methods_of_basic_actuators", Bench, BASIC_ACTUATORS),
+};
 
 #[test]
 fn scripts(rt: HostRuntime) {
-    play(&rt, rt.alloc(), OF_STATES);
-    play(&rt, rt.alloc(), OF_SETTINGS);
+    play(&rt, rt.alloc(), SCRIPTS);
 }

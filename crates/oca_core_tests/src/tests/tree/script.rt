@@ -61,8 +61,6 @@ pub enum Addition {
     One(u32, u32, Spec<'static>, Result<(), AddFault>),
     /// Into a container, as this number, an object with what was stored of it.
     Stored(u32, u32, Spec<'static>, Start<'static>, Result<(), StartFault>),
-    /// Into a container, as this number, an object with the default of what is stored of one.
-    Unstored(u32, u32, Spec<'static>, Result<(), StartFault>),
     /// Into the root, as the numbers from one to before another, objects that are all taken.
     Many(u32, u32, Spec<'static>),
     /// Into each of the blocks with the numbers from one to before another a block with the next number, all taken.
@@ -84,29 +82,15 @@ pub enum Over {
     Root(Start<'static>, &'static [Addition]),
 }
 
-/// A script by its name.
-pub struct Script {
-    pub name: &'static str,
-    pub over: Over,
-    pub parts: &'static [At],
-}
+/// A script by its name, the tree that it is run over, and its parts.
+pub struct Script(pub &'static str, pub Over, pub &'static [At]);
 
 /// What went otherwise than a table says: of the script's part at an index the row at an index; the last number of all
 /// where there was no tree, or an addition was answered otherwise.
 type Wrong = (usize, usize);
 
-/// There was no tree.
-const NO_TREE: Wrong = (usize::MAX, usize::MAX);
-
-/// Parameters with a byte that an answer takes the place of.
-fn used_parameters() -> Params {
-    let mut out = Params::new();
-    let _ = out.try_push(9);
-    out
-}
-
 /// The status and the ParamCount that a command is answered with, and its parameters.
-pub fn call(
+fn call(
     tree: &mut Tree,
     peer: Peer,
     target: u32,
@@ -123,13 +107,15 @@ pub fn call(
         count: params.0,
         params: params.1,
     };
-    let mut out = used_parameters();
+    // An answer takes the place of what is there.
+    let mut out = Params::new();
+    let _ = out.try_push(9);
     let done = tree.execute(peer, &command, &mut out);
     (done.status, done.count, out)
 }
 
 /// Whether a command is answered so.
-pub fn gives(
+fn gives(
     tree: &mut Tree,
     peer: Peer,
     target: u32,
@@ -139,12 +125,6 @@ pub fn gives(
 ) -> bool {
     let (status, count, out) = call(tree, peer, target, method, params);
     status == want.0 && count == want.1 && out.as_slice() == want.2
-}
-
-/// Whether a call of A without parameters has an answer of this size.
-fn measures(tree: &mut Tree, target: u32, method: Called, want: (Status, u8, usize)) -> bool {
-    let (status, count, out) = call(tree, A, target, method, (0, &[]));
-    status == want.0 && count == want.1 && out.len() == want.2
 }
 
 /// Whether this is read of the object at a place.
@@ -190,7 +170,8 @@ fn agrees(tree: &mut Tree, ono: u32, row: Row) -> bool {
 fn comes(tree: &mut Tree, ono: u32, row: Row) -> bool {
     match row {
         Measures(method, status, count, size) => {
-            measures(tree, ono, method, (status, count, size))
+            let (found, params, out) = call(tree, A, ono, method, (0, &[]));
+            found == status && params == count && out.len() == size
         }
         Puts(value, want) => tree.set(Ono(ono), value) == want,
         Labels(label, want) => tree.set_label(Ono(ono), label) == want,
@@ -240,25 +221,15 @@ fn first_wrong(tree: &mut Tree, script: &[At]) -> Option<Wrong> {
     None
 }
 
-/// Whether a builder takes an object into a container as this number.
-fn takes(builder: &mut TreeBuilder, container: u32, ono: u32, spec: &Spec<'_>) -> bool {
-    builder.add(Ono(container), Ono(ono), spec).is_ok()
-}
-
-/// Whether a builder takes an object so often, each as the next number.
-fn takes_many(builder: &mut TreeBuilder, first: u32, end: u32, spec: &Spec<'_>) -> bool {
-    for ono in first..end {
-        if !takes(builder, 100, ono, spec) {
-            return false;
-        }
-    }
-    true
-}
-
-/// Whether a builder takes such blocks that stand in one another.
-fn takes_nested(builder: &mut TreeBuilder, first: u32, end: u32, spec: &Spec<'_>) -> bool {
-    for ono in first..end {
-        if !takes(builder, ono, ono.saturating_add(1), spec) {
+/// Whether a builder takes an object so often, each as the next number: into the root, or each into the one before it.
+fn takes(builder: &mut TreeBuilder, first: u32, end: u32, spec: &Spec<'_>, nested: bool) -> bool {
+    for number in first..end {
+        let (container, ono) = if nested {
+            (number, number.saturating_add(1))
+        } else {
+            (100, number)
+        };
+        if builder.add(Ono(container), Ono(ono), spec).is_err() {
             return false;
         }
     }
@@ -268,53 +239,23 @@ fn takes_nested(builder: &mut TreeBuilder, first: u32, end: u32, spec: &Spec<'_>
 /// Whether the builder answers an addition so.
 fn adds(builder: &mut TreeBuilder, addition: &Addition) -> bool {
     match addition {
-        One(container, ono, spec, want) => {
-            builder.add(Ono(*container), Ono(*ono), spec) == *want
-        }
-        Many(first, end, spec) => takes_many(builder, *first, *end, spec),
-        Nested(first, end) => takes_nested(builder, *first, *end, &BLOCK),
-        other => adds_stored(builder, other),
-    }
-}
-
-/// Whether the builder answers an addition so, of which something may be stored.
-fn adds_stored(builder: &mut TreeBuilder, addition: &Addition) -> bool {
-    match addition {
+        One(container, ono, spec, want) => builder.add(Ono(*container), Ono(*ono), spec) == *want,
         Stored(container, ono, spec, start, want) => {
             builder.add_with(Ono(*container), Ono(*ono), spec, start) == *want
         }
-        Unstored(container, ono, spec, want) => {
-            builder.add_with(Ono(*container), Ono(*ono), spec, &Start::default()) == *want
-        }
-        _ => false,
+        Many(first, end, spec) => takes(builder, *first, *end, spec, false),
+        Nested(first, end) => takes(builder, *first, *end, &BLOCK, true),
     }
-}
-
-/// Whether the builder answers all additions so.
-fn adds_all(builder: &mut TreeBuilder, additions: &[Addition]) -> bool {
-    for addition in additions {
-        if !adds(builder, addition) {
-            return false;
-        }
-    }
-    true
 }
 
 /// The tree of a builder with these additions to it, where all are answered so.
-fn finished(mut builder: TreeBuilder, additions: &[Addition]) -> Option<Tree> {
-    if adds_all(&mut builder, additions) {
-        Some(builder.finish())
-    } else {
-        None
+fn built(mut builder: TreeBuilder, additions: &[Addition]) -> Option<Tree> {
+    for addition in additions {
+        if !adds(&mut builder, addition) {
+            return None;
+        }
     }
-}
-
-/// The tree of a builder, where there is one, with these additions to it, where all are answered so.
-fn built(builder: Option<TreeBuilder>, additions: &[Addition]) -> Option<Tree> {
-    match builder {
-        Some(builder) => finished(builder, additions),
-        None => None,
-    }
+    Some(builder.finish())
 }
 
 /// The tree that a script is run over; none where it is not there, or an addition is answered otherwise.
@@ -322,21 +263,19 @@ pub fn tree_of(alloc: Global, over: Over) -> Option<Tree> {
     match over {
         Over::Bench => bench(alloc).ok(),
         Over::Channels(count) => bench_with_channels(alloc, count).ok(),
-        Over::Built(additions) => built(TreeBuilder::new(alloc).ok(), additions),
+        Over::Built(additions) => built(TreeBuilder::new(alloc).ok()?, additions),
         Over::Root(stored, additions) => {
-            built(
-                TreeBuilder::with_root(alloc, Room::default(), &stored).ok(),
-                additions,
-            )
+            let builder = TreeBuilder::with_root(alloc, Room::default(), &stored);
+            built(builder.ok()?, additions)
         }
     }
 }
 
 /// What goes wrong in a script.
 fn wrong_in(alloc: Global, script: &Script) -> Option<Wrong> {
-    match tree_of(alloc, script.over) {
-        Some(mut tree) => first_wrong(&mut tree, script.parts),
-        None => Some(NO_TREE),
+    match tree_of(alloc, script.1) {
+        Some(mut tree) => first_wrong(&mut tree, script.2),
+        None => Some((usize::MAX, usize::MAX)),
     }
 }
 
@@ -344,7 +283,7 @@ fn wrong_in(alloc: Global, script: &Script) -> Option<Wrong> {
 pub fn play(rt: &impl Abort, alloc: Global, scripts: &[Script]) {
     for script in scripts {
         if let Some((part, row)) = wrong_in(alloc, script) {
-            fail(rt, script.name, part, row);
+            fail(rt, script.0, part, row);
         }
     }
 }

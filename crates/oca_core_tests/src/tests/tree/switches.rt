@@ -9,15 +9,11 @@ use oca_types::Status;
 use oca_types::Status::{BadMethod, ParameterError, ParameterOutOfRange};
 
 /// What the switch is.
-const INPUT_IS: &[Row] = &[
-    Reads(
-        GET_CLASS_IDENTIFICATION,
-        1,
-        &[0, 4, 0, 1, 0, 1, 0, 1, 0, 4, 0, 2],
-    ),
+const INPUT_IS: &[Row] = rows! {
+    Reads(GET_CLASS_IDENTIFICATION, 1, &[0, 4, 0, 1, 0, 1, 0, 1, 0, 4, 0, 2]),
     Reads(GET_ROLE, 1, &[0, 5, 0x69, 0x6E, 0x70, 0x75, 0x74]),
     Reads(GET_OWNER, 1, DESK),
-];
+};
 
 /// The position.
 const POSITION: &[Row] = &[
@@ -28,37 +24,21 @@ const POSITION: &[Row] = &[
 ];
 
 /// The name of a position.
-const NAME: &[Row] = &[
-    Calls(
-        A,
-        GET_POSITION_NAME,
-        (1, &[0, 1]),
-        (Status::Ok, 1, &[0, 3, 0x4D, 0x69, 0x63]),
-    ),
+const NAME: &[Row] = rows! {
+    Calls(A, GET_POSITION_NAME, (1, &[0, 1]), (Status::Ok, 1, &[0, 3, 0x4D, 0x69, 0x63])),
     Sends(GET_POSITION_NAME, 1, &[0, 3], ParameterOutOfRange),
     Sends(SET_POSITION_NAME, 2, &[0, 1, 0, 1, 0x61], Status::Ok),
-    Sends(
-        SET_POSITION_NAME,
-        2,
-        &[0, 3, 0, 1, 0x61],
-        ParameterOutOfRange,
-    ),
-];
+    Sends(SET_POSITION_NAME, 2, &[0, 3, 0, 1, 0x61], ParameterOutOfRange),
+};
 
 const THREE_NAMES: &[u8] = &[0, 3, 0, 1, 0x61, 0, 0, 0, 1, 0x63];
 
 /// The names of all positions.
-const NAMES: &[Row] = &[
-    Reads(
-        GET_POSITION_NAMES,
-        1,
-        &[
-            0, 3, 0, 4, 0x4C, 0x69, 0x6E, 0x65, 0, 1, 0x61, 0, 3, 0x4F, 0x66, 0x66,
-        ],
-    ),
+const NAMES: &[Row] = rows! {
+    Reads(GET_POSITION_NAMES, 1, &[0, 3, 0, 4, 0x4C, 0x69, 0x6E, 0x65, 0, 1, 0x61, 0, 3, 0x4F, 0x66, 0x66]),
     Sends(SET_POSITION_NAMES, 1, THREE_NAMES, Status::Ok),
     Reads(GET_POSITION_NAMES, 1, THREE_NAMES),
-];
+};
 
 /// The flag of a position.
 const FLAG: &[Row] = &[
@@ -70,18 +50,13 @@ const FLAG: &[Row] = &[
 ];
 
 /// The flags of all positions.
-const FLAGS: &[Row] = &[
+const FLAGS: &[Row] = rows! {
     Reads(GET_POSITION_ENABLEDS, 1, &[0, 3, 1, 1, 0]),
     Sends(SET_POSITION_ENABLEDS, 1, &[0, 3, 0, 7, 1], Status::Ok),
     Reads(GET_POSITION_ENABLEDS, 1, &[0, 3, 0, 1, 1]),
-    Sends(
-        SET_POSITION_ENABLEDS,
-        1,
-        &[0, 4, 0, 1, 1, 1],
-        ParameterError,
-    ),
+    Sends(SET_POSITION_ENABLEDS, 1, &[0, 4, 0, 1, 1, 1], ParameterError),
     Sends(SET_POSITION_ENABLEDS, 1, &[0, 2, 0, 1], ParameterError),
-];
+};
 
 // Each method of a switch.
 const SWITCH: &[At] = &[
@@ -96,12 +71,9 @@ const SWITCH: &[At] = &[
     At(4099, &[Does((4, 11), BadMethod)]),
 ];
 
-/// The scripts.
-const SCRIPTS: &[Script] = &[Script {
-    name: "methods_of_a_switch",
-    over: Bench,
-    parts: SWITCH,
-}];
+const SCRIPTS: &[Script] = rows! {
+    Script("methods_of_a_switch", Bench, SWITCH),
+};
 
 #[test]
 fn scripts(rt: HostRuntime) {

@@ -59,15 +59,9 @@ pub const GET_SETTING: Called = (5, 1);
 
 pub const SET_SETTING: Called = (5, 2);
 
-pub const A: Peer = Peer {
-    ip: 2_130_706_433,
-    port: 9001,
-};
+pub const A: Peer = peer!(9001);
 
-pub const B: Peer = Peer {
-    ip: 2_130_706_433,
-    port: 9002,
-};
+pub const B: Peer = peer!(9002);
 
 /// A block.
 pub const BLOCK: Spec<'static> = Spec {

@@ -61,15 +61,3 @@ impl Row for IsStatus {
             && prints(alloc, &self.0, self.2)
     }
 }
-
-/// A number that no status has.
-pub struct OfNone(u8);
-
-pub const NO_STATUSES: &[OfNone] = &[OfNone(15)];
-
-impl Row for OfNone {
-    /// Whether no status has the number.
-    fn agrees(&self, _alloc: Global) -> bool {
-        Status::with_number(self.0).is_none()
-    }
-}

@@ -11,10 +11,9 @@ pub const OF_TAKES: &[Words<ReadFault>] = &[
 ];
 
 /// A put without room.
-pub const OF_PUTS: &[Words<PutFault>] = &[Words(
-    PutFault::Full,
-    "the parameters would pass 1,452 bytes",
-)];
+pub const OF_PUTS: &[Words<PutFault>] = rows! {
+    Words(PutFault::Full, "the parameters would pass 1,452 bytes"),
+};
 
 /// Memory that is refused.
 pub const OF_MEMORY: &[Words<NoMemory>] = &[Words(NoMemory, "no memory")];

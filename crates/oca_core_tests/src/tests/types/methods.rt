@@ -8,13 +8,8 @@ use std::alloc::Global;
 /// A class, a DefLevel and a MethodIndex, and what the class knows of them.
 pub struct Knows(Class, u16, u16, MethodKind);
 
-pub const METHODS: &[Knows] = &[
-    Knows(
-        Mute,
-        1,
-        1,
-        Known(Method::GetClassIdentification, Access::Read),
-    ),
+pub const METHODS: &[Knows] = rows! {
+    Knows(Mute, 1, 1, Known(Method::GetClassIdentification, Access::Read)),
     Knows(Mute, 1, 6, Known(Method::LockReadonly, Access::Locking)),
     Knows(Mute, 1, 7, Unknown),
     Knows(Block, 2, 1, Known(Method::GetEnabled, Access::Read)),
@@ -34,12 +29,7 @@ pub const METHODS: &[Knows] = &[
     Knows(Mute, 4, 2, Known(Method::SetState, Access::Write)),
     Knows(Polarity, 4, 1, Known(Method::GetState, Access::Read)),
     Knows(Mute, 4, 3, Unknown),
-    Knows(
-        Switch,
-        4,
-        10,
-        Known(Method::SetPositionEnableds, Access::Write),
-    ),
+    Knows(Switch, 4, 10, Known(Method::SetPositionEnableds, Access::Write)),
     Knows(Switch, 4, 11, Unknown),
     Knows(Switch, 5, 1, Unknown),
     Knows(Int16, 4, 1, Unknown),
@@ -47,7 +37,7 @@ pub const METHODS: &[Knows] = &[
     Knows(Int16, 5, 3, Unknown),
     Knows(Int16, 6, 1, Unknown),
     Knows(Int16, 0, 1, Unknown),
-];
+};
 
 impl Row for Knows {
     /// Whether the class knows this of the numbers, and a method that is known has them and this access.

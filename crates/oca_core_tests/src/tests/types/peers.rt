@@ -1,39 +1,18 @@
-//! Peers as text, and moments that may be missing.
+//! Peers as text.
 use crate::tests::{Row, prints};
-use oca_types::{Peer, sooner};
+use oca_types::Peer;
 use std::alloc::Global;
 use std::net::SocketAddrV4;
 
 /// A peer, its address as four numbers, and its text.
 pub struct IsPeer(Peer, [u8; 4], &'static str);
 
-pub const PEERS: &[IsPeer] = &[
-    IsPeer(
-        Peer {
-            ip: 0x7F00_0001,
-            port: 65_000,
-        },
-        [127, 0, 0, 1],
-        "127.0.0.1:65000",
-    ),
-    IsPeer(
-        Peer {
-            ip: 0xC0A8_0A02,
-            port: 9,
-        },
-        [192, 168, 10, 2],
-        "192.168.10.2:9",
-    ),
+pub const PEERS: &[IsPeer] = rows! {
+    IsPeer(Peer { ip: 0x7F00_0001, port: 65_000 }, [127, 0, 0, 1], "127.0.0.1:65000"),
+    IsPeer(Peer { ip: 0xC0A8_0A02, port: 9 }, [192, 168, 10, 2], "192.168.10.2:9"),
     IsPeer(Peer { ip: 0, port: 0 }, [0, 0, 0, 0], "0.0.0.0:0"),
-    IsPeer(
-        Peer {
-            ip: 0xFFFF_FFFF,
-            port: 0xFFFF,
-        },
-        [255, 255, 255, 255],
-        "255.255.255.255:65535",
-    ),
-];
+    IsPeer(Peer { ip: 0xFFFF_FFFF, port: 0xFFFF }, [255, 255, 255, 255], "255.255.255.255:65535"),
+};
 
 /// Whether the text names this peer.
 fn reads(text: &str, peer: Peer) -> bool {
@@ -72,42 +51,5 @@ impl Row for NoPeer {
     /// Whether the text is not read.
     fn agrees(&self, _alloc: Global) -> bool {
         self.0.parse::<Peer>().is_err()
-    }
-}
-
-/// A port of this machine, and its peer.
-pub struct Loopback(u16, Peer);
-
-/// 127.0.0.1:9001.
-pub const LOOPBACKS: &[Loopback] = &[Loopback(
-    9001,
-    Peer {
-        ip: 0x7F00_0001,
-        port: 9001,
-    },
-)];
-
-impl Row for Loopback {
-    /// Whether the port is that of the peer.
-    fn agrees(&self, _alloc: Global) -> bool {
-        Peer::loopback(self.0) == self.1
-    }
-}
-
-/// Two moments that may be missing, and the sooner.
-pub struct Sooner(Option<u64>, Option<u64>, Option<u64>);
-
-pub const MOMENTS: &[Sooner] = &[
-    Sooner(None, None, None),
-    Sooner(Some(5), None, Some(5)),
-    Sooner(None, Some(6), Some(6)),
-    Sooner(Some(5), Some(6), Some(5)),
-    Sooner(Some(7), Some(6), Some(6)),
-];
-
-impl Row for Sooner {
-    /// Whether the third is the sooner of the two.
-    fn agrees(&self, _alloc: Global) -> bool {
-        sooner(self.0, self.1) == self.2
     }
 }

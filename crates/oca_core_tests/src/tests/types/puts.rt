@@ -107,66 +107,6 @@ pub const PUT: &[AllPut] = &[
     AllPut(OTHERS, OTHER_BYTES),
 ];
 
-/// Parameters of so many bytes 7.
-fn filled(length: u16) -> Params {
-    let mut params = Params::new();
-    for _ in 0..length {
-        let _ = put_u8(&mut params, 7);
-    }
-    params
-}
-
-/// A value that has no room behind so many bytes.
-pub struct NoRoom(u16, Value);
-
-impl Row for NoRoom {
-    /// Whether it has none, and the bytes are left as they were.
-    fn agrees(&self, _alloc: Global) -> bool {
-        let mut params = filled(self.0);
-        put(&mut params, self.1) == Err(PutFault::Full)
-            && params.as_slice() == filled(self.0).as_slice()
-    }
-}
-
-/// A value behind so many bytes that are 1,452 with it.
-pub struct LastRoom(u16, Value);
-
-impl Row for LastRoom {
-    /// Whether it has room, and is the last that does.
-    fn agrees(&self, _alloc: Global) -> bool {
-        let mut params = filled(self.0);
-        put(&mut params, self.1) == Ok(()) && params.len() == 1452
-    }
-}
-
-pub const WITHOUT_ROOM: &[NoRoom] = &[
-    NoRoom(1452, Value::U8(1)),
-    NoRoom(1451, Value::U16(1)),
-    NoRoom(1449, Value::U32(1)),
-    NoRoom(1445, Value::U64(1)),
-    NoRoom(1452, Value::I8(1)),
-    NoRoom(1451, Value::I16(1)),
-    NoRoom(1449, Value::I32(1)),
-    NoRoom(1445, Value::I64(1)),
-    NoRoom(1452, Value::Bool(true)),
-    NoRoom(1449, Value::Text("ü")),
-    NoRoom(1441, Value::Identification(Class::Mute)),
-];
-
-pub const WITH_ROOM: &[LastRoom] = &[
-    LastRoom(1451, Value::U8(1)),
-    LastRoom(1450, Value::U16(1)),
-    LastRoom(1448, Value::U32(1)),
-    LastRoom(1444, Value::U64(1)),
-    LastRoom(1451, Value::I8(1)),
-    LastRoom(1450, Value::I16(1)),
-    LastRoom(1448, Value::I32(1)),
-    LastRoom(1444, Value::I64(1)),
-    LastRoom(1451, Value::Bool(true)),
-    LastRoom(1448, Value::Text("ü")),
-    LastRoom(1440, Value::Identification(Class::Mute)),
-];
-
 /// A value of one length.
 pub struct ReadBack<F>(F);
 

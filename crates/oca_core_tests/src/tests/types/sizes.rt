@@ -1,77 +1,38 @@
 //! Sizes that a program chooses.
-use crate::tests::Row;
 use oca_types::{Peers, Sizes, Span, Window};
-use std::alloc::Global;
+use std::process::Abort;
 
-/// Which size it is.
-#[derive(Clone, Copy)]
-pub enum Size {
-    Window,
-    Peers,
-    Span,
-}
-
-/// What is made of a number, where there is such a size.
-fn made_of(size: Size, number: u8) -> Option<u8> {
-    match size {
-        Size::Window => Some(Window::new(number)?.get()),
-        Size::Peers => Some(Peers::new(number)?.get()),
-        Size::Span => Some(Span::new(number)?.get()),
+/// What is made of a number, where there is such a size: of a window, of peers and of a span.
+fn made_of(number: u8) -> (Option<u8>, Option<u8>, Option<u8>) {
+    let window = match Window::new(number) {
+        Some(window) => Some(window.get()),
+        None => None,
+    };
+    let peers = match Peers::new(number) {
+        Some(peers) => Some(peers.get()),
+        None => None,
+    };
+    match Span::new(number) {
+        Some(span) => (window, peers, Some(span.get())),
+        None => (window, peers, None),
     }
 }
 
-/// What it is by default.
-fn default_of(size: Size) -> u8 {
-    match size {
-        Size::Window => Window::default().get(),
-        Size::Peers => Peers::default().get(),
-        Size::Span => Span::default().get(),
-    }
+/// A size is from 1 to the most.
+pub fn are_limited(rt: &impl Abort) {
+    assert_eq!(rt; made_of(0), (None, None, None));
+    assert_eq!(rt; made_of(32), (Some(32), Some(32), Some(32)));
+    assert_eq!(rt; made_of(64), (Some(64), Some(64), None));
+    assert_eq!(rt; made_of(65), (None, None, None));
 }
 
-/// The number itself, where it is from 1 to the most.
-fn expected(number: u8, most: u8) -> Option<u8> {
-    if number == 0 || number > most {
-        return None;
-    }
-    Some(number)
-}
-
-/// The first of all numbers of which something else is made.
-fn first_wrong(size: Size, most: u8) -> Option<u8> {
-    for number in 0..=255u8 {
-        if made_of(size, number) != expected(number, most) {
-            return Some(number);
-        }
-    }
-    None
-}
-
-/// A size, the most that it may be, and what it is by default.
-pub struct UpTo(Size, u8, u8);
-
-pub const SIZES: &[UpTo] = &[
-    UpTo(Size::Window, 64, 32),
-    UpTo(Size::Peers, 64, 16),
-    UpTo(Size::Span, 32, 16),
-];
-
-impl Row for UpTo {
-    /// Whether the size is from 1 to the most, and by default this.
-    fn agrees(&self, _alloc: Global) -> bool {
-        first_wrong(self.0, self.1).is_none() && default_of(self.0) == self.2
-    }
-}
-
-/// The sizes of a device by default: a window, and for how many peers.
-pub struct ByDefault(u8, u8);
-
-pub const BY_DEFAULT: &[ByDefault] = &[ByDefault(32, 16)];
-
-impl Row for ByDefault {
-    /// Whether they are these.
-    fn agrees(&self, _alloc: Global) -> bool {
-        let sizes = Sizes::default();
-        sizes.window.get() == self.0 && sizes.peers.get() == self.1
-    }
+/// What sizes are that nobody chose.
+pub fn are_chosen(rt: &impl Abort) {
+    let sizes = Sizes::default();
+    assert_eq!(rt; (sizes.window.get(), sizes.peers.get()), (32, 16));
+    let (window, peers) = (Window::default(), Peers::default());
+    assert_eq!(rt;
+        (window.get(), peers.get(), Span::default().get()),
+        (32, 16, 16)
+    );
 }

@@ -82,15 +82,6 @@ const UNSIGNED_CUT: &[Take] = &[
     Take::Finish(Err(ReadFault::Trailing)),
     Take::U8(Ok(3)),
     Take::U8(Err(ReadFault::Short)),
-];
-
-const SIGNED_CUT: &[Take] = &[
-    Take::I64(Err(ReadFault::Short)),
-    Take::I32(Err(ReadFault::Short)),
-    Take::I16(Ok(-32640)),
-    Take::I16(Err(ReadFault::Short)),
-    Take::I8(Ok(127)),
-    Take::I8(Err(ReadFault::Short)),
     Take::Bool(Err(ReadFault::Short)),
 ];
 
@@ -106,6 +97,5 @@ pub const TAKEN: &[Taken] = &[
     Taken(UNSIGNED_BYTES, UNSIGNED),
     Taken(SIGNED_BYTES, SIGNED),
     Taken(&[1, 2, 3], UNSIGNED_CUT),
-    Taken(&[0x80, 0x80, 0x7F], SIGNED_CUT),
     Taken(&[0, 1, 2, 255], BOOLEANS),
 ];

@@ -59,32 +59,17 @@ const A64: &str = "aaaaaaaaaaaaaaaaaaaaaaaaaaaaaaaaaaaaaaaaaaaaaaaaaaaaaaaaaaaaa
 /// A text of 65 bytes.
 const A65: &str = "aaaaaaaaaaaaaaaaaaaaaaaaaaaaaaaaaaaaaaaaaaaaaaaaaaaaaaaaaaaaaaaaa";
 
-pub const WORKED_EXAMPLES: &[Taken] = &[
+pub const WORKED_EXAMPLES: &[Taken] = rows! {
     Taken(&[0, 1, 0xC3], Err(Short)),
     Taken(&[0, 1, 0xFF], Err(NotUtf8)),
-    Taken(
-        &[0, 5, 0x42, 0xC3, 0xBC, 0x68, 0x6E, 0x65],
-        Ok(("Bühne", 0)),
-    ),
+    Taken(&[0, 5, 0x42, 0xC3, 0xBC, 0x68, 0x6E, 0x65], Ok(("Bühne", 0))),
     Taken(&[0, 6, 0x42, 0xC3, 0xBC, 0x68, 0x6E, 0x65], Err(Short)),
-    Taken(
-        b"\x00\x40aaaaaaaaaaaaaaaaaaaaaaaaaaaaaaaaaaaaaaaaaaaaaaaaaaaaaaaaaaaaaaaa",
-        Ok((A64, 0)),
-    ),
-    Taken(
-        b"\x00\x41aaaaaaaaaaaaaaaaaaaaaaaaaaaaaaaaaaaaaaaaaaaaaaaaaaaaaaaaaaaaaaaa",
-        Err(Short),
-    ),
-    Taken(
-        b"\x00\x41aaaaaaaaaaaaaaaaaaaaaaaaaaaaaaaaaaaaaaaaaaaaaaaaaaaaaaaaaaaaaaaaa",
-        Err(TooLong),
-    ),
-    Taken(
-        b"\x00\x40aaaaaaaaaaaaaaaaaaaaaaaaaaaaaaaaaaaaaaaaaaaaaaaaaaaaaaaaaaaaaaaaa",
-        Ok((A64, 1)),
-    ),
+    Taken(b"\x00\x40aaaaaaaaaaaaaaaaaaaaaaaaaaaaaaaaaaaaaaaaaaaaaaaaaaaaaaaaaaaaaaaa", Ok((A64, 0))),
+    Taken(b"\x00\x41aaaaaaaaaaaaaaaaaaaaaaaaaaaaaaaaaaaaaaaaaaaaaaaaaaaaaaaaaaaaaaaa", Err(Short)),
+    Taken(b"\x00\x41aaaaaaaaaaaaaaaaaaaaaaaaaaaaaaaaaaaaaaaaaaaaaaaaaaaaaaaaaaaaaaaaa", Err(TooLong)),
+    Taken(b"\x00\x40aaaaaaaaaaaaaaaaaaaaaaaaaaaaaaaaaaaaaaaaaaaaaaaaaaaaaaaaaaaaaaaaa", Ok((A64, 1))),
     Taken(b"\x00\x41aaaaaaaaaa\xFF", Err(NotUtf8)),
-];
+};
 
 pub const COUNTS: &[Taken] = &[
     // no text, and a count of which a part is missing
@@ -130,30 +115,6 @@ pub const EDGES: &[Taken] = &[
     Taken(&[0, 1, 0xF0, 0x9F, 0x98, 0x80], Ok(("😀", 0))),
 ];
 
-/// 32 characters of two bytes each, and one more behind them.
-const OF_32: &[u8] = &[
-    0, 0x20, 0xC3, 0xBC, 0xC3, 0xBC, 0xC3, 0xBC, 0xC3, 0xBC, 0xC3, 0xBC, 0xC3, 0xBC, 0xC3, 0xBC,
-    0xC3, 0xBC, 0xC3, 0xBC, 0xC3, 0xBC, 0xC3, 0xBC, 0xC3, 0xBC, 0xC3, 0xBC, 0xC3, 0xBC, 0xC3, 0xBC,
-    0xC3, 0xBC, 0xC3, 0xBC, 0xC3, 0xBC, 0xC3, 0xBC, 0xC3, 0xBC, 0xC3, 0xBC, 0xC3, 0xBC, 0xC3, 0xBC,
-    0xC3, 0xBC, 0xC3, 0xBC, 0xC3, 0xBC, 0xC3, 0xBC, 0xC3, 0xBC, 0xC3, 0xBC, 0xC3, 0xBC, 0xC3, 0xBC,
-    0xC3, 0xBC, 0xC3, 0xBC,
-];
-
-/// 33 characters of two bytes each.
-const OF_33: &[u8] = &[
-    0, 0x21, 0xC3, 0xBC, 0xC3, 0xBC, 0xC3, 0xBC, 0xC3, 0xBC, 0xC3, 0xBC, 0xC3, 0xBC, 0xC3, 0xBC,
-    0xC3, 0xBC, 0xC3, 0xBC, 0xC3, 0xBC, 0xC3, 0xBC, 0xC3, 0xBC, 0xC3, 0xBC, 0xC3, 0xBC, 0xC3, 0xBC,
-    0xC3, 0xBC, 0xC3, 0xBC, 0xC3, 0xBC, 0xC3, 0xBC, 0xC3, 0xBC, 0xC3, 0xBC, 0xC3, 0xBC, 0xC3, 0xBC,
-    0xC3, 0xBC, 0xC3, 0xBC, 0xC3, 0xBC, 0xC3, 0xBC, 0xC3, 0xBC, 0xC3, 0xBC, 0xC3, 0xBC, 0xC3, 0xBC,
-    0xC3, 0xBC, 0xC3, 0xBC,
-];
-
-/// 32 characters in 64 bytes, and 33 in 66.
-pub const TWO_BYTES: &[Taken] = &[
-    Taken(OF_32, Ok(("üüüüüüüüüüüüüüüüüüüüüüüüüüüüüüüü", 2))),
-    Taken(OF_33, Err(TooLong)),
-];
-
 /// A text, and whether it has at most 64 bytes.
 pub struct AtMost64(&'static str, bool);
 
@@ -170,17 +131,5 @@ impl Row for AtMost64 {
             Some(text) => { self.1 && text.as_str() == self.0 && text.copied().as_str() == self.0 }
             None => !self.1,
         }
-    }
-}
-
-/// The text by default.
-pub struct ByDefault(&'static str);
-
-pub const BY_DEFAULT: &[ByDefault] = &[ByDefault("")];
-
-impl Row for ByDefault {
-    /// Whether it is this.
-    fn agrees(&self, _alloc: Global) -> bool {
-        Text::default().as_str() == self.0
     }
 }
