@@ -1,14 +1,12 @@
 //! The forms of options, and the note on an option whose value is not of its form.
-ghost use Rattle.std.specs.Prelude.{◌≡◌};
-ghost use Rattle.oca_program.specs.Options.{IsInForm, host_of, is_host as is_host_address, number_by, own_of};
 
 use super::fault::{Failure, RunFault};
-use super::options::text_of;
 use super::table::OptionRow;
 use clap::ArgMatches;
 use oca_script::field::{address, hex_bytes, number, peer};
 use oca_types::{MOST_COMMAND_PARAMETER_BYTES, Peer};
-use std::alloc::{AllocError, Global};
+use std::alloc::Global;
+use std::fmt::{self, Display, Formatter, Write};
 
 /// The form that the value of an option must have.
 #[derive(Clone, Copy, PartialEq, Eq, Debug)]
@@ -54,9 +52,9 @@ pub const NUMBER_32: Form = Form::Number {
 
 impl Form {
     ghost use Rattle.std.specs.Prelude.{IfSome};
+    ghost use Rattle.oca_program.specs.Options.{IsInForm};
 
-    /// Returns whether a text has this form. Any text has the form `Text`. The call prints nothing and
-    /// takes no memory.
+    /// Returns whether a text has this form.
     pub fn takes(self, text: &[u8]) -> bool {
         match self {
             Form::Number { .. } => self.number(text).is_some(),
@@ -74,9 +72,8 @@ impl Form {
 
     /// Returns the number that a text of this form gives. The result is `None` if the form is not `Number`,
     /// or the text does not have the form: it has not 1 to `digits` decimal digits, or the number is not from `least`
-    /// to `largest`. The call takes no memory.
+    /// to `largest`.
     pub fn number(self, text: &[u8]) -> Option<u64>
-        ensures value { result ≡ number_by self text.now }
         ensures within { IfSome result (IsInForm self) }
     {
         let Form::Number {
@@ -92,87 +89,66 @@ impl Form {
     }
 }
 
+impl Display for Form {
+    /// Writes what a value must be.
+    fn fmt<W: Write>(&self, f: &mut Formatter<W>) -> fmt::Result {
+        match self {
+            Form::Number {
+                digits,
+                least,
+                largest,
+            } => write!(
+                f,
+                "a number from {least} to {largest}, of 1 to {digits} digits"
+            ),
+            Form::Host => f.write_str(
+                "A.B.C.D:PORT, the address of one host (1.0.0.0 to 223.255.255.255) and a port from 1 to 65535",
+            ),
+            Form::Own => f.write_str(
+                "A.B.C.D, the address of one host (1.0.0.0 to 223.255.255.255), or 0.0.0.0",
+            ),
+            Form::AnyPeer => f.write_str("A.B.C.D:PORT"),
+            Form::Bytes => f.write_str("an even number of hexadecimal digits, 2 to 2890, or -"),
+            Form::Text => f.write_str("a text"),
+        }
+    }
+}
+
 /// Whether an address is that of one host.
-fn is_host(ip: u32) -> bool
-    ensures { result ≡ is_host_address ip }
-{
+fn is_host(ip: u32) -> bool {
     0x0100_0000 <= ip && ip < 0xe000_0000
 }
 
 /// Where a device is.
-pub(crate) fn host(text: &[u8]) -> Option<Peer>
-    ensures { result ≡ host_of text.now }
-{
-    let at = peer(text)?;
-    if is_host(at.ip) && at.port != 0 {
-        Some(at)
-    } else {
-        None
-    }
+pub(crate) fn host(text: &[u8]) -> Option<Peer> {
+    peer(text).filter(|at| is_host(at.ip) && at.port != 0)
 }
 
 /// The address of a socket.
-pub(crate) fn own(text: &[u8]) -> Option<u32>
-    ensures { result ≡ own_of text.now }
-{
-    let ip = address(text)?;
-    if ip == 0 || is_host(ip) {
-        Some(ip)
-    } else {
-        None
-    }
-}
-
-/// Checks the values of the options `rows` in the command line `words`: each must have the form of its option
-///. Options that are not given are not checked. The only failure is `BadWords`, if a value does not have
-/// its form. The note of the failure names the first such option in the order of `rows`, its value if that has at most
-/// 200 bytes, and the form. There is no note if memory for it was refused. The call prints nothing.
-pub fn check(alloc: Global, words: &ArgMatches<'_>, rows: &[OptionRow]) -> Result<(), Failure> {
-    for row in rows {
-        if let Some(value) = text_of(words, row.name)
-            && !row.form.takes(value.as_bytes())
-        {
-            return Err(Failure::noted_if(RunFault::BadWords, note_of(alloc, row, value)));
-        }
-    }
-    Ok(())
+pub(crate) fn own(text: &[u8]) -> Option<u32> {
+    address(text).filter(|ip| *ip == 0 || is_host(*ip))
 }
 
 /// The most bytes of a value that a note repeats.
 const MOST_SHOWN: usize = 200;
 
-/// The note on an option's value that is not of its form; one of more than 200 bytes is not repeated.
-fn note_of(alloc: Global, row: &OptionRow, value: &str) -> Result<String, AllocError> {
-    let name = row.name;
-    let form = words_for(alloc, row.form)?;
-    let form = form.as_str();
-    if value.len() > MOST_SHOWN {
-        return format!(in alloc; "--{name} is not valid: it must be {form}");
+/// Checks the values of the options `rows` in the command line `words`: each that is given must have the form of its
+/// option. The only failure is `BadWords`, if a value does not have its form. The note of the failure names the first such
+/// option in the order of `rows`, its value if that has at most 200 bytes, and the form. There is no note if memory for
+/// it was refused.
+pub fn check(alloc: Global, words: &ArgMatches<'_>, rows: &[OptionRow]) -> Result<(), Failure> {
+    for row in rows {
+        let (name, form) = (row.name, row.form);
+        if let Some(value) = row.text(words)
+            && !form.takes(value.as_bytes())
+        {
+            let note = if value.len() > MOST_SHOWN {
+                format!(in alloc; "--{name} is not valid: it must be {form}")
+            } else {
+                format!(in alloc; "--{name} {value} is not valid: it must be {form}")
+            };
+            return Err(Failure::noted_if(RunFault::BadWords, note));
+        }
     }
-    format!(in alloc; "--{name} {value} is not valid: it must be {form}")
-}
-
-/// A form in words.
-fn words_for(alloc: Global, form: Form) -> Result<String, AllocError> {
-    match form {
-        Form::Number {
-            digits,
-            least,
-            largest,
-        } => format!(in alloc; "a number from {least} to {largest}, of 1 to {digits} digits"),
-        Form::Host => String::from_str(
-            alloc,
-            "A.B.C.D:PORT, the address of one host (1.0.0.0 to 223.255.255.255) and a port from 1 to 65535",
-        ),
-        Form::Own => String::from_str(
-            alloc,
-            "A.B.C.D, the address of one host (1.0.0.0 to 223.255.255.255), or 0.0.0.0",
-        ),
-        Form::AnyPeer => String::from_str(alloc, "A.B.C.D:PORT"),
-        Form::Bytes => String::from_str(
-            alloc,
-            "an even number of hexadecimal digits, 2 to 2890, or -",
-        ),
-        Form::Text => String::from_str(alloc, "a text"),
-    }
+    Ok(())
 }

@@ -2,23 +2,21 @@
 //! and the words of a command line.
 //!
 //! A program's `main` takes its words by [`words_of`], and prints a [`Failure`] by [`report`]. [`table`] has the rows of
-//! a command line; [`options`] reads the values of the options that `clap` has found; [`ending`] ends a run; [`socket`]
-//! binds an end.
+//! a command line; [`options`] reads the values of the options that `clap` has found; [`run`] begins and ends a run;
+//! [`socket`] binds an end.
 #![tactic(auto)]
 
-pub mod ending;
 pub mod fault;
 pub mod form;
 pub mod options;
+pub mod run;
 pub mod socket;
-pub mod start;
 pub mod table;
 mod version;
 
-pub use ending::{helped, replayed, status_of};
-pub use fault::{Failure, RunFault, print_made_note, print_note, report};
+pub use fault::{Failure, Line, RunFault, print_made_note, print_note, report};
 pub use form::Form;
+pub use run::{helped, replayed, status_of, words_of};
 pub use socket::note_other_port;
-pub use start::words_of;
 pub use table::{CommandRow, Kind, OptionRow};
 pub use version::VERSION;

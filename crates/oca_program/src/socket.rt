@@ -21,10 +21,7 @@ pub fn bind<N: Net + Clock>(
     ip: u32,
     port: u16,
 ) -> Result<UdpEnd<'_, N>, Failure> {
-    match UdpEnd::bind_with_reason(alloc, system, ip, port) {
-        Ok(end) => Ok(end),
-        Err(error) => Err(unreached(alloc, &error, 0)),
-    }
+    UdpEnd::bind_with_reason(alloc, system, ip, port).map_err(|error| unreached(alloc, &error, 0))
 }
 
 /// Why a run fails that got no socket at the port `port`, as `error` says: `NoMemory` if memory was refused,
@@ -47,8 +44,7 @@ pub fn unreached(alloc: Global, error: &BindError, port: u16) -> Failure {
 }
 
 /// Prints to `faults` the note that this device answers no command from the port `port`, and that the port `other` is
-/// used instead. Then all that waits in the printer is written. The call takes memory for the note. If
-/// memory is refused, nothing is printed. A failed write is ignored.
+/// used instead ([`print_made_note`]).
 pub fn note_other_port<F: Sink>(
     alloc: Global,
     device: Peer,
@@ -62,9 +58,8 @@ pub fn note_other_port<F: Sink>(
     print_made_note(note, faults);
 }
 
-/// Prints to `faults` the note of how many sends failed (`failed`), and why the last of them did. Then all
-/// that waits in the printer is written. Nothing is printed if `last` is `None`, or memory for the note was refused. A
-/// failed write is ignored.
+/// Prints to `faults` the note of how many sends failed (`failed`), and why the last of them did, unless `last` is `None`
+/// ([`print_made_note`]).
 pub fn note_failed_sends<F: Sink>(
     alloc: Global,
     failed: u64,

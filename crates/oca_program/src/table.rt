@@ -46,15 +46,14 @@ pub struct CommandRow {
     pub options: &'static [OptionRow],
 }
 
-/// Returns the command line of a program as `clap` has it, with this row's options, a version and no commands
-///. The call takes memory from `alloc`. The only refusal is `AllocError`, if memory was refused.
+/// Returns the command line of a program as `clap` has it, with this row's options, a version and no commands. The only
+/// refusal is `AllocError`, if memory was refused.
 pub fn program<'a>(alloc: Global, row: &CommandRow) -> Result<Command<'a>, AllocError> {
     Ok(command(alloc, row)?.version(VERSION))
 }
 
 /// Returns the command line of a program as `clap` has it, with this row's options, a version and the commands of the
-/// rows `commands`. A command line must name one of these commands. The call takes memory from `alloc`. The
-/// only refusal is `AllocError`, if memory was refused.
+/// rows `commands`, one of which a command line must name. The only refusal is `AllocError`, if memory was refused.
 pub fn program_with_commands<'a>(
     alloc: Global,
     row: &CommandRow,
@@ -62,8 +61,7 @@ pub fn program_with_commands<'a>(
 ) -> Result<Command<'a>, AllocError> {
     let mut so_far = program(alloc, row)?.subcommand_required(true);
     for row in commands {
-        let added = command(alloc, row)?;
-        so_far = so_far.subcommand(added)?;
+        so_far = so_far.subcommand(command(alloc, row)?)?;
     }
     Ok(so_far)
 }
@@ -74,25 +72,20 @@ fn command<'a>(alloc: Global, row: &CommandRow) -> Result<Command<'a>, AllocErro
         .about(row.about)
         .after_help(row.example);
     for option in row.options {
-        so_far = so_far.arg(argument(alloc, option))?;
+        let argument = Arg::new(alloc, option.name).help(option.help);
+        so_far = so_far.arg(match option.kind {
+            Kind::Flag => argument.long(option.name).action(ArgAction::SetTrue),
+            Kind::Words => argument
+                .value_name(option.value)
+                .action(ArgAction::Append)
+                .num_args(1..)
+                .required(true),
+            Kind::Required | Kind::Optional => argument
+                .long(option.name)
+                .value_name(option.value)
+                .action(ArgAction::Set)
+                .required(option.kind == Kind::Required),
+        })?;
     }
     Ok(so_far)
-}
-
-/// The option of a row.
-fn argument<'a>(alloc: Global, row: &OptionRow) -> Arg<'a> {
-    let argument = Arg::new(alloc, row.name).help(row.help);
-    match row.kind {
-        Kind::Flag => argument.long(row.name).action(ArgAction::SetTrue),
-        Kind::Words => argument
-            .value_name(row.value)
-            .action(ArgAction::Append)
-            .num_args(1..)
-            .required(true),
-        Kind::Required | Kind::Optional => argument
-            .long(row.name)
-            .value_name(row.value)
-            .action(ArgAction::Set)
-            .required(row.kind == Kind::Required),
-    }
 }

@@ -1,35 +1,40 @@
-//! How a run of a program ends: its exit status, and what is printed of it.
-ghost use Rattle.std.specs.Prelude.{◌≡◌};
-ghost use Rattle.oca_program.specs.Endings.{fault_in, run_status, when_replayed};
+//! How a run of a program begins and how it ends.
 
 use super::fault::{Failure, RunFault, report};
 use clap::Error;
 use clap::error::ErrorKind;
 use oca_script::{Printer, ReplayFault, Sink};
 use std::alloc::{AllocError, Global};
+use std::env::{self, Env};
+use std::io;
 
-/// Returns the exit status of a run: the status in `ended`, or the status of the failure in it. A failure
-/// is printed to `faults`, and all that waits in the printer is written. Its status is 2 for `BadWords`, `Line` and
-/// `Object`, and 1 for the other faults. A failed write is ignored.
-pub fn status_of<F: Sink>(ended: Result<u8, Failure>, faults: &mut Printer<F>) -> u8
-    ensures { result ≡ run_status (fault_in ended) }
-{
+/// Returns the arguments of the command line, the program's name first. The call takes memory for them.
+/// Failures: `NoMemory` if memory was refused. `BadWords` if an argument is not UTF-8; a note says so, if there is
+/// memory for it.
+pub fn words_of<R: Env + AllocGlobal>(rt: &R) -> Result<Vec<String>, Failure> {
+    match env::args(rt) {
+        Ok(args) => Ok(args.collect::<Vec<String>>(rt.alloc())?),
+        Err(error) if error.kind() == io::ErrorKind::OutOfMemory => {
+            Err(Failure::from(RunFault::NoMemory))
+        }
+        Err(_) => Err(Failure::told(rt.alloc(), RunFault::BadWords, "an argument is not UTF-8")),
+    }
+}
+
+/// Returns the exit status of a run: the status in `ended`, or that of the failure in it, which is then printed to
+/// `faults` ([`report`]).
+pub fn status_of<F: Sink>(ended: Result<u8, Failure>, faults: &mut Printer<F>) -> u8 {
     match ended {
         Ok(status) => status,
         Err(failure) => report(&failure, faults),
     }
 }
 
-/// Returns how a run ends that only had to replay a script: the exit status 0 if `done` is `Ok`, which
-/// means that the script was replayed to its end. The failures are `Line`, `Read`, `Write` and `TooMuch`, each for the
-/// fault of the same name in `done`. The call prints nothing.
-pub fn replayed(done: Result<(), ReplayFault>) -> Result<u8, Failure>
-    ensures { fault_in result ≡ when_replayed done }
-{
-    match done {
-        Ok(()) => Ok(0),
-        Err(fault) => Err(Failure::from(fault)),
-    }
+/// Returns how a run ends that only had to replay a script: the exit status 0 if the script was replayed to its end, and
+/// otherwise the failure of the same name as the fault.
+pub fn replayed(done: Result<(), ReplayFault>) -> Result<u8, Failure> {
+    done?;
+    Ok(0)
 }
 
 /// Ends a run whose command line did not match; `error` is what `clap` found. If the command line asks for
@@ -46,8 +51,7 @@ pub fn helped<W: Sink>(
 ) -> Result<u8, Failure> {
     match error.kind() {
         ErrorKind::DisplayHelp | ErrorKind::DisplayVersion => {
-            let text = error.to_string(alloc)?;
-            printer.print(text.as_str().as_bytes())?;
+            printer.print(error.to_string(alloc)?.as_bytes())?;
             printer.flush()?;
             Ok(0)
         }
@@ -61,10 +65,7 @@ pub fn helped<W: Sink>(
 fn first_paragraph(alloc: Global, error: &Error) -> Result<String, AllocError> {
     let text = error.to_string(alloc)?;
     let mut note = String::new(alloc);
-    for line in text.as_str().lines() {
-        if line.is_empty() {
-            return Ok(note);
-        }
+    for line in text.as_str().lines().take_while(|line| !line.is_empty()) {
         if !note.is_empty() {
             note.push(' ')?;
         }
