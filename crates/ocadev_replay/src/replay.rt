@@ -19,19 +19,10 @@ use oca_types::Peer;
 
 /// The rules of a device's scripts, in which a line is a datagram or a reading of the clock, and the memory for serving
 /// a line.
+#[derive(Drop)]
 pub struct DeviceScript<'a> {
     outbox: &'a mut Outbox,
     bytes: [u8; DATAGRAM_ROOM],
-}
-
-impl Drop for DeviceScript<'_> {
-    /// Lets the outbox and the room go.
-    fn drop(self) {
-        let DeviceScript {
-            outbox: _,
-            bytes: _,
-        } = self;
-    }
 }
 
 impl<'a> Language for DeviceScript<'a> {

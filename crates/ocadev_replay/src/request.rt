@@ -65,15 +65,6 @@ fn is_quiet(word: &[u8]) -> bool
     word == b"quiet".as_slice()
 }
 
-/// A clock reading at this moment.
-#[tactic(auto, unfolding(crate::specs::Requests::tick_of))]
-fn tick<'a>(now: &[u8]) -> Result<ScriptEvent<'a>, LineFault>
-    ensures { event_asked result ≡ tick_of now.now }
-{
-    let now = moment(now)?;
-    Ok(ScriptEvent::Tick { now })
-}
-
 /// A datagram: its moment, its sender and its bytes, looked at in this order.
 #[tactic(auto, unfolding(crate::specs::Requests::datagram_of))]
 fn datagram<'a>(
@@ -105,24 +96,8 @@ fn moment_and_peer(line: &[u8]) -> Option<(u64, Peer, &[u8])>
     Some((now, from, rest))
 }
 
-/// The datagram of which the moment and the peer are read: its bytes are the one field that is left. Bytes that can be
-/// read are one field, so only a line with a fault is searched for a space.
-fn bytes_after<'a>(
-    now: u64,
-    from: Peer,
-    rest: &[u8],
-    room: &'a mut [u8],
-) -> Result<ScriptEvent<'a>, LineFault>
-    requires { length rest.now ≤ 2 * length room.old }
-    ensures { event_asked result ≡ datagram_after now from (fields rest.now) }
-{
-    match hex_bytes(rest, room) {
-        Some(bytes) => Ok(ScriptEvent::Datagram { now, from, bytes }),
-        None => Err(fault_after_peer(rest)),
-    }
-}
-
-/// The fault of what follows the peer, where that is not one field of bytes.
+/// The fault of what follows the peer, where that is not one field of bytes. Bytes that can be read are one field, so only
+/// a line with a fault is searched for a space.
 #[tactic(auto, using(crate::proofs::RequestLemmas::left_rules))]
 fn fault_after_peer(rest: &[u8]) -> LineFault
     requires { hex_of rest.now ≡ None }
@@ -134,7 +109,7 @@ fn fault_after_peer(rest: &[u8]) -> LineFault
     }
 }
 
-/// Reads what a line of a device's script asks for: `N P HEX` is a datagram of the peer P at the moment N, and `N
+/// Reads what a line of a device's script asks for, in one pass where it is a datagram: `N P HEX` is a datagram of the peer P at the moment N, and `N
 /// quiet` a reading of the clock. Moments are in milliseconds. The line has at most 4,096 bytes (a premise, which the
 /// caller must prove). The bytes of a datagram are written to the front of `room`, and the result refers to them. The
 /// call takes no memory. Refusals, the first that applies; discard what `room` contains then:
@@ -148,13 +123,17 @@ pub fn asked_by<'a>(
     ensures { event_asked result ≡ asked_event (fields line.now) }
 {
     match moment_and_peer(line) {
-        Some((now, from, rest)) => bytes_after(now, from, rest, room),
+        Some((now, from, rest)) => match hex_bytes(rest, room) {
+            Some(bytes) => Ok(ScriptEvent::Datagram { now, from, bytes }),
+            None => Err(fault_after_peer(rest)),
+        },
         None => asked_by_fields(line, room),
     }
 }
 
 /// The same field by field, for clock readings and for lines with a fault.
 #[inline(never)]
+#[tactic(auto, unfolding(crate::specs::Requests::tick_of))]
 fn asked_by_fields<'a>(
     line: &[u8],
     room: &'a mut [u8; DATAGRAM_ROOM],
@@ -164,11 +143,11 @@ fn asked_by_fields<'a>(
 {
     match fields_of(line) {
         Fields::Two(now, second) => {
-            if is_quiet(second) {
-                tick(now)
-            } else {
-                Err(LineFault::Form)
+            if !is_quiet(second) {
+                return Err(LineFault::Form);
             }
+            let now = moment(now)?;
+            Ok(ScriptEvent::Tick { now })
         }
         Fields::Three(now, second, third) => {
             if is_quiet(second) {
