@@ -3,7 +3,7 @@
 use oca_script::{LineFault, ObjectFault, Printer, ReplayFault, Sink, WriteFailed};
 use oca_types::NoMemory;
 use std::alloc::{AllocError, Global};
-use std::fmt::{self, Write};
+use std::fmt::{self, Display, Write};
 use thiserror::Error;
 
 /// The most bytes of a note that is printed.
@@ -90,8 +90,8 @@ pub fn report<F: Sink>(failure: &Failure, faults: &mut Printer<F>) -> u8 {
         Some(note) => write_note(note.as_str(), faults),
         None => Ok(()),
     };
-    if noted.is_ok() && writeln!(Line(faults), "{}", failure.fault).is_ok() {
-        let _ = faults.flush();
+    if noted.is_ok() {
+        let _ = print_line(&failure.fault, faults);
     }
     failure.fault.status()
 }
@@ -118,6 +118,13 @@ fn write_note<F: Sink>(note: &str, faults: &mut Printer<F>) -> fmt::Result {
         return Ok(());
     }
     writeln!(Line(faults), "note: {line}")
+}
+
+/// Prints this as one line, and writes all that waits in the printer. Err if a write failed; then perhaps only the
+/// beginning of the line was written.
+pub fn print_line<D: Display, W: Sink>(line: &D, printer: &mut Printer<W>) -> fmt::Result {
+    writeln!(Line(printer), "{line}")?;
+    printer.flush().map_err(|_| fmt::Error)
 }
 
 /// A printer that `write!` writes to.
@@ -154,6 +161,13 @@ impl From<ReplayFault> for Failure {
 impl From<WriteFailed> for Failure {
     /// Returns a failure with the fault `Write` and without a note.
     fn from(_fault: WriteFailed) -> Failure {
+        Failure::from(RunFault::Write)
+    }
+}
+
+impl From<fmt::Error> for Failure {
+    /// Returns a failure with the fault `Write` and without a note.
+    fn from(_fault: fmt::Error) -> Failure {
         Failure::from(RunFault::Write)
     }
 }

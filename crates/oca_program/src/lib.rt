@@ -14,7 +14,7 @@ pub mod socket;
 pub mod table;
 mod version;
 
-pub use fault::{Failure, Line, RunFault, print_made_note, print_note, report};
+pub use fault::{Failure, Line, RunFault, print_line, print_made_note, print_note, report};
 pub use form::Form;
 pub use run::{helped, replayed, status_of, words_of};
 pub use socket::note_other_port;

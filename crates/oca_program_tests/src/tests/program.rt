@@ -1,10 +1,11 @@
 //! What the clauses leave open: printed texts, and faults where memory or the writer refuses.
-use super::{AtPlace, Row, displays, first_place, first_wrong, none_wrong};
+use super::{AtPlace, Row, displays, first_place, first_wrong, none_wrong, wrong_unless};
 use crate::tests::fakes::ShortWriter;
-use oca_program::{Failure, Form, RunFault, report};
-use oca_script::{LineFault, Printer, ReplayFault};
+use oca_program::{Failure, Form, RunFault, replayed, report, status_of};
+use oca_script::{LineFault, Printer, ReplayFault, WriteFailed};
 use oca_textree::ObjectFault;
-use std::alloc::Global;
+use oca_types::NoMemory;
+use std::alloc::{AllocError, Global};
 use std::str::from_utf8;
 
 /// Where a run's failure comes from.
@@ -12,6 +13,9 @@ use std::str::from_utf8;
 enum Cause {
     Run(RunFault),
     Replay(ReplayFault),
+    Writing,
+    Memory,
+    Allocating,
 }
 
 use Cause::*;
@@ -21,6 +25,9 @@ fn failure(cause: Cause) -> Failure {
     match cause {
         Run(fault) => Failure::from(fault),
         Replay(fault) => Failure::from(fault),
+        Writing => Failure::from(WriteFailed),
+        Memory => Failure::from(NoMemory),
+        Allocating => Failure::from(AllocError),
     }
 }
 
@@ -46,7 +53,7 @@ impl Row for Reported {
     fn agrees(&self, alloc: Global) -> bool {
         let is_displayed = match self.0 {
             Run(fault) => displays_line(alloc, &fault, self.2),
-            Replay(_) => true,
+            Replay(_) | Writing | Memory | Allocating => true,
         };
         is_displayed && reports_as(&failure(self.0), self.1, self.2.as_bytes())
     }
@@ -131,7 +138,16 @@ const LINES: &[Reported] = &[
     Reported(Replay(ReplayFault::Read), 1, "read failed\n"),
     Reported(Replay(ReplayFault::Write), 1, "write failed\n"),
     Reported(Replay(ReplayFault::TooMuch), 1, "too much input\n"),
+    Reported(Writing, 1, "write failed\n"),
+    Reported(Memory, 1, "no memory\n"),
+    Reported(Allocating, 1, "no memory\n"),
 ];
+
+/// Whether a run that ended so has this exit status.
+fn ends_with(ended: Result<u8, Failure>, status: u8) -> bool {
+    let mut faults = Printer::new(ShortWriter::new(9, usize::MAX));
+    status_of(ended, &mut faults) == status
+}
 
 /// A fault with a note of these bytes; the status with which it ends a run, how what is printed begins, and of how many
 /// bytes it is.
@@ -201,6 +217,10 @@ fn faults_and_forms_of_runs(rt: HostRuntime) {
             first_wrong(alloc, FORMS),
             first_place(alloc, &Filled, 0, 10),
             first_wrong(alloc, NOTES),
+            wrong_unless(ends_with(Ok(3), 3)),
+            wrong_unless(ends_with(Err(Failure::from(RunFault::BadWords)), 2)),
+            wrong_unless(ends_with(replayed(Ok(())), 0)),
+            wrong_unless(ends_with(replayed(Err(ReplayFault::Read)), 1)),
         ],
     );
 }
