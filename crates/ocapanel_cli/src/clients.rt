@@ -61,46 +61,28 @@ struct Client {
 /// A connection is over: all was said, or it failed.
 struct Over;
 
+/// How many bytes a read or a write moved; `None` if it would have to wait.
+fn moved(done: io::Result<usize>) -> Result<Option<usize>, Over> {
+    match done {
+        Ok(count) => Ok(Some(count)),
+        Err(error) if error.kind() == io::ErrorKind::WouldBlock => Ok(None),
+        Err(_) => Err(Over),
+    }
+}
+
+/// Whether more than so many milliseconds passed since this moment.
+fn is_past(since: Option<u64>, most: u64, now: u64) -> bool {
+    since.is_some_and(|since| since.saturating_add(most) < now)
+}
+
 impl Client {
-    /// Reads once, where it wants to. Returns whether something may have come.
-    fn read(&mut self, now: u64) -> Result<bool, Over> {
-        if !self.http.wants_read() {
-            return Ok(false);
-        }
-        match self.http.read_from(&mut self.stream) {
-            Ok(_) => {
-                self.begun = self.begun.or(Some(now));
-                Ok(true)
-            }
-            Err(error) if error.kind() == io::ErrorKind::WouldBlock => Ok(false),
-            Err(_) => Err(Over),
-        }
-    }
-
-    /// Writes once, where it wants to. Returns whether something was written.
-    fn write(&mut self, now: u64) -> Result<bool, Over> {
-        if !self.http.wants_write() {
-            return Ok(false);
-        }
-        match self.http.write_to(&mut self.stream) {
-            Ok(0) => Err(Over),
-            Ok(_) => {
-                if !self.http.wants_write() {
-                    self.untaken = None;
-                }
-                Ok(true)
-            }
-            Err(error) if error.kind() == io::ErrorKind::WouldBlock => {
-                self.untaken = self.untaken.or(Some(now));
-                Ok(false)
-            }
-            Err(_) => Err(Over),
-        }
-    }
-
-    /// Reads, answers and writes once. Returns whether something moved.
+    /// Reads, answers and writes once, as far as it wants to. Returns whether something moved.
     fn step(&mut self, site: &mut Site, now: u64) -> Result<bool, Over> {
-        let read = self.read(now)?;
+        let mut has_moved = false;
+        if self.http.wants_read() && moved(self.http.read_from(&mut self.stream))?.is_some() {
+            self.begun = self.begun.or(Some(now));
+            has_moved = true;
+        }
         let (calls, admitted) = (site.calls(), site.admitted());
         self.http.advance(site);
         if site.calls() != calls {
@@ -108,60 +90,55 @@ impl Client {
             self.untaken = None;
         }
         self.is_known = self.is_known || site.admitted() != admitted;
-        let written = self.write(now)?;
+        if self.http.wants_write() {
+            match moved(self.http.write_to(&mut self.stream))? {
+                Some(0) => return Err(Over),
+                Some(_) => has_moved = true,
+                None => self.untaken = self.untaken.or(Some(now)),
+            }
+            if !self.http.wants_write() {
+                self.untaken = None;
+            }
+        }
         if self.http.is_done() {
             return Err(Over);
         }
-        Ok(read || written)
+        Ok(has_moved)
     }
 
-    /// Reads, answers and writes as long as something moves, until an order was taken or the others have their turn.
-    /// Returns whether there may be more to do.
-    fn steps(&mut self, site: &mut Site, now: u64) -> Result<bool, Over> {
+    /// Where it is ready, reads, answers and writes as long as something moves, until an order was taken or the others
+    /// have their turn. Returns whether there may be more to do. Where it waits and has read all, nothing on it is from the
+    /// time of a stop: an answer that is not taken keeps it from reading.
+    fn serve(&mut self, site: &mut Site, now: u64) -> Result<bool, Over> {
+        if !self.ready {
+            return Ok(false);
+        }
         let ticket = site.view().next_ticket();
         site.doubt(self.doubts);
         for _ in 0..ROUNDS {
             if site.view().next_ticket() != ticket {
-                return Ok(true);
+                break;
             }
-            if !self.step(site, now)? {
-                return Ok(false);
+            self.ready = self.step(site, now)?;
+            if !self.ready {
+                break;
             }
             self.moved = now;
         }
-        Ok(true)
-    }
-
-    /// Serves it, where it is ready. Returns whether there may be more to do. Where it waits and has read all, nothing on
-    /// it is from the time of a stop: an answer that is not taken keeps it from reading.
-    fn serve(&mut self, site: &mut Site, now: u64) -> Result<bool, Over> {
-        if self.ready {
-            self.ready = self.steps(site, now)?;
-            self.doubts = self.doubts && (self.ready || !self.http.wants_read());
-        }
+        self.doubts = self.doubts && (self.ready || !self.http.wants_read());
         Ok(self.ready)
     }
 
     /// Whether it is too slow, or idle for too long.
     fn is_late(&self, now: u64) -> bool {
-        self.moved.saturating_add(IDLE_MS) < now
-            || is_slow(self.begun, now)
-            || is_slow(self.untaken, now)
+        is_past(Some(self.moved), IDLE_MS, now)
+            || is_past(self.begun, SLOW_MS, now)
+            || is_past(self.untaken, SLOW_MS, now)
     }
 
     /// Whether there is no request on it, and was none for a while.
     fn rests(&self, now: u64) -> bool {
-        self.begun.is_none()
-            && self.untaken.is_none()
-            && self.moved.saturating_add(RESTING_MS) < now
-    }
-}
-
-/// Whether what is begun since this moment takes too long.
-fn is_slow(since: Option<u64>, now: u64) -> bool {
-    match since {
-        Some(moment) => moment.saturating_add(SLOW_MS) < now,
-        None => false,
+        self.begun.or(self.untaken).is_none() && is_past(Some(self.moved), RESTING_MS, now)
     }
 }
 
@@ -175,9 +152,10 @@ pub struct Clients {
     clients: Vec<Client>,
     /// The number of the newest connection's token.
     tokens: usize,
-    more: bool,
+    /// Whether a connection may have more to do at once: then the loop must not wait.
+    pub has_more: bool,
     /// Whether the program was suspended, and connections that came meanwhile may still wait.
-    doubts: bool,
+    pub doubts: bool,
 }
 
 impl Clients {
@@ -189,17 +167,11 @@ impl Clients {
         at: Peer,
         socket: RawFd,
     ) -> Result<Clients, Failure> {
-        let mut listener = match TcpListener::bind(host, SocketAddr::V4(SocketAddrV4::from(at))) {
-            Ok(listener) => listener,
-            Err(reason) => {
-                let note = format!(in alloc; "{at}: {reason}");
-                return Err(Failure::noted_if(RunFault::Socket, note));
-            }
-        };
-        let poll = match poll_of(host, &mut listener, socket) {
-            Ok(poll) => poll,
-            Err(reason) => return Err(failed(alloc, reason)),
-        };
+        let address = SocketAddr::V4(SocketAddrV4::from(at));
+        let mut listener = TcpListener::bind(host, address).map_err(|reason| {
+            Failure::noted_if(RunFault::Socket, format!(in alloc; "{at}: {reason}"))
+        })?;
+        let poll = poll_of(host, &mut listener, socket).map_err(|reason| failed(alloc, reason))?;
         Ok(Clients {
             alloc,
             listener,
@@ -207,53 +179,42 @@ impl Clients {
             events: Events::with_capacity(alloc, 32)?,
             clients: Vec::new(alloc),
             tokens: DEVICE.0,
-            more: false,
+            has_more: false,
             doubts: false,
         })
     }
 
     /// Where browsers are listened to that was to be at `asked`: with the port that the system chose.
     pub fn local(&self, asked: Peer) -> Peer {
-        match self.listener.local_addr() {
-            Ok(address) => Peer {
-                ip: asked.ip,
-                port: address.port(),
-            },
-            Err(_) => asked,
-        }
+        let port = match self.listener.local_addr() {
+            Ok(address) => address.port(),
+            Err(_) => asked.port,
+        };
+        Peer { port, ..asked }
     }
 
     /// Another socket for the device is waited for.
     pub fn watch(&mut self, socket: RawFd) -> Result<(), Failure> {
-        match watch(&self.poll, socket) {
-            Ok(()) => Ok(()),
-            Err(reason) => Err(failed(self.alloc, reason)),
-        }
+        watch(&self.poll, socket).map_err(|reason| failed(self.alloc, reason))
     }
 
     /// Waits until something can be read or written, at most so many milliseconds.
     pub fn wait(&mut self, wait: u64) -> Result<(), Failure> {
-        let longest = Some(Duration::from_millis(wait));
-        if let Err(reason) = self.poll.poll(&mut self.events, longest) {
-            return Err(failed(self.alloc, reason));
-        }
+        self.poll
+            .poll(&mut self.events, Some(Duration::from_millis(wait)))
+            .map_err(|reason| failed(self.alloc, reason))?;
         for event in self.events.iter() {
             let token = event.token().0;
             let found = self
                 .clients
                 .binary_search_by_key(&token, |client| client.token.0);
-            if let Ok(place) = found {
-                if let Some(client) = self.clients.get_mut(place) {
-                    client.ready = true;
-                }
+            if let Ok(place) = found
+                && let Some(client) = self.clients.get_mut(place)
+            {
+                client.ready = true;
             }
         }
         Ok(())
-    }
-
-    /// Notes that the program was suspended: requests may have come meanwhile.
-    pub fn doubt(&mut self) {
-        self.doubts = true;
     }
 
     /// Lets the browsers in that wait, at the moment `now`, in milliseconds of the program's clock. Then reads, answers by
@@ -270,75 +231,67 @@ impl Clients {
             }
         }
         self.accept(host, now);
-        let mut more = false;
+        let mut has_more = false;
         self.clients.retain_mut(|client| match client.serve(site, now) {
-            Ok(has_more) => {
-                more = more || has_more;
+            Ok(more) => {
+                has_more = has_more || more;
                 !client.is_late(now)
             }
             Err(Over) => false,
         });
-        self.more = more;
+        self.has_more = has_more;
     }
 
-    /// Lets the browsers in that wait. Nothing is from the time of a stop once no more do.
+    /// Lets the browsers in that wait. Nothing is from the time of a stop once no more do. A new connection is closed if
+    /// there is no place for it, if the system refuses random keys or the wait for it, or if memory was refused; a
+    /// connection that was closed for it stays closed.
     fn accept<H: RandomSource>(&mut self, host: &H, now: u64) {
         for _ in 0..16u32 {
-            let Ok((stream, _)) = self.listener.accept() else {
+            let Ok((mut stream, _)) = self.listener.accept() else {
                 self.doubts = false;
                 return;
             };
-            if let Ok(keys) = RandomState::new(host) {
-                self.add(stream, keys, now);
+            let Ok(keys) = RandomState::new(host) else {
+                continue;
+            };
+            if !self.has_place(now) {
+                continue;
             }
+            self.tokens = self.tokens.saturating_add(1);
+            let token = Token(self.tokens);
+            let _ = stream.set_nodelay(true);
+            let registry = self.poll.registry();
+            let both = Interest::READABLE | Interest::WRITABLE;
+            if registry.register(&mut stream, token, both).is_err() {
+                continue;
+            }
+            let config = Config {
+                max_body_len: MOST_BODY,
+                ..Config::default()
+            };
+            drop(
+                self.clients.push(Client {
+                    stream,
+                    http: Connection::new(self.alloc, keys, config),
+                    token,
+                    ready: true,
+                    moved: now,
+                    begun: Some(now),
+                    untaken: None,
+                    doubts: self.doubts,
+                    is_known: false,
+                }),
+            );
         }
     }
 
-    /// Adds a new connection. `keys` are the random keys for the map of its request's headers.
-    ///
-    /// At most 128 connections are kept. If there are 128, one of them is closed to make room. That is the oldest one
-    /// on which no request was admitted so far (admitted: with the right host and token). If there is no such
-    /// connection, it is the first on which no request is begun and nothing moved for more than 1,000 ms. If there is
-    /// neither, the new connection is closed. The new connection is also closed if the system refuses the wait for it, or
-    /// if memory was refused; a connection that was closed for it stays closed.
-    fn add(&mut self, mut stream: TcpStream, keys: RandomState, now: u64) {
-        if self.clients.len() >= MOST && !self.make_place(now) {
-            return;
+    /// Whether there is a place for a new connection. If there are 128, one of them is closed to make room. That is the
+    /// oldest one on which no request was admitted so far (admitted: with the right host and token). If there is no such
+    /// connection, it is the first on which no request is begun and nothing moved for more than 1,000 ms.
+    fn has_place(&mut self, now: u64) -> bool {
+        if self.clients.len() < MOST {
+            return true;
         }
-        self.tokens = self.tokens.saturating_add(1);
-        let token = Token(self.tokens);
-        let _ = stream.set_nodelay(true);
-        let both = Interest::READABLE | Interest::WRITABLE;
-        if self
-            .poll
-            .registry()
-            .register(&mut stream, token, both)
-            .is_err()
-        {
-            return;
-        }
-        self.more = true;
-        let config = Config {
-            max_body_len: MOST_BODY,
-            ..Config::default()
-        };
-        drop(
-            self.clients.push(Client {
-                stream,
-                http: Connection::new(self.alloc, keys, config),
-                token,
-                ready: true,
-                moved: now,
-                begun: Some(now),
-                untaken: None,
-                doubts: self.doubts,
-                is_known: false,
-            }),
-        );
-    }
-
-    /// Closes the connection that gives way to a new one. Returns whether there is one.
-    fn make_place(&mut self, now: u64) -> bool {
         let unknown = self.clients.iter().position(|client| !client.is_known);
         let resting = self.clients.iter().position(|client| client.rests(now));
         match unknown.or(resting) {
@@ -348,11 +301,6 @@ impl Clients {
             }
             _ => false,
         }
-    }
-
-    /// Whether a connection may have more to do at once: then the loop must not wait.
-    pub fn has_more(&self) -> bool {
-        self.more
     }
 }
 

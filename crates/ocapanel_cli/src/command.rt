@@ -136,11 +136,6 @@ const VERBOSE: OptionRow = OptionRow {
     ..NO_TOKEN
 };
 
-/// The options, in the order of `--help`.
-const OPTIONS: &[OptionRow] = &[
-    DEVICE, LISTEN, TOKEN, UNITS, SPAN, IP, PORT, NO_TOKEN, READ_ONLY, VERBOSE,
-];
-
 /// The program.
 const PROGRAM: CommandRow = CommandRow {
     name: "ocapanel",
@@ -149,7 +144,9 @@ const PROGRAM: CommandRow = CommandRow {
     The panel serves at most 128 connections at once, and runs until you stop it.
 
 Example: ocapanel --device 127.0.0.1:65000",
-    options: OPTIONS,
+    options: &[
+        DEVICE, LISTEN, TOKEN, UNITS, SPAN, IP, PORT, NO_TOKEN, READ_ONLY, VERBOSE,
+    ],
 };
 
 /// Matches the words of the command line, the program's name first, with the options that the program takes. Err if the
@@ -161,11 +158,19 @@ pub fn matches_of<'a, S: AsStr>(alloc: Global, words: &'a [S]) -> Result<ArgMatc
 /// What a command line that matched asks for. Failure: `BadWords` if an option's value is not of its form, or two options
 /// contradict each other. Its note names them, if there is memory for it.
 pub fn options_of<'a>(alloc: Global, words: &ArgMatches<'a>) -> Result<Options<'a>, Failure> {
-    check(alloc, words, OPTIONS)?;
+    check(alloc, words, PROGRAM.options)?;
     let Some(device) = host_in(words, DEVICE.name) else {
         return Err(Failure::from(RunFault::BadWords));
     };
-    let access = access_of(alloc, words)?;
+    let access = match (NO_TOKEN.is_set(words), TOKEN.text(words)) {
+        (true, Some(_)) => {
+            let note = "--token and --no-token are both given";
+            return Err(Failure::told(alloc, RunFault::BadWords, note));
+        }
+        (true, None) => Access::Open,
+        (false, Some(path)) => Access::TokenOf(path),
+        (false, None) => Access::MadeToken,
+    };
     Ok(Options {
         device,
         ip: IP.own(words).unwrap_or(0),
@@ -180,19 +185,6 @@ pub fn options_of<'a>(alloc: Global, words: &ArgMatches<'a>) -> Result<Options<'
         read_only: READ_ONLY.is_set(words),
         verbose: VERBOSE.is_set(words),
     })
-}
-
-/// Which browsers the options let in.
-fn access_of<'a>(alloc: Global, words: &ArgMatches<'a>) -> Result<Access<'a>, Failure> {
-    match (NO_TOKEN.is_set(words), TOKEN.text(words)) {
-        (true, Some(_)) => {
-            let note = "--token and --no-token are both given";
-            Err(Failure::told(alloc, RunFault::BadWords, note))
-        }
-        (true, None) => Ok(Access::Open),
-        (false, Some(path)) => Ok(Access::TokenOf(path)),
-        (false, None) => Ok(Access::MadeToken),
-    }
 }
 
 /// Where browsers are listened to: at an address of one host, and of this machine alone where each browser is let in.

@@ -7,9 +7,6 @@
 pub mod clients;
 pub mod command;
 pub mod console;
-pub mod files;
 pub mod ready;
 pub mod serving;
 pub mod terms;
-pub mod token;
-pub mod units;

@@ -7,9 +7,12 @@ use std::marker::Model;
 #[derive(Drop)]
 pub struct Ready<E: End> {
     end: E,
-    sent: u64,
-    quiet: bool,
-    failed: bool,
+    /// How many datagrams were handed to the end inside to be sent, failed sends included.
+    pub sent: u64,
+    /// Whether the last receive brought no datagram; `false` before the first one.
+    pub is_quiet: bool,
+    /// Whether the last receive failed; `false` before the first one. A turn whose receive fails sends nothing.
+    pub has_failed: bool,
 }
 
 impl<E: End> Model for Ready<E> {
@@ -30,8 +33,8 @@ impl<E: End> Ready<E> {
         Ready {
             end,
             sent: 0,
-            quiet: false,
-            failed: false,
+            is_quiet: false,
+            has_failed: false,
         }
     }
 
@@ -40,21 +43,6 @@ impl<E: End> Ready<E> {
         ensures { E.state result.now ≡ self.now }
     {
         &self.end
-    }
-
-    /// How many datagrams were handed to the end inside to be sent, failed sends included.
-    pub fn sent(&self) -> u64 {
-        self.sent
-    }
-
-    /// Whether the last receive brought no datagram; `false` before the first one.
-    pub fn is_quiet(&self) -> bool {
-        self.quiet
-    }
-
-    /// Whether the last receive failed; `false` before the first one. A turn whose receive fails sends nothing.
-    pub fn has_failed(&self) -> bool {
-        self.failed
     }
 }
 
@@ -70,8 +58,8 @@ impl<E: End> End for Ready<E> {
         ensures { Receives result packet.new.items self.old self.new }
     {
         let heard = self.end.receive_by(packet, 0);
-        self.quiet = !matches!(heard, Heard::Datagram { .. } | Heard::Oversize { .. });
-        self.failed = matches!(heard, Heard::Failed);
+        self.is_quiet = !matches!(heard, Heard::Datagram { .. } | Heard::Oversize { .. });
+        self.has_failed = matches!(heard, Heard::Failed);
         heard
     }
 

@@ -1,17 +1,14 @@
 //! The loop: one thread waits for the device's socket, the listener and the browsers' connections at once.
 use crate::clients::Clients;
-use crate::command::{Access, Options};
+use crate::command::Options;
 use crate::console::Console;
 use crate::ready::Ready;
-use crate::token::token_of;
-use crate::units::units_of;
 use oca_net::{End, UdpEnd, is_gone};
 use oca_panel::{LocalPort, Panel, Reached, Watched};
-use oca_program::socket::unreached;
-use oca_program::{Failure, note_other_port, print_made_note, print_note};
+use oca_program::{Failure, print_made_note, print_note};
 use oca_script::Sink;
-use oca_types::{NoMemory, Peer};
-use oca_web::{Site, Terms, View};
+use oca_types::NoMemory;
+use oca_web::Site;
 use std::net::{Ipv4Addr, Net};
 use std::os::fd::AsRawFd;
 use std::random::RandomSource;
@@ -30,89 +27,25 @@ const ANSWER_MS: u64 = 8;
 const LONGEST_WAIT_MS: u64 = 1000;
 
 /// What is received from and sent to: a socket for the device.
-type DeviceEnd<'c, N> = Ready<Watched<UdpEnd<'c, N>>>;
-
-impl<'c, R: Net + RandomSource + Files, N: Net + Clock, W: Sink, F: Sink> Console<'c, R, N, W, F> {
-    /// Reads the files that the options name, binds the sockets, and then serves until a call of the system fails or memory
-    /// is refused. Ok only after 2^64 - 1 waits, which no run reaches. Failures: `Read` if a file can't be read. `BadWords`
-    /// if a file has something that is refused. `Socket` if the system refused a socket, a wait or random numbers.
-    /// `NoMemory` if memory was refused.
-    pub(super) fn serve(&mut self, options: &Options<'_>) -> Result<u8, Failure> {
-        let token = token_of(self.alloc, self.host, options.access)?;
-        let units = units_of(self.alloc, self.host, options.units)?;
-        let Reached { end, first, .. } = self.reach(options, LocalPort::Checked(options.port))?;
-        let (made, socket, ip) = (end.now(), end.end().as_raw_fd(), end.end().local().ip);
-        let clients = Clients::listen(self.alloc, self.host, options.listen, socket)?;
-        let local = clients.local(options.listen);
-        let terms = self.terms(options, local, token, units)?;
-        self.print_listening(options.access, local, &terms);
-        let view = View::new(self.alloc, options.device, options.span, first, made)?;
-        let mut panel = Panel::open(options.device, Ready::new(end), first, options.span, 0);
-        let mut rounds = Rounds {
-            site: Site::new(self.alloc, view, terms),
-            console: self,
-            options,
-            panel: &mut panel,
-            clients,
-            ip,
-            losses: 0,
-            was_lost: false,
-            ticket: 1,
-            held_until: 0,
-        };
-        rounds.go_on()?;
-        Ok(0)
-    }
-
-    /// A socket for the device, from this local port, and the first handle over it. A port at which the device answers no
-    /// command is noted.
-    fn reach(&mut self, options: &Options<'_>, port: LocalPort) -> Result<Reached<'c, N>, Failure> {
-        match options.way(port).reach(self.alloc, self.system) {
-            Ok(reached) => {
-                if let Some(port) = reached.instead_of {
-                    let other = reached.end.end().local().port;
-                    note_other_port(self.alloc, options.device, port, other, self.faults);
-                }
-                Ok(reached)
-            }
-            Err(refused) => Err(unreached(self.alloc, &refused.error, 0)),
-        }
-    }
-
-    /// Prints the address of the page, with the token where it was made for this run: one of a file is in no log.
-    fn print_listening(&mut self, access: Access<'_>, local: Peer, terms: &Terms) {
-        let alloc = self.alloc;
-        let line = match (access, terms.key.as_ref()) {
-            (Access::MadeToken, Some(key)) => {
-                let query = key.query.as_str();
-                format!(in alloc; "listening http://{local}/?{query}\n")
-            }
-            _ => format!(in alloc; "listening http://{local}/\n"),
-        };
-        if let Ok(line) = line {
-            let _ = self.faults.print(line.as_str().as_bytes());
-            let _ = self.faults.flush();
-        }
-    }
-}
+pub type DeviceEnd<'c, N> = Ready<Watched<UdpEnd<'c, N>>>;
 
 /// What the loop goes round with.
 #[derive(Drop)]
-struct Rounds<'r, 'c, R, N: Clock, W: Sink, F: Sink> {
-    console: &'r mut Console<'c, R, N, W, F>,
-    options: &'r Options<'r>,
-    panel: &'r mut Panel<DeviceEnd<'c, N>>,
-    clients: Clients,
-    site: Site,
+pub struct Rounds<'r, 'c, R, N: Clock, W: Sink, F: Sink> {
+    pub console: &'r mut Console<'c, R, N, W, F>,
+    pub options: &'r Options<'r>,
+    pub panel: &'r mut Panel<DeviceEnd<'c, N>>,
+    pub clients: Clients,
+    pub site: Site,
     /// The address of the socket for the device.
-    ip: u32,
+    pub ip: u32,
     /// How many links were lost when the way to the device was looked at last.
-    losses: u64,
+    pub losses: u64,
     /// Whether it was printed last that the device is lost.
-    was_lost: bool,
+    pub was_lost: bool,
     /// The ticket of the next order, and until when the browsers wait for the answer to the last one.
-    ticket: u64,
-    held_until: u64,
+    pub ticket: u64,
+    pub held_until: u64,
 }
 
 impl<'c, R: Net + RandomSource + Files, N: Net + Clock, W: Sink, F: Sink> Rounds<
@@ -125,7 +58,7 @@ impl<'c, R: Net + RandomSource + Files, N: Net + Clock, W: Sink, F: Sink> Rounds
 > {
     /// Goes round: what came from the device, what is to be sent to it, the browsers, and a wait. Where another socket for
     /// the device is wanted, it goes on over that.
-    fn go_on(&mut self) -> Result<(), Failure> {
+    pub fn go_on(&mut self) -> Result<(), Failure> {
         for _ in 0..u64::MAX {
             let wait = self.go_once()?;
             self.clients.wait(wait)?;
@@ -171,22 +104,29 @@ impl<'c, R: Net + RandomSource + Files, N: Net + Clock, W: Sink, F: Sink> Rounds
         let Reached { end, first, .. } = reached;
         let (moment, socket) = (end.now(), end.end().as_raw_fd());
         self.ip = end.end().local().ip;
-        let (last, sent) = (self.panel.end().end().now(), self.panel.end().sent());
+        let (last, sent) = (self.panel.end().end().now(), self.panel.end().sent);
         if self.site.view().take_end(first, moment, last, sent) {
-            self.clients.doubt();
+            self.clients.doubts = true;
         }
         let (device, span) = (self.options.device, self.options.span);
         *self.panel = Panel::open(device, Ready::new(end), first, span, 0);
         self.clients.watch(socket)
     }
 
-    /// Does what is to be done. Returns how long may be waited then, in milliseconds.
+    /// Does what is to be done, for the device and for the browsers. Returns how long may be waited then, in milliseconds.
     fn go_once(&mut self) -> Result<u64, NoMemory> {
         let drained = self.turn()?;
         self.note_link();
         self.look_at_clock();
         let now = self.site.view().moment();
-        self.serve_browsers(now);
+        if !self.holds(now) {
+            self.clients.serve(self.console.host, &mut self.site, now);
+            let ticket = self.site.view().next_ticket();
+            if self.ticket != ticket {
+                self.ticket = ticket;
+                self.held_until = now.saturating_add(ANSWER_MS);
+            }
+        }
         self.site.view().go_on(self.panel)?;
         Ok(if drained { self.wait_for(now) } else { 0 })
     }
@@ -197,7 +137,7 @@ impl<'c, R: Net + RandomSource + Files, N: Net + Clock, W: Sink, F: Sink> Rounds
             self.look_at_clock();
             self.site.view().take_turn(self.panel)?;
             self.site.view().go_on(self.panel)?;
-            if self.panel.end().is_quiet() {
+            if self.panel.end().is_quiet {
                 return Ok(true);
             }
         }
@@ -207,8 +147,8 @@ impl<'c, R: Net + RandomSource + Files, N: Net + Clock, W: Sink, F: Sink> Rounds
     /// Reads the clock. Where the program was suspended, what waits for it is as old as nobody knows.
     fn look_at_clock(&mut self) {
         let end = self.panel.end();
-        if self.site.view().note(end.end().now(), end.sent()) {
-            self.clients.doubt();
+        if self.site.view().note(end.end().now(), end.sent) {
+            self.clients.doubts = true;
         }
     }
 
@@ -217,7 +157,7 @@ impl<'c, R: Net + RandomSource + Files, N: Net + Clock, W: Sink, F: Sink> Rounds
         let mut moment = now.saturating_add(LONGEST_WAIT_MS);
         if self.holds(now) {
             moment = self.held_until;
-        } else if self.clients.has_more() {
+        } else if self.clients.has_more {
             return 0;
         }
         let view = self.site.view();
@@ -227,7 +167,7 @@ impl<'c, R: Net + RandomSource + Files, N: Net + Clock, W: Sink, F: Sink> Rounds
         if let Some(next) = view.next_moment() {
             moment = moment.min(next);
         }
-        if self.panel.end().has_failed() {
+        if self.panel.end().has_failed {
             moment = moment.max(now.saturating_add(FAILED_WAIT_MS));
         }
         moment.saturating_sub(now)
@@ -237,19 +177,6 @@ impl<'c, R: Net + RandomSource + Files, N: Net + Clock, W: Sink, F: Sink> Rounds
     /// is shown how it ended.
     fn holds(&mut self, now: u64) -> bool {
         now < self.held_until && self.site.view().has_orders()
-    }
-
-    /// Lets the browsers in that wait, answers their requests, and notes an order that was taken.
-    fn serve_browsers(&mut self, now: u64) {
-        if self.holds(now) {
-            return;
-        }
-        self.clients.serve(self.console.host, &mut self.site, now);
-        let ticket = self.site.view().next_ticket();
-        if self.ticket != ticket {
-            self.ticket = ticket;
-            self.held_until = now.saturating_add(ANSWER_MS);
-        }
     }
 
     /// Prints when the device is lost, with the local address if the machine has lost that, and when it is heard again,
