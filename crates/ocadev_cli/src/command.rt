@@ -36,10 +36,9 @@ pub struct ServeOptions<'a> {
     /// Whether a line is printed for each datagram.
     pub verbose: bool,
     /// How many seconds apart the counts so far are printed.
-    pub stats: Option<u32>,
+    pub stats: Option<u64>,
 }
 
-/// How many commands are kept with their replies.
 const WINDOW: OptionRow = OptionRow {
     name: "window",
     value: "W",
@@ -52,7 +51,6 @@ const WINDOW: OptionRow = OptionRow {
     },
 };
 
-/// How many peers have a session.
 const PEERS: OptionRow = OptionRow {
     name: "peers",
     value: "N",
@@ -60,7 +58,6 @@ const PEERS: OptionRow = OptionRow {
     ..WINDOW
 };
 
-/// How many channel strips there are.
 const CHANNELS: OptionRow = OptionRow {
     name: "channels",
     value: "N",
@@ -74,7 +71,6 @@ const CHANNELS: OptionRow = OptionRow {
     },
 };
 
-/// The file that lists the objects.
 const TREE: OptionRow = OptionRow {
     name: "tree",
     value: "FILE",
@@ -84,7 +80,6 @@ const TREE: OptionRow = OptionRow {
     form: Form::Text,
 };
 
-/// The port.
 const PORT: OptionRow = OptionRow {
     name: "port",
     value: "PORT",
@@ -93,7 +88,6 @@ const PORT: OptionRow = OptionRow {
     form: NUMBER_16,
 };
 
-/// How many turns are served.
 const TURNS: OptionRow = OptionRow {
     name: "turns",
     value: "T",
@@ -102,7 +96,6 @@ const TURNS: OptionRow = OptionRow {
     form: NUMBER_32,
 };
 
-/// The address.
 const IP: OptionRow = OptionRow {
     name: "ip",
     value: "A.B.C.D",
@@ -113,7 +106,6 @@ const IP: OptionRow = OptionRow {
     form: Form::Own,
 };
 
-/// Whether each datagram is printed.
 const VERBOSE: OptionRow = OptionRow {
     name: "verbose",
     value: "",
@@ -123,7 +115,6 @@ const VERBOSE: OptionRow = OptionRow {
     form: Form::Text,
 };
 
-/// How many seconds apart the report so far is printed.
 const STATS: OptionRow = OptionRow {
     name: "stats",
     value: "SECONDS",
@@ -137,7 +128,6 @@ const STATS: OptionRow = OptionRow {
     },
 };
 
-/// The file in which the state is kept.
 const KEEP: OptionRow = OptionRow {
     name: "keep",
     help: "The file in which the device's state is stored. If it exists at the start, the device has its objects, \
@@ -147,7 +137,6 @@ const KEEP: OptionRow = OptionRow {
     ..TREE
 };
 
-/// Whether the objects are shown as a text.
 const TEXT: OptionRow = OptionRow {
     name: "text",
     help: "Prints the objects in the form that --tree reads, with labels and everything else that a device stores",
@@ -162,14 +151,6 @@ A run that a signal ends (Ctrl-C, kill) prints no report.
 
 Example: ocadev serve --port 65000 --turns 1200";
 
-const REPLAY_OPTIONS: &[OptionRow] = &[WINDOW, PEERS, CHANNELS, TREE];
-
-const SERVE_OPTIONS: &[OptionRow] = &[
-    PORT, TURNS, IP, WINDOW, PEERS, CHANNELS, TREE, VERBOSE, STATS, KEEP,
-];
-
-const SHOW_OPTIONS: &[OptionRow] = &[CHANNELS, TREE, TEXT];
-
 /// The commands, in the order of `--help`.
 const COMMANDS: &[CommandRow] = &[
     CommandRow {
@@ -177,19 +158,21 @@ const COMMANDS: &[CommandRow] = &[
         about: "Runs the bench device, or one with the objects of --tree, over the script on standard input, and prints its \
             answers",
         example: "Example: ocadev replay < examples/getstate.script",
-        options: REPLAY_OPTIONS,
+        options: &[WINDOW, PEERS, CHANNELS, TREE],
     },
     CommandRow {
         name: "serve",
         about: "Serves the bench device, or one with the objects of --tree, at a UDP socket; prints a report at the end",
         example: SERVE_EXAMPLE,
-        options: SERVE_OPTIONS,
+        options: &[
+            PORT, TURNS, IP, WINDOW, PEERS, CHANNELS, TREE, VERBOSE, STATS, KEEP,
+        ],
     },
     CommandRow {
         name: "show",
         about: "Prints the objects of a device, one per line: ONo, class identifier, container and role",
         example: "Example: ocadev show --tree examples/stagebox.tree",
-        options: SHOW_OPTIONS,
+        options: &[CHANNELS, TREE, TEXT],
     },
 ];
 
@@ -212,60 +195,41 @@ pub fn matches_of<'a, S: AsStr>(alloc: Global, words: &'a [S]) -> Result<ArgMatc
 /// What a command line that matched asks for. Failure: `BadWords` if an option's value is not of its form, or both
 /// `--tree` and `--channels` are given. Its note names the option, if there is memory for it.
 pub fn command_of<'a>(alloc: Global, matches: &ArgMatches<'a>) -> Result<Command<'a>, Failure> {
-    match matches.subcommand() {
-        Some(("replay", options)) => {
-            check_options(alloc, options, REPLAY_OPTIONS)?;
-            Ok(Command::Replay {
-                objects: objects(options),
-                sizes: sizes(options),
-            })
-        }
-        Some(("serve", options)) => {
-            check_options(alloc, options, SERVE_OPTIONS)?;
-            Ok(Command::Serve(serve_options(options)))
-        }
-        Some(("show", options)) => {
-            check_options(alloc, options, SHOW_OPTIONS)?;
-            Ok(Command::Show {
-                objects: objects(options),
-                as_text: TEXT.is_set(options),
-            })
-        }
-        _ => Err(Failure::from(RunFault::BadWords)),
+    let Some((name, options)) = matches.subcommand() else {
+        return Err(Failure::from(RunFault::BadWords));
+    };
+    for command in COMMANDS.iter().filter(|command| command.name == name) {
+        check(alloc, options, command.options)?;
     }
-}
-
-/// Refuses options of which one has not its form, or two say which objects there are.
-fn check_options(
-    alloc: Global,
-    options: &ArgMatches<'_>,
-    rows: &[OptionRow],
-) -> Result<(), Failure> {
-    check(alloc, options, rows)?;
     if TREE.text(options).is_some() && CHANNELS.text(options).is_some() {
-        return Err(Failure::told(
-            alloc,
-            RunFault::BadWords,
-            "--tree and --channels can't be combined: each says which objects there are",
-        ));
+        let note = "--tree and --channels can't be combined: each says which objects there are";
+        return Err(Failure::told(alloc, RunFault::BadWords, note));
     }
-    Ok(())
+    let objects = objects(options);
+    match name {
+        "replay" => Ok(Command::Replay {
+            objects,
+            sizes: sizes(options),
+        }),
+        "serve" => Ok(Command::Serve(serve_options(options, objects))),
+        _ => Ok(Command::Show {
+            objects,
+            as_text: TEXT.is_set(options),
+        }),
+    }
 }
 
 /// The options of `serve`.
-fn serve_options<'a>(options: &ArgMatches<'a>) -> ServeOptions<'a> {
+fn serve_options<'a>(options: &ArgMatches<'a>, objects: Objects<'a>) -> ServeOptions<'a> {
     ServeOptions {
-        objects: objects(options),
+        objects,
         sizes: sizes(options),
         ip: IP.own(options).unwrap_or(LOOPBACK),
         port: PORT.number(options).unwrap_or(0) as u16,
         turns: TURNS.number(options).unwrap_or(u64::MAX),
         keep: KEEP.text(options),
         verbose: VERBOSE.is_set(options),
-        stats: match STATS.number(options) {
-            Some(seconds) => Some(seconds as u32),
-            None => None,
-        },
+        stats: STATS.number(options),
     }
 }
 

@@ -1,13 +1,33 @@
-//! What a run of the program works with: the allocator, the system and the standard streams.
+//! What each command does, with the allocator, the system and the standard streams.
 
-use super::command::{Command, command_of, matches_of};
-use oca_program::{Failure, helped, status_of};
+use super::command::{Command, ServeOptions, command_of, matches_of};
+use super::disk::{Claim, Disk};
+use super::log::Log;
+use super::objects::Objects;
+use super::report::{print_objects, print_report};
+use super::serving::{Served, serve};
+use super::store::Kept;
+use oca_device::Report;
+use oca_net::{CountsSleep, DropsStale, UdpEnd};
+use oca_program::socket::{bind, note_failed_sends};
+use oca_program::{Failure, helped, print_line, print_made_note, print_note, replayed, status_of};
 use oca_script::{Printer, Sink, Source};
+use oca_textree::print_tree;
+use oca_types::Sizes;
+use ocadev_replay::replay::replay;
 use std::alloc::Global;
 use std::convert::AsStr;
-use std::fs::File;
+use std::fs::{self, File};
 use std::net::Net;
 use std::rt::{Clock, Files};
+
+/// The note where a device is bound to every address of the machine.
+const EVERY_ADDRESS: &str =
+    "0.0.0.0 is every address of this machine: a reply may leave from a different address than the one that the \
+    controller sent to, and the controller then drops it";
+
+/// Of how many bytes for datagrams that have not left a host that does not answer holds less than half.
+const ENOUGH_GRANTED: u32 = 500_000;
 
 /// The allocator, the system and the standard streams of a run.
 #[derive(Drop)]
@@ -31,21 +51,112 @@ impl<N: Net + Clock + Files<File = File>, R: Source, W: Sink, F: Sink> Console<'
 
     /// Does what the words ask for, and returns the exit status.
     fn obey<S: AsStr>(&mut self, words: &[S]) -> Result<u8, Failure> {
-        match matches_of(self.alloc, words) {
-            Ok(matches) => {
-                let command = command_of(self.alloc, &matches)?;
-                self.perform(command)
+        let matches = match matches_of(self.alloc, words) {
+            Ok(matches) => matches,
+            Err(error) => return helped(self.alloc, &error, self.printer),
+        };
+        match command_of(self.alloc, &matches)? {
+            Command::Replay { objects, sizes } => {
+                let Served { device, outbox } = &mut self.start(objects, sizes)?;
+                replayed(replay(device, outbox, self.reader, self.printer))
             }
-            Err(error) => helped(self.alloc, &error, self.printer),
-        }
-    }
-
-    /// Carries out a command, and returns the exit status.
-    fn perform(&mut self, command: Command<'_>) -> Result<u8, Failure> {
-        match command {
-            Command::Replay { objects, sizes } => self.replay(objects, sizes),
             Command::Serve(options) => self.serve(&options),
             Command::Show { objects, as_text } => self.show(objects, as_text),
         }
+    }
+
+    /// Prints the objects of a device: as a text that `--tree` reads, or a line each.
+    fn show(&mut self, objects: Objects<'_>, as_text: bool) -> Result<u8, Failure> {
+        let tree = objects.load(self.alloc, self.system)?;
+        if as_text {
+            print_tree(&tree, self.printer)?;
+        } else {
+            print_objects(&tree, self.printer)?;
+        }
+        self.printer.flush()?;
+        Ok(0)
+    }
+
+    /// Serves a device at a socket, and prints what was done. The claim to the file in which the objects are kept ends
+    /// with it.
+    fn serve(&mut self, options: &ServeOptions<'_>) -> Result<u8, Failure> {
+        let (mut claim, mut objects) = (None, options.objects);
+        if let Some(path) = options.keep {
+            claim = Some(Claim::new(self.alloc, self.system, path)?);
+            if fs::exists(self.system, path).unwrap_or(true) {
+                objects = Objects::Kept(path);
+            }
+        }
+        let mut served = self.start(objects, options.sizes)?;
+        let held = claim.as_mut().and_then(|claim| claim.file.take());
+        let kept = Kept::open(self.alloc, self.system, options.keep, held)?;
+        let report = self.serve_at_socket(options, objects, &mut served, kept)?;
+        print_report(&report, self.printer)?;
+        Ok(0)
+    }
+
+    /// The device before any event.
+    fn start(&mut self, objects: Objects<'_>, sizes: Sizes) -> Result<Served, Failure> {
+        let tree = objects.load(self.alloc, self.system)?;
+        Ok(Served::new(self.alloc, tree, sizes)?)
+    }
+
+    /// Binds a socket and serves the device there. First its objects are stored once, if a file is named, and it is
+    /// printed where it listens; at last how many sends failed.
+    fn serve_at_socket<D: Disk + Drop>(
+        &mut self,
+        options: &ServeOptions<'_>,
+        objects: Objects<'_>,
+        served: &mut Served,
+        mut kept: Option<Kept<'_, D>>,
+    ) -> Result<Report, Failure> {
+        let clock = CountsSleep(self.system);
+        let mut end = DropsStale::new(bind(self.alloc, &clock, options.ip, options.port)?);
+        if let Some(kept) = &mut kept {
+            kept.try_store(self.alloc, served.device.tree())?;
+        }
+        self.note_start(end.inside(), options.keep, objects);
+        let mut log = Log::new(self.alloc, options.verbose, options.stats, self.faults);
+        let report = serve(served, &mut end, kept, &mut log, options.turns);
+        let last = end.inside().last_failed_send();
+        note_failed_sends(self.alloc, report.failed_sends, last, self.faults);
+        Ok(report)
+    }
+
+    /// Prints where the device listens, and with which objects it began if it keeps them in the file at the path `keep`. A
+    /// note says if it listens at every address, and another if the system grants little room for datagrams that have not
+    /// left. A failed write is ignored.
+    fn note_start<C: Clock>(
+        &mut self,
+        end: &UdpEnd<'_, C>,
+        keep: Option<&str>,
+        objects: Objects<'_>,
+    ) {
+        let (alloc, local) = (self.alloc, end.local());
+        let _ = print_line(&format_args!("listening {local}"), self.faults);
+        if local.ip == 0 {
+            print_note(EVERY_ADDRESS, self.faults);
+        }
+        let granted = end.send_buffer();
+        if 0 < granted && granted < ENOUGH_GRANTED {
+            let note = format!(in alloc;
+                "the system grants a send buffer of {granted} bytes: datagrams to a host that does not answer may \
+                fill it, and replies to other hosts are then lost"
+            );
+            print_made_note(note, self.faults);
+        }
+        let Some(keep) = keep else {
+            return;
+        };
+        let note = match objects {
+            Objects::Kept(path) => format!(in alloc; "began with the objects of {path}"),
+            Objects::Listed(path) => format!(in alloc;
+                "{keep} was missing: began with the objects of {path}"
+            ),
+            Objects::Bench(_) => format!(in alloc;
+                "{keep} was missing: began with the bench device"
+            ),
+        };
+        print_made_note(note, self.faults);
     }
 }

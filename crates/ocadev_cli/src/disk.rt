@@ -1,17 +1,20 @@
-//! How the objects of a device are written over a file: a new file takes the place of the old one.
+//! How the objects of a device are written over a file: a new file takes the place of the old one. And the claim of one
+//! device to that file.
 ghost use Rattle.std.specs.Prelude.{◌≡◌, ◌++◌, IfOk, codes, is_ok, string_bytes};
 ghost use Rattle.ocadev_cli.specs.Storing.{DiskState, Replaces, StoresBy, SyncsFolder, SyncsNew, Tries, WritesNew};
 
-use oca_script::{Printer, Sink, ToWriter, WriteFailed};
+use super::objects::{EndLine, refused};
+use oca_program::{Failure, RunFault, print_line};
+use oca_script::{Printer, Sink, ToWriter};
 use oca_textree::print_tree;
 use oca_tree::Tree;
 use std::alloc::{AllocError, Global};
-use std::fs::{File, Metadata, OpenFile, OpenOptions, Permissions};
-use std::io::ErrorKind;
+use std::fmt;
+use std::fs::{self, File, Metadata, OpenOptions, Permissions, TryLockError};
+use std::io::{self, ErrorKind};
 use std::os::unix::fs::{MetadataExt, PermissionsExt, lchown};
 use std::path::Path;
 use std::rt::Files;
-use std::{fs, io};
 
 /// A file that a new one takes the place of, by steps, each of which the system may refuse.
 ///
@@ -54,52 +57,16 @@ pub fn write_over<D: Disk>(disk: &mut D, tree: &Tree) -> io::Result<()>
     disk.sync_folder()
 }
 
-/// The mode and the owner of a file.
-#[derive(Clone, Copy)]
-struct Attributes {
-    mode: u32,
-    uid: u32,
-    gid: u32,
-}
-
-impl Attributes {
-    /// The attributes of a file.
-    fn of(found: &Metadata) -> Attributes {
-        Attributes {
-            mode: found.mode(),
-            uid: found.uid(),
-            gid: found.gid(),
-        }
-    }
-
-    /// Those of the plain file at a path. `None` if there is no plain file, or the system does not say.
-    fn at<N: Files>(system: &N, path: &str) -> Option<Attributes> {
-        match fs::symlink_metadata(system, path) {
-            Ok(found) if found.is_file() => Some(Attributes::of(&found)),
-            _ => None,
-        }
-    }
-
-    /// Gives them to a file at a path.
-    fn give<N: Files, O: OpenFile>(self, system: &N, file: &O, path: &str) -> io::Result<()> {
-        let new = file.metadata()?;
-        if new.uid() != self.uid || new.gid() != self.gid {
-            lchown(system, path, Some(self.uid), Some(self.gid))?;
-        }
-        file.set_permissions(Permissions::from_mode(self.mode))
-    }
-}
-
-/// Whether a file is the one that was found.
-fn is_the_one(file: &File, found: &Metadata) -> io::Result<bool> {
-    let its = file.metadata()?;
-    Ok(its.dev() == found.dev() && its.ino() == found.ino())
+/// What the system says of the plain file at a path. `None` if there is no plain file, or the system does not say.
+fn plain_at<N: Files>(system: &N, path: &str) -> Option<Metadata> {
+    fs::symlink_metadata(system, path)
+        .ok()
+        .filter(|found| found.is_file())
 }
 
 /// A file of the system, which does not tell, and the new file beside it.
 #[derive(Drop)]
 pub struct FileDisk<'l, 'p, N> {
-    alloc: Global,
     system: &'l N,
     path: &'p str,
     /// The path of the new file.
@@ -109,9 +76,9 @@ pub struct FileDisk<'l, 'p, N> {
     /// The file at the path, locked: the one that was there at the start, or that took its place last. It stays open, so
     /// that no other file gets its number.
     held: Option<File>,
-    /// What a new file gets: those of the plain file that was there last, at the start or when one was made, or of the
-    /// new file that was made last.
-    attributes: Option<Attributes>,
+    /// Of what file a new one gets the mode and the owner: of the plain file that was there last, at the start or when one
+    /// was made, or of the new file that was made last.
+    model: Option<Metadata>,
 }
 
 impl<'l, 'p, N: Files<File = File>> FileDisk<'l, 'p, N> {
@@ -127,27 +94,25 @@ impl<'l, 'p, N: Files<File = File>> FileDisk<'l, 'p, N> {
     {
         let fresh = format!(in alloc; "{path}.new")?;
         Ok(FileDisk {
-            alloc,
             system,
             path,
             fresh,
             made: None,
             held,
-            attributes: Attributes::at(system, path),
+            model: plain_at(system, path),
         })
     }
 
     /// Refuses where a plain file is at the path that this device did not put there: another device has the state then.
     fn check_place(&self) -> io::Result<()> {
-        let is_ours = match fs::symlink_metadata(self.system, self.path) {
-            Ok(found) if found.is_file() => match &self.held {
-                Some(file) => is_the_one(file, &found)?,
-                None => false,
-            },
-            _ => true,
-        };
-        if is_ours {
+        let Some(found) = plain_at(self.system, self.path) else {
             return Ok(());
+        };
+        if let Some(file) = &self.held {
+            let its = file.metadata()?;
+            if its.dev() == found.dev() && its.ino() == found.ino() {
+                return Ok(());
+            }
         }
         let why = "another program put a file in its place";
         Err(io::Error::new(ErrorKind::Other, why))
@@ -155,8 +120,8 @@ impl<'l, 'p, N: Files<File = File>> FileDisk<'l, 'p, N> {
 
     /// Makes the new file and locks it. One that was left is removed first; a symbolic link in its place is not followed.
     fn make_new(&mut self) -> io::Result<File> {
-        if let Some(found) = Attributes::at(self.system, self.path) {
-            self.attributes = Some(found);
+        if let Some(found) = plain_at(self.system, self.path) {
+            self.model = Some(found);
         }
         let fresh = self.fresh.as_str();
         let _ = fs::remove_file(self.system, fresh);
@@ -164,9 +129,15 @@ impl<'l, 'p, N: Files<File = File>> FileDisk<'l, 'p, N> {
         how.write(true).create_new(true);
         let file = how.open(self.system, fresh)?;
         file.try_lock()?;
-        match self.attributes {
-            Some(attributes) => attributes.give(self.system, &file, fresh)?,
-            None => self.attributes = Some(Attributes::of(&file.metadata()?)),
+        let new = file.metadata()?;
+        match &self.model {
+            Some(old) => {
+                if new.uid() != old.uid() || new.gid() != old.gid() {
+                    lchown(self.system, fresh, Some(old.uid()), Some(old.gid()))?;
+                }
+                file.set_permissions(Permissions::from_mode(old.mode()))?;
+            }
+            None => self.model = Some(new),
         }
         Ok(file)
     }
@@ -182,7 +153,8 @@ impl<'l, 'p, N: Files<File = File>> Disk for FileDisk<'l, 'p, N> {
         self.check_place()?;
         let file = self.make_new()?;
         self.made = Some(file.try_clone()?);
-        print_state(self.alloc, tree, &mut Printer::new(ToWriter::new(file)))
+        let printed = print_state(tree, &mut Printer::new(ToWriter::new(file)));
+        printed.map_err(|_| io::Error::new(ErrorKind::Other, "a write failed"))
     }
 
     /// Waits until the new file is on the disk; refused where none was written.
@@ -203,41 +175,89 @@ impl<'l, 'p, N: Files<File = File>> Disk for FileDisk<'l, 'p, N> {
 
     /// Waits until the folder of the path is on the disk.
     fn sync_folder(&mut self) -> io::Result<()> {
-        fs::open(self.system, folder_of(self.path))?.sync_all()
+        let folder = match Path::new(self.path).parent() {
+            Some(folder) if !folder.as_str().is_empty() => folder.as_str(),
+            _ => ".",
+        };
+        fs::open(self.system, folder)?.sync_all()
     }
-}
-
-/// The folder in which a file stands.
-fn folder_of(path: &str) -> &str {
-    match Path::new(path).parent() {
-        Some(folder) if !folder.as_str().is_empty() => folder.as_str(),
-        _ => ".",
-    }
-}
-
-/// The last line of a file that lists `count` objects, with its line feed. `None` if memory was refused.
-pub fn end_line(alloc: Global, count: usize) -> Option<String> {
-    format!(in alloc; "# end of {count} objects\n").ok()
 }
 
 /// Prints the objects, and a last line that says how many they are, and writes all that the printer holds.
-fn print_state<W: Sink>(alloc: Global, tree: &Tree, printer: &mut Printer<W>) -> io::Result<()> {
-    let Some(line) = end_line(alloc, tree.len()) else {
-        return Err(io::Error::new(ErrorKind::OutOfMemory, "memory was refused"));
-    };
-    match print_ended(tree, line.as_bytes(), printer) {
-        Ok(()) => Ok(()),
-        Err(_) => Err(io::Error::new(ErrorKind::Other, "a write failed")),
+fn print_state<W: Sink>(tree: &Tree, printer: &mut Printer<W>) -> fmt::Result {
+    print_tree(tree, printer).map_err(|_| fmt::Error)?;
+    print_line(&EndLine(tree.len()), printer)
+}
+
+/// The locks by which no other device keeps its objects in the same file. They last until this is dropped.
+#[derive(Drop)]
+pub struct Claim {
+    /// FILE.lock.
+    _lock: File,
+    /// FILE, if it exists.
+    pub file: Option<File>,
+}
+
+impl Claim {
+    /// Locks the file FILE at this path for one device. FILE.lock beside it is made if it does not exist, and locked;
+    /// and so is FILE itself if it exists, since anyone may remove FILE.lock.
+    ///
+    /// The failure is `Read`: if FILE, FILE.new or FILE.lock exists and is no plain file (a folder, a FIFO or a symbolic
+    /// link), if FILE.lock can't be made, if FILE can't be opened, or if one of them can't be locked, for example
+    /// because another device has it; and `NoMemory` if memory was refused.
+    pub fn new<N: Files<File = File>>(
+        alloc: Global,
+        system: &N,
+        path: &str,
+    ) -> Result<Claim, Failure> {
+        let new = format!(in alloc; "{path}.new")?;
+        let lock = format!(in alloc; "{path}.lock")?;
+        for it in [path, new.as_str(), lock.as_str()] {
+            check_plain(alloc, system, it)?;
+        }
+        let mut as_lock = OpenOptions::new();
+        as_lock.write(true).create(true);
+        let lock = locked(alloc, system, &as_lock, lock.as_str())?;
+        let file = match fs::exists(system, path) {
+            Ok(false) => None,
+            _ => {
+                let mut as_it_is = OpenOptions::new();
+                as_it_is.read(true).write(true);
+                Some(locked(alloc, system, &as_it_is, path)?)
+            }
+        };
+        Ok(Claim { _lock: lock, file })
     }
 }
 
-/// Prints the objects and behind them this line, and writes all that the printer holds.
-fn print_ended<W: Sink>(
-    tree: &Tree,
-    line: &[u8],
-    printer: &mut Printer<W>,
-) -> Result<(), WriteFailed> {
-    print_tree(tree, printer)?;
-    printer.print(line)?;
-    printer.flush()
+/// Refuses what is at a path and is no plain file.
+fn check_plain<N: Files>(alloc: Global, system: &N, path: &str) -> Result<(), Failure> {
+    let why = match fs::symlink_metadata(system, path) {
+        Ok(found) if found.is_file() => return Ok(()),
+        Ok(found) if found.is_dir() => "a folder, and no plain file",
+        Ok(found) if found.is_symlink() => "a symbolic link, and no plain file",
+        Ok(_) => "no plain file",
+        Err(reason) if reason.kind() == ErrorKind::NotFound => return Ok(()),
+        Err(reason) => return Err(refused(alloc, RunFault::Read, path, reason)),
+    };
+    Err(refused(alloc, RunFault::Read, path, why))
+}
+
+/// The file at a path, opened in this way and locked.
+fn locked<N: Files<File = File>>(
+    alloc: Global,
+    system: &N,
+    how: &OpenOptions,
+    path: &str,
+) -> Result<File, Failure> {
+    let file = how
+        .open(system, path)
+        .map_err(|reason| refused(alloc, RunFault::Read, path, reason))?;
+    match file.try_lock() {
+        Ok(()) => Ok(file),
+        Err(TryLockError::WouldBlock) => {
+            Err(refused(alloc, RunFault::Read, path, "another device has it"))
+        }
+        Err(TryLockError::Error(reason)) => Err(refused(alloc, RunFault::Read, path, reason)),
+    }
 }

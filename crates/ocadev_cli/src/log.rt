@@ -1,15 +1,18 @@
 //! What is printed while a device is served: a line for each datagram, and the counts so far.
 
-use super::report::{Line, print_count, print_progress};
+use super::report::print_progress;
 use oca_device::{CommandOutcome, Device, Effect, Electronics, Outbox, Report};
 use oca_net::Heard;
 use oca_pdu::check;
-use oca_program::print_made_note;
-use oca_script::{Printer, Sink, WriteFailed};
+use oca_program::{Line, print_line, print_made_note};
+use oca_script::{Printer, Sink};
 use oca_tree::Tree;
-use oca_types::Ono;
+use oca_types::{Ono, Status};
 use std::alloc::{AllocError, Global};
-use std::fmt::Write;
+use std::fmt::{self, Write};
+
+/// How long a receive that fails lasts, in milliseconds.
+const FAILED_MS: u64 = 50;
 
 /// What is printed on standard error behind each turn, as far as it is asked for, and notes. A failed write is ignored.
 #[derive(Drop)]
@@ -17,6 +20,8 @@ pub struct Log<'f, F: Sink> {
     pub alloc: Global,
     /// Whether a line is printed for each datagram.
     verbose: bool,
+    /// The moment of the last turn; a receive that failed says none, and counts as long as it lasts.
+    pub now: u64,
     /// How many milliseconds apart the counts so far are printed.
     every: u64,
     /// The moment from which they are printed next.
@@ -32,16 +37,14 @@ impl<'f, F: Sink> Log<'f, F> {
     pub fn new(
         alloc: Global,
         verbose: bool,
-        seconds: Option<u32>,
+        seconds: Option<u64>,
         faults: &'f mut Printer<F>,
     ) -> Log<'f, F> {
-        let every = match seconds {
-            Some(seconds) => u64::from(seconds) * 1000,
-            None => u64::MAX,
-        };
+        let every = seconds.map_or(u64::MAX, |seconds| seconds.saturating_mul(1000));
         Log {
             alloc,
             verbose,
+            now: 0,
             every,
             next: every,
             report: Report::default(),
@@ -73,24 +76,18 @@ impl<'f, F: Sink> Electronics for Log<'f, F> {
         device: &Device,
     ) {
         self.report = self.report + *turn;
+        self.now = match heard {
+            Heard::Datagram { now, .. } | Heard::Quiet { now } | Heard::Oversize { now } => now,
+            Heard::Failed | Heard::Closed => self.now.saturating_add(FAILED_MS),
+        };
         if self.verbose {
             let _ = print_heard(heard, bytes, turn, device, self.faults);
         }
-        if let Some(now) = moment_of(heard)
-            && self.next <= now
-        {
+        if self.next <= self.now {
             let locks = device.tree().lock_count();
             let _ = print_progress(&self.report, device.sessions(), locks, self.faults);
-            self.next = now.saturating_add(self.every);
+            self.next = self.now.saturating_add(self.every);
         }
-    }
-}
-
-/// The moment of what was heard, if it has one.
-pub fn moment_of(heard: Heard) -> Option<u64> {
-    match heard {
-        Heard::Datagram { now, .. } | Heard::Quiet { now } | Heard::Oversize { now } => Some(now),
-        Heard::Failed | Heard::Closed => None,
     }
 }
 
@@ -102,93 +99,63 @@ fn print_heard<F: Sink>(
     turn: &Report,
     device: &Device,
     faults: &mut Printer<F>,
-) -> Result<(), WriteFailed> {
+) -> fmt::Result {
+    let line = &mut Line(faults);
     match heard {
         Heard::Datagram { from, .. } => {
-            if write!(Line(faults), "{from}").is_err() {
-                return Err(WriteFailed);
+            write!(line, "{from}")?;
+            print_outcome(turn, bytes, line)?;
+            let mut word = " wrote";
+            for ono in device.written() {
+                write!(line, "{word} {}", ono.0)?;
+                word = "";
             }
-            print_outcome(turn, bytes, faults)?;
-            print_written(device.written(), faults)?;
-            print_some(" failed-sends ", turn.failed_sends, faults)?;
-            print_effects(device.effects(), faults)?;
-            faults.print(b"\n")?;
+            if turn.failed_sends != 0 {
+                write!(line, " failed-sends {}", turn.failed_sends)?;
+            }
+            print_effects(device.effects(), line)?;
         }
-        Heard::Oversize { .. } => faults.print(b"oversize\n")?,
+        Heard::Oversize { .. } => line.write_str("oversize")?,
         _ => return Ok(()),
     }
-    faults.flush()
+    print_line(&"", faults)
 }
 
 /// Prints what became of the datagram of a turn, in the words of `replay`.
-fn print_outcome<F: Sink>(
-    turn: &Report,
-    bytes: &[u8],
-    faults: &mut Printer<F>,
-) -> Result<(), WriteFailed> {
+fn print_outcome<F: Sink>(turn: &Report, bytes: &[u8], line: &mut Line<'_, F>) -> fmt::Result {
     if turn.no_room != 0 {
-        return faults.print(b" no-room");
+        return line.write_str(" no-room");
     }
     if turn.malformed != 0 {
-        faults.print(b" malformed")?;
-        if let Err(fault) = check(bytes) {
-            print_count(" ", u64::from(fault.kind.number()), faults)?;
-            print_count(" at ", fault.at as u64, faults)?;
-        }
-        return Ok(());
+        return match check(bytes) {
+            Err(fault) => write!(line, " malformed {} at {}", fault.kind.number(), fault.at),
+            Ok(_) => line.write_str(" malformed"),
+        };
     }
-    print_count(" served ", turn.executed, faults)?;
-    print_count(" ", turn.kept, faults)?;
-    print_count(" ", turn.old, faults)?;
-    print_some(" reused ", turn.reused, faults)
-}
-
-/// Prints a word and a number, unless the number is 0.
-fn print_some<F: Sink>(word: &str, count: u64, faults: &mut Printer<F>) -> Result<(), WriteFailed> {
-    if count == 0 {
-        return Ok(());
-    }
-    print_count(word, count, faults)
-}
-
-/// Prints the objects that were written to, if there are any.
-fn print_written<F: Sink>(written: &[Ono], faults: &mut Printer<F>) -> Result<(), WriteFailed> {
-    let mut word = " wrote ";
-    for ono in written {
-        print_count(word, u64::from(ono.0), faults)?;
-        word = " ";
+    write!(line, " served {} {} {}", turn.executed, turn.kept, turn.old)?;
+    if turn.reused != 0 {
+        write!(line, " reused {}", turn.reused)?;
     }
     Ok(())
 }
 
 /// Prints which objects the commands of a datagram locked and unlocked, and which commands were refused. Nothing is
 /// printed if any command was not executed, nor of a command that asks for no response.
-fn print_effects<F: Sink>(effects: &[Effect], faults: &mut Printer<F>) -> Result<(), WriteFailed> {
+fn print_effects<F: Sink>(effects: &[Effect], line: &mut Line<'_, F>) -> fmt::Result {
     if effects.iter().any(|effect| !matches!(effect.outcome, CommandOutcome::Executed(_))) {
         return Ok(());
     }
-    for effect in effects {
-        print_effect(effect, faults)?;
+    for effect in effects.iter().filter(|effect| effect.respond) {
+        let target = effect.target.0;
+        match (effect.outcome, effect.method.level, effect.method.index) {
+            (CommandOutcome::Executed(Status::Ok), 1, 3 | 6) => write!(line, " locked {target}")?,
+            (CommandOutcome::Executed(Status::Ok), 1, 4) => write!(line, " unlocked {target}")?,
+            (CommandOutcome::Executed(Status::Ok), _, _) => {}
+            (CommandOutcome::Executed(status), _, _) => {
+                write!(line, " refused {target} {}", status.name())?;
+            }
+            _ => {}
+        }
     }
     Ok(())
-}
-
-/// Prints what a command did to its object.
-fn print_effect<F: Sink>(effect: &Effect, faults: &mut Printer<F>) -> Result<(), WriteFailed> {
-    let target = u64::from(effect.target.0);
-    match effect.outcome {
-        CommandOutcome::Executed(status) if effect.respond && status.number() != 0 => {
-            print_count(" refused ", target, faults)?;
-            faults.print(b" ")?;
-            faults.print(status.name().as_bytes())
-        }
-        CommandOutcome::Executed(_) if effect.respond && effect.method.level == 1 => {
-            match effect.method.index {
-                3 | 6 => print_count(" locked ", target, faults),
-                4 => print_count(" unlocked ", target, faults),
-                _ => Ok(()),
-            }
-        }
-        _ => Ok(()),
-    }
 }

@@ -1,18 +1,17 @@
 //! The objects that a device begins with.
 
-use super::disk::end_line;
 use oca_program::{Failure, RunFault};
 use oca_script::ObjectFault;
 use oca_textree::{TreeFault, tree_from_text};
 use oca_tree::{Tree, bench_with_channels};
 use std::alloc::Global;
-use std::fmt::Display;
+use std::fmt::{self, Display, Formatter, Write};
 use std::fs;
-use std::io::Read;
+use std::io::{ErrorKind, Read};
 use std::rt::Files;
 
 /// The most bytes of a file that lists objects.
-const LARGEST_TEXT: usize = 16_777_216;
+const LARGEST_TEXT: u64 = 16_777_216;
 
 /// Where the objects of a device come from.
 #[derive(Clone, Copy)]
@@ -31,19 +30,31 @@ impl Objects<'_> {
     /// kept them also `Object` with its last line, if that does not say how many objects it has.
     pub fn load<N: Files>(self, alloc: Global, system: &N) -> Result<Tree, Failure> {
         match self {
-            Objects::Bench(channels) => match bench_with_channels(alloc, channels) {
-                Ok(tree) => Ok(tree),
-                Err(_) => Err(Failure::from(RunFault::NoMemory)),
-            },
+            Objects::Bench(channels) => {
+                bench_with_channels(alloc, channels).map_err(|_| Failure::from(RunFault::NoMemory))
+            }
             Objects::Listed(path) => {
                 let text = text_of(alloc, system, path)?;
                 tree_of(alloc, path, text.as_slice())
             }
             Objects::Kept(path) => {
                 let text = text_of(alloc, system, path)?;
-                kept_tree_of(alloc, path, text.as_slice())
+                let tree = tree_of(alloc, path, text.as_slice())?;
+                check_end(alloc, path, text.as_slice(), tree.len())?;
+                Ok(tree)
             }
         }
+    }
+}
+
+/// The last line of a file in which a device keeps so many objects.
+#[derive(Clone, Copy)]
+pub struct EndLine(pub usize);
+
+impl Display for EndLine {
+    /// Writes the line without its line feed.
+    fn fmt<W: Write>(&self, f: &mut Formatter<W>) -> fmt::Result {
+        write!(f, "# end of {} objects", self.0)
     }
 }
 
@@ -64,14 +75,11 @@ fn tree_of(alloc: Global, path: &str, text: &[u8]) -> Result<Tree, Failure> {
     }
 }
 
-/// The objects that the text of the file at a path lists, in which a device kept them.
-fn kept_tree_of(alloc: Global, path: &str, text: &[u8]) -> Result<Tree, Failure> {
-    let tree = tree_of(alloc, path, text)?;
-    let Some(line) = end_line(alloc, tree.len()) else {
-        return Err(Failure::from(RunFault::NoMemory));
-    };
+/// Refuses the text of the file at a path if its last line does not say that a device kept `count` objects there.
+fn check_end(alloc: Global, path: &str, text: &[u8], count: usize) -> Result<(), Failure> {
+    let line = format!(in alloc; "{}\n", EndLine(count))?;
     if text.ends_with(line.as_bytes()) {
-        return Ok(tree);
+        return Ok(());
     }
     let lines = text
         .strip_suffix(b"\n")
@@ -85,33 +93,19 @@ fn kept_tree_of(alloc: Global, path: &str, text: &[u8]) -> Result<Tree, Failure>
 
 /// The text of the file at a path.
 fn text_of<N: Files>(alloc: Global, system: &N, path: &str) -> Result<Vec<u8>, Failure> {
-    match fs::open(system, path) {
-        Ok(mut file) => read_whole(alloc, &mut file, path),
+    let mut text = Vec::new(alloc);
+    let read = fs::open(system, path).and_then(|file| file
+        .take(LARGEST_TEXT + 1)
+        .read_to_end(&mut text));
+    match read {
+        Ok(_) if text.len() as u64 <= LARGEST_TEXT => Ok(text),
+        Ok(_) => {
+            let why = "it has more than 16777216 bytes";
+            Err(refused(alloc, RunFault::TooMuch, path, why))
+        }
+        Err(reason) if reason.kind() == ErrorKind::OutOfMemory => {
+            Err(Failure::from(RunFault::NoMemory))
+        }
         Err(reason) => Err(refused(alloc, RunFault::Read, path, reason)),
     }
-}
-
-/// All bytes of a file.
-fn read_whole<R: Read>(alloc: Global, file: &mut R, path: &str) -> Result<Vec<u8>, Failure> {
-    let mut text = Vec::new(alloc);
-    let mut piece = [0u8; 4096];
-    for _read in 0..=LARGEST_TEXT {
-        let count = match file.read(&mut piece) {
-            Ok(0) => return Ok(text),
-            Ok(count) => count,
-            Err(reason) => return Err(refused(alloc, RunFault::Read, path, reason)),
-        };
-        if count > LARGEST_TEXT.saturating_sub(text.len()) {
-            break;
-        }
-        if text.extend_from_slice(&piece[..count]).is_err() {
-            return Err(Failure::from(RunFault::NoMemory));
-        }
-    }
-    Err(refused(
-        alloc,
-        RunFault::TooMuch,
-        path,
-        "it has more than 16777216 bytes",
-    ))
 }

@@ -11,10 +11,9 @@ use super::log::Log;
 use super::store::{FileStore, Kept};
 use oca_device::{Device, NoElectronics, Outbox, Report, serve_keeping, serve_with};
 use oca_net::End;
-use oca_program::RunFault;
 use oca_script::Sink;
 use oca_tree::Tree;
-use oca_types::Sizes;
+use oca_types::{NoMemory, Sizes};
 use std::alloc::Global;
 
 /// A device, and memory for its answers to one datagram.
@@ -27,16 +26,13 @@ pub struct Served {
 impl Served {
     /// A device of these objects and sizes before any event. The call takes all the memory that the device will need.
     /// Refusal: `NoMemory`, if memory was refused; the objects are then lost.
-    pub fn new(alloc: Global, tree: Tree, sizes: Sizes) -> Result<Served, RunFault>
+    pub fn new(alloc: Global, tree: Tree, sizes: Sizes) -> Result<Served, NoMemory>
         ensures { IfOk result (λ served. Represents (sizes_of sizes) served.device tree []) }
     {
-        let Ok(device) = Device::with_sizes(alloc, tree, sizes) else {
-            return Err(RunFault::NoMemory);
-        };
-        let Ok(outbox) = Outbox::new(alloc) else {
-            return Err(RunFault::NoMemory);
-        };
-        Ok(Served { device, outbox })
+        Ok(Served {
+            device: Device::with_sizes(alloc, tree, sizes)?,
+            outbox: Outbox::new(alloc)?,
+        })
     }
 }
 
@@ -62,16 +58,8 @@ pub fn serve<E: End, D: Disk + Drop, F: Sink>(
                 mut waiting,
             } = kept;
             let mut store = FileStore::new(path, &mut disk, log);
-            let mut none = NoElectronics;
-            serve_keeping(
-                device,
-                end,
-                outbox,
-                &mut waiting,
-                &mut store,
-                &mut none,
-                turns,
-            )
+            let none = &mut NoElectronics;
+            serve_keeping(device, end, outbox, &mut waiting, &mut store, none, turns)
         }
         None => serve_with(device, end, outbox, log, turns),
     }

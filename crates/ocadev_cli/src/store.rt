@@ -3,7 +3,7 @@ ghost use Rattle.std.specs.Prelude.{◌≡◌, IfOk, IfSome, false, is_some};
 ghost use Rattle.std.specs.Option.{option_copied};
 
 use super::disk::{Disk, FileDisk, write_over};
-use super::log::{Log, moment_of};
+use super::log::Log;
 use super::objects::refused;
 use oca_device::{Device, Electronics, Keeping, Outbox, Report, Store};
 use oca_net::Heard;
@@ -31,19 +31,15 @@ impl<'a, 'l, N: Files<File = File>> Kept<'a, FileDisk<'l, 'a, N>> {
         system: &'l N,
         keep: Option<&'a str>,
         held: Option<File>,
-    ) -> Result<Option<Kept<'a, FileDisk<'l, 'a, N>>>, RunFault>
+    ) -> Result<Option<Kept<'a, FileDisk<'l, 'a, N>>>, Failure>
         ensures kept { IfOk result (λ kept. is_some kept ≡ is_some (option_copied keep.entry)) }
         ensures behind { IfOk result (λ kept. IfSome kept (λ k. k.waiting.is_behind ≡ false)) }
     {
         let Some(path) = keep else {
             return Ok(None);
         };
-        let Ok(waiting) = Keeping::new(alloc) else {
-            return Err(RunFault::NoMemory);
-        };
-        let Ok(disk) = FileDisk::new(alloc, system, path, held) else {
-            return Err(RunFault::NoMemory);
-        };
+        let waiting = Keeping::new(alloc)?;
+        let disk = FileDisk::new(alloc, system, path, held)?;
         Ok(Some(Kept {
             path,
             disk,
@@ -113,8 +109,7 @@ impl<'p, 'd, 't, 'f, D: Disk, F: Sink> FileStore<'p, 'd, 't, 'f, D, F> {
     fn log_change(&mut self, done: io::Result<()>)
         ensures { self.new.disk.now ≡ self.old.disk.now }
     {
-        let path = self.path;
-        let alloc = self.log.alloc;
+        let (path, alloc) = (self.path, self.log.alloc);
         self.failing = match (done, self.failing.take()) {
             (Err(reason), Some(failing)) => Some(Failing { reason, ..failing }),
             (Err(reason), None) => {
@@ -125,21 +120,20 @@ impl<'p, 'd, 't, 'f, D: Disk, F: Sink> FileStore<'p, 'd, 't, 'f, D, F> {
                     next: 0,
                 })
             }
+            (Ok(()), None) => None,
             (Ok(()), Some(_)) => {
-                self.log
-                    .note(format!(in alloc; "the state is kept again: {path}"));
+                let note = format!(in alloc; "the state is kept again: {path}");
+                self.log.note(note);
                 None
             }
-            (Ok(()), None) => None,
         };
     }
 
     /// Logs each minute that the file still can't be written, and since when.
-    fn log_failing(&mut self, now: u64)
+    fn log_failing(&mut self)
         ensures { self.new.disk.now ≡ self.old.disk.now }
     {
-        let path = self.path;
-        let alloc = self.log.alloc;
+        let (path, alloc, now) = (self.path, self.log.alloc, self.log.now);
         let Some(failing) = &mut self.failing else {
             return;
         };
@@ -186,8 +180,6 @@ impl<'p, 'd, 't, 'f, D: Disk, F: Sink> Store for FileStore<'p, 'd, 't, 'f, D, F>
         device: &Device,
     ) {
         self.log.tell(heard, bytes, answers, turn, device);
-        if let Some(now) = moment_of(heard) {
-            self.log_failing(now);
-        }
+        self.log_failing();
     }
 }

@@ -119,6 +119,7 @@ fn traced_datagrams(rt: HostRuntime) {
         &[
             wrong_unless(traces::serves(alloc, false, b"")),
             wrong_unless(traces::serves(alloc, true, traces::TRACE)),
+            wrong_unless(traces::counts_while_receives_fail(alloc)),
         ],
     );
 }

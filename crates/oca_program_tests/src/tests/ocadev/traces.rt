@@ -120,6 +120,29 @@ pub fn serves(alloc: Global, verbose: bool, logged: &[u8]) -> bool {
     report == REPORT && end.taken().len() == 6 && faults.sink().taken.as_slice() == logged
 }
 
+/// What is logged of 39 receives that fail, of 50 ms each, where the counts are told each second.
+const COUNTS: &[u8] =
+    b"note: turns 20 executed 0 kept 0 old 0 reused 0 malformed 0 no-room 0 oversize 0 quiet 0 failed-receives 20 \
+    failed-sends 0 sessions 0 locks 0\n";
+
+/// Whether the counts so far are told while each receive fails.
+pub fn counts_while_receives_fail(alloc: Global) -> bool {
+    let Ok(tree) = bench(alloc) else {
+        return false;
+    };
+    let Ok(mut served) = Served::new(alloc, tree, Sizes::default()) else {
+        return false;
+    };
+    let Some(mut end) = end(alloc, &[Failed; 39], 0, None) else {
+        return false;
+    };
+    let mut faults = Printer::new(ShortWriter::new(7, usize::MAX));
+    let mut log = Log::new(alloc, false, Some(1), &mut faults);
+    let unkept: Option<Kept<'_, Full>> = None;
+    let report = serve(&mut served, &mut end, unkept, &mut log, u64::MAX);
+    report.failed_receives == 39 && faults.sink().taken.as_slice() == COUNTS
+}
+
 /// A disk that refuses each step.
 #[derive(Clone, Copy)]
 struct Full;
