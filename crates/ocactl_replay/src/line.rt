@@ -50,10 +50,29 @@ fn put_line<W: Sink>(printer: &mut Printer<W>, line: Line<'_>)
         printer.old.failed }
 {
     match line {
-        Line::Submission(answer) => put_submission(printer, answer),
-        Line::Due(due, bytes) => put_due(printer, due, bytes),
-        Line::Reception(reception) => put_reception(printer, reception),
-        Line::Answer(answer) => put_answer(printer, answer),
+        Line::Submission(Ok(handle)) => put_number(printer, b"handle ", handle.0 as u64),
+        Line::Submission(Err(fault)) => printer.put(refusal(fault)),
+        Line::Due(Due::Send(_), bytes) => put_bytes(printer, b"send ", bytes),
+        Line::Due(Due::KeepAlive, bytes) => put_bytes(printer, b"keep-alive ", bytes),
+        Line::Due(Due::Nothing, _) => printer.put(b"nothing\n"),
+        Line::Due(Due::Lost, _) => printer.put(b"lost\n"),
+        Line::Reception(Reception::Answered(count)) => put_number(
+            printer,
+            b"answered ",
+            count as u64,
+        ),
+        Line::Reception(Reception::Stranger) => printer.put(b"stranger\n"),
+        Line::Reception(Reception::Malformed) => printer.put(b"malformed\n"),
+        Line::Reception(Reception::NothingNew) => printer.put(b"nothing new\n"),
+        Line::Answer(answer) => {
+            printer.put(b"answer ");
+            printer.put_number(answer.status as u64);
+            printer.put(b" ");
+            printer.put_number(answer.count as u64);
+            printer.put(b" ");
+            printer.put_hex(answer.params.as_slice());
+            printer.put(b"\n");
+        }
         Line::NoAnswer => printer.put(b"none\n"),
     }
 }
@@ -70,35 +89,16 @@ fn refusal(fault: ControlFault) -> &'static [u8]
     }
 }
 
-/// Holds what became of a command that was to be submitted.
-fn put_submission<W: Sink>(printer: &mut Printer<W>, answer: Result<Handle, ControlFault>)
-    requires { length printer.old.held + 3000 ≤ 8192 }
-    ensures { printer.new ≡ output printer.old.contents (printer.old.held ++ submission_text answer)
-        printer.old.failed }
-{
-    match answer {
-        Ok(handle) => {
-            printer.put(b"handle ");
-            printer.put_number(handle.0 as u64);
-            printer.put(b"\n");
-        }
-        Err(fault) => printer.put(refusal(fault)),
-    }
-}
-
-/// Holds what was sent.
-fn put_due<W: Sink>(printer: &mut Printer<W>, due: Due, bytes: &[u8])
-    requires few { length bytes.now ≤ 1472 }
+/// Holds a word, a number in decimal digits, and the end of the line.
+fn put_number<W: Sink>(printer: &mut Printer<W>, word: &[u8], number: u64)
+    requires short { length word.now ≤ 20 }
     requires room { length printer.old.held + 3000 ≤ 8192 }
-    ensures { printer.new ≡ output printer.old.contents (printer.old.held ++ due_text due bytes.now)
+    ensures { printer.new ≡ output printer.old.contents (printer.old.held ++ (word.now ++ decimal number ++ codes "\n"))
         printer.old.failed }
 {
-    match due {
-        Due::Send(_) => put_bytes(printer, b"send ", bytes),
-        Due::KeepAlive => put_bytes(printer, b"keep-alive ", bytes),
-        Due::Nothing => printer.put(b"nothing\n"),
-        Due::Lost => printer.put(b"lost\n"),
-    }
+    printer.put(word);
+    printer.put_number(number);
+    printer.put(b"\n");
 }
 
 /// Holds a word, bytes in hexadecimal, and the end of the line.
@@ -111,38 +111,5 @@ fn put_bytes<W: Sink>(printer: &mut Printer<W>, word: &[u8], bytes: &[u8])
 {
     printer.put(word);
     printer.put_hex(bytes);
-    printer.put(b"\n");
-}
-
-/// Holds what became of a datagram.
-fn put_reception<W: Sink>(printer: &mut Printer<W>, reception: Reception)
-    requires { length printer.old.held + 3000 ≤ 8192 }
-    ensures { printer.new ≡ output printer.old.contents (printer.old.held ++ reception_text reception)
-        printer.old.failed }
-{
-    match reception {
-        Reception::Answered(count) => {
-            printer.put(b"answered ");
-            printer.put_number(count as u64);
-            printer.put(b"\n");
-        }
-        Reception::Stranger => printer.put(b"stranger\n"),
-        Reception::Malformed => printer.put(b"malformed\n"),
-        Reception::NothingNew => printer.put(b"nothing new\n"),
-    }
-}
-
-/// Holds an answer.
-fn put_answer<W: Sink>(printer: &mut Printer<W>, answer: &Answer)
-    requires { length printer.old.held + 3000 ≤ 8192 }
-    ensures { printer.new ≡ output printer.old.contents (printer.old.held ++ answer_text (answer_fields answer.now))
-        printer.old.failed }
-{
-    printer.put(b"answer ");
-    printer.put_number(answer.status as u64);
-    printer.put(b" ");
-    printer.put_number(answer.count as u64);
-    printer.put(b" ");
-    printer.put_hex(answer.params.as_slice());
     printer.put(b"\n");
 }

@@ -1,10 +1,8 @@
 //! The replay of a script on a link.
 ghost use Rattle.std.specs.Prelude.{◌≡◌, [], IfSome, replicate};
-ghost use Rattle.oca_types.specs.Peers.{request_of};
 ghost use Rattle.oca_script.specs.Ends.{input};
 ghost use Rattle.oca_script.specs.Replaying.{NeverIdles, Outcome, Replays};
-ghost use Rattle.ocactl_replay.specs.Requests.{LinkCall, Submit as SubmitCall, Due as DueCall};
-ghost use Rattle.ocactl_replay.specs.Requests.{Datagram as DatagramCall, Take as TakeCall, asked_call};
+ghost use Rattle.ocactl_replay.specs.Requests.{LinkCall, asked_call};
 ghost use Rattle.ocactl_replay.specs.Replaying.{ServesCall, ServesCallAndPrints};
 ghost use Rattle.ocactl_replay.specs.PrivateRequests.{link_call_in};
 
@@ -13,7 +11,7 @@ use super::request::{Call, PARAMS_ROOM, call_by};
 use oca_control::Link;
 use oca_script::lines::serve_lines;
 use oca_script::{Language, Printer, ReplayFault, Sink, Source, Stop, WriteFailed};
-use oca_types::{Handle, Packet, Peer, Request};
+use oca_types::{Packet, Request};
 
 /// The rules of a controller's scripts, in which a line is a call of a link.
 pub struct LinkScript;
@@ -86,71 +84,28 @@ fn serve<W: Sink>(
     ensures { ServesCallAndPrints link.old (link_call_in call.entry) link.new result printer.old printer.new }
 {
     match call {
-        Call::Submit { now, command } => submit(link, now, command, printer),
-        Call::Due { now } => due(link, packet, now, printer),
-        Call::Datagram { now, from, bytes } => datagram(link, now, from, bytes, printer),
-        Call::Take { handle } => take(link, handle, printer),
-    }
-}
-
-/// Submits a command, and prints its handle or why it is refused.
-fn submit<W: Sink>(
-    link: &mut Link,
-    now: u64,
-    command: Request<'_>,
-    printer: &mut Printer<W>,
-) -> Result<(), WriteFailed>
-    ensures { ServesCallAndPrints link.old (SubmitCall now (request_of command.entry)) link.new result printer.old
-        printer.new }
-{
-    let answer = link.submit(
-        command.target,
-        command.method,
-        command.count,
-        command.params,
-        now,
-    );
-    print_line(printer, Line::Submission(answer))
-}
-
-/// Prints what is due.
-fn due<W: Sink>(
-    link: &mut Link,
-    packet: &mut Packet,
-    now: u64,
-    printer: &mut Printer<W>,
-) -> Result<(), WriteFailed>
-    ensures { ServesCallAndPrints link.old (DueCall now) link.new result printer.old printer.new }
-{
-    let due = link.due(now, packet);
-    print_line(printer, Line::Due(due, packet.as_slice()))
-}
-
-/// Hands a datagram to the link, and prints what became of it.
-fn datagram<W: Sink>(
-    link: &mut Link,
-    now: u64,
-    from: Peer,
-    bytes: &[u8],
-    printer: &mut Printer<W>,
-) -> Result<(), WriteFailed>
-    ensures { ServesCallAndPrints link.old (DatagramCall now from bytes.now) link.new result printer.old printer.new }
-{
-    let reception = link.datagram(from, bytes, now);
-    print_line(printer, Line::Reception(reception))
-}
-
-/// Takes an answer, and prints it.
-fn take<W: Sink>(
-    link: &mut Link,
-    handle: Handle,
-    printer: &mut Printer<W>,
-) -> Result<(), WriteFailed>
-    ensures { ServesCallAndPrints link.old (TakeCall handle.0) link.new result printer.old printer.new }
-{
-    match link.take(handle) {
-        Some(answer) => print_line(printer, Line::Answer(&answer)),
-        None => print_line(printer, Line::NoAnswer),
+        Call::Submit { now, command } => {
+            let Request {
+                target,
+                method,
+                count,
+                params,
+            } = command;
+            let answer = link.submit(target, method, count, params, now);
+            print_line(printer, Line::Submission(answer))
+        }
+        Call::Due { now } => {
+            let due = link.due(now, packet);
+            print_line(printer, Line::Due(due, packet.as_slice()))
+        }
+        Call::Datagram { now, from, bytes } => {
+            let reception = link.datagram(from, bytes, now);
+            print_line(printer, Line::Reception(reception))
+        }
+        Call::Take { handle } => match link.take(handle) {
+            Some(answer) => print_line(printer, Line::Answer(&answer)),
+            None => print_line(printer, Line::NoAnswer),
+        },
     }
 }
 

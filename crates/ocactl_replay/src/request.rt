@@ -16,6 +16,9 @@ use oca_types::{Handle, MethodId, Ono, Peer, Request};
 /// bytes.
 pub const PARAMS_ROOM: usize = 2048;
 
+/// Room for these bytes.
+pub type Room = [u8; PARAMS_ROOM];
+
 /// The call of a link that a line of a script asks for. Moments are in milliseconds.
 #[derive(Clone, Copy)]
 pub enum Call<'a> {
@@ -107,15 +110,13 @@ fn command_in<'a>(texts: Texts<'_>, room: &'a mut [u8]) -> Result<Request<'a>, L
     requires { length texts.params.now ≤ 2 * length room.old }
     ensures { request_read result ≡ command_of (texts_in texts.entry) }
 {
-    let target = u32_in(texts.target)?;
+    let target = Ono(u32_in(texts.target)?);
     let level = u16_in(texts.level)?;
     let index = u16_in(texts.index)?;
     let count = u8_in(texts.count)?;
-    let Some(params) = hex_bytes(texts.params, room) else {
-        return Err(LineFault::Hex);
-    };
+    let params = hex_bytes(texts.params, room).ok_or(LineFault::Hex)?;
     Ok(Request {
-        target: Ono(target),
+        target,
         method: MethodId { level, index },
         count,
         params,
@@ -123,11 +124,7 @@ fn command_in<'a>(texts: Texts<'_>, room: &'a mut [u8]) -> Result<Request<'a>, L
 }
 
 /// A command that is submitted: its moment, and the fields after the keyword.
-fn submit<'a>(
-    now: &[u8],
-    rest: Option<&[u8]>,
-    room: &'a mut [u8; PARAMS_ROOM],
-) -> Result<Call<'a>, LineFault>
+fn submit<'a>(now: &[u8], rest: Option<&[u8]>, room: &'a mut Room) -> Result<Call<'a>, LineFault>
     requires { IfSome rest (λ text. length text.now ≤ 4096) }
     ensures { call_asked result ≡ submit_of now.now (fields_after (option_copied rest.entry)) }
 {
@@ -135,10 +132,8 @@ fn submit<'a>(
         return Err(LineFault::Form);
     };
     let now = moment(now)?;
-    match command_in(texts, room) {
-        Ok(command) => Ok(Call::Submit { now, command }),
-        Err(fault) => Err(fault),
-    }
+    let command = command_in(texts, room)?;
+    Ok(Call::Submit { now, command })
 }
 
 /// A moment at which what is due is sent.
@@ -151,38 +146,19 @@ fn due<'a>(now: &[u8], rest: Option<&[u8]>) -> Result<Call<'a>, LineFault>
     }
 }
 
-/// A datagram: its moment, its sender and its bytes.
-#[tactic(auto, unfolding(crate::specs::Requests::datagram_call_of))]
-fn datagram<'a>(
-    now: &[u8],
-    sender: &[u8],
-    text: &[u8],
-    room: &'a mut [u8],
-) -> Result<Call<'a>, LineFault>
-    requires { length text.now ≤ 2 * length room.old }
-    ensures { call_asked result ≡ datagram_call_of now.now (sender.now, text.now) }
-{
-    let now = moment(now)?;
-    let from = peer(sender).ok_or(LineFault::Peer)?;
-    let Some(bytes) = hex_bytes(text, room) else {
-        return Err(LineFault::Hex);
-    };
-    Ok(Call::Datagram { now, from, bytes })
-}
-
 /// A datagram that came: its moment, and the fields after the keyword.
-fn from<'a>(
-    now: &[u8],
-    rest: Option<&[u8]>,
-    room: &'a mut [u8; PARAMS_ROOM],
-) -> Result<Call<'a>, LineFault>
+#[tactic(auto, unfolding(crate::specs::Requests::datagram_call_of))]
+fn from<'a>(now: &[u8], rest: Option<&[u8]>, room: &'a mut Room) -> Result<Call<'a>, LineFault>
     requires { IfSome rest (λ text. length text.now ≤ 4096) }
     ensures { call_asked result ≡ from_of now.now (fields_after (option_copied rest.entry)) }
 {
     let Some((sender, text)) = two_fields(rest) else {
         return Err(LineFault::Form);
     };
-    datagram(now, sender, text, room)
+    let now = moment(now)?;
+    let from = peer(sender).ok_or(LineFault::Peer)?;
+    let bytes = hex_bytes(text, room).ok_or(LineFault::Hex)?;
+    Ok(Call::Datagram { now, from, bytes })
 }
 
 /// The handle whose answer is taken.
@@ -192,35 +168,8 @@ fn take<'a>(rest: Option<&[u8]>) -> Result<Call<'a>, LineFault>
     let Some(text) = one_field(rest) else {
         return Err(LineFault::Form);
     };
-    let handle = u32_in(text)?;
-    Ok(Call::Take {
-        handle: Handle(handle),
-    })
-}
-
-/// What a line asks for that begins with a moment.
-fn timed<'a>(
-    now: &[u8],
-    rest: Option<&[u8]>,
-    room: &'a mut [u8; PARAMS_ROOM],
-) -> Result<Call<'a>, LineFault>
-    requires { IfSome rest (λ text. length text.now ≤ 4096) }
-    ensures { call_asked result ≡ timed_of now.now (fields_after (option_copied rest.entry)) }
-{
-    let Some(rest) = rest else {
-        return Err(LineFault::Form);
-    };
-    let (word, rest) = first_field(rest);
-    if word == b"submit".as_slice() {
-        return submit(now, rest, room);
-    }
-    if word == b"due".as_slice() {
-        return due(now, rest);
-    }
-    if word == b"from".as_slice() {
-        return from(now, rest, room);
-    }
-    Err(LineFault::Form)
+    let handle = Handle(u32_in(text)?);
+    Ok(Call::Take { handle })
 }
 
 /// Reads which call of the link a line of a script asks for: one of the four lines that
@@ -229,7 +178,7 @@ fn timed<'a>(
 /// memory, and makes no call of the link. Refusals, the first that applies; discard what `room` contains then:
 /// - `Form` if the keyword is unknown, or the number of fields is wrong.
 /// - `Moment`, `Number`, `Peer` or `Hex` for the first field, from the left, that does not have its form.
-pub fn call_by<'a>(line: &[u8], room: &'a mut [u8; PARAMS_ROOM]) -> Result<Call<'a>, LineFault>
+pub fn call_by<'a>(line: &[u8], room: &'a mut Room) -> Result<Call<'a>, LineFault>
     requires { length line.now ≤ 4096 }
     ensures { call_asked result ≡ asked_call (fields line.now) }
 {
@@ -237,7 +186,20 @@ pub fn call_by<'a>(line: &[u8], room: &'a mut [u8; PARAMS_ROOM]) -> Result<Call<
     if first == b"take".as_slice() {
         return take(rest);
     }
-    timed(first, rest, room)
+    let Some(rest) = rest else {
+        return Err(LineFault::Form);
+    };
+    let (word, rest) = first_field(rest);
+    if word == b"submit".as_slice() {
+        return submit(first, rest, room);
+    }
+    if word == b"due".as_slice() {
+        return due(first, rest);
+    }
+    if word == b"from".as_slice() {
+        return from(first, rest, room);
+    }
+    Err(LineFault::Form)
 }
 
 /// Reads the command that a line `ONO LEVEL INDEX COUNT HEX` asks for (AES70-3; the form of the line is the profile's).
@@ -246,10 +208,7 @@ pub fn call_by<'a>(line: &[u8], room: &'a mut [u8; PARAMS_ROOM]) -> Result<Call<
 /// the first that applies; discard what `room` contains then:
 /// - `Form` if the line does not have exactly these five fields.
 /// - `Number` or `Hex` for the first field, from the left, that does not have its form.
-pub fn command_by<'a>(
-    line: &[u8],
-    room: &'a mut [u8; PARAMS_ROOM],
-) -> Result<Request<'a>, LineFault>
+pub fn command_by<'a>(line: &[u8], room: &'a mut Room) -> Result<Request<'a>, LineFault>
     requires { length line.now ≤ 4096 }
     ensures { request_read result ≡ asked_command (fields line.now) }
 {
