@@ -1,6 +1,9 @@
 //! The command line: its options, and what it asks for.
+//!
+//! A value of `set` may be a negative number, which is an option for `clap`, as each word that begins with `-`. So the
+//! words of `set` are matched with a blank in front of each negative number, which is then taken off the value. The time
+//! behind `--hold` is taken out of the words of `lock`, since `--hold` needs none.
 
-use super::matching::{Given, without_blank};
 use arrayvec::ArrayVec;
 use clap::{ArgMatches, Error};
 use oca_panel::{LocalPort, Way};
@@ -9,10 +12,9 @@ use oca_program::options::{host_in, peer_in};
 use oca_program::table::program_with_commands;
 use oca_program::{CommandRow, Failure, Form, Kind, OptionRow, RunFault};
 use oca_script::field::{hex_bytes, number};
-use oca_types::{
-    Handle, LOOPBACK, MOST_COMMAND_PARAMETER_BYTES, MethodId, Ono, Peer, Request, Span, Text,
-};
-use std::alloc::Global;
+use oca_types::{Handle, LOOPBACK, MOST_COMMAND_PARAMETER_BYTES, MethodId, Ono, Peer, Span, Text};
+use std::alloc::{AllocError, Global};
+use std::convert::AsStr;
 
 /// What a command line asks for.
 #[derive(Drop)]
@@ -58,10 +60,7 @@ impl Reach {
         Way {
             device: self.device,
             ip: self.ip,
-            port: match self.port {
-                Some(given) => LocalPort::Given(given),
-                None => port,
-            },
+            port: self.port.map_or(port, |given| LocalPort::Given(given)),
             first: self.first,
         }
     }
@@ -76,18 +75,6 @@ pub struct Sending {
     pub params: ArrayVec<u8, MOST_COMMAND_PARAMETER_BYTES>,
     /// For how many turns of up to 50 ms its answer is waited for.
     pub turns: u32,
-}
-
-impl Sending {
-    /// The command as a link takes it.
-    pub fn request(&self) -> Request<'_> {
-        Request {
-            target: self.target,
-            method: self.method,
-            count: self.count,
-            params: self.params.as_slice(),
-        }
-    }
 }
 
 /// What is to be done with objects of a device.
@@ -105,13 +92,6 @@ pub enum Task {
     Hold(Vec<Ono>, Hold),
     /// To release their locks.
     Unlock(Vec<Ono>),
-}
-
-impl Task {
-    /// Whether the task takes or releases locks. If so, it matters from which port the device is asked.
-    pub fn locks(&self) -> bool {
-        matches!(self, Task::Lock(_) | Task::Hold(..) | Task::Unlock(_))
-    }
 }
 
 /// For how long locks are kept.
@@ -292,16 +272,31 @@ const VALUES: OptionRow = OptionRow {
     ..OBJECTS
 };
 
-const TREE_EXAMPLE: &str =
-    "Prints a line for each object: its ONo, its class identifier, the ONo of its
+/// The program without its commands.
+const PROGRAM: CommandRow = CommandRow {
+    name: "ocactl",
+    about: "Controls an OCA (AES70) device over UDP",
+    example: "Example, with the bench device: ocactl set --device 127.0.0.1:65000 4097 unmuted",
+    options: &[],
+};
+
+const TREE: CommandRow = CommandRow {
+    name: "tree",
+    about: "Prints the objects of a device",
+    example: "Prints a line for each object: its ONo, its class identifier, the ONo of its
 container (0 for the root), and its role. If an object does not give its class
 or its role, its line has its ONo and the reason, for example Locked. If a
 block does not list its members, it has a second line with its ONo and the
 reason, for example BufferOverflow.
 
-Example: ocactl tree --device 127.0.0.1:65000";
+Example: ocactl tree --device 127.0.0.1:65000",
+    options: &[DEVICE, SPAN, FIRST_HANDLE, IP, TURNS, PORT],
+};
 
-const GET_EXAMPLE: &str = "Prints a line for each object: its ONo and its value: muted or unmuted;
+const GET: CommandRow = CommandRow {
+    name: "get",
+    about: "Prints the values of objects of a device",
+    example: "Prints a line for each object: its ONo and its value: muted or unmuted;
 non-inverted or inverted; on or off; the number and the name of a switch's
 position; an integer. If an object gives no value, its line has the reason: a
 status, for example Locked, or no value, no answer, lost.
@@ -310,10 +305,14 @@ Exit status: 0 if all values were read, 3 if an answer did not come, 4 if
 something was refused. If a device does not give the name of a position, that
 does not change the exit status.
 
-Example, with the bench device: ocactl get --device 127.0.0.1:65000 4097 4100";
+Example, with the bench device: ocactl get --device 127.0.0.1:65000 4097 4100",
+    options: &[DEVICE, SPAN, FIRST_HANDLE, IP, TURNS, PORT, OBJECTS],
+};
 
-const SET_EXAMPLE: &str =
-    "VALUE is muted or unmuted; non-inverted or inverted; on or off; the number or
+const SET: CommandRow = CommandRow {
+    name: "set",
+    about: "Sets objects of a device",
+    example: "VALUE is muted or unmuted; non-inverted or inverted; on or off; the number or
 the name of a switch's position; an integer. If a value does not fit its
 object, or it can't be found out whether it does, nothing is set. Up to N set
 commands wait for their answers at once (--ahead N). The lines are printed in
@@ -323,10 +322,14 @@ executed.
 Exit status: 0 if everything was set, 2 if a value does not fit its object, 3
 if an answer did not come, 4 if something was refused.
 
-Example, with the bench device: ocactl set --device 127.0.0.1:65000 4097 unmuted 4100 -60";
+Example, with the bench device: ocactl set --device 127.0.0.1:65000 4097 unmuted 4100 -60",
+    options: &[DEVICE, SPAN, FIRST_HANDLE, IP, TURNS, PORT, AHEAD, VALUES],
+};
 
-const LOCK_EXAMPLE: &str =
-    "While an object is locked, other controllers can neither read nor set it.
+const LOCK: CommandRow = CommandRow {
+    name: "lock",
+    about: "Locks objects of a device",
+    example: "While an object is locked, other controllers can neither read nor set it.
 Without --hold a lock is released once its holder (this address and port) has
 been silent for more than 15 seconds; with --hold it is kept until standard
 input ends, and with --hold TIME (30s, 90m, 1h) for that time. The lock of a
@@ -335,165 +338,153 @@ block does not lock its members.
 Exit status: 0 if everything was locked, 3 if an answer did not come, 4 if
 something was refused. With --hold it is 5 if a lock was lost meanwhile.
 
-Example: ocactl lock --device 127.0.0.1:65000 4097";
+Example: ocactl lock --device 127.0.0.1:65000 4097",
+    options: &[DEVICE, SPAN, FIRST_HANDLE, IP, TURNS, PORT, HOLD, OBJECTS],
+};
 
-const UNLOCK_EXAMPLE: &str = "Example: ocactl unlock --device 127.0.0.1:65000 4097";
+const UNLOCK: CommandRow = CommandRow {
+    name: "unlock",
+    about: "Releases the locks of objects of a device",
+    example: "Example: ocactl unlock --device 127.0.0.1:65000 4097",
+    options: &[DEVICE, SPAN, FIRST_HANDLE, IP, TURNS, PORT, OBJECTS],
+};
 
-const REPLAY_EXAMPLE: &str = "Each line is one of these; N is a moment in milliseconds:
+const REPLAY: CommandRow = CommandRow {
+    name: "replay",
+    about: "Runs a controller's link over a script on standard input, without a network",
+    example: "Each line is one of these; N is a moment in milliseconds:
   N submit ONO LEVEL INDEX COUNT HEX   a command is submitted
   N due                                the link is asked what it has to send
   N from A.B.C.D:PORT HEX              a datagram comes from this address and port
   take H                               the answer to the command with the handle H is taken
 
-Example: printf '0 submit 4097 4 1 0 -\\n0 due\\n' | ocactl replay --device 127.0.0.1:65000 --first-handle 1";
+Example: printf '0 submit 4097 4 1 0 -\\n0 due\\n' | ocactl replay --device 127.0.0.1:65000 --first-handle 1",
+    options: &[REPLAY_DEVICE, SPAN, OWN_FIRST_HANDLE],
+};
 
-const SEND_EXAMPLE: &str =
-    "Exit status: 0 for an answer with status 0, 3 if none came, 4 for an answer
+const SEND: CommandRow = CommandRow {
+    name: "send",
+    about: "Sends a command to a device and prints its answer: status, ParamCount, parameters",
+    example: "Exit status: 0 for an answer with status 0, 3 if none came, 4 for an answer
 with another status.
 
-Example: ocactl send --device 127.0.0.1:65000 --first-handle 1 --target 4097 --level 4 --index 1 --count 0";
+Example: ocactl send --device 127.0.0.1:65000 --first-handle 1 --target 4097 --level 4 --index 1 --count 0",
+    options: &[
+        DEVICE,
+        SPAN,
+        FIRST_HANDLE,
+        IP,
+        TARGET,
+        LEVEL,
+        INDEX,
+        COUNT,
+        PARAMS,
+        SEND_TURNS,
+        SEND_PORT,
+    ],
+};
 
-const RUN_EXAMPLE: &str =
-    "Each line is a command, ONO LEVEL INDEX COUNT HEX (object number, DefLevel,
+const RUN: CommandRow = CommandRow {
+    name: "run",
+    about: "Sends the commands on standard input, and prints the answer to each in the order of their lines",
+    example: "Each line is a command, ONO LEVEL INDEX COUNT HEX (object number, DefLevel,
 MethodIndex, ParamCount, and the parameters in hexadecimal or - for none), or
 the word wait, which waits for the answers to all commands before it.
 
 Exit status: 0 if each command was answered, 3 if one was not.
 
-Example: echo '4097 4 1 0 -' | ocactl run --device 127.0.0.1:65000";
-
-const PROGRAM_EXAMPLE: &str =
-    "Example, with the bench device: ocactl set --device 127.0.0.1:65000 4097 unmuted";
-
-/// The program without its commands.
-const PROGRAM: CommandRow = CommandRow {
-    name: "ocactl",
-    about: "Controls an OCA (AES70) device over UDP",
-    example: PROGRAM_EXAMPLE,
-    options: &[],
+Example: echo '4097 4 1 0 -' | ocactl run --device 127.0.0.1:65000",
+    options: &[DEVICE, SPAN, FIRST_HANDLE, IP, AHEAD, RUN_PORT],
 };
 
-const TREE_OPTIONS: &[OptionRow] = &[DEVICE, SPAN, FIRST_HANDLE, IP, TURNS, PORT];
+const BAD_AHEAD: &str = "--ahead is more than the span, which is 16 without --span";
 
-const GET_OPTIONS: &[OptionRow] = &[DEVICE, SPAN, FIRST_HANDLE, IP, TURNS, PORT, OBJECTS];
+const BAD_ONO: &str = "an object number (ONo) is 1 to 10 digits, up to 4294967295";
 
-const SET_OPTIONS: &[OptionRow] = &[DEVICE, SPAN, FIRST_HANDLE, IP, TURNS, PORT, AHEAD, VALUES];
+const BAD_PAIRS: &str = "give a value of at most 64 bytes after each ONo";
 
-const LOCK_OPTIONS: &[OptionRow] = &[DEVICE, SPAN, FIRST_HANDLE, IP, TURNS, PORT, HOLD, OBJECTS];
-
-const UNLOCK_OPTIONS: &[OptionRow] = &[DEVICE, SPAN, FIRST_HANDLE, IP, TURNS, PORT, OBJECTS];
-
-const REPLAY_OPTIONS: &[OptionRow] = &[REPLAY_DEVICE, SPAN, OWN_FIRST_HANDLE];
-
-const SEND_OPTIONS: &[OptionRow] = &[
-    DEVICE,
-    SPAN,
-    FIRST_HANDLE,
-    IP,
-    TARGET,
-    LEVEL,
-    INDEX,
-    COUNT,
-    PARAMS,
-    SEND_TURNS,
-    SEND_PORT,
-];
-
-const RUN_OPTIONS: &[OptionRow] = &[DEVICE, SPAN, FIRST_HANDLE, IP, AHEAD, RUN_PORT];
-
-/// The command `tree`.
-fn tree_row() -> CommandRow {
-    CommandRow {
-        name: "tree",
-        about: "Prints the objects of a device",
-        example: TREE_EXAMPLE,
-        options: TREE_OPTIONS,
+/// The command at this place of `--help`. A function gives them: one constant of them all is more than the prover takes
+/// in one step.
+fn command_at(place: u32) -> CommandRow {
+    match place {
+        0 => TREE,
+        1 => GET,
+        2 => SET,
+        3 => LOCK,
+        4 => UNLOCK,
+        5 => REPLAY,
+        6 => SEND,
+        _ => RUN,
     }
 }
 
-/// The command `get`.
-fn get_row() -> CommandRow {
-    CommandRow {
-        name: "get",
-        about: "Prints the values of objects of a device",
-        example: GET_EXAMPLE,
-        options: GET_OPTIONS,
-    }
-}
-
-/// The command `set`.
-fn set_row() -> CommandRow {
-    CommandRow {
-        name: "set",
-        about: "Sets objects of a device",
-        example: SET_EXAMPLE,
-        options: SET_OPTIONS,
-    }
-}
-
-/// The command `lock`.
-fn lock_row() -> CommandRow {
-    CommandRow {
-        name: "lock",
-        about: "Locks objects of a device",
-        example: LOCK_EXAMPLE,
-        options: LOCK_OPTIONS,
-    }
-}
-
-/// The command `unlock`.
-fn unlock_row() -> CommandRow {
-    CommandRow {
-        name: "unlock",
-        about: "Releases the locks of objects of a device",
-        example: UNLOCK_EXAMPLE,
-        options: UNLOCK_OPTIONS,
-    }
-}
-
-/// The command `replay`.
-fn replay_row() -> CommandRow {
-    CommandRow {
-        name: "replay",
-        about: "Runs a controller's link over a script on standard input, without a network",
-        example: REPLAY_EXAMPLE,
-        options: REPLAY_OPTIONS,
-    }
-}
-
-/// The command `send`.
-fn send_row() -> CommandRow {
-    CommandRow {
-        name: "send",
-        about: "Sends a command to a device and prints its answer: status, ParamCount, parameters",
-        example: SEND_EXAMPLE,
-        options: SEND_OPTIONS,
-    }
-}
-
-/// The command `run`.
-fn run_row() -> CommandRow {
-    CommandRow {
-        name: "run",
-        about: "Sends the commands on standard input, and prints the answer to each in the order of their lines",
-        example: RUN_EXAMPLE,
-        options: RUN_OPTIONS,
-    }
-}
-
-/// The commands, in the order of `--help`. Each is made by a function of its own: one constant of them all is more than the
-/// prover takes in one step.
+/// The commands, in the order of `--help`.
 fn commands() -> [CommandRow; 8] {
-    [
-        tree_row(),
-        get_row(),
-        set_row(),
-        lock_row(),
-        unlock_row(),
-        replay_row(),
-        send_row(),
-        run_row(),
-    ]
+    [0, 1, 2, 3, 4, 5, 6, 7].map(|place| command_at(place))
+}
+
+/// The words that are matched, and the time behind `--hold`, in milliseconds.
+#[derive(Drop)]
+pub struct Given {
+    pub words: Vec<String>,
+    pub hold_ms: Option<u64>,
+}
+
+impl Given {
+    /// The words as they are matched, of those of the command line, the program's name first. Refusal: `AllocError`, if
+    /// memory was refused.
+    pub fn of<S: AsStr>(alloc: Global, words: &[S]) -> Result<Given, AllocError> {
+        let name = match words {
+            [_, name, ..] => name.as_str(),
+            _ => "",
+        };
+        let mut given = Given {
+            words: Vec::new(alloc),
+            hold_ms: None,
+        };
+        let mut is_behind_hold = false;
+        for word in words {
+            let word = word.as_str();
+            match time_of(word) {
+                Some(time) if is_behind_hold => given.hold_ms = Some(time),
+                _ => {
+                    let blank = if name == "set" && takes_blank(word) {
+                        " "
+                    } else {
+                        ""
+                    };
+                    given.words.push(format!(in alloc; "{blank}{word}")?)?;
+                }
+            }
+            is_behind_hold = name == "lock" && word == "--hold";
+        }
+        Ok(given)
+    }
+}
+
+/// Whether a word begins with a blank, or with `-` and a digit.
+fn takes_blank(word: &str) -> bool {
+    match word.as_bytes() {
+        [b'-', digit, ..] => digit.is_ascii_digit(),
+        [first, ..] => *first == b' ',
+        [] => false,
+    }
+}
+
+/// The word without the blank that [`Given::of`] put before it; the word itself if it begins with no blank.
+fn without_blank(word: &str) -> &str {
+    word.strip_prefix(" ").unwrap_or(word)
+}
+
+/// The time, in milliseconds, that a word says: 1 to 9 digits, and `s` for seconds, `m` for minutes or `h` for hours.
+fn time_of(word: &str) -> Option<u64> {
+    let (digits, unit) = match word.as_bytes() {
+        [digits @ .., b's'] => (digits, 1_000),
+        [digits @ .., b'm'] => (digits, 60_000),
+        [digits @ .., b'h'] => (digits, 3_600_000),
+        _ => return None,
+    };
+    Some(number(digits, 9, 999_999_999)?.saturating_mul(unit))
 }
 
 /// Matches the words of the command line with the commands and options that the program takes. Err if they do not match,
@@ -511,33 +502,28 @@ pub fn command_of(
     given: &Given,
     matches: &ArgMatches<'_>,
 ) -> Result<Command, Failure> {
-    let Some((name, options)) = matches.subcommand() else {
-        return Err(Failure::from(RunFault::BadWords));
-    };
+    let (name, options) = matches.subcommand().ok_or(RunFault::BadWords)?;
     let commands = commands();
-    let Some(row) = commands.iter().find(|row| row.name == name) else {
-        return Err(Failure::from(RunFault::BadWords));
-    };
+    let row = commands
+        .iter()
+        .find(|row| row.name == name)
+        .ok_or(RunFault::BadWords)?;
     check(alloc, options, row.options)?;
     if name == "replay" {
         return replay_of(options);
     }
     let reach = reach_of(options)?;
-    match name {
-        "send" => Ok(Command::Send {
-            reach,
-            sending: sending_of(options),
-        }),
-        "run" => Ok(Command::Run {
-            reach,
-            ahead: ahead_of(alloc, options, reach.span)?,
-        }),
-        _ => Ok(Command::Do {
-            reach,
-            turns: TURNS.number(options).unwrap_or(200) as u32,
-            task: task_of(alloc, name, given, options, reach.span)?,
-        }),
+    if name == "send" {
+        let sending = sending_of(options);
+        return Ok(Command::Send { reach, sending });
     }
+    if name == "run" {
+        let ahead = ahead_of(alloc, options, reach.span)?;
+        return Ok(Command::Run { reach, ahead });
+    }
+    let turns = TURNS.number(options).unwrap_or(200) as u32;
+    let task = task_of(alloc, name, given, options, reach.span)?;
+    Ok(Command::Do { reach, turns, task })
 }
 
 /// The task of a command for objects. `set` has at most as many commands in flight as the span allows.
@@ -550,25 +536,26 @@ fn task_of(
 ) -> Result<Task, Failure> {
     match name {
         "tree" => Ok(Task::Tree),
-        "get" => Ok(Task::Get(onos_of(alloc, options)?)),
         "set" => {
             let ahead = ahead_of(alloc, options, span)?;
             Ok(Task::Set(ahead, pairs_of(alloc, options)?))
         }
-        "lock" => {
-            let onos = onos_of(alloc, options)?;
-            Ok(lock_of(given, options, onos))
-        }
+        "get" => Ok(Task::Get(onos_of(alloc, options)?)),
         "unlock" => Ok(Task::Unlock(onos_of(alloc, options)?)),
-        _ => Err(Failure::from(RunFault::BadWords)),
+        _ => {
+            let onos = onos_of(alloc, options)?;
+            match given.hold_ms {
+                Some(time) => Ok(Task::Hold(onos, Hold::Time(time))),
+                None if HOLD.is_set(options) => Ok(Task::Hold(onos, Hold::Input)),
+                None => Ok(Task::Lock(onos)),
+            }
+        }
     }
 }
 
 /// The replay that the options ask for, where each of them has its form.
 fn replay_of(options: &ArgMatches<'_>) -> Result<Command, Failure> {
-    let Some(device) = peer_in(options, REPLAY_DEVICE.name) else {
-        return Err(Failure::from(RunFault::BadWords));
-    };
+    let device = peer_in(options, REPLAY_DEVICE.name).ok_or(RunFault::BadWords)?;
     Ok(Command::Replay {
         device,
         first: Handle(OWN_FIRST_HANDLE.number(options).unwrap_or(0) as u32),
@@ -578,14 +565,8 @@ fn replay_of(options: &ArgMatches<'_>) -> Result<Command, Failure> {
 
 /// The device that the options name, and how it is reached, where each of them has its form.
 fn reach_of(options: &ArgMatches<'_>) -> Result<Reach, Failure> {
-    let Some(device) = host_in(options, DEVICE.name) else {
-        return Err(Failure::from(RunFault::BadWords));
-    };
-    let local = if device.ip / 16_777_216 == 127 {
-        LOOPBACK
-    } else {
-        0
-    };
+    let device = host_in(options, DEVICE.name).ok_or(RunFault::BadWords)?;
+    let local = if device.ip >> 24 == 127 { LOOPBACK } else { 0 };
     Ok(Reach {
         device,
         ip: IP.own(options).unwrap_or(local),
@@ -603,10 +584,9 @@ fn reach_of(options: &ArgMatches<'_>) -> Result<Reach, Failure> {
 
 /// The span that an option gives, else this one.
 fn span_in(options: &ArgMatches<'_>, row: &OptionRow, otherwise: u8) -> Span {
-    let size = match row.number(options) {
-        Some(size) => size.min(32) as u8,
-        None => otherwise,
-    };
+    let size = row
+        .number(options)
+        .map_or(otherwise, |size| size.min(32) as u8);
     Span::new(size).unwrap_or_default()
 }
 
@@ -614,10 +594,7 @@ fn span_in(options: &ArgMatches<'_>, row: &OptionRow, otherwise: u8) -> Span {
 fn ahead_of(alloc: Global, options: &ArgMatches<'_>, span: Span) -> Result<Span, Failure> {
     let ahead = span_in(options, &AHEAD, 1);
     if ahead.get() > span.get() {
-        return Err(bad_words(
-            alloc,
-            "--ahead is more than the span, which is 16 without --span",
-        ));
+        return Err(Failure::told(alloc, RunFault::BadWords, BAD_AHEAD));
     }
     Ok(ahead)
 }
@@ -646,23 +623,11 @@ fn params_of(text: &[u8]) -> ArrayVec<u8, MOST_COMMAND_PARAMETER_BYTES> {
     params
 }
 
-/// The task of `lock`: with `--hold` the locks are kept.
-fn lock_of(given: &Given, options: &ArgMatches<'_>, onos: Vec<Ono>) -> Task {
-    match given.hold_ms {
-        Some(time) => Task::Hold(onos, Hold::Time(time)),
-        None if HOLD.is_set(options) => Task::Hold(onos, Hold::Input),
-        None => Task::Lock(onos),
-    }
-}
-
 /// The number of an object that a word says. Failure: `BadWords` if it is none.
 fn ono_of(alloc: Global, word: &str) -> Result<Ono, Failure> {
     match number(word.as_bytes(), 10, 4_294_967_295) {
         Some(ono) => Ok(Ono(ono as u32)),
-        None => Err(bad_words(
-            alloc,
-            "an object number (ONo) is 1 to 10 digits, up to 4294967295",
-        )),
+        None => Err(Failure::told(alloc, RunFault::BadWords, BAD_ONO)),
     }
 }
 
@@ -670,42 +635,27 @@ fn ono_of(alloc: Global, word: &str) -> Result<Ono, Failure> {
 fn onos_of(alloc: Global, options: &ArgMatches<'_>) -> Result<Vec<Ono>, Failure> {
     let mut onos = Vec::new(alloc);
     for word in options.get_strs("ONO").unwrap_or(&[]) {
-        let ono = ono_of(alloc, word)?;
-        if onos.push(ono).is_err() {
-            return Err(Failure::from(RunFault::NoMemory));
-        }
+        onos.push(ono_of(alloc, word)?)
+            .map_err(|_| RunFault::NoMemory)?;
     }
     Ok(onos)
 }
-
-/// The note where a value is missing.
-const BAD_PAIRS: &str = "give a value of at most 64 bytes after each ONo";
 
 /// The objects and the words for their values that the words behind the options say.
 fn pairs_of(alloc: Global, options: &ArgMatches<'_>) -> Result<Vec<Pair>, Failure> {
     let words = options.get_strs("ONO").unwrap_or(&[]);
     if words.len() % 2 != 0 {
-        return Err(bad_words(alloc, BAD_PAIRS));
+        return Err(Failure::told(alloc, RunFault::BadWords, BAD_PAIRS));
     }
     let mut pairs = Vec::new(alloc);
-    let mut behind = None;
-    for word in words {
-        let Some(ono) = behind else {
-            behind = Some(ono_of(alloc, word)?);
-            continue;
+    for at in 0..words.len() / 2 {
+        let ono = ono_of(alloc, words[2 * at])?;
+        let Some(word) = Text::new(without_blank(words[2 * at + 1])) else {
+            return Err(Failure::told(alloc, RunFault::BadWords, BAD_PAIRS));
         };
-        let Some(word) = Text::new(without_blank(word)) else {
-            return Err(bad_words(alloc, BAD_PAIRS));
-        };
-        if pairs.push(Pair { ono, word }).is_err() {
-            return Err(Failure::from(RunFault::NoMemory));
-        }
-        behind = None;
+        pairs
+            .push(Pair { ono, word })
+            .map_err(|_| RunFault::NoMemory)?;
     }
     Ok(pairs)
-}
-
-/// Bad words, and what more is known of them.
-fn bad_words(alloc: Global, note: &str) -> Failure {
-    Failure::told(alloc, RunFault::BadWords, note)
 }

@@ -1,4 +1,4 @@
-//! Commands from lines, so many at once as may be in flight.
+//! Commands that are sent: one, or those of lines, so many at once as may be in flight.
 ghost use Rattle.std.specs.Prelude.{◌≡◌, ◌≤◌, ◌<◌, [], codes, length, OnOk, true, false, Ok as ok};
 ghost use Rattle.std.specs.Str.{bytes_eq};
 ghost use Rattle.oca_script.specs.Ends.{input};
@@ -11,16 +11,52 @@ ghost use Rattle.ocactl_cli.specs.Exchanges.{SendsLines, is_write_failure, outco
 ghost use Rattle.ocactl_cli.specs.PrivateExchanges.{AndPrints, FlushesWhereAwaited, PrintsUnlessFailed, SendsOrRefuses};
 ghost use Rattle.ocactl_cli.specs.PrivateExchanges.{line_in, line_asked};
 
-use super::exchange::print_outcome;
+use super::object_line::status_of;
 use super::session::Session;
-use oca_control::{Outcome, refused};
+use oca_control::{Link, Outcome, ask, refused};
 use oca_net::End;
+use oca_panel::done_in;
 use oca_script::field::first_field;
 use oca_script::lines::serve_lines;
 use oca_script::{Language, LineFault, Printer, ReplayFault, Sink, Source, Stop, WriteFailed};
 use oca_types::Request;
+use ocactl_replay::line::{Line, print_line};
 use ocactl_replay::request::{PARAMS_ROOM, command_by};
 use std::marker::PhantomData;
+
+/// Sends one command over the end and waits for its answer, for at most `turns` turns of up to 50 ms each. Prints its
+/// outcome, and writes all that the printer holds. Returns the exit status: 0 if it was answered with OK, 4
+/// with another status, 3 if no answer came, or the link is lost or refuses the command. If the link is lost or
+/// late, or refuses the command, nothing is sent. A command without an answer stays in flight. Refusal: `WriteFailed`
+/// if a write failed; the command may have been carried out all the same.
+pub fn ask_once<E: End, W: Sink>(
+    link: &mut Link,
+    end: &mut E,
+    request: Request<'_>,
+    turns: u32,
+    printer: &mut Printer<W>,
+) -> Result<u8, WriteFailed> {
+    let outcome = ask(link, end, request, turns);
+    print_outcome(&outcome, printer)?;
+    printer.flush()?;
+    match done_in(&outcome) {
+        Ok(()) => Ok(0),
+        Err(trouble) => Ok(status_of(trouble)),
+    }
+}
+
+/// Prints the outcome of a command as one line. Refusal: `WriteFailed` if a write failed; then only the beginning of
+/// the line may have been written.
+fn print_outcome<W: Sink>(outcome: &Outcome, printer: &mut Printer<W>) -> Result<(), WriteFailed>
+    ensures { Prints result printer.old printer.new (outcome_line outcome.now) }
+{
+    match outcome {
+        Outcome::Answered(answer) => print_line(printer, Line::Answer(answer)),
+        Outcome::Refused(fault) => print_line(printer, Line::Submission(Err(*fault))),
+        Outcome::Lost => printer.print(b"lost\n"),
+        Outcome::Unanswered => printer.print(b"no answer\n"),
+    }
+}
 
 /// What a line asks for: to send a command, or that all before it are answered first.
 #[derive(Clone, Copy)]

@@ -1,13 +1,27 @@
-//! Where the program runs.
+//! Where the program runs, and what each command does there.
 
-use super::command::{Command, command_of, matches_of};
-use super::matching::Given;
-use oca_program::{Failure, RunFault, helped, status_of};
+use super::command::{Command, Given, Hold, Reach, Sending, Task, command_of, matches_of};
+use super::commands::{ask_once, send_all};
+use super::holding::{Keeper, Witness};
+use super::objects::{get_all, lock_all, set_all, walk};
+use super::reason::{DeviceEnd, note_no_answer, note_unanswered};
+use super::session::Session;
+use oca_control::Link;
+use oca_net::End;
+use oca_panel::{LocalPort, Panel, Reached, Unreached, Way};
+use oca_program::socket::unreached;
+use oca_program::{Failure, helped, note_other_port, print_made_note, replayed, status_of};
 use oca_script::{Printer, Sink, Source};
+use oca_types::{Handle, Ono, Peer, Request, Span};
+use ocactl_replay::replay::replay;
 use std::alloc::Global;
 use std::convert::AsStr;
 use std::net::Net;
+use std::os::fd::AsRawFd;
 use std::rt::Clock;
+
+/// The largest span that a device's window of 32 commands bears, which it has unless it is given another.
+const SPAN_OF_A_DEFAULT: u8 = 16;
 
 /// The allocator, the system and the standard streams of a run.
 #[derive(Drop)]
@@ -19,7 +33,7 @@ pub struct Console<'c, N, R, W: Sink, F: Sink> {
     pub faults: &'c mut Printer<F>,
 }
 
-impl<N: Net + Clock, R: Source, W: Sink, F: Sink> Console<'_, N, R, W, F> {
+impl<'c, N: Net + Clock, R: Source, W: Sink, F: Sink> Console<'c, N, R, W, F> {
     /// Runs the program `ocactl` on the words of its command line, its name first, and returns its exit status. It is 0
     /// if all was done, also for a help text or the version. It is 2 if the words or a line are invalid, and 1 if
     /// something could not be done. It is 3 if an answer did not come or a command was not sent, 4 if an answer refuses
@@ -35,29 +49,179 @@ impl<N: Net + Clock, R: Source, W: Sink, F: Sink> Console<'_, N, R, W, F> {
 
     /// Does what the words ask for, and returns the exit status.
     fn obey<S: AsStr>(&mut self, words: &[S]) -> Result<u8, Failure> {
-        let Ok(given) = Given::of(self.alloc, words) else {
-            return Err(Failure::from(RunFault::NoMemory));
+        let given = Given::of(self.alloc, words)?;
+        let matches = match matches_of(self.alloc, &given) {
+            Ok(matches) => matches,
+            Err(error) => return helped(self.alloc, &error, self.printer),
         };
-        match matches_of(self.alloc, &given) {
-            Ok(matches) => {
-                let command = command_of(self.alloc, &given, &matches)?;
-                self.perform(&command)
-            }
-            Err(error) => helped(self.alloc, &error, self.printer),
-        }
-    }
-
-    /// Carries out a command, and returns the exit status.
-    fn perform(&mut self, command: &Command) -> Result<u8, Failure> {
-        match command {
+        match command_of(self.alloc, &given, &matches)? {
             Command::Replay {
                 device,
                 first,
                 span,
-            } => self.replay(*device, *first, *span),
-            Command::Send { reach, sending } => self.send(*reach, sending),
-            Command::Run { reach, ahead } => self.send_lines(*reach, *ahead),
-            Command::Do { reach, turns, task } => self.do_with_objects(*reach, *turns, task),
+            } => self.replay(device, first, span),
+            Command::Send { reach, sending } => self.send(reach, &sending),
+            Command::Run { reach, ahead } => self.send_lines(reach, ahead),
+            Command::Do { reach, turns, task } => self.do_with_objects(reach, turns, &task),
         }
+    }
+
+    /// Replays the script of the input on a link of this device, first handle and span. The link, some 94 kB, lies in this
+    /// function alone.
+    #[inline(never)]
+    fn replay(&mut self, device: Peer, first: Handle, span: Span) -> Result<u8, Failure> {
+        let mut link = Link::new(device, first, 0, span);
+        replayed(replay(&mut link, self.reader, self.printer))
+    }
+
+    /// Sends a command over a socket, and prints its outcome. The link, some 94 kB, lies in this function alone.
+    #[inline(never)]
+    fn send(&mut self, reach: Reach, sending: &Sending) -> Result<u8, Failure> {
+        self.note_span(reach.span);
+        let way = reach.way(LocalPort::Given(0));
+        let mut reached = match way.reach(self.alloc, self.system) {
+            Ok(reached) => reached,
+            Err(refused) => return Err(unreached(self.alloc, &refused.error, 0)),
+        };
+        let mut link = Link::new(reach.device, reached.first, 0, reach.span);
+        let request = Request {
+            target: sending.target,
+            method: sending.method,
+            count: sending.count,
+            params: sending.params.as_slice(),
+        };
+        let end = &mut reached.end;
+        let status = ask_once(&mut link, end, request, sending.turns, self.printer)?;
+        if status == 3 {
+            let end = &reached.end;
+            note_unanswered(self.alloc, self.system, end, reach.device, self.faults);
+        }
+        Ok(status)
+    }
+
+    /// Sends the commands of the input over a socket, and prints the outcome of each.
+    fn send_lines(&mut self, reach: Reach, ahead: Span) -> Result<u8, Failure> {
+        self.note_span(reach.span);
+        let reached = self.reach(reach.way(LocalPort::Own))?;
+        self.send_lines_over(reached, reach, ahead)
+    }
+
+    /// Sends the commands of the input over this end. The session, some 94 kB, lies in this function alone: the search
+    /// for the way has a link, too.
+    #[inline(never)]
+    fn send_lines_over(
+        &mut self,
+        reached: Reached<'c, N>,
+        reach: Reach,
+        ahead: Span,
+    ) -> Result<u8, Failure> {
+        let socket = Some(reached.end.end().as_raw_fd());
+        let Reached { end, first, .. } = reached;
+        let mut session = Session::open(reach.device, end, first, reach.span, ahead, socket);
+        send_all(&mut session, self.reader, self.printer)?;
+        let status = if session.unanswered() { 3 } else { 0 };
+        session.note_silence(self.alloc, self.system, self.faults);
+        Ok(status)
+    }
+
+    /// Does something with objects over a socket, and prints it.
+    fn do_with_objects(&mut self, reach: Reach, turns: u32, task: &Task) -> Result<u8, Failure> {
+        self.note_span(reach.span);
+        let own = match task {
+            Task::Tree | Task::Get(_) | Task::Set(..) => LocalPort::Own,
+            Task::Lock(_) | Task::Hold(..) | Task::Unlock(_) => LocalPort::OwnAlone,
+        };
+        let reached = self.reach(reach.way(own))?;
+        self.do_over(reached, reach, turns, task)
+    }
+
+    /// Does something with objects over this end, and prints it. The panel, some 94 kB, lies in this function alone: the
+    /// search for the way has a link, too.
+    #[inline(never)]
+    fn do_over(
+        &mut self,
+        reached: Reached<'c, N>,
+        reach: Reach,
+        turns: u32,
+        task: &Task,
+    ) -> Result<u8, Failure> {
+        let wait = turns.saturating_mul(50);
+        let mut panel = Panel::open(reach.device, reached.end, reached.first, reach.span, wait);
+        let ended = self.do_task(&mut panel, reach, task);
+        if panel.unanswered() && matches!(ended, Ok(3 | 5)) {
+            let panel = &mut panel;
+            note_no_answer(self.alloc, self.system, panel, reach.device, self.faults);
+        }
+        ended
+    }
+
+    /// Does something with objects over a panel, and prints it.
+    fn do_task(
+        &mut self,
+        panel: &mut Panel<DeviceEnd<'c, N>>,
+        reach: Reach,
+        task: &Task,
+    ) -> Result<u8, Failure> {
+        match task {
+            Task::Tree => walk(self.alloc, panel, self.printer),
+            Task::Get(onos) => Ok(get_all(panel, onos.as_slice(), self.printer)?),
+            Task::Set(ahead, pairs) => {
+                set_all(self.alloc, panel, pairs.as_slice(), *ahead, self.printer)
+            }
+            Task::Lock(onos) => Ok(lock_all(panel, onos.as_slice(), true, self.printer)?),
+            Task::Hold(onos, hold) => self.hold(panel, reach, onos.as_slice(), *hold),
+            Task::Unlock(onos) => Ok(lock_all(panel, onos.as_slice(), false, self.printer)?),
+        }
+    }
+
+    /// Locks objects, and keeps the locks. A second socket is the one of a controller that the locks shut out.
+    fn hold(
+        &mut self,
+        panel: &mut Panel<DeviceEnd<'c, N>>,
+        reach: Reach,
+        onos: &[Ono],
+        hold: Hold,
+    ) -> Result<u8, Failure> {
+        let other = Way {
+            port: LocalPort::Given(0),
+            first: None,
+            ..reach.way(LocalPort::Own)
+        };
+        let reached = self.reach(other)?;
+        let witness = Witness {
+            end: reached.end,
+            device: reach.device,
+            next: reached.first,
+        };
+        let mut keeper = Keeper { panel, witness };
+        keeper.hold(self.alloc, onos, hold, self.reader, self.printer)
+    }
+
+    /// An end for a device, and its first handle. A port at which the device answers no command is noted.
+    fn reach(&mut self, way: Way) -> Result<Reached<'c, N>, Failure> {
+        match way.reach(self.alloc, self.system) {
+            Ok(reached) => {
+                if let Some(port) = reached.instead_of {
+                    let other = reached.end.end().local().port;
+                    note_other_port(self.alloc, way.device, port, other, self.faults);
+                }
+                Ok(reached)
+            }
+            Err(Unreached { port, error }) => Err(unreached(self.alloc, &error, port)),
+        }
+    }
+
+    /// Prints which window the device needs, where the span is above 16 and there is memory for the line.
+    fn note_span(&mut self, span: Span) {
+        let size = span.get();
+        if size <= SPAN_OF_A_DEFAULT {
+            return;
+        }
+        let window = 2 * u32::from(size) - 1;
+        let note = format!(in self.alloc;
+            "--span {size}: the device needs a window of {window} commands or more; its default of 32 is enough for \
+            a span of 16"
+        );
+        print_made_note(note, self.faults);
     }
 }

@@ -1,17 +1,17 @@
 //! Locks that are kept.
 
 use super::command::Hold;
-use super::in_time::present;
 use super::object_line::{ObjectLine, max_severity, report_object};
-use super::objects::lock_one;
+use super::objects::{lock_one, present};
 use oca_control::LONGEST_LIFE_MS;
 use oca_net::{End, Heard};
-use oca_panel::{Panel, ROOT, Trouble};
+use oca_panel::{Panel, Trouble};
 use oca_pdu::{Message, check, write_command};
 use oca_program::{Failure, RunFault};
 use oca_script::{Printer, ReadFailed, Sink, Source, WriteFailed};
 use oca_types::{Command, Handle, MethodId, Ono, Packet, Peer};
 use std::alloc::Global;
+use std::ops::Range;
 
 /// How many bytes of the input are read at a time.
 const PIECE: usize = 4096;
@@ -34,22 +34,13 @@ const GET_ROLE: MethodId = MethodId { level: 1, index: 5 };
 /// Another controller of a device, which the locks of the first one shut out.
 #[derive(Drop)]
 pub struct Witness<E: End> {
-    end: E,
-    device: Peer,
-    next: Handle,
+    pub end: E,
+    pub device: Peer,
+    /// The handle of the next command.
+    pub next: Handle,
 }
 
 impl<E: End> Witness<E> {
-    /// A controller of the device at the address `device`, over an end of its own, whose first command gets the handle
-    /// `first`.
-    pub fn new(end: E, device: Peer, first: Handle) -> Witness<E> {
-        Witness {
-            end,
-            device,
-            next: first,
-        }
-    }
-
     /// Whether this controller can read an object: then no other has it locked. `false` if it is refused, or if no
     /// answer comes within some 750 ms.
     fn can_read(&mut self, ono: Ono) -> bool {
@@ -82,9 +73,8 @@ impl<E: End> Witness<E> {
         for _datagram in 0..MOST_DATAGRAMS {
             match self.end.receive_by(&mut packet, until) {
                 Heard::Datagram { from, .. } if from == self.device => {
-                    let status = status_under(handle, packet.as_slice());
-                    if status.is_some() {
-                        return status;
+                    if let Some(status) = status_under(handle, packet.as_slice()) {
+                        return Some(status);
                     }
                 }
                 Heard::Datagram { .. } | Heard::Oversize { .. } => {}
@@ -97,9 +87,7 @@ impl<E: End> Witness<E> {
 
 /// The status of the response under this handle in a datagram, if it has one.
 fn status_under(wanted: Handle, datagram: &[u8]) -> Option<u8> {
-    let Ok(datagram) = check(datagram) else {
-        return None;
-    };
+    let datagram = check(datagram).ok()?;
     for message in datagram.messages() {
         if let Message::Response { handle, status, .. } = message
             && handle == wanted
@@ -110,37 +98,14 @@ fn status_under(wanted: Handle, datagram: &[u8]) -> Option<u8> {
     None
 }
 
-/// Which of the locks that were kept are lost.
-#[derive(Clone, Copy)]
-enum Lost {
-    None,
-    /// The one at this place.
-    One(usize),
-    All,
-}
-
-/// Locks that a controller keeps, in the order in which they were taken, and another controller that it asks about them.
+/// A controller that keeps locks, and another one that it asks about them.
 #[derive(Drop)]
 pub struct Keeper<'p, E: End, V: End> {
-    panel: &'p mut Panel<E>,
-    witness: Witness<V>,
-    held: Vec<Ono>,
-    /// The moment of the last command that the device is known to have heard, in milliseconds of the panel's end.
-    sure: u64,
+    pub panel: &'p mut Panel<E>,
+    pub witness: Witness<V>,
 }
 
-impl<'p, E: End, V: End> Keeper<'p, E, V> {
-    /// A keeper of locks that are taken over a panel; none is taken so far.
-    pub fn new(alloc: Global, panel: &'p mut Panel<E>, witness: Witness<V>) -> Keeper<'p, E, V> {
-        let sure = present(panel);
-        Keeper {
-            panel,
-            witness,
-            held: Vec::new(alloc),
-            sure,
-        }
-    }
-
+impl<E: End, V: End> Keeper<'_, E, V> {
     /// Locks the objects `onos` one after another, and keeps those locks for as long as `hold` says. Then releases them.
     /// Prints the outcome of each lock, and later of each release.
     ///
@@ -154,147 +119,115 @@ impl<'p, E: End, V: End> Keeper<'p, E, V> {
     /// released: the device releases them once it has not heard this program for long enough.
     pub fn hold<R: Source, W: Sink>(
         &mut self,
+        alloc: Global,
         onos: &[Ono],
         hold: Hold,
         reader: &mut R,
         printer: &mut Printer<W>,
     ) -> Result<u8, Failure> {
-        let status = self.lock_each(onos, printer)?;
-        if self.held.is_empty() {
-            return Ok(status);
-        }
-        let lost = self.keep(hold, reader);
-        let after = self.release(lost, printer)?;
-        Ok(max_severity(status, after))
-    }
-
-    /// Locks the objects one after another, and lists those that were locked. Returns the exit status.
-    fn lock_each<W: Sink>(
-        &mut self,
-        onos: &[Ono],
-        printer: &mut Printer<W>,
-    ) -> Result<u8, Failure> {
         printer.flush()?;
+        let mut held = Vec::new(alloc);
         let mut status = 0;
-        self.sure = present(self.panel);
+        let mut sure = present(self.panel);
         for ono in onos {
-            let own = lock_one(self.panel, *ono, true, &mut self.sure, printer)?;
-            if own == 0 && self.held.push(*ono).is_err() {
-                return Err(Failure::from(RunFault::NoMemory));
+            let own = lock_one(self.panel, *ono, true, &mut sure, printer)?;
+            if own == 0 {
+                held.push(*ono).map_err(|_| RunFault::NoMemory)?;
             }
             status = max_severity(status, own);
         }
-        Ok(status)
+        if held.is_empty() {
+            return Ok(status);
+        }
+        let lost = self.keep(held.as_slice(), sure, hold, reader);
+        let after = self.release(held.as_slice(), &lost, printer)?;
+        Ok(max_severity(status, after))
     }
 
-    /// Drives the link, which sends keep-alives, and looks at the locks, until the time is over or one is lost.
-    fn keep<R: Source>(&mut self, hold: Hold, reader: &mut R) -> Lost {
+    /// Drives the link, which sends keep-alives, and looks at the locks, until the time is over or one is lost. `sure` is
+    /// the moment of the last command that the device is known to have heard. Returns the places of those that are lost.
+    fn keep<R: Source>(
+        &mut self,
+        held: &[Ono],
+        sure: u64,
+        hold: Hold,
+        reader: &mut R,
+    ) -> Range<usize> {
+        let all = 0..held.len();
         let begun = present(self.panel);
+        let mut sure = sure;
         let mut next = begun.saturating_add(LOOK_MS);
         let mut place = 0;
         for _turn in 0..u64::MAX {
             let now = present(self.panel);
-            if now.saturating_sub(self.sure) > LONGEST_LIFE_MS {
-                return Lost::All;
+            if now.saturating_sub(sure) > LONGEST_LIFE_MS {
+                return all;
             }
             if is_over(hold, now.saturating_sub(begun), reader) {
-                return Lost::None;
+                return 0..0;
             }
             if !self.panel.turn() {
-                return Lost::All;
+                return all;
             }
             if now < next {
                 continue;
             }
             next = now.saturating_add(LOOK_MS);
-            let ono = self.at(place);
-            if self.is_lost(ono) {
-                return Lost::One(place);
+            let Some(ono) = held.get(place) else {
+                return all;
+            };
+            if self.is_lost(*ono, &mut sure) {
+                return place..place + 1;
             }
-            place = place.saturating_add(1);
-            if place >= self.held.len() {
-                place = 0;
-            }
+            place = (place + 1) % held.len();
         }
-        Lost::None
+        0..0
     }
-
     /// Whether the lock of an object is lost: another controller can read the object, or the device does not let this
     /// one lock it again. `false` where no answer comes: that is found otherwise.
-    fn is_lost(&mut self, ono: Ono) -> bool {
+    fn is_lost(&mut self, ono: Ono, sure: &mut u64) -> bool {
         if self.witness.can_read(ono) {
             return true;
         }
         let now = present(self.panel);
         match self.panel.lock(ono) {
-            Ok(()) => {
-                self.sure = now;
-                false
-            }
-            Err(Trouble::Refused(_) | Trouble::Unreadable) => true,
-            Err(_) => false,
+            Ok(()) => *sure = now,
+            Err(Trouble::Refused(_) | Trouble::Unreadable) => return true,
+            Err(_) => {}
         }
+        false
     }
 
     /// Prints which locks are lost, releases the others, and prints that. Returns the exit status.
     fn release<W: Sink>(
         &mut self,
-        lost: Lost,
+        held: &[Ono],
+        lost: &Range<usize>,
         printer: &mut Printer<W>,
     ) -> Result<u8, WriteFailed> {
         let mut status = 0;
-        for place in 0..self.held.len() {
-            if lost.has(place) {
-                status = report_object(self.at(place), &ObjectLine::LockLost, printer)?;
+        for (place, ono) in held.iter().enumerate() {
+            if lost.contains(&place) {
+                status = report_object(*ono, &ObjectLine::LockLost, printer)?;
             }
         }
-        self.sure = present(self.panel);
-        for place in 0..self.held.len() {
-            if !lost.has(place) {
-                let ono = self.at(place);
-                let own = lock_one(self.panel, ono, false, &mut self.sure, printer)?;
+        let mut since = present(self.panel);
+        for (place, ono) in held.iter().enumerate() {
+            if !lost.contains(&place) {
+                let own = lock_one(self.panel, *ono, false, &mut since, printer)?;
                 status = max_severity(status, own);
             }
         }
         Ok(status)
     }
-
-    /// The object whose lock is at this place; the root beyond the last.
-    fn at(&self, place: usize) -> Ono {
-        match self.held.get(place) {
-            Some(ono) => *ono,
-            None => ROOT,
-        }
-    }
 }
 
-impl Lost {
-    /// Whether the lock at this place is lost.
-    fn has(self, place: usize) -> bool {
-        match self {
-            Lost::None => false,
-            Lost::One(lost) => lost == place,
-            Lost::All => true,
-        }
-    }
-}
-
-/// Whether locks were kept for long enough, after so many milliseconds.
+/// Whether locks were kept for long enough, after so many milliseconds. The input is read where a read does not wait, and
+/// what it gives is dropped.
 fn is_over<R: Source>(hold: Hold, time: u64, reader: &mut R) -> bool {
     match hold {
-        Hold::Input => has_ended(reader),
         Hold::Time(wanted) => wanted <= time,
-    }
-}
-
-/// Whether the input has ended. It is read where a read does not wait, and what it gives is dropped.
-fn has_ended<R: Source>(reader: &mut R) -> bool {
-    if !reader.await_input(None, 0) {
-        return false;
-    }
-    let mut piece = [0u8; PIECE];
-    match reader.read(&mut piece) {
-        Ok(count) => count == 0,
-        Err(ReadFailed) => true,
+        Hold::Input if !reader.await_input(None, 0) => false,
+        Hold::Input => matches!(reader.read(&mut [0; PIECE]), Ok(0) | Err(ReadFailed)),
     }
 }

@@ -2,24 +2,16 @@
 //! printed.
 //!
 //! [`console::Console`] is where the program runs, and its `run` is the whole program on its words. `command.rt` makes a
-//! [`command::Command`] of the words, and `run.rt` does it: `tree`, `get`, `set`, `lock` and `unlock` speak of a
+//! [`command::Command`] of the words, and `console.rt` does it: `tree`, `get`, `set`, `lock` and `unlock` speak of a
 //! device's objects in words, `send` sends one command and prints its answer, and `run` sends the commands that a source
 //! has to give. `replay` is the library `ocactl_replay`.
 #![tactic(auto)]
 
-mod bound_end;
 pub mod command;
 pub mod commands;
 pub mod console;
-pub mod exchange;
 mod holding;
-mod in_time;
-mod matching;
 mod object_line;
 pub mod objects;
 mod reason;
-mod run;
 pub mod session;
-mod setting;
-mod walk;
-mod wanted;

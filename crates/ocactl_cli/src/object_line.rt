@@ -17,6 +17,8 @@ pub enum ObjectLine {
     Locked,
     /// It is not locked any more.
     Unlocked,
+    /// Why it is not locked or unlocked as it was asked for.
+    LockFailed(Trouble),
     /// A lock of it that was to be kept is gone, or may be.
     LockLost,
     /// Why it is not as it was asked for.
@@ -24,18 +26,10 @@ pub enum ObjectLine {
 }
 
 impl ObjectLine {
-    /// This line where it was done, else why it was not.
-    pub fn done(done: Result<(), Trouble>, line: ObjectLine) -> ObjectLine {
-        match done {
-            Ok(()) => line,
-            Err(trouble) => ObjectLine::Failed(trouble),
-        }
-    }
-
     /// The exit status for what the line shows.
     fn status(&self) -> u8 {
         match self {
-            ObjectLine::Failed(trouble) => status_of(*trouble),
+            ObjectLine::Failed(trouble) | ObjectLine::LockFailed(trouble) => status_of(*trouble),
             ObjectLine::LockLost => 5,
             _ => 0,
         }
@@ -50,17 +44,6 @@ pub fn report_object<W: Sink>(
     line: &ObjectLine,
     printer: &mut Printer<W>,
 ) -> Result<u8, WriteFailed> {
-    print_object(ono, line, printer)?;
-    printer.flush()?;
-    Ok(line.status())
-}
-
-/// Prints the line of an object. Refusal: `WriteFailed` if a write failed.
-pub fn print_object<W: Sink>(
-    ono: Ono,
-    line: &ObjectLine,
-    printer: &mut Printer<W>,
-) -> Result<(), WriteFailed> {
     print_count("", u64::from(ono.0), printer)?;
     printer.print(b" ")?;
     match line {
@@ -73,9 +56,17 @@ pub fn print_object<W: Sink>(
         ObjectLine::Locked => printer.print(b"locked")?,
         ObjectLine::Unlocked => printer.print(b"unlocked")?,
         ObjectLine::LockLost => printer.print(b"lock lost")?,
+        ObjectLine::LockFailed(trouble) => {
+            if matches!(trouble, Trouble::Refused(_)) {
+                printer.print(b"refused ")?;
+            }
+            print_trouble(*trouble, printer)?;
+        }
         ObjectLine::Failed(trouble) => print_trouble(*trouble, printer)?,
     }
-    printer.print(b"\n")
+    printer.print(b"\n")?;
+    printer.flush()?;
+    Ok(line.status())
 }
 
 /// Prints the line of an object in a tree: its number, the fields of its class's identifier, the number of its

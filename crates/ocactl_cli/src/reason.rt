@@ -2,59 +2,50 @@
 ghost use Rattle.std.specs.Prelude.{◌≡◌};
 ghost use Rattle.ocactl_cli.specs.Exchanges.{IsSameBeside};
 
-use super::bound_end::BoundEnd;
-use oca_net::{End, Heard, is_gone, is_refused};
+use oca_net::{End, Heard, UdpEnd, is_gone, is_refused};
 use oca_panel::{Panel, Watched};
 use oca_program::print_made_note;
 use oca_script::{Printer, Sink};
 use oca_types::Peer;
 use std::alloc::{AllocError, Global};
 use std::net::{Ipv4Addr, Net};
+use std::rt::Clock;
 
 /// How often a keep-alive is sent.
 const ROUNDS: u32 = 4;
+
+/// An end at a socket that remembers when the device was heard.
+pub type DeviceEnd<'a, N> = Watched<UdpEnd<'a, N>>;
+
+/// The line of a note, if there was memory for it.
+type Note = Result<String, AllocError>;
 
 /// Prints to `faults` what is known of a device from which a command over a panel got no answer. First comes why a send
 /// failed, if one has. Then comes when the device was last heard, or that the machine has lost the address of the
 /// socket. A device that was never heard is first asked once more by keep-alives. If it is still not heard, its host is
 /// asked whether a program has its port.
-pub fn note_no_answer<N: Net, E: BoundEnd, F: Sink>(
+pub fn note_no_answer<N: Net + Clock, F: Sink>(
     alloc: Global,
     system: &N,
-    panel: &mut Panel<Watched<E>>,
+    panel: &mut Panel<DeviceEnd<'_, N>>,
     device: Peer,
     faults: &mut Printer<F>,
 )
     ensures { IsSameBeside panel.old panel.new }
 {
     note_failed_send(alloc, panel.end(), faults);
-    let own = panel.end().end().local();
-    let known = known_of(alloc, system, panel.end(), device);
-    let is_there = is_there_where(known.is_none(), panel, device);
-    let note = match known {
-        Some(note) => note,
-        None if is_there => {
-            let port = own.port;
-            format!(in alloc;
-                "{device} is heard, but answers no command from port {port}: wait two minutes, or give another --port"
-            )
-        }
-        None if is_refused(system, own.ip, device) => {
-            format!(in alloc;
-                "nothing was heard from {device}: its host says that no program has this port"
-            )
-        }
-        None => format!(in alloc; "nothing was heard from {device}"),
-    };
-    print_made_note(note, faults);
+    match known_of(alloc, system, panel.end(), device) {
+        Some(note) => print_made_note(note, faults),
+        None => print_made_note(asked(alloc, system, panel, device), faults),
+    }
 }
 
 /// Prints to `faults` what is known of a device from which a command over an end got no answer. The device and its host
 /// are not asked.
-pub fn note_unanswered<N: Net, E: BoundEnd, F: Sink>(
+pub fn note_unanswered<N: Net + Clock, F: Sink>(
     alloc: Global,
     system: &N,
-    end: &Watched<E>,
+    end: &DeviceEnd<'_, N>,
     device: Peer,
     faults: &mut Printer<F>,
 ) {
@@ -67,12 +58,12 @@ pub fn note_unanswered<N: Net, E: BoundEnd, F: Sink>(
 }
 
 /// What is known without a question: that the machine has lost the address of the socket, or when the device was heard.
-fn known_of<N: Net, E: BoundEnd>(
+fn known_of<N: Net + Clock>(
     alloc: Global,
     system: &N,
-    end: &Watched<E>,
+    end: &DeviceEnd<'_, N>,
     device: Peer,
-) -> Option<Result<String, AllocError>> {
+) -> Option<Note> {
     let ip = end.end().local().ip;
     if is_gone(system, ip) {
         let ip = Ipv4Addr::from(ip);
@@ -83,9 +74,9 @@ fn known_of<N: Net, E: BoundEnd>(
 }
 
 /// Prints why a send failed, where one has and there is memory for the line.
-fn note_failed_send<E: BoundEnd, F: Sink>(
+fn note_failed_send<N: Clock, F: Sink>(
     alloc: Global,
-    end: &Watched<E>,
+    end: &DeviceEnd<'_, N>,
     faults: &mut Printer<F>,
 ) {
     if let Some(reason) = end.end().last_failed_send() {
@@ -93,15 +84,28 @@ fn note_failed_send<E: BoundEnd, F: Sink>(
     }
 }
 
-/// Whether a device is heard when it is asked for keep-alives. If `asks` is false, it is not asked, and the result is
-/// `false`.
-fn is_there_where<E: End>(asks: bool, panel: &mut Panel<Watched<E>>, device: Peer) -> bool
+/// What a device that was never heard, and its host, say of it when they are asked.
+fn asked<N: Net + Clock>(
+    alloc: Global,
+    system: &N,
+    panel: &mut Panel<DeviceEnd<'_, N>>,
+    device: Peer,
+) -> Note
     ensures { IsSameBeside panel.old panel.new }
 {
-    if !asks {
-        return false;
+    let own = panel.end().end().local();
+    if is_there(panel, device) {
+        let port = own.port;
+        return format!(in alloc;
+            "{device} is heard, but answers no command from port {port}: wait two minutes, or give another --port"
+        );
     }
-    is_there(panel, device)
+    if is_refused(system, own.ip, device) {
+        return format!(in alloc;
+            "nothing was heard from {device}: its host says that no program has this port"
+        );
+    }
+    format!(in alloc; "nothing was heard from {device}")
 }
 
 /// Whether a device is heard when it is asked for keep-alives.

@@ -6,18 +6,18 @@ ghost use Rattle.oca_control.specs.Limits.{longest_life};
 ghost use Rattle.ocactl_cli.specs.Exchanges.{AwaitsFirst, NoneInFlight, RenewsPanel, TakesOne, TakesUp, since};
 ghost use Rattle.ocactl_cli.specs.PrivateExchanges.{Submitted, TakesFirst};
 
-use super::bound_end::BoundEnd;
-use super::in_time::present;
-use super::reason::note_no_answer;
+use super::objects::present;
+use super::reason::{DeviceEnd, note_no_answer};
 use oca_control::{ControlFault, LONGEST_LIFE_MS, Outcome};
 use oca_net::End;
-use oca_panel::{InFlight, Panel, Watched};
+use oca_panel::{InFlight, Panel};
 use oca_script::{Printer, Sink};
 use oca_types::{Handle, Peer, Request, Span};
 use std::alloc::Global;
 use std::marker::Model;
 use std::net::Net;
 use std::os::fd::RawFd;
+use std::rt::Clock;
 
 /// For how many milliseconds a command of a line waits for its answer: where not every receive fails, the link is lost
 /// long before.
@@ -29,6 +29,7 @@ const LONGEST_WAIT_MS: u64 = 3_600_000;
 /// A panel, the commands in flight on it in the order of their lines, how many may be, and whether one was refused so
 /// far. Besides the end's descriptor, where it has one, whether a command was submitted, and since when the next
 /// line is at hand, where it was read.
+#[derive(Drop)]
 pub struct Session<E: End> {
     panel: Panel<E>,
     device: Peer,
@@ -59,23 +60,6 @@ impl<E: End> Model for Session<E> {
     } };
 
     ghost invariant = { λ s. (1 ≤ s.ahead) × (s.ahead ≤ 32) × (s.panel.wait ≡ line_wait) };
-}
-
-impl<E: End + Drop> Drop for Session<E> {
-    /// Lets the link and the end go.
-    fn drop(self) {
-        let Session {
-            panel: _,
-            device: _,
-            span: _,
-            in_flight: _,
-            ahead: _,
-            refused: _,
-            socket: _,
-            is_open: _,
-            at_hand: _,
-        } = self;
-    }
 }
 
 impl<E: End> Session<E> {
@@ -204,8 +188,11 @@ impl<E: End> Session<E> {
     /// How many milliseconds the program may wait before the next turn, at most an hour. 0 if the end has no
     /// descriptor.
     pub fn wait_time(&self) -> u64 {
-        let due = self.panel.next_due();
-        time_beside(self.socket, due, present(&self.panel))
+        let due = self.panel.next_due().unwrap_or(u64::MAX);
+        let wait = due
+            .saturating_sub(present(&self.panel))
+            .min(LONGEST_WAIT_MS);
+        self.socket.map_or(0, |_| wait)
     }
 
     /// Takes one turn, and returns whether the link is lost or late: receives once, at a socket for at most 50 ms, and
@@ -241,16 +228,11 @@ impl<E: End> Session<E> {
     }
 }
 
-impl<E: BoundEnd> Session<Watched<E>> {
+impl<N: Net + Clock> Session<DeviceEnd<'_, N>> {
     /// If the link is lost or late now, prints to `faults` what is known of the reason, as [`note_no_answer`] does. A
     /// device that was never heard is first asked whether it is there. If the link is neither, nothing is done.
     #[tactic(auto, using(crate::proofs::ExchangeLemmas::still_waits))]
-    pub fn note_silence<N: Net, F: Sink>(
-        &mut self,
-        alloc: Global,
-        system: &N,
-        faults: &mut Printer<F>,
-    ) {
+    pub fn note_silence<F: Sink>(&mut self, alloc: Global, system: &N, faults: &mut Printer<F>) {
         if self.is_lost() {
             note_no_answer(alloc, system, &mut self.panel, self.device, faults);
         }
@@ -285,14 +267,4 @@ fn comes_late(at_hand: Option<u64>, now: u64) -> bool
     ensures in_time { result ≡ false → now ≤ since at_hand now + longest_life }
 {
     now.saturating_sub(since(at_hand, now)) > LONGEST_LIFE_MS
-}
-
-/// How many milliseconds input may be awaited beside a descriptor, where there is one, until the moment `due`: an hour at
-/// most.
-fn time_beside(socket: Option<RawFd>, due: Option<u64>, now: u64) -> u64 {
-    match (socket, due) {
-        (None, _) => 0,
-        (Some(_), Some(due)) => due.saturating_sub(now).min(LONGEST_WAIT_MS),
-        (Some(_), None) => LONGEST_WAIT_MS,
-    }
 }

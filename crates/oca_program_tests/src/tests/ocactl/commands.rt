@@ -8,8 +8,7 @@ use oca_control::Link;
 use oca_net::MemoryEnd;
 use oca_script::{LineFault, Printer, ReplayFault, WriteFailed};
 use oca_types::{Handle, MethodId, Ono, Request, Span};
-use ocactl_cli::commands::send_all;
-use ocactl_cli::exchange::ask_once;
+use ocactl_cli::commands::{ask_once, send_all};
 use ocactl_cli::session::Session;
 use std::alloc::Global;
 
