@@ -19,28 +19,14 @@ use std::convert::AsStr;
 /// What a command line asks for.
 #[derive(Drop)]
 pub enum Command {
-    /// To replay a script on a link.
-    Replay {
-        device: Peer,
-        first: Handle,
-        span: Span,
-    },
+    /// To replay a script on a link to this device, with this first handle and span.
+    Replay(Peer, Handle, Span),
     /// To send a command to a device.
-    Send {
-        reach: Reach,
-        sending: Sending,
-    },
-    /// To send the commands of the input to a device, at most `ahead` of them at once.
-    Run {
-        reach: Reach,
-        ahead: Span,
-    },
-    /// To do something with objects of a device. A command waits `turns` times 50 ms for its answer.
-    Do {
-        reach: Reach,
-        turns: u32,
-        task: Task,
-    },
+    Send(Reach, Sending),
+    /// To send the commands of the input to a device, at most so many at once.
+    Run(Reach, Span),
+    /// To do something with objects of a device. A command waits so many times 50 ms for its answer.
+    Do(Reach, u32, Task),
 }
 
 /// A device that is reached over a network.
@@ -514,16 +500,14 @@ pub fn command_of(
     }
     let reach = reach_of(options)?;
     if name == "send" {
-        let sending = sending_of(options);
-        return Ok(Command::Send { reach, sending });
+        return Ok(Command::Send(reach, sending_of(options)));
     }
     if name == "run" {
-        let ahead = ahead_of(alloc, options, reach.span)?;
-        return Ok(Command::Run { reach, ahead });
+        return Ok(Command::Run(reach, ahead_of(alloc, options, reach.span)?));
     }
     let turns = TURNS.number(options).unwrap_or(200) as u32;
     let task = task_of(alloc, name, given, options, reach.span)?;
-    Ok(Command::Do { reach, turns, task })
+    Ok(Command::Do(reach, turns, task))
 }
 
 /// The task of a command for objects. `set` has at most as many commands in flight as the span allows.
@@ -556,11 +540,8 @@ fn task_of(
 /// The replay that the options ask for, where each of them has its form.
 fn replay_of(options: &ArgMatches<'_>) -> Result<Command, Failure> {
     let device = peer_in(options, REPLAY_DEVICE.name).ok_or(RunFault::BadWords)?;
-    Ok(Command::Replay {
-        device,
-        first: Handle(OWN_FIRST_HANDLE.number(options).unwrap_or(0) as u32),
-        span: span_in(options, &SPAN, 16),
-    })
+    let first = Handle(OWN_FIRST_HANDLE.number(options).unwrap_or(0) as u32);
+    Ok(Command::Replay(device, first, span_in(options, &SPAN, 16)))
 }
 
 /// The device that the options name, and how it is reached, where each of them has its form.

@@ -55,14 +55,10 @@ impl<'c, N: Net + Clock, R: Source, W: Sink, F: Sink> Console<'c, N, R, W, F> {
             Err(error) => return helped(self.alloc, &error, self.printer),
         };
         match command_of(self.alloc, &given, &matches)? {
-            Command::Replay {
-                device,
-                first,
-                span,
-            } => self.replay(device, first, span),
-            Command::Send { reach, sending } => self.send(reach, &sending),
-            Command::Run { reach, ahead } => self.send_lines(reach, ahead),
-            Command::Do { reach, turns, task } => self.do_with_objects(reach, turns, &task),
+            Command::Replay(device, first, span) => self.replay(device, first, span),
+            Command::Send(reach, sending) => self.send(reach, &sending),
+            Command::Run(reach, ahead) => self.send_lines(reach, ahead),
+            Command::Do(reach, turns, task) => self.do_with_objects(reach, turns, &task),
         }
     }
 

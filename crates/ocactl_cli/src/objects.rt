@@ -65,9 +65,8 @@ fn report_visit<W: Sink>(visit: &Visit, printer: &mut Printer<W>) -> Result<u8, 
     Ok(0)
 }
 
-/// Reads the objects `onos` one after another, and prints the value of each. Returns the exit status: 0 if all were
-/// read, 4 if an object refused or has no value, 3 if no answer came. Of several it is the most severe
-/// ([`max_severity`]). Refusal: `WriteFailed` if a write failed; the objects whose lines come before were asked.
+/// Reads the objects `onos` one after another, and prints the value of each. Returns the most severe exit status of all
+/// lines. Refusal: `WriteFailed` if a write failed; the objects whose lines come before were asked.
 pub fn get_all<E: End, W: Sink>(
     panel: &mut Panel<E>,
     onos: &[Ono],
@@ -99,9 +98,8 @@ fn read<E: End>(panel: &mut Panel<E>, ono: Ono) -> ObjectLine {
 /// or an object's class can't be read, nothing is set. Then only the lines of these objects are printed. If more than
 /// 15,000 ms pass between two questions, since the program was suspended, nothing is set either.
 ///
-/// Returns the exit status: 0 if all were set, 4 if an object refused, 2 if a word means no value, 3 if no answer came.
-/// Of several it is the most severe ([`max_severity`]). Failures: `Write` if a write failed; then commands in flight
-/// may be carried out or not. `NoMemory` if memory was refused.
+/// Returns the most severe exit status of all lines. Failures: `Write` if a write failed; then commands in flight may be
+/// carried out or not. `NoMemory` if memory was refused.
 pub fn set_all<E: End, W: Sink>(
     alloc: Global,
     panel: &mut Panel<E>,
@@ -235,9 +233,8 @@ impl Default for Assignment {
 
 /// Sets objects, with at most `ahead` commands in flight at once, and prints the outcome of each, in the order of the
 /// assignments. A command that would be submitted more than 15,000 ms after the one before it, of which `since` is the
-/// moment, is left out: `not sent`. Returns the exit status: 0 if all were set, 4 if an object refused, 3 if no answer
-/// came. Of several it is the most severe. Refusal: `WriteFailed` if a write failed; then commands in flight may be
-/// carried out or not.
+/// moment, is left out: `not sent`. Returns the most severe exit status of all lines. Refusal: `WriteFailed` if a write
+/// failed; then commands in flight may be carried out or not.
 fn set_assignments<E: End, W: Sink>(
     panel: &mut Panel<E>,
     assignments: &[Assignment],
@@ -315,11 +312,8 @@ fn report_set<W: Sink>(
 
 /// Locks the objects `onos` one after another if `locks` is true, otherwise releases their locks, and prints the
 /// outcome of each. An object whose command would be submitted more than 15,000 ms after the command before it is left
-/// out: `not sent`.
-///
-/// Returns the exit status: 0 if all was done, 4 if an object refused, 3 if no answer came or an object was left out.
-/// Of several it is the most severe ([`max_severity`]). Refusal: `WriteFailed` if a write failed; the objects whose
-/// lines come before were asked.
+/// out: `not sent`. Returns the most severe exit status of all lines. Refusal: `WriteFailed` if a write failed; the
+/// objects whose lines come before were asked.
 pub fn lock_all<E: End, W: Sink>(
     panel: &mut Panel<E>,
     onos: &[Ono],
@@ -338,10 +332,8 @@ pub fn lock_all<E: End, W: Sink>(
 
 /// Locks an object if `locks` is true, otherwise releases its lock, and prints its outcome. If more than 15,000 ms have
 /// passed since the moment `since`, in milliseconds of the end's clock, nothing is sent, and `not sent` is printed.
-/// Otherwise `since` becomes the present moment.
-///
-/// Returns the exit status: 0 if it was done, 4 if the device refused, 3 if no answer came or nothing was sent.
-/// Refusal: `WriteFailed` if the line was not written; a command that was sent may be carried out all the same.
+/// Otherwise `since` becomes the present moment. Returns the exit status. Refusal: `WriteFailed` if the line was not
+/// written; a command that was sent may be carried out all the same.
 pub fn lock_one<E: End, W: Sink>(
     panel: &mut Panel<E>,
     ono: Ono,
