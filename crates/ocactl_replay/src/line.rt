@@ -1,10 +1,9 @@
 //! The lines that are printed.
 ghost use Rattle.std.specs.Prelude.{◌≡◌, ◌+◌, ◌++◌, ◌≤◌, codes, length, decimal};
 ghost use Rattle.oca_script.specs.Fields.{hex_text};
-ghost use Rattle.oca_control.specs.Answers.{answer_fields};
 ghost use Rattle.oca_script.specs.Ends.{output};
 ghost use Rattle.oca_script.specs.Printing.{Prints};
-ghost use Rattle.ocactl_replay.specs.Printing.{refusal_text, submission_text, due_text, reception_text, answer_text};
+ghost use Rattle.ocactl_replay.specs.Printing.{refusal_text};
 ghost use Rattle.ocactl_replay.specs.PrivateLines.{reply_line_text, LineWithin};
 
 use oca_control::{Answer, ControlFault, Due, Reception};

@@ -84,7 +84,7 @@ fn serve<W: Sink>(
     ensures { ServesCallAndPrints link.old (link_call_in call.entry) link.new result printer.old printer.new }
 {
     match call {
-        Call::Submit { now, command } => {
+        Call::Submit(now, command) => {
             let Request {
                 target,
                 method,
@@ -94,15 +94,15 @@ fn serve<W: Sink>(
             let answer = link.submit(target, method, count, params, now);
             print_line(printer, Line::Submission(answer))
         }
-        Call::Due { now } => {
+        Call::Due(now) => {
             let due = link.due(now, packet);
             print_line(printer, Line::Due(due, packet.as_slice()))
         }
-        Call::Datagram { now, from, bytes } => {
+        Call::Datagram(now, from, bytes) => {
             let reception = link.datagram(from, bytes, now);
             print_line(printer, Line::Reception(reception))
         }
-        Call::Take { handle } => match link.take(handle) {
+        Call::Take(handle) => match link.take(handle) {
             Some(answer) => print_line(printer, Line::Answer(&answer)),
             None => print_line(printer, Line::NoAnswer),
         },

@@ -3,9 +3,9 @@ ghost use Rattle.std.specs.Prelude.{◌≡◌, ◌≤◌, ◌*◌, IfSome, lengt
 ghost use Rattle.std.specs.Option.{option_copied};
 ghost use Rattle.oca_script.specs.Fields.{fields, fields_after};
 ghost use Rattle.ocactl_replay.specs.Requests.{one_text, two_texts, command_texts, command_of, submit_of, due_of};
-ghost use Rattle.ocactl_replay.specs.Requests.{datagram_call_of, from_of, take_of, timed_of, asked_call, asked_command};
-ghost use Rattle.ocactl_replay.specs.PrivateRequests.{text_given, pair_given, texts_in, texts_given, request_read};
-ghost use Rattle.ocactl_replay.specs.PrivateRequests.{call_asked};
+ghost use Rattle.ocactl_replay.specs.Requests.{asked_call, asked_command, from_of, take_of};
+ghost use Rattle.ocactl_replay.specs.PrivateRequests.{call_asked, pair_given, request_read, text_given, texts_given};
+ghost use Rattle.ocactl_replay.specs.PrivateRequests.{texts_in};
 
 use oca_script::LineFault;
 use oca_script::field::{first_field, hex_bytes, peer};
@@ -23,38 +23,23 @@ pub type Room = [u8; PARAMS_ROOM];
 #[derive(Clone, Copy)]
 pub enum Call<'a> {
     /// A command is submitted at this moment.
-    Submit {
-        now: u64,
-        command: Request<'a>,
-    },
+    Submit(u64, Request<'a>),
     /// What is due at this moment is sent.
-    Due {
-        now: u64,
-    },
-    /// The link receives a datagram of a peer at this moment.
-    Datagram {
-        now: u64,
-        from: Peer,
-        bytes: &'a [u8],
-    },
+    Due(u64),
+    /// The link receives at this moment a datagram of this peer, with these bytes.
+    Datagram(u64, Peer, &'a [u8]),
     /// The answer to the command with this handle is taken.
-    Take {
-        handle: Handle,
-    },
+    Take(Handle),
 }
 
-/// The five fields of a command in a line, as texts.
+/// The five fields of a command in a line, as texts: the object number, DefLevel and MethodIndex of the method,
+/// ParamCount, and the bytes of the parameters in hexadecimal, or `-` for none.
 #[derive(Clone, Copy)]
 pub struct Texts<'a> {
-    /// The object number.
     pub target: &'a [u8],
-    /// The DefLevel of the method.
     pub level: &'a [u8],
-    /// The MethodIndex of the method.
     pub index: &'a [u8],
-    /// ParamCount.
     pub count: &'a [u8],
-    /// The bytes of the parameters in hexadecimal, or `-` for none.
     pub params: &'a [u8],
 }
 
@@ -133,7 +118,7 @@ fn submit<'a>(now: &[u8], rest: Option<&[u8]>, room: &'a mut Room) -> Result<Cal
     };
     let now = moment(now)?;
     let command = command_in(texts, room)?;
-    Ok(Call::Submit { now, command })
+    Ok(Call::Submit(now, command))
 }
 
 /// A moment at which what is due is sent.
@@ -142,7 +127,7 @@ fn due<'a>(now: &[u8], rest: Option<&[u8]>) -> Result<Call<'a>, LineFault>
 {
     match rest {
         Some(_) => Err(LineFault::Form),
-        None => Ok(Call::Due { now: moment(now)? }),
+        None => Ok(Call::Due(moment(now)?)),
     }
 }
 
@@ -158,7 +143,7 @@ fn from<'a>(now: &[u8], rest: Option<&[u8]>, room: &'a mut Room) -> Result<Call<
     let now = moment(now)?;
     let from = peer(sender).ok_or(LineFault::Peer)?;
     let bytes = hex_bytes(text, room).ok_or(LineFault::Hex)?;
-    Ok(Call::Datagram { now, from, bytes })
+    Ok(Call::Datagram(now, from, bytes))
 }
 
 /// The handle whose answer is taken.
@@ -168,8 +153,8 @@ fn take<'a>(rest: Option<&[u8]>) -> Result<Call<'a>, LineFault>
     let Some(text) = one_field(rest) else {
         return Err(LineFault::Form);
     };
-    let handle = Handle(u32_in(text)?);
-    Ok(Call::Take { handle })
+    let handle = u32_in(text)?;
+    Ok(Call::Take(Handle(handle)))
 }
 
 /// Reads which call of the link a line of a script asks for: one of the four lines that
