@@ -8,7 +8,7 @@ use Rattle.oca_types.specs.declared.class.Class.{Class}
 use Rattle.oca_model.specs.declared.value.Value.{Value}
 use Rattle.oca_model.specs.Words.{IsRead}
 use Rattle.oca_web.specs.Labels.{is_label, label_bytes}
-use Rattle.oca_web.specs.declared.label.Label.{Label}
+use Rattle.oca_web.specs.declared.order.Label.{Label}
 use Rattle.oca_web.specs.declared.order.Action.{Action}
 use Rattle.oca_web.specs.declared.order.Action.TheVariants as actions
 use Rattle.oca_web.specs.declared.order.Read.{Read}
@@ -54,14 +54,11 @@ abbrev pub IsGivenOrEmpty : Option (List ℕ) → Label → Type 0
 IsGivenOrEmpty None label = label_bytes label ≡ []
 IsGivenOrEmpty (Some text) label = label_bytes label ≡ text
 
-abbrev pub IsPositionIn : Data → Label → Type 0
-IsPositionIn d label = IsGivenOrEmpty (option_and_then as_str (get (codes "name") d)) label
-
 -- WHAT THE PAGE SHOWED of the object, as one of many says
 pub record IsReadIn (d : Data) (r : Read) : Type 0 where
   pub role : IsGivenAs (option_and_then as_str (get (codes "role") d)) r.role
   pub block : IsGivenAs (option_and_then as_str (get (codes "block") d)) r.block
-  pub position : IsPositionIn d r.position
+  pub position : IsGivenOrEmpty (option_and_then as_str (get (codes "name") d)) r.position
 
 -- one of many, of the object that it names and that the page showed
 pub record IsWanted (d : Data) (w : Wanted) : Type 0 where

@@ -8,7 +8,7 @@ use Rattle.oca_model.specs.declared.value.Value.TheVariants as values
 use Rattle.oca_web.specs.Labels.{label_bytes}
 use Rattle.oca_web.specs.declared.ask.Asked.{Asked}
 use Rattle.oca_web.specs.declared.ask.Question.{Question}
-use Rattle.oca_web.specs.declared.label.Label.{Label}
+use Rattle.oca_web.specs.declared.order.Label.{Label}
 use Rattle.oca_web.specs.declared.object.Object.{Object}
 use Rattle.oca_web.specs.declared.order.Action.{Action}
 use Rattle.oca_web.specs.declared.order.Action.TheVariants as actions

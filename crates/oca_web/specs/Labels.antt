@@ -1,7 +1,7 @@
 -- The labels that pages give objects.
 use Rattle.std.specs.Prelude.{◌≡◌, ℕ, nat_le, not, ◌==◌, ◌&&◌, Bool, List, length, min, take, IsUtf8}
 use Rattle.std.specs.List.{list_all}
-use Rattle.oca_web.specs.declared.label.Label.{Label}
+use Rattle.oca_web.specs.declared.order.Label.{Label}
 
 -- no control character of ASCII is among the bytes
 abbrev pub is_shown : List ℕ → Bool

@@ -28,60 +28,63 @@ pub record KeepsAll (old new : Site) : Type 0 where
   pub terms : new.terms ≡ old.terms
 
 -- THESE ORDERS WERE ADDED, all of them, and answered with the status 202.
-pub record AddsOrders (ws : List Wanted) (given : Option ℕ) (old : Site) (response : Response) (new : Site) : Type 0 where
-  pub status : response.status ≡ 202
+pub record AddsOrders (ws : List Wanted) (given : Option ℕ) (old : Site) (code : ℕ) (new : Site) : Type 0 where
+  pub status : code ≡ 202
   pub orders : new.view.orders ≡ with_all ws (last_moment_for old.view.news.now given old.doubts) old.view.orders
   pub terms : new.terms ≡ old.terms
 
 -- none was, and the status is another one
-pub record AddsNone (old : Site) (response : Response) (new : Site) : Type 0 where
-  pub status : response.status ≢ 202
+pub record AddsNone (old : Site) (code : ℕ) (new : Site) : Type 0 where
+  pub status : code ≢ 202
   pub keeps : KeepsAll old new
 
 -- all of many were added, or none was
-abbrev pub TakesOrders : Result Unit AllocError → List Wanted → Option ℕ → Site → Response → Site → Type 0
-TakesOrders (Ok u) ws given old response new = AddsOrders ws given old response new ⊎ AddsNone old response new
-TakesOrders (Err e) ws given old response new = KeepsAll old new
+abbrev pub TakesOrders : Result ℕ AllocError → List Wanted → Option ℕ → Site → Site → Type 0
+TakesOrders (Ok code) ws given old new = AddsOrders ws given old code new ⊎ AddsNone old code new
+TakesOrders (Err e) ws given old new = KeepsAll old new
 
 -- all those were added for which the body asks
-abbrev pub AddsIn : List ℕ → Site → Response → Site → Type 0
-AddsIn body old response new = (ws : List Wanted) × (given : Option ℕ) × AreOrdersIn old.terms.run body ws given
-    × AddsOrders ws given old response new
+abbrev pub AddsIn : List ℕ → Site → ℕ → Site → Type 0
+AddsIn body old code new = (ws : List Wanted) × (given : Option ℕ) × AreOrdersIn old.terms.run body ws given
+    × AddsOrders ws given old code new
 
 -- a site that takes orders added them
-abbrev pub AddsFor : List ℕ → List ℕ → Site → Response → Site → Type 0
-AddsFor path body old response new = (old.terms.read_only ≡ false) × (path ≡ codes "/orders") × AddsIn body old response new
+abbrev pub AddsFor : List ℕ → List ℕ → Site → ℕ → Site → Type 0
+AddsFor path body old code new = (old.terms.read_only ≡ false) × (path ≡ codes "/orders") × AddsIn body old code new
 
-abbrev pub Posts : List ℕ → List ℕ → Result Unit AllocError → Site → Response → Site → Type 0
-Posts path body (Ok u) old response new = AddsFor path body old response new ⊎ AddsNone old response new
-Posts path body (Err e) old response new = KeepsAll old new
+abbrev pub Posts : List ℕ → List ℕ → Result ℕ AllocError → Site → Site → Type 0
+Posts path body (Ok code) old new = AddsFor path body old code new ⊎ AddsNone old code new
+Posts path body (Err e) old new = KeepsAll old new
 
-abbrev pub KeepsOrders : Result Unit AllocError → Site → Response → Site → Type 0
-KeepsOrders (Ok u) old response new = AddsNone old response new
-KeepsOrders (Err e) old response new = KeepsAll old new
+abbrev pub KeepsOrders : Result ℕ AllocError → Site → Site → Type 0
+KeepsOrders (Ok code) old new = AddsNone old code new
+KeepsOrders (Err e) old new = KeepsAll old new
 
 -- A POST THAT IS LET IN adds all orders of its body, each for the object that the page showed, and is answered 202; or it is
 -- refused with another status, and adds none. A body that names another run of the program adds none, and nor does any
 -- where the site is one for reading alone.
-pub record Orders (old : Site) (request : Request (List ℕ)) (response : Response) (new : Site) : Type 0 where
+pub record Orders (old : Site) (request : Request (List ℕ)) (code : ℕ) (new : Site) : Type 0 where
   pub let_in : admits_request old.terms request ≡ true
   pub post : is_post request ≡ true
-  pub adds : AddsFor (uri_path (head_of request).uri) request.body old response new
+  pub adds : AddsFor (uri_path (head_of request).uri) request.body old code new
 
 -- NOTHING IS ORDERED: a request that is not let in is refused, and the whole view stays as it was.
-pub record OrdersNothing (old : Site) (request : Request (List ℕ)) (response : Response) (new : Site) : Type 0 where
-  pub status : response.status ≢ 202
+pub record OrdersNothing (old : Site) (request : Request (List ℕ)) (code : ℕ) (new : Site) : Type 0 where
+  pub status : code ≢ 202
   pub keeps : KeepsAll old new
   pub refused : (admits_request old.terms request ≡ true) ⊎ (new.view ≡ old.view)
 
+abbrev pub AnswersWith : ℕ → Site → Request (List ℕ) → Site → Type 0
+AnswersWith code old request new = Orders old request code new ⊎ OrdersNothing old request code new
+
 abbrev pub Answers : Site → Request (List ℕ) → Response → Site → Type 0
-Answers old request response new = Orders old request response new ⊎ OrdersNothing old request response new
+Answers old request response new = AnswersWith response.status old request new
 
 -- the same before memory that was refused is answered for
 pub record Fails (old : Site) (request : Request (List ℕ)) (new : Site) : Type 0 where
   pub keeps : KeepsAll old new
   pub refused : (admits_request old.terms request ≡ true) ⊎ (new.view ≡ old.view)
 
-abbrev pub AnswersOrFails : Result Unit AllocError → Site → Request (List ℕ) → Response → Site → Type 0
-AnswersOrFails (Ok u) old request response new = Answers old request response new
-AnswersOrFails (Err e) old request response new = Fails old request new
+abbrev pub AnswersOrFails : Result ℕ AllocError → Site → Request (List ℕ) → Site → Type 0
+AnswersOrFails (Ok code) old request new = AnswersWith code old request new
+AnswersOrFails (Err e) old request new = Fails old request new

@@ -1,19 +1,24 @@
 //! What is known of a device, and which questions about it wait or are in flight.
-use crate::ask::{Ask, Asked, Question, asks_of, class_for};
-use crate::confirmed::{is_behind, names_it};
-use crate::listing::Listed;
-use crate::object::{Object, Shown, is_fresh};
-use crate::objects::{Objects, same_names, same_text};
-use crate::order::{Action, NotDone, ORDER_MS, Order};
-use crate::poll::Poll;
-use crate::turns::Settled;
+use crate::ask::{Ask, Asked, Poll, Question, asks_of, class_for};
+use crate::object::{Object, Objects, counts, names_it, refused_behind};
+use crate::order::{Action, NotDone, Order};
+use crate::orders::Settled;
 use arrayvec::ArrayVec;
-use oca_model::{Answer, Members, Names, Value};
+use oca_model::{Answer, Member, Value};
 use oca_net::End;
 use oca_panel::{Panel, Trouble, Walk, answer_of};
-use oca_types::{Class, Handle, NoMemory, Ono, Text};
+use oca_types::{Class, Handle, NoMemory, Ono};
 use std::alloc::Global;
 use std::collections::VecDeque;
+
+/// The members that a block listed in a walk.
+#[derive(Drop)]
+struct Listed {
+    /// The place of the block in the list of objects.
+    place: usize,
+    /// The members that the block listed, in order.
+    members: Vec<Member>,
+}
 
 /// A silence of the device that is longer, in milliseconds, while a question waits for its answer: the device may be another
 /// one behind it.
@@ -145,14 +150,6 @@ impl Inventory {
         self.is_stale = true;
     }
 
-    /// The device may be another one by now: what was asked before this moment confirms no role and no name of a position
-    /// any longer, and all of them are read again, with the labels, once the walk is over.
-    fn doubt(&mut self, now: u64) {
-        self.objects.doubt();
-        self.doubted = now;
-        self.is_doubted = true;
-    }
-
     /// Whether a question that was submitted at this moment can still confirm a role or names of positions.
     fn confirmed(&self, moment: u64) -> Option<u64> {
         (moment >= self.doubted).then_some(moment)
@@ -185,8 +182,8 @@ impl Inventory {
 
     /// The class of the object with this number; `None` where there is none, `Some(None)` where it is not of this profile.
     pub(crate) fn class_of(&self, ono: Ono) -> Option<Option<Class>> {
-        let (_, class) = self.target_of(self.objects.place_of(ono)?)?;
-        Some(class)
+        let (_, object) = self.objects.find(ono)?;
+        Some(object.class)
     }
 
     /// A question is in flight under this handle, which was submitted at this moment or later.
@@ -217,14 +214,15 @@ impl Inventory {
     }
 
     /// Notes that the device was heard last at this moment. Behind a long silence in which a question waited for its answer
-    /// the device may be another one.
+    /// the device may be another one: then what was asked before now confirms no role and no name of a position any longer,
+    /// and all of them are read again, with the labels, once the walk is over.
     pub(crate) fn note_silence(&mut self, heard: u64, now: u64) {
-        let is_long = now.saturating_sub(heard) > LONGEST_SILENCE_MS && self.doubted <= heard;
-        if is_long
-            && self.asked.as_slice().iter().any(|asked| now.saturating_sub(asked.moment)
-                > LONGEST_SILENCE_MS)
-        {
-            self.doubt(now);
+        let is_long = |since: u64| now.saturating_sub(since) > LONGEST_SILENCE_MS;
+        let mut asked = self.asked.as_slice().iter();
+        if is_long(heard) && self.doubted <= heard && asked.any(|asked| is_long(asked.moment)) {
+            self.objects.doubt();
+            self.doubted = now;
+            self.is_doubted = true;
         }
     }
 
@@ -264,7 +262,7 @@ impl Inventory {
         };
         let answer = answer_of(class, asked.question.ask.method(), &outcome);
         let _ = self.asked.pop_at(at);
-        self.learn(asked.question, asked.moment, answer)?;
+        self.learn(&asked, answer)?;
         Ok(true)
     }
 
@@ -281,13 +279,10 @@ impl Inventory {
             self.is_doubted = false;
             let _ = self.ask_names();
         }
-        if let Some(question) = self.waiting.pop_front() {
-            return Some(question);
+        match self.waiting.pop_front() {
+            None if self.walked => self.read_again(now),
+            question => question,
         }
-        if !self.walked {
-            return None;
-        }
-        self.read_again(now)
     }
 
     /// The roles, the labels and the names of the positions of all objects are to be asked.
@@ -320,27 +315,28 @@ impl Inventory {
     /// order, did not confirm within the last 2,000 ms, and no question in flight asks.
     pub(crate) fn unsure_of(&self, order: &Order, now: u64) -> ArrayVec<Question, 3> {
         let mut unsure = ArrayVec::new();
-        let objects = self.objects.as_slice();
-        let Some(place) = self.objects.place_of(order.ono) else {
+        let Some((place, object)) = self.objects.find(order.ono) else {
             return unsure;
         };
-        let Some(object) = objects.get(place) else {
-            return unsure;
+        let block = match self.objects.find(object.container) {
+            Some((place, block)) => Some((place, Ask::Role, block.role_read)),
+            None => None,
         };
-        let block = self.objects.place_of(object.container);
-        let is_named = matches!(order.action, Action::Set(Value::Switch(_)));
-        let wanted = [
-            (Some(place), Ask::Role, object.role_read),
-            (block, Ask::Role, role_read_at(objects, block)),
-            (is_named.then_some(place), Ask::Names, object.names_read),
-        ];
-        for (place, ask, read) in wanted {
-            let Some(place) = place else {
+        let names = match order.action {
+            Action::Set(Value::Switch(_)) => Some((place, Ask::Names, object.names_read)),
+            _ => None,
+        };
+        for wanted in [Some((place, Ask::Role, object.role_read)), block, names] {
+            let Some((place, ask, read)) = wanted else {
                 continue;
             };
-            if !self.counts(order, read, now) && !self.is_asked(order, place, ask, now) {
-                let epoch = self.epoch;
-                let _ = unsure.try_push(Question { place, ask, epoch });
+            let epoch = self.epoch;
+            let question = Question { place, ask, epoch };
+            let is_asked = self.asked.iter().any(|asked| {
+                asked.question == question && counts(order, self.confirmed(asked.moment), now)
+            });
+            if !is_asked && !counts(order, read, now) {
+                let _ = unsure.try_push(question);
             }
         }
         unsure
@@ -349,99 +345,45 @@ impl Inventory {
     /// Why this order is never to be sent, if it is so: it is too late, its object is not the one that its page showed, or the
     /// device refused to say the role of the object or of its block when it was asked behind the order.
     pub(crate) fn ending_of(&self, order: &Order, now: u64) -> Option<NotDone> {
-        let objects = self.objects.as_slice();
         if order.last < now {
             return Some(NotDone::TooLate);
         }
-        if self.is_stale || !names_it(objects, order) {
+        if self.is_stale || !names_it(self.objects.as_slice(), order) {
             return Some(NotDone::Changed);
         }
-        let object = objects.get(self.objects.place_of(order.ono)?)?;
+        let (_, object) = self.objects.find(order.ono)?;
         if let Some(reason) = refused_behind(order, object) {
             return Some(reason);
         }
-        let block = objects.get(self.objects.place_of(object.container)?)?;
+        let (_, block) = self.objects.find(object.container)?;
         refused_behind(order, block)
     }
 
-    /// Whether what the device confirmed after this moment counts for the order now.
-    fn counts(&self, order: &Order, read: Option<u64>, now: u64) -> bool {
-        is_fresh(now, read) && is_behind(order, read)
-    }
-
-    /// Whether a question in flight asks this of the object at this place, and its answer would count for the order.
-    fn is_asked(&self, order: &Order, place: usize, ask: Ask, now: u64) -> bool {
-        let epoch = self.epoch;
-        let question = Question { place, ask, epoch };
-        self.asked.iter().any(|asked| {
-            asked.question == question && self.counts(order, self.confirmed(asked.moment), now)
-        })
-    }
-
-    /// Notes the answer to a question, or the reason why there is none. `moment` is not later than the submission of the
-    /// question. If the walk of the question is not the present one, nothing is changed. An answer of another kind than
-    /// the question asks for is ignored. The only refusal is `NoMemory`; members of a block may then be missing.
-    pub fn learn(
-        &mut self,
-        question: Question,
-        moment: u64,
-        answer: Result<Answer, Trouble>,
-    ) -> Result<(), NoMemory> {
-        if question.epoch != self.epoch {
+    /// Notes the answer to a question, or the reason why there is none. If the walk of the question is not the present one,
+    /// nothing is changed. An answer of another kind than the question asks for is ignored. The only refusal is `NoMemory`;
+    /// members of a block may then be missing.
+    fn learn(&mut self, asked: &Asked, answer: Result<Answer, Trouble>) -> Result<(), NoMemory> {
+        let (question, moment) = (asked.question, asked.moment);
+        let Question { place, ask, epoch } = question;
+        if epoch != self.epoch {
             return Ok(());
         }
-        let place = question.place;
-        let shown = self.objects.shown(place);
-        match (question.ask, answer) {
-            (ask, Err(trouble)) => self.learn_trouble(place, ask, trouble, moment),
+        match (ask, answer) {
+            (_, Err(trouble)) => self.learn_trouble(place, ask, trouble, moment),
             (Ask::Members, Ok(Answer::Members(members))) => {
-                return self.learn_members(place, &members);
+                return self.learn_members(place, members.as_slice());
             }
-            (Ask::Role, Ok(Answer::Text(role))) => self.learn_role(place, role, moment),
-            (Ask::Names, Ok(Answer::Names(names))) => self.learn_names(place, names, moment),
-            (Ask::Label, Ok(Answer::Text(label))) => self.objects.put_label(place, label),
-            (Ask::Lockable, Ok(Answer::Truth(truth))) => self.objects.put_lockable(place, truth),
-            (Ask::Flags, Ok(Answer::Flags(flags))) => self.objects.put_flags(place, flags),
-            (Ask::Enabled, Ok(Answer::Truth(enabled))) => {
-                if let Some(shown) = shown {
-                    self.objects.show(place, Shown { enabled, ..shown });
+            (_, Ok(answer)) => {
+                let object = self.objects.as_slice().get(place);
+                if self.walked && object.is_some_and(|object| object.is_other_by(ask, &answer)) {
+                    self.is_stale = true;
+                } else {
+                    let read = self.confirmed(moment);
+                    self.objects.learn(question, answer, moment, read);
                 }
             }
-            (Ask::Value, Ok(Answer::Reading(reading))) => {
-                if let Some(shown) = shown {
-                    self.objects.show(place, shown.read(reading, moment));
-                }
-            }
-            _ => {}
         }
         Ok(())
-    }
-
-    /// The object had this role after this moment. Behind the walk another role than before is that of another device.
-    fn learn_role(&mut self, place: usize, role: Text, moment: u64) {
-        if let Some(object) = self.objects.as_slice().get(place)
-            && self.walked
-            && !same_text(&object.role, &role)
-        {
-            self.is_stale = true;
-            return;
-        }
-        let read = self.confirmed(moment);
-        self.objects.put_role(place, role, read);
-    }
-
-    /// The switch had these names of positions after this moment. Behind the walk others than before are those of another
-    /// device.
-    fn learn_names(&mut self, place: usize, names: Names, moment: u64) {
-        if let Some(object) = self.objects.as_slice().get(place)
-            && self.walked
-            && !same_names(&object.names, &names)
-        {
-            self.is_stale = true;
-            return;
-        }
-        let read = self.confirmed(moment);
-        self.objects.put_names(place, names, read);
     }
 
     /// Learns why something was not answered: an object that a different controller locks, a block whose members can't
@@ -463,46 +405,30 @@ impl Inventory {
     }
 
     /// Learns the members of a block: in a walk they are visited, else they are compared with what it listed in the walk.
-    fn learn_members(&mut self, place: usize, members: &Members) -> Result<(), NoMemory> {
+    fn learn_members(&mut self, place: usize, members: &[Member]) -> Result<(), NoMemory> {
         let Some((container, _)) = self.target_of(place) else {
             return Ok(());
         };
-        if !self.walked {
-            return self.visit_members(place, container, members);
+        if self.walked {
+            let is_same = |one: &Listed| one.place == place && one.members.as_slice() == members;
+            self.is_stale = self.is_stale || !self.lists.iter().any(is_same);
+            if let Some(shown) = self.objects.shown(place) {
+                self.objects.show(place, shown.free());
+            }
+            return Ok(());
         }
-        let members = members.as_slice();
-        if !self.lists.iter().any(|one| one.is(place, members)) {
-            self.is_stale = true;
-        }
-        if let Some(shown) = self.objects.shown(place) {
-            self.objects.show(place, shown.free());
-        }
-        Ok(())
-    }
-
-    /// Visits the members of a block in a walk, and keeps that it lists them.
-    fn visit_members(
-        &mut self,
-        place: usize,
-        container: Ono,
-        members: &Members,
-    ) -> Result<(), NoMemory> {
-        let Ok(copy) = Vec::from_slice(self.alloc, members.as_slice()) else {
-            return Err(NoMemory);
-        };
+        let copy = Vec::from_slice(self.alloc, members).map_err(|_| NoMemory)?;
         let listed = Listed {
             place,
             members: copy,
         };
-        if self.lists.push(listed).is_err() {
-            return Err(NoMemory);
-        }
+        self.lists.push(listed).map_err(|_| NoMemory)?;
         let mut numbers: ArrayVec<u32, 181> = ArrayVec::new();
-        for member in members.as_slice() {
+        for member in members {
             let _ = numbers.try_push(member.ono.0);
         }
         self.walk.put_members(container, numbers.as_slice())?;
-        for member in members.as_slice() {
+        for member in members {
             self.add_next(member.class)?;
         }
         Ok(())
@@ -515,56 +441,25 @@ impl Inventory {
     pub(crate) fn learn_orders(&mut self, settled: &[Settled]) -> Result<(), NoMemory> {
         for one in settled {
             let order = one.sent.order;
-            if let Some(place) = self.objects.place_of(order.ono) {
-                self.learn_order(place, order, one.done)?;
+            let Some((place, object)) = self.objects.find(order.ono) else {
+                continue;
+            };
+            let (shown, class) = (object.shown, object.class);
+            self.objects.show(place, shown.ordered(order, one.done));
+            let ask = match order.action {
+                Action::Rename(_) => Ask::Label,
+                Action::Set(_) | Action::Lock | Action::Unlock => Ask::Value,
+            };
+            for asked in self.asked.as_mut_slice() {
+                if asked.question.place == place && asked.question.ask == ask {
+                    asked.question.epoch = 0;
+                }
+            }
+            let epoch = self.epoch;
+            if asks_of(class).contains(&ask) {
+                self.ask_again(Question { place, ask, epoch })?;
             }
         }
         Ok(())
-    }
-
-    /// Notes how an order for the object at this place ended.
-    fn learn_order(
-        &mut self,
-        place: usize,
-        order: Order,
-        done: Result<(), Trouble>,
-    ) -> Result<(), NoMemory> {
-        if let Some(shown) = self.objects.shown(place) {
-            self.objects.show(place, shown.ordered(order, done));
-        }
-        let ask = match order.action {
-            Action::Rename(_) => Ask::Label,
-            Action::Set(_) | Action::Lock | Action::Unlock => Ask::Value,
-        };
-        for asked in self.asked.as_mut_slice() {
-            if asked.question.place == place && asked.question.ask == ask {
-                asked.question.epoch = 0;
-            }
-        }
-        let epoch = self.epoch;
-        match self.target_of(place) {
-            Some((_, class)) if asks_of(class).contains(&ask) => self.ask_again(Question {
-                place,
-                ask,
-                epoch,
-            }),
-            _ => Ok(()),
-        }
-    }
-}
-
-/// The moment behind which the device had the role of the object at this place, if there is one.
-fn role_read_at(objects: &[Object], place: Option<usize>) -> Option<u64> {
-    objects.get(place?)?.role_read
-}
-
-/// Why an order is never sent, if the device refused the role of this object, or the names of its positions, when it was
-/// asked behind the order.
-fn refused_behind(order: &Order, object: &Object) -> Option<NotDone> {
-    match object.refused {
-        Some((trouble, moment)) if moment.saturating_add(ORDER_MS) >= order.last => {
-            Some(NotDone::Trouble(trouble))
-        }
-        _ => None,
     }
 }

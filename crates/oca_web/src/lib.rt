@@ -10,32 +10,22 @@
 mod admission;
 mod answers;
 mod ask;
-mod confirmed;
 mod inventory;
-mod label;
-mod listing;
 mod many;
 mod object;
-mod objects;
 mod order;
 mod orders;
 mod page;
-mod poll;
 mod site;
-mod turns;
-mod units;
 mod view;
 
-pub use admission::{Key, Name, Terms};
+pub use admission::{Key, Name, Terms, Unit, UnitOf};
 pub use inventory::Inventory;
-pub use label::Label;
-pub use object::{Lock, Object, Shown, is_class_name};
-pub use objects::Objects;
+pub use object::{Lock, Object, Objects, Shown, is_class_name};
 pub use order::{
-    Action, MOST_RESULTS, MOST_WAITING, NotDone, Order, OrderResult, Read, Sent, Wanted,
+    Action, Label, MOST_RESULTS, MOST_WAITING, NotDone, Order, OrderResult, Read, Sent, Wanted,
 };
 pub use orders::Orders;
 pub use page::{PAGE, POLICY};
 pub use site::Site;
-pub use units::{Unit, UnitOf};
 pub use view::{LinkNews, NoOrder, View};

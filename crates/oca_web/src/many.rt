@@ -1,13 +1,12 @@
 //! Many orders in one body.
-ghost use Rattle.std.specs.Prelude.{◌≡◌, ◌≢◌, IfOk, OnOk, codes, option_and_then};
+ghost use Rattle.std.specs.Prelude.{◌≡◌, ◌≢◌, IfOk, option_and_then};
 ghost use Rattle.serde_json.specs.Find.{as_str, get};
 ghost use Rattle.serde_json.specs.View.{items_view, view};
-ghost use Rattle.oca_web.specs.Bodies.{AreOrdersIn, AreOrdersOf, AreWanted, IsActionIn, IsGivenAs, IsPositionIn};
-ghost use Rattle.oca_web.specs.Bodies.{IsReadIn, IsWanted, NamesThis, last_in};
+ghost use Rattle.oca_web.specs.Bodies.{AreOrdersIn, AreOrdersOf, AreWanted, IsActionIn, IsGivenAs, IsReadIn, IsWanted};
+ghost use Rattle.oca_web.specs.Bodies.{last_in};
 ghost use Rattle.oca_web.specs.Labels.{label_bytes};
 
-use crate::label::Label;
-use crate::order::{Action, Read, Wanted};
+use crate::order::{Action, Label, Read, Wanted};
 use crate::view::{NoOrder, View};
 use http::StatusCode;
 use itoa::Buffer;
@@ -66,6 +65,9 @@ impl From<Wrong> for Refusal {
     }
 }
 
+/// The orders of a body, and the last moment at which they may be submitted, where it gives one.
+type Orders = (Vec<Wanted>, Option<u64>);
+
 /// Reads the orders of a body in JSON. The body is an object with `run`, the number of a run of the program
 /// as a text, and `orders`, a list of 1 to 64 orders. It may also have `before`, the last moment in milliseconds of the
 /// program's clock. Each order has the number `ono` of its object, what the page showed of it (its role as `role`, the
@@ -74,12 +76,7 @@ impl From<Wrong> for Refusal {
 /// this order counts. `known` is what is known of the device, and `run` the number of this run. Returns the orders, and
 /// the last moment at which they may be submitted (`None` if the body gives none). Nothing is ordered yet. A refusal has
 /// the first fault that is found: of the body, and then of the first order that has one.
-pub fn orders_in(
-    alloc: Global,
-    known: &View,
-    run: u64,
-    body: &[u8],
-) -> Result<(Vec<Wanted>, Option<u64>), Refusal>
+pub fn orders_in(alloc: Global, known: &View, run: u64, body: &[u8]) -> Result<Orders, Refusal>
     ensures { IfOk result (λ o. AreOrdersIn run body.now o.0.items o.1) }
 {
     match Value::from_slice(alloc, body) {
@@ -88,16 +85,16 @@ pub fn orders_in(
     }
 }
 
-/// The orders that a body says whose value is this.
-fn orders_of(
-    alloc: Global,
-    known: &View,
-    run: u64,
-    said: &Value,
-) -> Result<(Vec<Wanted>, Option<u64>), Refusal>
+/// The orders that a body says whose value is this: it must name this run of the program.
+fn orders_of(alloc: Global, known: &View, run: u64, said: &Value) -> Result<Orders, Refusal>
     ensures { IfOk result (λ o. AreOrdersOf run (view said.now) o.0.items o.1) }
 {
-    names_run(said, run)?;
+    let mut digits = Buffer::new();
+    match said.get("run").and_then(Value::as_str) {
+        Some(named) if digits.format(run).as_bytes() == named.as_bytes() => {}
+        Some(_) => return Err(Refusal::from(Wrong::Run)),
+        None => return Err(Refusal::from(Wrong::Form)),
+    }
     let given = last_in(said)?;
     let Some(orders) = said.get("orders").and_then(Value::as_array) else {
         return Err(Refusal::from(Wrong::Form));
@@ -105,18 +102,6 @@ fn orders_of(
     match all_wanted(alloc, known, orders.as_slice()) {
         Ok(wanted) => Ok((wanted, given)),
         Err(refusal) => Err(refusal),
-    }
-}
-
-/// A body must name this run of the program.
-fn names_run(said: &Value, run: u64) -> Result<(), Wrong>
-    ensures { OnOk result (NamesThis run (view said.now)) }
-{
-    let mut digits = Buffer::new();
-    match said.get("run").and_then(Value::as_str) {
-        Some(named) if digits.format(run).as_bytes() == named.as_bytes() => Ok(()),
-        Some(_) => Err(Wrong::Run),
-        None => Err(Wrong::Form),
     }
 }
 
@@ -150,10 +135,10 @@ fn all_wanted(alloc: Global, known: &View, orders: &[Value]) -> Result<Vec<Wante
                     return Err(Refusal::from(Wrong::Memory));
                 }
             }
-            Err(wrong) => {
-                let at = Some(all.len());
-                return Err(Refusal { wrong, at });
-            }
+            Err(wrong) => return Err(Refusal {
+                wrong,
+                at: Some(all.len()),
+            }),
         }
     }
     Ok(all)
@@ -169,25 +154,25 @@ fn wanted_in(known: &View, order: &Value) -> Result<Wanted, Wrong>
     let Ok(ono) = u32::try_from(ono) else {
         return Err(Wrong::Form);
     };
+    let ono = Ono(ono);
     let read = read_in(order)?;
-    if !known.knows(Ono(ono)) {
+    if !known.knows(ono) {
         return Err(Wrong::Object);
     }
-    let action = action_in(known, Ono(ono), order)?;
-    Ok(Wanted {
-        ono: Ono(ono),
-        read,
-        action,
-    })
+    let action = action_in(known, ono, order)?;
+    Ok(Wanted { ono, read, action })
 }
 
-/// What the page showed of the object of an order.
+/// What the page showed of the object of an order, with an empty name of a position where the order has none.
 fn read_in(order: &Value) -> Result<Read, Wrong>
     ensures { IfOk result (λ read. IsReadIn (view order.now) read) }
 {
     let role = text_in(order, "role")?;
     let block = text_in(order, "block")?;
-    let position = position_in(order)?;
+    let position = match order.get("name").and_then(Value::as_str) {
+        Some(name) => shown(name)?,
+        None => shown("")?,
+    };
     Ok(Read {
         role,
         block,
@@ -202,16 +187,6 @@ fn text_in(order: &Value, name: &str) -> Result<Label, Wrong>
     match order.get(name).and_then(Value::as_str) {
         Some(text) => shown(text),
         None => Err(Wrong::Form),
-    }
-}
-
-/// The name of the position to which a switch is set; the empty one where an order has none.
-fn position_in(order: &Value) -> Result<Label, Wrong>
-    ensures { IfOk result (IsPositionIn (view order.now)) }
-{
-    match order.get("name").and_then(Value::as_str) {
-        Some(name) => shown(name),
-        None => shown(""),
     }
 }
 

@@ -1,14 +1,17 @@
-//! The orders of the pages: those that wait, those in flight, and how the last ones ended.
+//! The orders of the pages: those that wait, those in flight, and how the last ones ended. Over a panel each that waits is
+//! submitted once, in time and for the object that its page showed, and what the answers say is noted under their tickets.
 ghost use Rattle.std.specs.Prelude.{◌≡◌, ◌<◌, length, nat_lt, IfSome};
 ghost use Rattle.std.specs.List.{position};
-ghost use Rattle.oca_web.specs.Orders.{by_ticket, not_done};
+ghost use Rattle.oca_web.specs.Orders.{LosesOrders, SettlesAt, SettlesOrders, SubmitsFirst, SubmitsOrders, by_ticket};
 
+use crate::object::{Object, is_all_behind, is_read};
 use crate::order::{
-    Action, MOST_IN_FLIGHT, MOST_RESULTS, MOST_WAITING, NotDone, Order, OrderResult, Sent, Wanted,
+    MOST_IN_FLIGHT, MOST_RESULTS, MOST_WAITING, NotDone, Order, OrderResult, Sent, Wanted,
 };
 use arrayvec::ArrayVec;
 use oca_control::ControlFault;
-use oca_panel::Trouble;
+use oca_net::End;
+use oca_panel::{Panel, Trouble, done_in};
 use oca_types::{Handle, Ono};
 use std::marker::Model;
 
@@ -41,8 +44,7 @@ impl Orders {
     ghost use Rattle.std.specs.Prelude.{◌≡◌, ◌≤◌, ◌<◌, ◌+◌, ◌∷◌, ◌++◌, remove, slice_get, length, [], Some};
     ghost use Rattle.oca_net.specs.Ends.{one_more};
     ghost use Rattle.oca_web.specs.Orders.{AddsAll, EndsAt, has_room_for, is_in_flight, lost_orders, no_orders, ready_of};
-    ghost use Rattle.oca_web.specs.Orders.{result_of, has_waiting, not_done, with_lost, with_order, with_result};
-    ghost use Rattle.oca_web.specs.Orders.{with_unsent};
+    ghost use Rattle.oca_web.specs.Orders.{has_waiting, not_done, result_of, with_order, with_result, with_unsent};
 
     /// Returns a list without orders, in which no ticket is used.
     pub fn new() -> Orders
@@ -64,8 +66,7 @@ impl Orders {
         self.tickets.saturating_add(1)
     }
 
-    /// Returns whether `count` more orders can be added by [`add_all`](Orders::add_all). Then at most 256
-    /// orders would wait, and each would get a ticket below 2^64 - 1. A `count` above 256 always gives `false`.
+    /// Returns whether `count` more orders can be added, as [`View::has_room`](crate::View::has_room) does.
     pub fn has_room(&self, count: usize) -> bool
         ensures { result ≡ has_room_for count self.now }
     {
@@ -73,11 +74,8 @@ impl Orders {
             && (count as u64) < u64::MAX - self.tickets
     }
 
-    /// Adds the orders `wanted` after all others, in their order, and returns the ticket of the first. The
-    /// other orders have the next tickets, in their order. `last` is the moment, in milliseconds of the program's
-    /// clock, after which these orders must not be submitted. The result is `None` if there is no room for all these
-    /// orders ([`has_room`](Orders::has_room)); then nothing is changed. If `wanted` is empty, the result is the next
-    /// ticket, and no order is added.
+    /// Adds the orders `wanted`, all of them or none, as [`View::order_all`](crate::View::order_all) does. If `wanted` is
+    /// empty, the result is the next ticket, and no order is added.
     #[tactic(auto, using(crate::proofs::OrderLemmas::many_rules))]
     pub fn add_all(&mut self, wanted: &[Wanted], last: u64) -> Option<u64>
         ensures { AddsAll wanted.now last self.old result self.new }
@@ -98,25 +96,22 @@ impl Orders {
         requires tickets { self.old.tickets < 18446744073709551615 }
         ensures { self.new ≡ with_order wanted last self.old }
     {
-        let ticket = self.tickets + 1;
+        self.tickets += 1;
         self.waiting.push(Order {
-            ticket,
+            ticket: self.tickets,
             ono: wanted.ono,
             read: wanted.read,
             action: wanted.action,
             last,
         });
-        self.tickets = ticket;
     }
 
     /// Whether an order of this object is in flight.
     fn is_in_flight(&self, ono: Ono) -> bool
         ensures { result ≡ is_in_flight ono.0 self.now.in_flight }
     {
-        self.in_flight
-            .as_slice()
-            .iter()
-            .any(|sent| sent.order.ono.0 == ono.0)
+        let mut sent = self.in_flight.as_slice().iter();
+        sent.any(|sent| sent.order.ono.0 == ono.0)
     }
 
     /// Returns the order that is submitted next: the first that waits. The result is `None` if no order
@@ -146,13 +141,6 @@ impl Orders {
     {
         let _ = self.waiting.pop_at(0);
         let _ = self.in_flight.try_push(Sent { handle, order });
-    }
-
-    /// The order in flight at this place.
-    pub(crate) fn sent_at(&self, at: usize) -> Option<Sent>
-        ensures { result ≡ slice_get self.now.in_flight at }
-    {
-        self.in_flight.as_slice().get(at).copied()
     }
 
     /// Returns the number of orders in flight: their commands were submitted, and the outcomes are not known yet.
@@ -198,29 +186,19 @@ impl Orders {
     {
         let order = sent.order;
         let _ = self.in_flight.pop_at(at);
-        self.note_result(order, not_done(done));
+        self.note_result(order, done.map_err(|trouble| NotDone::Trouble(trouble)));
     }
 
     /// All orders are lost with the link: those in flight may have been carried out, and those that wait
     /// were never sent.
+    #[tactic(auto, using(crate::proofs::OrderLemmas::losing_rules))]
     pub(crate) fn lose(&mut self)
         ensures { self.new ≡ lost_orders self.old }
-    {
-        self.lose_sent();
-        self.lose_waiting(NotDone::Trouble(Trouble::NotSubmitted(ControlFault::Lost)));
-    }
-
-    /// Notes that the orders in flight are lost.
-    #[tactic(auto, using(crate::proofs::OrderLemmas::losing_rules))]
-    fn lose_sent(&mut self)
-        ensures { self.new ≡ record self.old {
-          in_flight = [];
-          results = with_lost self.old.in_flight self.old.results;
-        } }
     {
         while let Some(sent) = self.in_flight.pop_at(0) {
             self.note_result(sent.order, Err(NotDone::Trouble(Trouble::Lost)));
         }
+        self.lose_waiting(NotDone::Trouble(Trouble::NotSubmitted(ControlFault::Lost)));
     }
 
     /// Notes that the orders that wait were not sent, for this reason.
@@ -299,12 +277,124 @@ fn put_by_ticket(results: &mut ArrayVec<OrderResult, MOST_RESULTS>, one: OrderRe
     }
 }
 
-/// Why the command of an order was not carried out.
-fn not_done(done: Result<(), Trouble>) -> Result<(), NotDone>
-    ensures { result ≡ not_done done }
+/// Submits the next order of the pages, and returns whether it did. Its command is then sent at once, and the order is in
+/// flight. `known` are the objects of the device. `ahead` is by how many milliseconds the program's clock, in which orders
+/// have their last moments, is ahead of the clock of the panel's end. The result is `false` if no order is ready
+/// ([`Orders::ready`]), its last moment has passed, its object is not the one that its page showed, the device did not say
+/// so within the last 2,000 ms when it was asked behind the order, or the link refuses the command; then nothing is changed
+/// or sent. A device asked *behind* an order was asked at most 5,000 ms before the order's last moment.
+pub fn submit_first<E: End>(
+    orders: &mut Orders,
+    known: &[Object],
+    panel: &mut Panel<E>,
+    ahead: u64,
+) -> bool
+    ensures { SubmitsFirst ahead known.now result orders.old panel.old orders.new panel.new }
 {
-    match done {
-        Ok(()) => Ok(()),
-        Err(trouble) => Err(NotDone::Trouble(trouble)),
+    let Some(order) = orders.ready() else {
+        return false;
+    };
+    let now = panel.end().now();
+    if order.last < ahead || order.last - ahead < now || !is_read(known, &order, ahead + now) {
+        return false;
     }
+    if !is_all_behind(known, &order) {
+        return false;
+    }
+    match panel.begin_request(order.ono, order.action.class(), &order.action.request()) {
+        Ok(handle) => {
+            orders.note_sent(order, handle);
+            true
+        }
+        Err(_) => false,
+    }
+}
+
+/// Submits the orders that wait, in the order in which they came, each once, as [`submit_first`] does. The call stops
+/// at the first that can't be submitted now; the next call tries that one first.
+#[tactic(auto, using(crate::proofs::StepLemmas::submit_rules))]
+pub fn submit_orders<E: End>(
+    orders: &mut Orders,
+    known: &[Object],
+    panel: &mut Panel<E>,
+    ahead: u64,
+)
+    ensures { SubmitsOrders ahead known.now orders.old panel.old orders.new panel.new }
+{
+    for _order in 0..32u32 {
+        if !submit_first(orders, known, panel, ahead) {
+            return;
+        }
+    }
+}
+
+/// Takes the outcome of one order in flight, and stores its result under its ticket. `at` is the index of
+/// the order among those in flight, counted from 0. Returns the order and its outcome; the order is then no longer in
+/// flight. The result is `None` if the outcome is not known yet, or there is no order at `at`; then nothing is changed.
+/// The call sends nothing and does not wait.
+pub fn settle_at<E: End>(
+    orders: &mut Orders,
+    panel: &mut Panel<E>,
+    at: usize,
+) -> Option<(Sent, Result<(), Trouble>)>
+    ensures { SettlesAt at result orders.old panel.old orders.new panel.new }
+{
+    let sent = orders.in_flight.as_slice().get(at).copied()?;
+    let outcome = panel.try_finish(sent.handle)?;
+    let done = done_in(&outcome);
+    orders.settle(at, &sent, done);
+    Some((sent, done))
+}
+
+/// An order in flight whose outcome was taken.
+#[derive(Clone, Copy, PartialEq, Eq)]
+pub struct Settled {
+    /// The order, with the handle of its command.
+    pub sent: Sent,
+    /// `Ok` if the order was carried out, otherwise why not.
+    pub done: Result<(), Trouble>,
+}
+
+impl Default for Settled {
+    /// An order that nobody gave.
+    fn default() -> Self {
+        Settled {
+            sent: Sent::default(),
+            done: Err(Trouble::Unanswered),
+        }
+    }
+}
+
+/// Takes the outcome of each order in flight whose outcome is known, and stores its result under its ticket. The outcome is
+/// known if the command was answered, and of all orders if the link is lost. Returns these orders with their outcomes,
+/// from 0 to 32; the others stay in flight. The call sends nothing, does not wait and takes no memory.
+#[tactic(auto, using(crate::proofs::StepLemmas::settle_rules))]
+pub fn settle_orders<E: End>(orders: &mut Orders, panel: &mut Panel<E>) -> ArrayVec<Settled, 32>
+    ensures { SettlesOrders orders.old panel.old orders.new panel.new }
+{
+    let mut all = ArrayVec::new();
+    let mut at = 0usize;
+    for _order in 0..orders.in_flight() {
+        match settle_at(orders, panel, at) {
+            Some((sent, done)) => {
+                let _ = all.try_push(Settled { sent, done });
+            }
+            None => at = at.saturating_add(1),
+        }
+    }
+    all
+}
+
+/// Ends all orders if the link is lost or late, and returns whether it is ([`View`](crate::View) says when a link is lost or
+/// late). The orders in flight are then stored as lost (they may have been carried out), and the orders
+/// that wait as not sent. If the link is neither lost nor late, the result is `false`, and nothing is changed. The call
+/// sends nothing and takes no memory.
+pub fn lose_orders<E: End>(orders: &mut Orders, panel: &Panel<E>) -> bool
+    ensures { LosesOrders result panel.now orders.old orders.new }
+{
+    if !panel.finds_lost() {
+        return false;
+    }
+    orders.lose();
+    true
 }

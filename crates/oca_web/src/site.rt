@@ -1,5 +1,5 @@
 //! The service: which requests are let in, and what answers them.
-ghost use Rattle.std.specs.Prelude.{◌≡◌, ◌≢◌, IsTrue};
+ghost use Rattle.std.specs.Prelude.{◌≡◌, ◌≢◌, IfOk, IsTrue};
 ghost use Rattle.http_header.specs.FieldValue.{is_visible_text};
 ghost use Rattle.oca_web.specs.Sites.{last_moment_for};
 
@@ -22,6 +22,9 @@ const WHERE_TO_GO: &str = "open the address that ocapanel printed\n";
 /// What an order is told where none is taken.
 const READ_ONLY: &str = "{\"read_only\":true}";
 
+/// The status of the answer to a request; or memory was refused, and the answer is 503.
+type Answered = Result<StatusCode, AllocError>;
+
 /// The HTTP service over a view, by the rules of the panel. A connection of `http_server` calls it for each request.
 #[derive(Drop)]
 pub struct Site {
@@ -36,7 +39,6 @@ pub struct Site {
 impl Site {
     ghost use Rattle.std.specs.Prelude.{◌≡◌, ◌≢◌, IfOk};
     ghost use Rattle.std.specs.Borrow.{sem};
-    ghost use Rattle.http_server.specs.Response.{IsBlank};
     ghost use Rattle.oca_web.specs.Lending.{LendsView};
     ghost use Rattle.oca_web.specs.Sites.{AnswersOrFails, KeepsOrders, Posts, TakesOrders};
 
@@ -83,18 +85,17 @@ impl Site {
         self.admitted
     }
 
-    /// Answers a request: one that is not let in with its refusal.
-    fn respond(
-        &mut self,
-        request: &Request<Bytes>,
-        response: &mut Response,
-    ) -> Result<(), AllocError>
-        requires { IsBlank response.old }
-        ensures { AnswersOrFails result self.old request.now response.new self.new }
+    /// Answers a request: one that is not let in with its refusal, and one without the token is told where to get it.
+    fn respond(&mut self, request: &Request<Bytes>, response: &mut Response) -> Answered
+        ensures { AnswersOrFails result self.old request.now self.new }
     {
         protect(response)?;
         if let Err(status) = admit(&self.terms, request) {
-            return turn_away(status, response);
+            if status == StatusCode::UNAUTHORIZED {
+                put_field(response, header::CONTENT_TYPE, "text/plain; charset=utf-8")?;
+                response.body.put_slice(WHERE_TO_GO.as_bytes())?;
+            }
+            return Ok(status);
         }
         self.admitted = self.admitted.saturating_add(1);
         let path = request.uri().path();
@@ -105,53 +106,47 @@ impl Site {
     }
 
     /// Answers a request that reads.
-    fn get(
-        &mut self,
-        path: &str,
-        request: &Request<Bytes>,
-        response: &mut Response,
-    ) -> Result<(), AllocError>
-        requires { response.old.status ≡ 200 }
-        ensures { KeepsOrders result self.old response.new self.new }
+    fn get(&mut self, path: &str, request: &Request<Bytes>, response: &mut Response) -> Answered
+        ensures { KeepsOrders result self.old self.new }
     {
         let method = request.method().as_str();
         let reads = method == "GET" || method == "HEAD";
         match path {
             "/" if reads => self.get_page(response),
-            "/tree" if reads => self.get_tree(response),
+            "/tree" if reads => {
+                let text = tree_json(self.alloc, &self.view, &self.terms)?;
+                put_json(StatusCode::OK, text.as_slice(), response)
+            }
             "/values" if reads => self.get_values(request.uri().query(), response),
             "/" | "/tree" | "/values" => forbid_method("GET, HEAD", response),
             "/orders" => forbid_method("POST", response),
-            _ if reads => end_with(StatusCode::NOT_FOUND, response),
+            _ if reads => Ok(StatusCode::NOT_FOUND),
             _ => forbid_method("GET, HEAD", response),
         }
     }
 
-    /// Answers with the page, and gives the token where there is one.
-    fn get_page(&self, response: &mut Response) -> Result<(), AllocError>
-        ensures { response.new.status ≡ response.old.status }
+    /// Answers with the page, and gives the token in a cookie where there is one. Scripts can't read it, and a browser sends
+    /// it only with requests that a page of the same host makes (the port does not count).
+    fn get_page(&self, response: &mut Response) -> Answered
+        ensures { IfOk result (λ status. status ≡ 200) }
     {
         if let Some(key) = self.terms.key.as_ref() {
-            put_cookie(self.alloc, key, response)?;
+            let cookie = key.cookie.as_str();
+            let text = format!(in self.alloc; "{cookie}; HttpOnly; SameSite=Strict; Path=/")?;
+            let value = HeaderValue::from_string(text).map_err(|_| AllocError)?;
+            response.add_header(header::SET_COOKIE, value)?;
         }
         put_field(response, header::CONTENT_TYPE, "text/html; charset=utf-8")?;
         put_field(response, header::CONTENT_SECURITY_POLICY, POLICY)?;
-        response.body.push(Bytes::from_static(PAGE.as_bytes()))
-    }
-
-    /// Answers with the objects.
-    fn get_tree(&self, response: &mut Response) -> Result<(), AllocError>
-        ensures { response.new.status ≡ response.old.status }
-    {
-        let text = tree_json(self.alloc, &self.view, &self.terms)?;
-        put_json(text.as_slice(), response)
+        response.body.push(Bytes::from_static(PAGE.as_bytes()))?;
+        Ok(StatusCode::OK)
     }
 
     /// Answers with what changed, to a page that is open: to one of another run with all.
-    fn get_values(&mut self, query: Option<&str>, response: &mut Response) -> Result<(), AllocError>
+    fn get_values(&mut self, query: Option<&str>, response: &mut Response) -> Answered
         ensures orders { self.new.view.orders ≡ self.old.view.orders }
         ensures terms { self.new.terms ≡ self.old.terms }
-        ensures status { response.new.status ≡ response.old.status }
+        ensures status { IfOk result (λ status. status ≡ 200) }
     {
         let ranges = ranges_in(query);
         for range in ranges.as_slice() {
@@ -170,57 +165,47 @@ impl Site {
             ticket: number_in(known, "told"),
         };
         let text = values_json(self.alloc, &self.view, &told)?;
-        put_json(text.as_slice(), response)
+        put_json(StatusCode::OK, text.as_slice(), response)
     }
 
     /// Whether a query names another run of the program than this one.
     fn is_of_another_run(&self, query: Option<&str>) -> bool {
         let mut digits = Buffer::new();
-        match text_in(query, "run") {
-            Some(run) => run != digits.format(self.terms.run),
-            None => false,
-        }
+        let own = digits.format(self.terms.run);
+        text_in(query, "run").is_some_and(|run| run != own)
     }
 
     /// Answers a request that orders something.
-    fn post(&mut self, path: &str, body: &[u8], response: &mut Response) -> Result<(), AllocError>
-        ensures { Posts path.now body.now result self.old response.new self.new }
+    fn post(&mut self, path: &str, body: &[u8], response: &mut Response) -> Answered
+        ensures { Posts path.now body.now result self.old self.new }
     {
         if self.terms.read_only {
-            response.status = StatusCode::FORBIDDEN;
-            return put_json(READ_ONLY.as_bytes(), response);
+            return put_json(StatusCode::FORBIDDEN, READ_ONLY.as_bytes(), response);
         }
         match path {
             "/orders" => match orders_in(self.alloc, &self.view, self.terms.run, body) {
-                Ok((wanted, given)) => self.take_orders(wanted.as_slice(), given, response),
+                Ok((wanted, given)) => self.order(wanted.as_slice(), given, response),
                 Err(refusal) => put_refusal(self.alloc, refusal, response),
             },
             "/" | "/tree" | "/values" => forbid_method("GET, HEAD", response),
-            _ => end_with(StatusCode::NOT_FOUND, response),
+            _ => Ok(StatusCode::NOT_FOUND),
         }
     }
 
     /// Takes orders, and answers with their tickets. Where memory is refused none is taken.
-    fn take_orders(
-        &mut self,
-        wanted: &[Wanted],
-        given: Option<u64>,
-        response: &mut Response,
-    ) -> Result<(), AllocError>
-        ensures { TakesOrders result wanted.now given self.old response.new self.new }
+    fn order(&mut self, wanted: &[Wanted], given: Option<u64>, response: &mut Response) -> Answered
+        ensures { TakesOrders result wanted.now given self.old self.new }
     {
         if !self.view.has_room(wanted.len()) {
-            return end_with(StatusCode::SERVICE_UNAVAILABLE, response);
+            return Ok(StatusCode::SERVICE_UNAVAILABLE);
         }
         let text = tickets_json(self.alloc, self.view.next_ticket(), wanted.len())?;
-        put_json(text.as_slice(), response)?;
+        let _ = put_json(StatusCode::ACCEPTED, text.as_slice(), response)?;
         let last = last_moment(self.view.moment(), given, self.doubts);
-        if self.view.order_all(wanted, last).is_none() {
-            response.body.clear();
-            return end_with(StatusCode::SERVICE_UNAVAILABLE, response);
+        match self.view.order_all(wanted, last) {
+            Some(_) => Ok(StatusCode::ACCEPTED),
+            None => Ok(StatusCode::SERVICE_UNAVAILABLE),
         }
-        response.status = StatusCode::ACCEPTED;
-        Ok(())
     }
 }
 
@@ -237,9 +222,12 @@ impl Service for Site {
         response: &mut Response,
     ) -> Result<(), AllocError> {
         self.calls = self.calls.saturating_add(1);
-        if self.respond(request, response).is_err() {
-            response.clear();
-            response.status = StatusCode::SERVICE_UNAVAILABLE;
+        match self.respond(request, response) {
+            Ok(status) => response.status = status,
+            Err(_) => {
+                response.clear();
+                response.status = StatusCode::SERVICE_UNAVAILABLE;
+            }
         }
         Ok(())
     }
@@ -259,9 +247,7 @@ fn last_moment(now: u64, given: Option<u64>, doubts: bool) -> u64
 }
 
 /// Puts what every answer asks of the browser: not to cache it, not to guess its type, and to give it to no other page.
-fn protect(response: &mut Response) -> Result<(), AllocError>
-    ensures { response.new.status ≡ response.old.status }
-{
+fn protect(response: &mut Response) -> Result<(), AllocError> {
     put_field(response, header::CACHE_CONTROL, "no-store")?;
     put_field(response, header::X_CONTENT_TYPE_OPTIONS, "nosniff")?;
     put_field(response, header::X_FRAME_OPTIONS, "DENY")?;
@@ -277,48 +263,26 @@ fn put_field(
     value: &'static str,
 ) -> Result<(), AllocError>
     requires { IsTrue (is_visible_text value.now) }
-    ensures { response.new.status ≡ response.old.status }
 {
     response.add_header(name, HeaderValue::from_static(value))
 }
 
-/// Answers with this status alone.
-fn end_with(status: StatusCode, response: &mut Response) -> Result<(), AllocError>
-    ensures { response.new.status ≡ status }
-{
-    response.status = status;
-    Ok(())
-}
-
-/// Refuses a request that is not let in. One without the token is told where to get it.
-fn turn_away(status: StatusCode, response: &mut Response) -> Result<(), AllocError>
-    ensures { response.new.status ≡ status }
-{
-    response.status = status;
-    if status != StatusCode::UNAUTHORIZED {
-        return Ok(());
-    }
-    put_field(response, header::CONTENT_TYPE, "text/plain; charset=utf-8")?;
-    response.body.put_slice(WHERE_TO_GO.as_bytes())
-}
-
 /// Refuses a method, and says which ones there are.
-fn forbid_method(allowed: &'static str, response: &mut Response) -> Result<(), AllocError>
+fn forbid_method(allowed: &'static str, response: &mut Response) -> Answered
     requires { IsTrue (is_visible_text allowed.now) }
-    ensures { response.new.status ≡ 405 }
+    ensures { IfOk result (λ status. status ≡ 405) }
 {
-    response.status = StatusCode::METHOD_NOT_ALLOWED;
-    put_field(response, header::ALLOW, allowed)
+    put_field(response, header::ALLOW, allowed)?;
+    Ok(StatusCode::METHOD_NOT_ALLOWED)
 }
 
 /// The text that a query gives under this name.
 fn text_in<'a>(query: Option<&'a str>, name: &str) -> Option<&'a str> {
-    let query = query?;
-    for part in query.split('&') {
-        if let Some((key, text)) = part.split_once('=') {
-            if key == name {
-                return Some(text);
-            }
+    for part in query?.split('&') {
+        if let Some((key, text)) = part.split_once('=')
+            && key == name
+        {
+            return Some(text);
         }
     }
     None
@@ -326,10 +290,7 @@ fn text_in<'a>(query: Option<&'a str>, name: &str) -> Option<&'a str> {
 
 /// The number that a query gives under this name; 0 where it gives none.
 fn number_in(query: Option<&str>, name: &str) -> u64 {
-    match text_in(query, name) {
-        Some(digits) => digits.parse::<u64>().unwrap_or(0),
-        None => 0,
-    }
+    text_in(query, name).map_or(0, |digits| digits.parse::<u64>().unwrap_or(0))
 }
 
 /// The ranges of places that a page shows, by its query: at most eight, as `0-12,40-8`, or one by its first place and how
@@ -357,37 +318,23 @@ fn place_in(digits: &str) -> usize {
     digits.parse::<u64>().unwrap_or(0).min(65_535) as usize
 }
 
-/// Gives the token in a cookie. Scripts can't read it, and a browser sends it only with requests that a page of the same
-/// host makes (the port does not count).
-fn put_cookie(alloc: Global, key: &Key, response: &mut Response) -> Result<(), AllocError>
-    ensures { response.new.status ≡ response.old.status }
-{
-    let cookie = key.cookie.as_str();
-    let text = format!(in alloc; "{cookie}; HttpOnly; SameSite=Strict; Path=/")?;
-    match HeaderValue::from_string(text) {
-        Ok(value) => response.add_header(header::SET_COOKIE, value),
-        Err(_) => Err(AllocError),
-    }
-}
-
 /// Refuses many orders: where one of them is the reason, its index is said.
-fn put_refusal(alloc: Global, refusal: Refusal, response: &mut Response) -> Result<(), AllocError>
-    ensures { response.new.status ≢ 202 }
+fn put_refusal(alloc: Global, refusal: Refusal, response: &mut Response) -> Answered
+    ensures { IfOk result (λ status. status ≢ 202) }
 {
-    response.status = refusal.wrong.status();
-    match refusal.at {
-        Some(at) => {
-            let text = format!(in alloc; "{{\"at\":{at}}}")?;
-            put_json(text.as_str().as_bytes(), response)
-        }
-        None => Ok(()),
-    }
+    let status = refusal.wrong.status();
+    let Some(at) = refusal.at else {
+        return Ok(status);
+    };
+    let text = format!(in alloc; "{{\"at\":{at}}}")?;
+    put_json(status, text.as_str().as_bytes(), response)
 }
 
-/// Answers with JSON.
-fn put_json(text: &[u8], response: &mut Response) -> Result<(), AllocError>
-    ensures { response.new.status ≡ response.old.status }
+/// Answers with this status and JSON.
+fn put_json(status: StatusCode, text: &[u8], response: &mut Response) -> Answered
+    ensures { IfOk result (λ answered. answered ≡ status) }
 {
     put_field(response, header::CONTENT_TYPE, "application/json")?;
-    response.body.put_slice(text)
+    response.body.put_slice(text)?;
+    Ok(status)
 }

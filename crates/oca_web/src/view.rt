@@ -1,13 +1,10 @@
 //! A view of a device: what is known of it, the orders of the pages, and how its link is.
 ghost use Rattle.std.specs.Prelude.{◌≡◌};
-ghost use Rattle.std.specs.Option.{option_map};
-ghost use Rattle.oca_web.specs.Views.{begins_behind};
 
 use crate::ask::{Question, ask_one};
 use crate::inventory::Inventory;
 use crate::order::{NotDone, Order, Wanted};
-use crate::orders::Orders;
-use crate::turns::{lose_orders, settle_orders, submit_orders};
+use crate::orders::{Orders, lose_orders, settle_orders, submit_orders};
 use oca_model::{Value, value_from_word};
 use oca_net::End;
 use oca_panel::Panel;
@@ -27,7 +24,7 @@ pub struct Reach {
 }
 
 /// The state of the link to the device. Moments are in milliseconds of the program's clock.
-#[derive(Clone, Copy)]
+#[derive(Clone, Copy, Default)]
 pub struct LinkNews {
     /// The present moment.
     pub now: u64,
@@ -83,13 +80,13 @@ pub struct View {
 }
 
 impl View {
-    ghost use Rattle.std.specs.Prelude.{◌≡◌, ◌-◌, IfOk, IfSome, None, Some};
+    ghost use Rattle.std.specs.Prelude.{◌≡◌, ◌-◌, IfOk};
     ghost use Rattle.oca_net.specs.Ends.{one_more};
     ghost use Rattle.oca_web.specs.Bodies.{IsForWord};
     ghost use Rattle.oca_web.specs.Known.{KeepsAsked};
     ghost use Rattle.oca_web.specs.Orders.{AddsAll, EndsUnsent, SubmitsOrders, has_room_for, lost_orders, no_orders};
     ghost use Rattle.oca_web.specs.Views.{AsksQuestions, Continues, RenewsLost, TurnsAndSettles};
-    ghost use Rattle.oca_web.specs.Views.{TurnsPanel, moment_noted, orders_after, stood_still};
+    ghost use Rattle.oca_web.specs.Views.{moment_noted, orders_after, stood_still};
 
     /// Returns a view of the device at this address, of which nothing is known. `span` and `first` are the span and the
     /// first handle of the panel's link. `now` is the present moment of the panel's end, in milliseconds; the program's
@@ -118,11 +115,7 @@ impl View {
             inventory: Inventory::new(alloc, now)?,
             news: LinkNews {
                 now,
-                heard: None,
-                lost_since: None,
-                lost: 0,
-                sent: 0,
-                keep_alives: 0,
+                ..LinkNews::default()
             },
         })
     }
@@ -318,28 +311,20 @@ impl View {
         ensures orders { TurnsAndSettles self.old.orders panel.old self.new.orders panel.new }
         ensures over { self.new.over ≡ self.old.over }
     {
-        self.turn_once(panel);
-        let settled = settle_orders(&mut self.orders, panel);
-        self.inventory.learn_orders(settled.as_slice())?;
-        self.inventory.take_answers(panel)
-    }
-
-    /// Takes a turn, and notes whether the device was heard in it: a link that was never heard tells its own making.
-    fn turn_once<E: End>(&mut self, panel: &mut Panel<E>)
-        ensures turns { TurnsPanel panel.old panel.new }
-        ensures orders { self.new.orders ≡ self.old.orders }
-        ensures over { self.new.over ≡ self.old.over }
-    {
         let before = panel.last_heard();
         let report = panel.turn_with_report();
         let after = panel.last_heard();
         self.news.keep_alives = self.news.keep_alives.saturating_add(report.keep_alives);
         let heard = self.over.ahead.saturating_add(before);
         self.inventory.note_silence(heard, self.news.now);
+        // A link that was never heard tells its own making.
         if after != before {
             self.news.heard = Some(self.over.ahead.saturating_add(after));
             self.news.lost_since = None;
         }
+        let settled = settle_orders(&mut self.orders, panel);
+        self.inventory.learn_orders(settled.as_slice())?;
+        self.inventory.take_answers(panel)
     }
 
     /// Does what must be done after a turn, and sends commands at once. If the link is lost or late, the orders in flight
@@ -360,7 +345,8 @@ impl View {
         self.ask_all(panel)
     }
 
-    /// Where the link is lost or late, all orders are noted as lost, and another link begins, and soon another walk.
+    /// Where the link is lost or late, all orders are noted as lost, and another link begins, and soon another walk: its first
+    /// handle is the view's next one, but no lower than the one that the next command of the old link would get.
     fn renew_lost<E: End>(&mut self, panel: &mut Panel<E>)
         ensures orders { RenewsLost self.old.reach self.old.next_handle self.old.orders panel.old self.new.orders
             panel.new }
@@ -371,8 +357,11 @@ impl View {
         if !lose_orders(&mut self.orders, panel) {
             return;
         }
-        let first = first_behind(self.next_handle, panel.next_handle());
-        panel.renew(self.reach.device, first, self.reach.span);
+        let first = match panel.next_handle() {
+            Some(handle) => handle.0.max(self.next_handle),
+            None => self.next_handle,
+        };
+        panel.renew(self.reach.device, Handle(first), self.reach.span);
         self.news.lost = self.news.lost.saturating_add(1);
         self.news.lost_since = self.news.lost_since.or(Some(self.news.now));
         self.inventory.forget_asked();
@@ -426,7 +415,13 @@ impl View {
         }
         self.ask_for_orders(panel);
         for _ in 0..32u32 {
-            if !self.may_ask() {
+            let next = self.next_handle;
+            let asked = self.inventory.lowest_handle(next);
+            let in_use = next.saturating_sub(self.orders.lowest_handle(asked));
+            if self.inventory.in_flight() >= 32
+                || self.is_spent()
+                || 2 * u64::from(in_use) >= u64::from(self.reach.span.get())
+            {
                 return Ok(());
             }
             let Some(question) = self.inventory.next_question(self.news.now) else {
@@ -451,27 +446,14 @@ impl View {
             let Some(order) = self.orders.waiting_at(at) else {
                 return;
             };
-            if !self.ask_for(panel, &order) {
-                return;
+            let unsure = self.inventory.unsure_of(&order, self.news.now);
+            for question in unsure.as_slice() {
+                let has_room = self.inventory.in_flight() < 32 && !self.is_spent();
+                if !has_room || !self.ask(panel, *question) {
+                    return;
+                }
             }
         }
-    }
-
-    /// Asks what this order is to be submitted for. Returns whether all of it was asked.
-    #[tactic(auto, using(crate::proofs::StepLemmas::question_rules))]
-    fn ask_for<E: End>(&mut self, panel: &mut Panel<E>, order: &Order) -> bool
-        ensures panel { AsksQuestions panel.old panel.new }
-        ensures orders { self.new.orders ≡ self.old.orders }
-        ensures over { self.new.over ≡ self.old.over }
-    {
-        let unsure = self.inventory.unsure_of(order, self.news.now);
-        for question in unsure.as_slice() {
-            let has_room = self.inventory.in_flight() < 32 && !self.is_spent();
-            if !has_room || !self.ask(panel, *question) {
-                return false;
-            }
-        }
-        true
     }
 
     /// Asks one question. Returns whether it was submitted, or is about no object.
@@ -505,33 +487,10 @@ impl View {
         self.inventory.note_asked(handle, question, self.news.now);
     }
 
-    /// Whether a question may be asked now, so that half of the span is left for orders.
-    fn may_ask(&self) -> bool {
-        if self.inventory.in_flight() >= 32 || self.is_spent() {
-            return false;
-        }
-        let next = self.next_handle;
-        let lowest = self
-            .orders
-            .lowest_handle(self.inventory.lowest_handle(next));
-        2 * u64::from(next.saturating_sub(lowest)) < u64::from(self.reach.span.get())
-    }
-
     /// Returns the moment, in milliseconds of the program's clock, from which the next round of reads may begin. The
     /// moment can already be past. What the link has to send is not counted. The result is `None` if no page is open, or
     /// a walk or a round has not ended; a walk or a round goes on when an answer comes.
     pub fn next_moment(&self) -> Option<u64> {
         self.inventory.next_moment(self.news.now)
-    }
-}
-
-/// The first handle of another link: the view's next one, but no lower than the one that the next command of the old
-/// link would get.
-fn first_behind(next: u32, of_link: Option<Handle>) -> Handle
-    ensures { result.0 ≡ begins_behind next (option_map (λ h. h.0) of_link) }
-{
-    match of_link {
-        Some(handle) => Handle(next.max(handle.0)),
-        None => Handle(next),
     }
 }

@@ -1,6 +1,6 @@
 use Rattle.std.proofs.Common.{◌≡◌, length}
 use Rattle.oca_web.specs.Orders.{with_lost}
-use Rattle.oca_web.proofs.orders.Orders.lose_sent.Given as goal
+use Rattle.oca_web.proofs.orders.Orders.lose.Given as goal
 
 abbrev pub invariant-loop-sent : goal.invariant-loop-sent
 invariant-loop-sent l =
