@@ -146,8 +146,9 @@ pub fn ask_one<E: End>(
 ) -> Option<Handle>
     ensures { AsksOne ono.0 class ask result panel.old panel.new }
 {
-    let begun = panel.begin_request(ono, class_for(class), &ask.request());
-    begun.ok()
+    panel
+        .begin_request(ono, class_for(class), &ask.request())
+        .ok()
 }
 
 /// A round begins so many milliseconds after the one before it, at the earliest.
@@ -252,8 +253,7 @@ impl Poll {
         }
     }
 
-    /// Returns whether a page is open at the moment `now`, in milliseconds of the program's clock: it asked for values
-    /// less than 2,500 ms before. The result is `false` at first.
+    /// Returns whether a page is open at the moment `now`: it asked for values less than 2,500 ms before.
     pub fn is_open(&self, now: u64) -> bool {
         self.pages.as_slice().iter().any(|page| page.is_live(now))
     }
@@ -265,8 +265,7 @@ impl Poll {
         })
     }
 
-    /// Ends the present round, if there is one. The next round begins 25 ms after the beginning of the ended round at
-    /// the earliest.
+    /// Ends the present round, if there is one. The next begins 25 ms after its beginning at the earliest.
     pub fn end_round(&mut self) {
         self.at = self.end;
     }

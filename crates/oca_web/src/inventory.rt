@@ -318,10 +318,8 @@ impl Inventory {
         let Some((place, object)) = self.objects.find(order.ono) else {
             return unsure;
         };
-        let block = match self.objects.find(object.container) {
-            Some((place, block)) => Some((place, Ask::Role, block.role_read)),
-            None => None,
-        };
+        let block = self.objects.find(object.container);
+        let block = block.map(|(place, block)| (place, Ask::Role, block.role_read));
         let names = match order.action {
             Action::Set(Value::Switch(_)) => Some((place, Ask::Names, object.names_read)),
             _ => None,
@@ -393,10 +391,7 @@ impl Inventory {
             self.objects.note_refused(place, trouble, moment);
         }
         // BadONo, BadMethod, or an answer of another class: the device has other objects by now.
-        let is_other = matches!(
-            trouble,
-            Trouble::Refused(5) | Trouble::Refused(11) | Trouble::Unreadable
-        );
+        let is_other = matches!(trouble, Trouble::Refused(5 | 11) | Trouble::Unreadable);
         if self.walked && is_other {
             self.is_stale = true;
         } else if let Some(shown) = self.objects.shown(place) {

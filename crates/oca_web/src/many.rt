@@ -2,8 +2,7 @@
 ghost use Rattle.std.specs.Prelude.{◌≡◌, ◌≢◌, IfOk, option_and_then};
 ghost use Rattle.serde_json.specs.Find.{as_str, get};
 ghost use Rattle.serde_json.specs.View.{items_view, view};
-ghost use Rattle.oca_web.specs.Bodies.{AreOrdersIn, AreOrdersOf, AreWanted, IsActionIn, IsGivenAs, IsReadIn, IsWanted};
-ghost use Rattle.oca_web.specs.Bodies.{last_in};
+ghost use Rattle.oca_web.specs.Bodies.{AreOrdersIn, AreOrdersOf, AreWanted, IsActionIn, IsGivenAs, IsWanted, last_in};
 ghost use Rattle.oca_web.specs.Labels.{label_bytes};
 
 use crate::order::{Action, Label, Read, Wanted};
@@ -68,14 +67,13 @@ impl From<Wrong> for Refusal {
 /// The orders of a body, and the last moment at which they may be submitted, where it gives one.
 type Orders = (Vec<Wanted>, Option<u64>);
 
-/// Reads the orders of a body in JSON. The body is an object with `run`, the number of a run of the program
-/// as a text, and `orders`, a list of 1 to 64 orders. It may also have `before`, the last moment in milliseconds of the
-/// program's clock. Each order has the number `ono` of its object, what the page showed of it (its role as `role`, the
-/// role of the block that lists it as `block`, and if a switch is set the name of the position as `name`), and one of
-/// `set` with a word, `label` with a text, `lock` with true and `unlock` with true; if there are several, the first in
-/// this order counts. `known` is what is known of the device, and `run` the number of this run. Returns the orders, and
-/// the last moment at which they may be submitted (`None` if the body gives none). Nothing is ordered yet. A refusal has
-/// the first fault that is found: of the body, and then of the first order that has one.
+/// Reads the orders of a body in JSON. The body is an object with `run`, the number of a run of the program as a text,
+/// and `orders`, a list of 1 to 64 orders. It may also have `before`, the last moment in milliseconds of the program's
+/// clock. Each order has the number `ono` of its object, what the page showed of it (its role as `role`, the role of
+/// the block that lists it as `block`, and if a switch is set the name of the position as `name`), and one of `set`
+/// with a word, `label` with a text, `lock` with true and `unlock` with true; if there are several, the first in this
+/// order counts. `run` is the number of this run. Nothing is ordered yet. A refusal has the first fault that is found:
+/// of the body, and then of the first order that has one.
 pub fn orders_in(alloc: Global, known: &View, run: u64, body: &[u8]) -> Result<Orders, Refusal>
     ensures { IfOk result (λ o. AreOrdersIn run body.now o.0.items o.1) }
 {
@@ -99,10 +97,8 @@ fn orders_of(alloc: Global, known: &View, run: u64, said: &Value) -> Result<Orde
     let Some(orders) = said.get("orders").and_then(Value::as_array) else {
         return Err(Refusal::from(Wrong::Form));
     };
-    match all_wanted(alloc, known, orders.as_slice()) {
-        Ok(wanted) => Ok((wanted, given)),
-        Err(refusal) => Err(refusal),
-    }
+    let wanted = all_wanted(alloc, known, orders.as_slice())?;
+    Ok((wanted, given))
 }
 
 /// The last moment at which an order may be submitted that a body gives, in milliseconds of the program's clock; `None`
@@ -144,7 +140,8 @@ fn all_wanted(alloc: Global, known: &View, orders: &[Value]) -> Result<Vec<Wante
     Ok(all)
 }
 
-/// One order of a body: its object, which is known, what the page showed of it, and its action.
+/// One order of a body: its object, which is known, what the page showed of it (with an empty name of a position where the
+/// order has none), and its action.
 fn wanted_in(known: &View, order: &Value) -> Result<Wanted, Wrong>
     ensures { IfOk result (λ w. IsWanted (view order.now) w) }
 {
@@ -155,29 +152,22 @@ fn wanted_in(known: &View, order: &Value) -> Result<Wanted, Wrong>
         return Err(Wrong::Form);
     };
     let ono = Ono(ono);
-    let read = read_in(order)?;
-    if !known.knows(ono) {
-        return Err(Wrong::Object);
-    }
-    let action = action_in(known, ono, order)?;
-    Ok(Wanted { ono, read, action })
-}
-
-/// What the page showed of the object of an order, with an empty name of a position where the order has none.
-fn read_in(order: &Value) -> Result<Read, Wrong>
-    ensures { IfOk result (λ read. IsReadIn (view order.now) read) }
-{
     let role = text_in(order, "role")?;
     let block = text_in(order, "block")?;
     let position = match order.get("name").and_then(Value::as_str) {
         Some(name) => shown(name)?,
         None => shown("")?,
     };
-    Ok(Read {
+    let read = Read {
         role,
         block,
         position,
-    })
+    };
+    if !known.knows(ono) {
+        return Err(Wrong::Object);
+    }
+    let action = action_in(known, ono, order)?;
+    Ok(Wanted { ono, read, action })
 }
 
 /// The text that an order gives under this name.
@@ -194,10 +184,7 @@ fn text_in(order: &Value, name: &str) -> Result<Label, Wrong>
 fn shown(text: &str) -> Result<Label, Wrong>
     ensures { IfOk result (λ label. label_bytes label ≡ text.now) }
 {
-    match Label::given(text) {
-        Some(label) => Ok(label),
-        None => Err(Wrong::Form),
-    }
+    Label::given(text).ok_or(Wrong::Form)
 }
 
 /// What an order of a body says: the value to which its object is set, its label, or that it is locked or unlocked. The

@@ -508,8 +508,8 @@ pub fn class_name(class: Option<Class>) -> &'static str {
     }
 }
 
-/// Returns whether a text is the name of a class of this profile in the answers to the page: the word of a
-/// class ([`class_word`]). The result is `false` for any other text, also for `unknown`.
+/// Returns whether a text is the word of a class of this profile ([`class_word`]), which is its name in the answers to the
+/// page. The result is `false` for any other text, also for `unknown`.
 pub fn is_class_name(name: &str) -> bool {
     macro_rules! is_word {
         ($($integer:ident $type:ty),*) => {

@@ -2,7 +2,7 @@
 //! submitted once, in time and for the object that its page showed, and what the answers say is noted under their tickets.
 ghost use Rattle.std.specs.Prelude.{◌≡◌, ◌<◌, length, nat_lt, IfSome};
 ghost use Rattle.std.specs.List.{position};
-ghost use Rattle.oca_web.specs.Orders.{LosesOrders, SettlesAt, SettlesOrders, SubmitsFirst, SubmitsOrders, by_ticket};
+ghost use Rattle.oca_web.specs.Orders.{LosesOrders, SettlesAt, SettlesOrders, SubmitsFirst, SubmitsOrders};
 
 use crate::object::{Object, is_all_behind, is_read};
 use crate::order::{
@@ -160,7 +160,7 @@ impl Orders {
         !self.waiting.is_empty()
     }
 
-    /// Keeps how an order ended, by its ticket, and forgets the lowest of 512.
+    /// Keeps how an order ended, before the first result with a greater ticket, and forgets the lowest of 512.
     fn note_result(&mut self, order: Order, done: Result<(), NotDone>)
         ensures { self.new ≡ record self.old { results = with_result self.old.results (result_of order done) } }
     {
@@ -172,7 +172,10 @@ impl Orders {
             ono: order.ono,
             done,
         };
-        put_by_ticket(&mut self.results, result);
+        match place_behind(self.results.as_slice(), order.ticket) {
+            Some(at) => self.results.insert(at, result),
+            None => self.results.push(result),
+        }
     }
 
     /// The order in flight at this place came out so.
@@ -266,23 +269,11 @@ fn place_behind(results: &[OrderResult], ticket: u64) -> Option<usize>
     results.iter().position(|other| ticket < other.ticket)
 }
 
-/// Puts a result before the first with a greater ticket, and else behind all.
-fn put_by_ticket(results: &mut ArrayVec<OrderResult, MOST_RESULTS>, one: OrderResult)
-    requires { length results.old.items < 512 }
-    ensures { results.new.items ≡ by_ticket one results.old.items }
-{
-    match place_behind(results.as_slice(), one.ticket) {
-        Some(at) => results.insert(at, one),
-        None => results.push(one),
-    }
-}
-
 /// Submits the next order of the pages, and returns whether it did. Its command is then sent at once, and the order is in
-/// flight. `known` are the objects of the device. `ahead` is by how many milliseconds the program's clock, in which orders
-/// have their last moments, is ahead of the clock of the panel's end. The result is `false` if no order is ready
-/// ([`Orders::ready`]), its last moment has passed, its object is not the one that its page showed, the device did not say
-/// so within the last 2,000 ms when it was asked behind the order, or the link refuses the command; then nothing is changed
-/// or sent. A device asked *behind* an order was asked at most 5,000 ms before the order's last moment.
+/// flight. `known` are the objects of the device, and the program's clock is `ahead` milliseconds ahead of the clock of the
+/// panel's end. The result is `false` if no order is ready ([`Orders::ready`]), its last moment has passed, its object is not
+/// the one that its page showed, the device did not say so within the last 2,000 ms when it was asked behind the order (at
+/// most 5,000 ms before the order's last moment), or the link refuses the command; then nothing is changed or sent.
 pub fn submit_first<E: End>(
     orders: &mut Orders,
     known: &[Object],
@@ -328,10 +319,9 @@ pub fn submit_orders<E: End>(
     }
 }
 
-/// Takes the outcome of one order in flight, and stores its result under its ticket. `at` is the index of
-/// the order among those in flight, counted from 0. Returns the order and its outcome; the order is then no longer in
-/// flight. The result is `None` if the outcome is not known yet, or there is no order at `at`; then nothing is changed.
-/// The call sends nothing and does not wait.
+/// Takes the outcome of the order at index `at` of those in flight, and stores its result under its ticket. Returns the order,
+/// which is then no longer in flight, and its outcome. The result is `None` if the outcome is not known yet, or there is no
+/// such order; then nothing is changed. The call sends nothing and does not wait.
 pub fn settle_at<E: End>(
     orders: &mut Orders,
     panel: &mut Panel<E>,
@@ -385,10 +375,9 @@ pub fn settle_orders<E: End>(orders: &mut Orders, panel: &mut Panel<E>) -> Array
     all
 }
 
-/// Ends all orders if the link is lost or late, and returns whether it is ([`View`](crate::View) says when a link is lost or
-/// late). The orders in flight are then stored as lost (they may have been carried out), and the orders
-/// that wait as not sent. If the link is neither lost nor late, the result is `false`, and nothing is changed. The call
-/// sends nothing and takes no memory.
+/// Ends all orders if the link is lost or late ([`View`](crate::View)), and returns whether it is. The orders in flight are
+/// then stored as lost (they may have been carried out), and the orders that wait as not sent; otherwise nothing is changed.
+/// The call sends nothing and takes no memory.
 pub fn lose_orders<E: End>(orders: &mut Orders, panel: &Panel<E>) -> bool
     ensures { LosesOrders result panel.now orders.old orders.new }
 {

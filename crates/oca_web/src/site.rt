@@ -152,10 +152,11 @@ impl Site {
         for range in ranges.as_slice() {
             self.view.open(range.first, range.count);
         }
-        let known = if self.is_of_another_run(query) {
-            None
-        } else {
-            query
+        let mut digits = Buffer::new();
+        let own = digits.format(self.terms.run);
+        let known = match text_in(query, "run") {
+            Some(run) if run != own => None,
+            _ => query,
         };
         let told = Told {
             ranges: ranges.as_slice(),
@@ -166,13 +167,6 @@ impl Site {
         };
         let text = values_json(self.alloc, &self.view, &told)?;
         put_json(StatusCode::OK, text.as_slice(), response)
-    }
-
-    /// Whether a query names another run of the program than this one.
-    fn is_of_another_run(&self, query: Option<&str>) -> bool {
-        let mut digits = Buffer::new();
-        let own = digits.format(self.terms.run);
-        text_in(query, "run").is_some_and(|run| run != own)
     }
 
     /// Answers a request that orders something.

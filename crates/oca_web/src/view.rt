@@ -487,9 +487,8 @@ impl View {
         self.inventory.note_asked(handle, question, self.news.now);
     }
 
-    /// Returns the moment, in milliseconds of the program's clock, from which the next round of reads may begin. The
-    /// moment can already be past. What the link has to send is not counted. The result is `None` if no page is open, or
-    /// a walk or a round has not ended; a walk or a round goes on when an answer comes.
+    /// Returns the moment of the program's clock from which the next round of reads may begin, which can already be past.
+    /// The result is `None` if no page is open, or a walk or a round has not ended: it goes on when an answer comes.
     pub fn next_moment(&self) -> Option<u64> {
         self.inventory.next_moment(self.news.now)
     }
