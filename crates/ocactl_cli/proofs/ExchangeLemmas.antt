@@ -1,6 +1,6 @@
 -- The outcomes of commands, and their text.
 use Rattle.std.proofs.Common.{◌≡◌, ◌⊎◌, Bool, ℕ, ◌+◌, ◌-◌, ◌<◌, ◌≤◌, true, false, List, [], ◌∷◌, ◌++◌, length, Result, Ok, Err, refl, sym, ap, ◌∙◌, subst, arith, append-nil, append_assoc, inl, inr}
-use Rattle.std.specs.Prelude.{IfSome, OnOk, ℤ, Option, Some, None, map, ◌==◌, ◌||◌, if◌then◌else◌}
+use Rattle.std.specs.Prelude.{IfSome, OnOk, ℤ, Option, Some, None, map, ◌==◌, ◌||◌}
 use Rattle.std.proofs.lemmas.Bool.{ne_eqb}
 use Rattle.std.specs.Option.{option_map}
 use Rattle.std.proofs.lemmas.List.{map-append, length-map}
@@ -18,8 +18,6 @@ use Rattle.oca_control.specs.declared.fault.ControlFault.{ControlFault}
 use Rattle.oca_control.specs.declared.fault.ControlFault.TheVariants.{Lost}
 use Rattle.oca_control.specs.declared.outcome.Outcome.{Outcome}
 use Rattle.oca_control.specs.declared.outcome.Outcome.TheVariants as outcomes
-use Rattle.oca_panel.specs.declared.trouble.Trouble.TheVariants as trouble
-use Rattle.oca_panel.specs.Outcomes.{done_or_trouble}
 use Rattle.oca_panel.specs.Panels.{PanelState, BeginsIn, is_lost_or_unanswered}
 use Rattle.oca_panel.specs.Renewals.{IsRenewed}
 use Rattle.oca_panel.specs.InFlight.{BeginsBehind, BeginsUnless, FinishesFirst, FirstIsUnknown, SettlesFirst, put_behind}
@@ -30,7 +28,7 @@ use Rattle.oca_control.specs.Links.{LinkState}
 use Rattle.oca_control.specs.Asking.{refused_by, Begins, Waits, ReceivesSoOften, IsPresent}
 use Rattle.oca_control.specs.Waiting.{ReceivesInAWait, WaitsWhile}
 use Rattle.ocactl_cli.specs.Requests.{LineAsked, Send, asked_line}
-use Rattle.ocactl_cli.specs.Exchanges.{SessionState, AwaitsLine, SendsLines, FirstIsOpen, TakesOne, Idles, IdledNot, OneTurned, OnePrinted, AwaitsFirst, Awaits, NoneAwaited, OneAwaited, AwaitsUntil, DoesLine, DoesTakenUp, SubmitsCommand, Refuses, Concludes, FinishesUnless, is_write_failure, ended_by, line_wait, outcome_line, outcome_status, TakesUp, IsSameBeside, MayRenewLink, RenewsPanel, IsFoundLostNow, done_status, since}
+use Rattle.ocactl_cli.specs.Exchanges.{SessionState, AwaitsLine, SendsLines, FirstIsOpen, TakesOne, Idles, IdledNot, OneTurned, OnePrinted, AwaitsFirst, Awaits, NoneAwaited, OneAwaited, AwaitsUntil, DoesLine, DoesTakenUp, SubmitsCommand, Refuses, Concludes, FinishesUnless, is_write_failure, ended_by, line_wait, outcome_line, TakesUp, IsSameBeside, MayRenewLink, RenewsPanel, IsFoundLostNow, since}
 use Rattle.ocactl_cli.specs.PrivateExchanges.{PrintsUnlessFailed, AndPrints, SendsOrRefuses, Submitted, TakesFirst}
 
 -- ---- printing, unless a write has failed
@@ -187,23 +185,6 @@ came-late request f queue p ahead refused socket is_open at_hand before now e pr
     subst (Refuses request f) e
     (inl (record { now = now; present = present; late = late; counts = counts }))
 
--- an answer came
-answer-came : (b : Bool) (params : List ℕ) (status : ℕ) → false ≡ (done_status (done_or_trouble (if b then Ok params else Err (trouble.Refused status))) == 3)
-answer-came true params status = refl
-answer-came false params status = refl
-
--- no answer came, where one was waited for
-none-came : (h n : ℕ) (l k : LinkState) (o : Outcome) (d e : EndState) → WaitsWhile h n l o k d e → is_lost_or_unanswered o ≡ (outcome_status o == 3)
-none-came h n l k (outcomes.Answered a) d e w = answer-came (a.status == 0) a.params.items a.status
-none-came h n l k (outcomes.Refused fault) d e w = absurd w.waits
-none-came h n l k other d e w = refl
-
--- nor where it was known
-none-known : (h : ℕ) (l k : LinkState) (o : Outcome) (d e : EndState) → Waits h 0 l o k d e → is_lost_or_unanswered o ≡ (outcome_status o == 3)
-none-known h l k (outcomes.Answered a) d e w = answer-came (a.status == 0) a.params.items a.status
-none-known h l k (outcomes.Refused fault) d e w = absurd w
-none-known h l k other d e w = refl
-
 -- nothing was received where it was known
 asks-none : (h : ℕ) (o : Outcome) (l k : LinkState) (d e : EndState) → Waits h 0 l o k d e → ReceivesInAWait d.receives e.receives
 asks-none h o l k d e w = λ below. by o (waits_asked h 0 l k d e o w below)
@@ -214,20 +195,20 @@ asks-none h o l k d e w = λ below. by o (waits_asked h 0 l k d e o w below)
     by outcomes.Lost r = omega (arith, r)
     by outcomes.Unanswered r = omega (arith, r)
 
-none-so-far : (refused was now lost three : Bool) → now ≡ (was || lost) → lost ≡ three → (refused || now) ≡ ((refused || was) || three)
-none-so-far true was now lost three e f = refl
-none-so-far false was now lost three e f = e ∙ ap (λ (x : Bool). was || x) f
+none-so-far : (refused was now lost : Bool) → now ≡ (was || lost) → (refused || now) ≡ ((refused || was) || lost)
+none-so-far true was now lost e = refl
+none-so-far false was now lost e = e
 
 awaited-one : (h : ℕ) (o : Outcome) (queue rest : List (ℕ × Unit {0})) (old new : PanelState) (ahead : ℕ) (refused : Bool) (socket : Option ℤ) (is_open : Bool) (at_hand : Option ℕ)
     → queue ≡ (h, tt) ∷ rest → WaitsWhile h line_wait old.link o new.link old.end_state new.end_state ⊎ Waits h 0 old.link o new.link old.end_state new.end_state
-    → ReceivesInAWait old.end_state.receives new.end_state.receives → is_lost_or_unanswered o ≡ (outcome_status o == 3) → new.unanswered ≡ (old.unanswered || is_lost_or_unanswered o)
+    → ReceivesInAWait old.end_state.receives new.end_state.receives → new.unanswered ≡ (old.unanswered || is_lost_or_unanswered o)
     → AwaitsFirst (session_of old queue ahead refused socket is_open at_hand) (session_of new rest ahead refused socket is_open at_hand) o
-awaited-one h o queue rest old new ahead refused socket is_open at_hand first waits asks none unanswered = record {
+awaited-one h o queue rest old new ahead refused socket is_open at_hand first waits asks unanswered = record {
   handle = h;
   first = ap (map (λ (c : ℕ × Unit {0}). c.0)) first;
   waits = waits;
   asks = asks;
-  unanswered = none-so-far refused old.unanswered new.unanswered (is_lost_or_unanswered o) (outcome_status o == 3) unanswered none;
+  unanswered = none-so-far refused old.unanswered new.unanswered (is_lost_or_unanswered o) unanswered;
   same = refl;
 }
 
@@ -239,7 +220,7 @@ first-awaited came queue rest old new ahead refused socket is_open at_hand befor
     subst (λ (n : ℕ). WaitsWhile h.0 n old.link came.1 new.link old.end_state new.end_state) time h.2.waits in
     subst (λ (x : SessionState). AwaitsFirst x (session_of new rest ahead refused socket is_open at_hand) came.1) e
     (awaited-one h.0 came.1 queue rest old new ahead refused socket is_open at_hand h.1 (inl waits)
-    (received_in_wait h.0 _ old.link new.link old.end_state new.end_state came.1 waits.waits) (none-came h.0 line_wait old.link new.link came.1 old.end_state new.end_state waits) h.2.unanswered)
+    (received_in_wait h.0 _ old.link new.link old.end_state new.end_state came.1 waits.waits) h.2.unanswered)
 
 pub first-settled : (came : Unit {0} × Outcome) (queue rest : List (ℕ × Unit {0})) (old new : PanelState) (ahead : ℕ) (refused : Bool) (socket : Option ℤ) (is_open : Bool) (at_hand : Option ℕ) (before : SessionState)
     → session_of old queue ahead refused socket is_open at_hand ≡ before → SettlesFirst (Some came) queue rest old new
@@ -247,7 +228,7 @@ pub first-settled : (came : Unit {0} × Outcome) (queue rest : List (ℕ × Unit
 first-settled came queue rest old new ahead refused socket is_open at_hand before e h =
     subst (λ (x : SessionState). AwaitsFirst x (session_of new rest ahead refused socket is_open at_hand) came.1) e
     (awaited-one h.0 came.1 queue rest old new ahead refused socket is_open at_hand h.1 (inr h.2.waits)
-    (asks-none h.0 came.1 old.link new.link old.end_state new.end_state h.2.waits) (none-known h.0 old.link new.link came.1 old.end_state new.end_state h.2.waits) h.2.unanswered)
+    (asks-none h.0 came.1 old.link new.link old.end_state new.end_state h.2.waits) h.2.unanswered)
 
 -- it is not known how the first came out
 pub first-unknown : (queue rest : List (ℕ × Unit {0})) (old new : PanelState) (ahead : ℕ) (refused : Bool) (socket : Option ℤ) (is_open : Bool) (at_hand : Option ℕ) (before : SessionState)

@@ -1,5 +1,5 @@
 -- The outcomes of commands that are sent over a network, one or those of lines.
-use Rattle.std.specs.Prelude.{IfSome, MatchOption, Option, ◌≡◌, ◌⊎◌, ℕ, ℤ, ◌+◌, ◌-◌, ◌<◌, ◌≤◌, ◌==◌, Bool, ◌||◌, ◌&&◌, not, min}
+use Rattle.std.specs.Prelude.{IfSome, Option, ◌≡◌, ◌⊎◌, ℕ, ℤ, ◌+◌, ◌-◌, ◌<◌, ◌≤◌, Bool, ◌||◌}
 use Rattle.std.specs.Prelude.{true, false, Some, None, List, [], ◌∷◌, ◌++◌, length, codes, Result, Ok}
 use Rattle.std.specs.Prelude.{Err, unwrap_or}
 use Rattle.oca_types.specs.declared.words.Handle.{Handle}
@@ -24,11 +24,8 @@ use Rattle.oca_script.specs.declared.fault.WriteFailed.{WriteFailed}
 use Rattle.oca_script.specs.Ends.{Input, Output}
 use Rattle.oca_script.specs.Printing.{WritesOut}
 use Rattle.oca_script.specs.Replaying.{Replays, Outcome as ReadsLines}
-use Rattle.oca_panel.specs.Outcomes.{done_answered}
-use Rattle.oca_panel.specs.Panels.{PanelState}
+use Rattle.oca_panel.specs.Panels.{PanelState, is_lost_or_unanswered}
 use Rattle.oca_panel.specs.Renewals.{IsFoundLost, IsRenewed}
-use Rattle.oca_panel.specs.declared.trouble.Trouble.{Trouble}
-use Rattle.oca_panel.specs.declared.trouble.Trouble.TheVariants as trouble
 use Rattle.ocactl_cli.specs.Requests.{LineAsked, Send, Wait, asked_line}
 use Rattle.ocactl_replay.specs.Printing.{answer_text, refusal_text}
 
@@ -38,21 +35,6 @@ outcome_line (outcomes.Answered a) = answer_text (answer_fields a)
 outcome_line (outcomes.Refused fault) = refusal_text fault
 outcome_line outcomes.Lost = codes "lost\n"
 outcome_line outcomes.Unanswered = codes "no answer\n"
-
--- the exit status: 0 for an answer with the status 0, 4 for another, 3 where there is none
-abbrev pub trouble_status : Trouble → ℕ
-trouble_status (trouble.Refused status) = 4
-trouble_status trouble.Unreadable = 4
-trouble_status trouble.NoValue = 4
-trouble_status trouble.NoSuchWord = 2
-trouble_status no_answer = 3
-
-abbrev pub done_status : Result Unit Trouble → ℕ
-done_status (Ok u) = 0
-done_status (Err why) = trouble_status why
-
-abbrev pub outcome_status : Outcome → ℕ
-outcome_status outcome = done_status (done_answered outcome)
 
 -- ---- commands of lines
 
@@ -91,7 +73,7 @@ pub record AwaitsFirst (old new : SessionState) (outcome : Outcome) : Type 0 whe
   pub waits : WaitsWhile handle line_wait old.link outcome new.link old.end_state new.end_state
       ⊎ Waits handle 0 old.link outcome new.link old.end_state new.end_state
   pub asks : ReceivesInAWait old.end_state.receives new.end_state.receives
-  pub unanswered : new.unanswered ≡ (old.unanswered || outcome_status outcome == 3)
+  pub unanswered : new.unanswered ≡ (old.unanswered || is_lost_or_unanswered outcome)
   pub same : new ≡ record old {
     link = new.link;
     end_state = new.end_state;
