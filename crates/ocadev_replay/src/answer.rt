@@ -49,7 +49,9 @@ fn print_packet<W: Sink>(packet: &[u8], printer: &mut Printer<W>) -> Result<(), 
     ensures { Prints result printer.old printer.new (line_text packet.now) }
 {
     printer.make_room(PACKET_ROOM)?;
-    put_packet(printer, packet);
+    printer.put(b"> ");
+    printer.put_hex(packet);
+    printer.put(b"\n");
     Ok(())
 }
 
@@ -95,15 +97,4 @@ fn put_reused<W: Sink>(printer: &mut Printer<W>, reused: u32)
         printer.put(b" reused ");
         printer.put_number(reused as u64);
     }
-}
-
-/// Holds the line of a packet.
-fn put_packet<W: Sink>(printer: &mut Printer<W>, packet: &[u8])
-    requires few { length packet.now ≤ largest_datagram }
-    requires room { length printer.old.held + 2960 ≤ 8192 }
-    ensures { printer.new ≡ output printer.old.contents (printer.old.held ++ line_text packet.now) printer.old.failed }
-{
-    printer.put(b"> ");
-    printer.put_hex(packet);
-    printer.put(b"\n");
 }

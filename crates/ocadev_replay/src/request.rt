@@ -1,7 +1,6 @@
 //! What a line of a script asks the device for.
-ghost use Rattle.std.specs.Prelude.{◌≡◌, ℕ, ◌≤◌, ◌*◌, IfSome, length, None, Err};
-ghost use Rattle.oca_types.specs.declared.words.Peer.{Peer as PeerFields};
-ghost use Rattle.oca_script.specs.Fields.{fields, hex_of};
+ghost use Rattle.std.specs.Prelude.{◌≡◌, ◌≤◌, ◌*◌, IfSome, length};
+ghost use Rattle.oca_script.specs.Fields.{fields};
 ghost use Rattle.oca_script.specs.Script.{longest_line};
 ghost use Rattle.ocadev_replay.specs.Requests.{is_quiet as quiet_word, tick_of, datagram_of, asked_event};
 ghost use Rattle.ocadev_replay.specs.PrivateRequests.{AreFields, FieldsWithin, begun, moment_and_peer_of};
@@ -96,25 +95,13 @@ fn moment_and_peer(line: &[u8]) -> Option<(u64, Peer, &[u8])>
     Some((now, from, rest))
 }
 
-/// The fault of what follows the peer, where that is not one field of bytes. Bytes that can be read are one field, so only
-/// a line with a fault is searched for a space.
-#[tactic(auto, using(crate::proofs::RequestLemmas::left_rules))]
-fn fault_after_peer(rest: &[u8]) -> LineFault
-    requires { hex_of rest.now ≡ None }
-    ensures { (now : ℕ) (from : PeerFields) → datagram_after now from (fields rest.now) ≡ Err result }
-{
-    match split_at_byte(rest, b' ') {
-        Some(_) => LineFault::Form,
-        None => LineFault::Hex,
-    }
-}
-
 /// Reads what a line of a device's script asks for, in one pass where it is a datagram: `N P HEX` is a datagram of the peer P at the moment N, and `N
 /// quiet` a reading of the clock. Moments are in milliseconds. The line has at most 4,096 bytes (a premise, which the
 /// caller must prove). The bytes of a datagram are written to the front of `room`, and the result refers to them. The
 /// call takes no memory. Refusals, the first that applies; discard what `room` contains then:
 /// - `Form` if the line does not have these fields.
 /// - `Moment`, `Peer` or `Hex` for the first field, from the left, that does not have its form.
+#[tactic(auto, using(crate::proofs::RequestLemmas::left_rules))]
 pub fn asked_by<'a>(
     line: &[u8],
     room: &'a mut [u8; DATAGRAM_ROOM],
@@ -125,7 +112,11 @@ pub fn asked_by<'a>(
     match moment_and_peer(line) {
         Some((now, from, rest)) => match hex_bytes(rest, room) {
             Some(bytes) => Ok(ScriptEvent::Datagram { now, from, bytes }),
-            None => Err(fault_after_peer(rest)),
+            // Bytes that can be read are one field, so only a line with a fault is searched for a space.
+            None => match split_at_byte(rest, b' ') {
+                Some(_) => Err(LineFault::Form),
+                None => Err(LineFault::Hex),
+            },
         },
         None => asked_by_fields(line, room),
     }
