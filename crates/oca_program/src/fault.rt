@@ -96,8 +96,8 @@ pub fn report<F: Sink>(failure: &Failure, faults: &mut Printer<F>) -> u8 {
     failure.fault.status()
 }
 
-/// Prints to `faults` a line `note: ` with the first line of the text, and writes all that waits in the printer. If that
-/// first line has more than 1,000 bytes, it is not printed. A failed write is ignored. The call takes no memory.
+/// Prints to `faults` a line `note: ` with the first line of the text, and writes all that waits in the printer. If
+/// that first line has more than 1,000 bytes, it is not printed. A failed write is ignored. The call takes no memory.
 pub fn print_note<F: Sink>(note: &str, faults: &mut Printer<F>) {
     if write_note(note, faults).is_ok() {
         let _ = faults.flush();

@@ -133,9 +133,9 @@ pub(crate) fn own(text: &[u8]) -> Option<u32> {
 const MOST_SHOWN: usize = 200;
 
 /// Checks the values of the options `rows` in the command line `words`: each that is given must have the form of its
-/// option. The only failure is `BadWords`, if a value does not have its form. The note of the failure names the first such
-/// option in the order of `rows`, its value if that has at most 200 bytes, and the form. There is no note if memory for
-/// it was refused.
+/// option. The only failure is `BadWords`, if a value does not have its form. The note of the failure names the first
+/// such option in the order of `rows`, its value if that has at most 200 bytes, and the form. There is no note if
+/// memory for it was refused.
 pub fn check(alloc: Global, words: &ArgMatches<'_>, rows: &[OptionRow]) -> Result<(), Failure> {
     for row in rows {
         let (name, form) = (row.name, row.form);

@@ -1,8 +1,8 @@
 //! What the programs over the two ends have in common: why a run fails, with its exit status and what is printed of it,
 //! and the words of a command line.
 //!
-//! A program's `main` takes its words by [`words_of`], and prints a [`Failure`] by [`report`]. [`table`] has the rows of
-//! a command line; [`options`] reads the values of the options that `clap` has found; [`run`] begins and ends a run;
+//! A program's `main` takes its words by [`words_of`], and prints a [`Failure`] by [`report`]. [`table`] has the rows
+//! of a command line; [`options`] reads the values of the options that `clap` has found; [`run`] begins and ends a run;
 //! [`socket`] binds an end.
 #![tactic(auto)]
 

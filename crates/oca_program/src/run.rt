@@ -30,8 +30,8 @@ pub fn status_of<F: Sink>(ended: Result<u8, Failure>, faults: &mut Printer<F>) -
     }
 }
 
-/// Returns how a run ends that only had to replay a script: the exit status 0 if the script was replayed to its end, and
-/// otherwise the failure of the same name as the fault.
+/// Returns how a run ends that only had to replay a script: the exit status 0 if the script was replayed to its end,
+/// and otherwise the failure of the same name as the fault.
 pub fn replayed(done: Result<(), ReplayFault>) -> Result<u8, Failure> {
     done?;
     Ok(0)

@@ -24,9 +24,9 @@ pub fn bind<N: Net + Clock>(
     UdpEnd::bind_with_reason(alloc, system, ip, port).map_err(|error| unreached(alloc, &error, 0))
 }
 
-/// Why a run fails that got no socket at the port `port`, as `error` says: `NoMemory` if memory was refused,
-/// to the program or by the system, else `Socket`. The note has the system's reason, after the port if that is not 0, if
-/// there is a reason and memory for the note.
+/// Why a run fails that got no socket at the port `port`, as `error` says: `NoMemory` if memory was refused, to the
+/// program or by the system, else `Socket`. The note has the system's reason, after the port if that is not 0, if there
+/// is a reason and memory for the note.
 pub fn unreached(alloc: Global, error: &BindError, port: u16) -> Failure {
     let BindError::Io(reason) = error else {
         return Failure::from(RunFault::NoMemory);
@@ -58,8 +58,8 @@ pub fn note_other_port<F: Sink>(
     print_made_note(note, faults);
 }
 
-/// Prints to `faults` the note of how many sends failed (`failed`), and why the last of them did, unless `last` is `None`
-/// ([`print_made_note`]).
+/// Prints to `faults` the note of how many sends failed (`failed`), and why the last of them did, unless `last` is
+/// `None` ([`print_made_note`]).
 pub fn note_failed_sends<F: Sink>(
     alloc: Global,
     failed: u64,

@@ -69,7 +69,8 @@ abbrev pub is_query : (wanted : List ℕ) → Option (List ℕ) → Bool
 is_query wanted None = false
 is_query wanted (Some query) = bytes_eq query wanted
 
--- whether the token is brought: in the panel's own cookie, within the first 4,096 bytes of the field; and where the page is asked for, also in the query
+-- whether the token is brought: in the panel's own cookie, within the first 4,096 bytes of the field; and where the
+-- page is asked for, also in the query
 abbrev pub brings : Key → (path : List ℕ) → (query : Option (List ℕ)) → (cookies : List ℕ) → Bool
 brings key path query cookies = has_pair (string_bytes key.cookie) (take 4096 cookies)
     || (bytes_eq path (codes "/") && is_query (string_bytes key.query) query)
@@ -104,8 +105,9 @@ is_own_post names r = not (is_post r)
 abbrev pub is_json : Request (List ℕ) → Bool
 is_json r = not (is_post r) || bytes_eq (codes "application/json") (one_field (head_of r).headers (codes "content-type"))
 
--- WHETHER A REQUEST IS LET IN: it names no host in its address, and one of the panel's own in its field, brings the token
--- where there is one, and no page of another origin makes it; a POST is made by a page of that very host, and has JSON.
+-- WHETHER A REQUEST IS LET IN: it names no host in its address, and one of the panel's own in its field, brings the
+-- token where there is one, and no page of another origin makes it; a POST is made by a page of that very host, and has
+-- JSON.
 abbrev pub admits_request : Terms → Request (List ℕ) → Bool
 admits_request t r = not (is_for_proxy r) && has_host t.names.items (one_field (head_of r).headers (codes "host"))
     && request_opens t.key r && not (is_foreign r) && is_own_post t.names.items r && is_json r

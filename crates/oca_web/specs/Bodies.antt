@@ -85,8 +85,8 @@ pub record AreOrdersOf (run : ℕ) (parsed : Data) (ws : List Wanted) (given : O
   pub orders : AreWanted items ws
   pub last : given ≡ last_in parsed
 
--- THE ORDERS ARE THOSE THAT THE BODY SAYS, all of them in their order, with the last moment that it gives, where it gives
--- one; it names this very run.
+-- THE ORDERS ARE THOSE THAT THE BODY SAYS, all of them in their order, with the last moment that it gives, where it
+-- gives one; it names this very run.
 pub record AreOrdersIn (run : ℕ) (body : List ℕ) (ws : List Wanted) (given : Option ℕ) : Type 0 where
   pub parsed : Data
   pub text : read body ≡ Some parsed

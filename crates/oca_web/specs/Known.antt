@@ -51,8 +51,8 @@ names_object order objects None = false
 names_object order objects (Some o) = bytes_eq o.role (label_bytes order.read.role)
     && names_block order.read.block (object_numbered o.container.0 objects) && names_position order o
 
--- AN ORDER IS FOR THE OBJECT THAT THE PAGE SHOWED, as far as is known: the object of its number has the role, is in a block
--- of the role, and its position has the name that the page showed.
+-- AN ORDER IS FOR THE OBJECT THAT THE PAGE SHOWED, as far as is known: the object of its number has the role, is in a
+-- block of the role, and its position has the name that the page showed.
 abbrev pub names_it : Order → List Object → Bool
 names_it order objects = names_object order objects (object_numbered order.ono.0 objects)
 
@@ -74,8 +74,8 @@ is_object_read now order objects None = false
 is_object_read now order objects (Some o) = is_fresh now o.role_read && is_block_read now (object_numbered o.container.0 objects)
     && is_position_read now order o
 
--- THE DEVICE SAID SO at most 2,000 ms ago: of the role of the object, of that of its block, and where a switch is set of the
--- names of its positions.
+-- THE DEVICE SAID SO at most 2,000 ms ago: of the role of the object, of that of its block, and where a switch is set
+-- of the names of its positions.
 abbrev pub is_read : (now : ℕ) → Order → List Object → Bool
 is_read now order objects = names_it order objects && is_object_read now order objects (object_numbered order.ono.0 objects)
 

@@ -63,8 +63,8 @@ AsksOrdered (actions.Rename label) request = (text : List ℕ) × (request ≡ r
 
 -- ---- an order comes
 
--- ONE ORDER WAS ADDED, behind all others, with the moment after which it must not be submitted, and a ticket of its own:
--- one more than that of the order before it.
+-- ONE ORDER WAS ADDED, behind all others, with the moment after which it must not be submitted, and a ticket of its
+-- own: one more than that of the order before it.
 abbrev pub order_added : Wanted → ℕ → OrdersState → Order
 order_added w last s = record { ticket = s.tickets + 1; ono = w.ono; read = w.read; action = w.action; last = last }
 
@@ -83,8 +83,8 @@ with_all (w ∷ ws) last s = with_all ws last (with_order w last s)
 abbrev pub has_room_for : ℕ → OrdersState → Bool
 has_room_for n s = nat_le (length s.waiting + n) 256 && nat_lt (s.tickets + n) last_u64
 
--- Where there was room for all of them they were, and this is the ticket of the first; the others have those that follow.
--- Where there was not, none was.
+-- Where there was room for all of them they were, and this is the ticket of the first; the others have those that
+-- follow. Where there was not, none was.
 abbrev pub AddsAll : List Wanted → ℕ → OrdersState → Option ℕ → OrdersState → Type 0
 AddsAll ws last old (Some first) new = (has_room_for (length ws) old ≡ true) × (first ≡ old.tickets + 1)
     × (new ≡ with_all ws last old)

@@ -60,9 +60,9 @@ abbrev pub KeepsOrders : Result ℕ AllocError → Site → Site → Type 0
 KeepsOrders (Ok code) old new = AddsNone old code new
 KeepsOrders (Err e) old new = KeepsAll old new
 
--- A POST THAT IS LET IN adds all orders of its body, each for the object that the page showed, and is answered 202; or it is
--- refused with another status, and adds none. A body that names another run of the program adds none, and nor does any
--- where the site is one for reading alone.
+-- A POST THAT IS LET IN adds all orders of its body, each for the object that the page showed, and is answered 202; or
+-- it is refused with another status, and adds none. A body that names another run of the program adds none, and nor
+-- does any where the site is one for reading alone.
 pub record Orders (old : Site) (request : Request (List ℕ)) (code : ℕ) (new : Site) : Type 0 where
   pub let_in : admits_request old.terms request ≡ true
   pub post : is_post request ≡ true

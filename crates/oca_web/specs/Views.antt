@@ -20,8 +20,8 @@ use Rattle.oca_web.specs.Orders.{OrdersState, EndsUnsent, LosesOrders, SettlesOr
 abbrev pub moment_noted : (ahead moment before : ℕ) → ℕ
 moment_noted ahead moment before = max before (min (ahead + moment) last_u64)
 
--- THE PROGRAM STOOD STILL where more than 2,000 ms passed since it looked at its clock before: nobody knows how long what
--- waits has done so.
+-- THE PROGRAM STOOD STILL where more than 2,000 ms passed since it looked at its clock before: nobody knows how long
+-- what waits has done so.
 abbrev pub stood_still : ℕ → ℕ → Bool
 stood_still before now = nat_lt 2000 (now - before)
 
@@ -60,8 +60,8 @@ pub data AsksQuestions : PanelState → PanelState → Type 0 where
   OneAsked : {p q r : PanelState} (ono : ℕ) (of : Option Class) (ask : Ask) (handle : Handle) → AsksQuestions p q
       → BeginsAsking ono (class_for of) (request_of_ask ask) (Ok handle) q r → AsksQuestions p r
 
--- the first handle of another link: the view's next one, but no lower than the one that the next command of the old link
--- would get
+-- the first handle of another link: the view's next one, but no lower than the one that the next command of the old
+-- link would get
 abbrev pub begins_behind : ℕ → Option ℕ → ℕ
 begins_behind next None = next
 begins_behind next (Some h) = max next h
@@ -75,10 +75,10 @@ pub record RenewsLost (reach : Reach) (next : ℕ) (old : OrdersState) (before :
   pub same : is_lost ≡ false → after ≡ before
   pub renews : is_lost ≡ true → IsRenewed reach.device (begins_behind next before.link.next) (span_size reach.span) before after
 
--- WHAT IS DONE BEHIND A TURN. Where the link is lost, all orders are noted as lost, and another one begins. Then orders end
--- that are never to be sent. Then those that wait are submitted, in their order, each once, in time, and for the object
--- that its page showed, by what is known. The program's clock is so far ahead of the end's. What follows only asks
--- questions.
+-- WHAT IS DONE BEHIND A TURN. Where the link is lost, all orders are noted as lost, and another one begins. Then orders
+-- end that are never to be sent. Then those that wait are submitted, in their order, each once, in time, and for the
+-- object that its page showed, by what is known. The program's clock is so far ahead of the end's. What follows only
+-- asks questions.
 pub record Continues (reach : Reach) (next ahead : ℕ) (known : List Object) (old : OrdersState) (before : PanelState)
     (new : OrdersState) (after : PanelState) : Type 0 where
   pub lost : OrdersState

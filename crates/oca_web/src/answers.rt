@@ -113,8 +113,8 @@ fn put_object(out: &mut Writer, object: &Object) -> Put {
     out.end_object()
 }
 
-/// Returns the answer to a request of `/tree`: a JSON text with the walk, the device, the units, all objects that are known,
-/// a block before its members, and the number of this run. The only refusal is `AllocError`.
+/// Returns the answer to a request of `/tree`: a JSON text with the walk, the device, the units, all objects that are
+/// known, a block before its members, and the number of this run. The only refusal is `AllocError`.
 pub fn tree_json(alloc: Global, view: &View, terms: &Terms) -> Json {
     let mut out = Writer::new(Vec::new(alloc));
     out.begin_object()?;

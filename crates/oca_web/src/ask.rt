@@ -163,8 +163,8 @@ const LISTED_MS: u64 = 500;
 /// An object that no page shows is read again after so many milliseconds, at the earliest.
 const HIDDEN_MS: u64 = 5000;
 
-/// A round that took longer has as many objects that no page shows as a quarter of one of this length, in milliseconds: what
-/// is shown goes before them.
+/// A round that took longer has as many objects that no page shows as a quarter of one of this length, in milliseconds:
+/// what is shown goes before them.
 const LONGEST_ROUND_MS: u64 = 1000;
 
 /// A page counts as open for so many milliseconds after it asked for values.
@@ -208,7 +208,8 @@ pub struct Poll {
 }
 
 impl Poll {
-    /// Returns a poll without a round and without an open page. The first round begins 25 ms after `now` at the earliest.
+    /// Returns a poll without a round and without an open page. The first round begins 25 ms after `now` at the
+    /// earliest.
     pub fn new(now: u64) -> Poll {
         Poll {
             pages: ArrayVec::new(),
@@ -220,10 +221,10 @@ impl Poll {
         }
     }
 
-    /// Notes that a page asked for values at the moment `now`, which shows `visible` objects (a number above 512 counts as
-    /// 512) from the place `first` on. The page counts as open for 2,500 ms. At most 128 ranges of objects are stored. A new
-    /// range replaces an equal range, or else one that is no longer open. If there is neither and 128 are stored, it replaces
-    /// the range of the page that asked longest ago.
+    /// Notes that a page asked for values at the moment `now`, which shows `visible` objects (a number above 512 counts
+    /// as 512) from the place `first` on. The page counts as open for 2,500 ms. At most 128 ranges of objects are
+    /// stored. A new range replaces an equal range, or else one that is no longer open. If there is neither and 128 are
+    /// stored, it replaces the range of the page that asked longest ago.
     pub fn open(&mut self, now: u64, first: usize, visible: usize) {
         let count = visible.min(MOST_VISIBLE);
         let until = now.saturating_add(OPEN_MS);
@@ -270,8 +271,8 @@ impl Poll {
         self.at = self.end;
     }
 
-    /// Returns the moment from which the next round may begin, which can already be past. The result is `None` if no page is
-    /// open at `now`, or a round has not ended; that round goes on when an answer comes.
+    /// Returns the moment from which the next round may begin, which can already be past. The result is `None` if no
+    /// page is open at `now`, or a round has not ended; that round goes on when an answer comes.
     pub fn next_moment(&self, now: u64) -> Option<u64> {
         if self.is_open(now) && self.at >= self.end {
             Some(self.begun.saturating_add(ROUND_MS))
@@ -280,8 +281,8 @@ impl Poll {
         }
     }
 
-    /// Begins a round through so many objects: those that the open pages show, those that two of them show counted twice, and
-    /// so many of all objects that each is looked at once in the pause of what no page shows.
+    /// Begins a round through so many objects: those that the open pages show, those that two of them show counted
+    /// twice, and so many of all objects that each is looked at once in the pause of what no page shows.
     fn begin_round(&mut self, now: u64, objects: usize) {
         let passed = now.saturating_sub(self.begun);
         let time = if passed < LONGEST_ROUND_MS {
@@ -302,9 +303,9 @@ impl Poll {
         self.end = shown.saturating_add(hidden.saturating_add(1) as usize);
     }
 
-    /// Returns the object to read next, by its place, and the question to ask of it. If a round is due, it begins. An object is
-    /// read again 100 ms after it was read again last if an open page shows it, and 5,000 ms after it otherwise, at the
-    /// earliest. The result is `None` if no page is open, or nothing is to be read now.
+    /// Returns the object to read next, by its place, and the question to ask of it. If a round is due, it begins. An
+    /// object is read again 100 ms after it was read again last if an open page shows it, and 5,000 ms after it
+    /// otherwise, at the earliest. The result is `None` if no page is open, or nothing is to be read now.
     pub fn next(&mut self, now: u64, objects: &[Object]) -> Option<(usize, Ask)> {
         let is_open = self.is_open(now);
         if is_open && self.at >= self.end && now >= self.begun.saturating_add(ROUND_MS) {
@@ -363,8 +364,8 @@ impl Poll {
     }
 }
 
-/// What is read of an object of this class that was read so often: of a block its role every other time, of the others every
-/// eighth time, and of a switch the names of its positions too.
+/// What is read of an object of this class that was read so often: of a block its role every other time, of the others
+/// every eighth time, and of a switch the names of its positions too.
 fn ask_of(class: Class, readings: u32) -> Ask {
     match (class, readings % 32) {
         (Class::Block, 0 | 4 | 8 | 12 | 16 | 20 | 24 | 28) => Ask::Members,

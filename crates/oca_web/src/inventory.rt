@@ -20,8 +20,8 @@ struct Listed {
     members: Vec<Member>,
 }
 
-/// A silence of the device that is longer, in milliseconds, while a question waits for its answer: the device may be another
-/// one behind it.
+/// A silence of the device that is longer, in milliseconds, while a question waits for its answer: the device may be
+/// another one behind it.
 const LONGEST_SILENCE_MS: u64 = 500;
 
 /// What is known of a device, and which questions are asked of it.
@@ -135,7 +135,8 @@ impl Inventory {
 
     /// Returns whether an answer showed that the device is another one, or has other objects, than in the walk, so that
     /// another walk must begin: a block lists other members, an object has another role or other names of positions, or
-    /// the device answers a question about a known object with BadONo, with BadMethod or with an answer of another class.
+    /// the device answers a question about a known object with BadONo, with BadMethod or with an answer of another
+    /// class.
     pub fn is_stale(&self) -> bool
         ensures { result ≡ self.now.is_stale }
     {
@@ -180,7 +181,8 @@ impl Inventory {
         Some((object.ono, object.class))
     }
 
-    /// The class of the object with this number; `None` where there is none, `Some(None)` where it is not of this profile.
+    /// The class of the object with this number; `None` where there is none, `Some(None)` where it is not of this
+    /// profile.
     pub(crate) fn class_of(&self, ono: Ono) -> Option<Option<Class>> {
         let (_, object) = self.objects.find(ono)?;
         Some(object.class)
@@ -213,9 +215,9 @@ impl Inventory {
         lowest
     }
 
-    /// Notes that the device was heard last at this moment. Behind a long silence in which a question waited for its answer
-    /// the device may be another one: then what was asked before now confirms no role and no name of a position any longer,
-    /// and all of them are read again, with the labels, once the walk is over.
+    /// Notes that the device was heard last at this moment. Behind a long silence in which a question waited for its
+    /// answer the device may be another one: then what was asked before now confirms no role and no name of a position
+    /// any longer, and all of them are read again, with the labels, once the walk is over.
     pub(crate) fn note_silence(&mut self, heard: u64, now: u64) {
         let is_long = |since: u64| now.saturating_sub(since) > LONGEST_SILENCE_MS;
         let mut asked = self.asked.as_slice().iter();
@@ -226,7 +228,8 @@ impl Inventory {
         }
     }
 
-    /// Takes the answers to questions, and learns what they say. The walk is over once nothing of it waits or is in flight.
+    /// Takes the answers to questions, and learns what they say. The walk is over once nothing of it waits or is in
+    /// flight.
     #[tactic(auto, using(crate::proofs::StepLemmas::answer_rules))]
     pub(crate) fn take_answers<E: End>(&mut self, panel: &mut Panel<E>) -> Result<(), NoMemory>
         ensures { TakesAnswers panel.old panel.new }
@@ -266,8 +269,8 @@ impl Inventory {
         Ok(true)
     }
 
-    /// What is asked next: what waits, and behind a walk that is over what is to be read again: by turns, so that what pages
-    /// show is read also while the names of many objects wait.
+    /// What is asked next: what waits, and behind a walk that is over what is to be read again: by turns, so that what
+    /// pages show is read also while the names of many objects wait.
     pub(crate) fn next_question(&mut self, now: u64) -> Option<Question> {
         self.was_read = self.walked && !self.was_read;
         if self.was_read
@@ -311,8 +314,8 @@ impl Inventory {
         self.waiting.push_front(question).map_err(|_| NoMemory)
     }
 
-    /// What is still to be asked before this order may be submitted: what its page showed and the device, asked behind the
-    /// order, did not confirm within the last 2,000 ms, and no question in flight asks.
+    /// What is still to be asked before this order may be submitted: what its page showed and the device, asked behind
+    /// the order, did not confirm within the last 2,000 ms, and no question in flight asks.
     pub(crate) fn unsure_of(&self, order: &Order, now: u64) -> ArrayVec<Question, 3> {
         let mut unsure = ArrayVec::new();
         let Some((place, object)) = self.objects.find(order.ono) else {
@@ -340,8 +343,8 @@ impl Inventory {
         unsure
     }
 
-    /// Why this order is never to be sent, if it is so: it is too late, its object is not the one that its page showed, or the
-    /// device refused to say the role of the object or of its block when it was asked behind the order.
+    /// Why this order is never to be sent, if it is so: it is too late, its object is not the one that its page showed,
+    /// or the device refused to say the role of the object or of its block when it was asked behind the order.
     pub(crate) fn ending_of(&self, order: &Order, now: u64) -> Option<NotDone> {
         if order.last < now {
             return Some(NotDone::TooLate);
@@ -357,9 +360,9 @@ impl Inventory {
         refused_behind(order, block)
     }
 
-    /// Notes the answer to a question, or the reason why there is none. If the walk of the question is not the present one,
-    /// nothing is changed. An answer of another kind than the question asks for is ignored. The only refusal is `NoMemory`;
-    /// members of a block may then be missing.
+    /// Notes the answer to a question, or the reason why there is none. If the walk of the question is not the present
+    /// one, nothing is changed. An answer of another kind than the question asks for is ignored. The only refusal is
+    /// `NoMemory`; members of a block may then be missing.
     fn learn(&mut self, asked: &Asked, answer: Result<Answer, Trouble>) -> Result<(), NoMemory> {
         let (question, moment) = (asked.question, asked.moment);
         let Question { place, ask, epoch } = question;
@@ -399,7 +402,8 @@ impl Inventory {
         }
     }
 
-    /// Learns the members of a block: in a walk they are visited, else they are compared with what it listed in the walk.
+    /// Learns the members of a block: in a walk they are visited, else they are compared with what it listed in the
+    /// walk.
     fn learn_members(&mut self, place: usize, members: &[Member]) -> Result<(), NoMemory> {
         let Some((container, _)) = self.target_of(place) else {
             return Ok(());
@@ -429,10 +433,10 @@ impl Inventory {
         Ok(())
     }
 
-    /// Notes how orders ended: whose locks are on their objects, and what these are set to. Then a question is put before
-    /// all that wait: for the object's label after an order for a label, otherwise for its value, if it has one. An
-    /// answer to the same question that is still in flight is not used, since it can be older than the order. The only
-    /// refusal is `NoMemory`: then questions are missing.
+    /// Notes how orders ended: whose locks are on their objects, and what these are set to. Then a question is put
+    /// before all that wait: for the object's label after an order for a label, otherwise for its value, if it has one.
+    /// An answer to the same question that is still in flight is not used, since it can be older than the order. The
+    /// only refusal is `NoMemory`: then questions are missing.
     pub(crate) fn learn_orders(&mut self, settled: &[Settled]) -> Result<(), NoMemory> {
         for one in settled {
             let order = one.sent.order;

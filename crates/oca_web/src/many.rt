@@ -140,8 +140,8 @@ fn all_wanted(alloc: Global, known: &View, orders: &[Value]) -> Result<Vec<Wante
     Ok(all)
 }
 
-/// One order of a body: its object, which is known, what the page showed of it (with an empty name of a position where the
-/// order has none), and its action.
+/// One order of a body: its object, which is known, what the page showed of it (with an empty name of a position where
+/// the order has none), and its action.
 fn wanted_in(known: &View, order: &Value) -> Result<Wanted, Wrong>
     ensures { IfOk result (λ w. IsWanted (view order.now) w) }
 {

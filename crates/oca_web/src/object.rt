@@ -207,7 +207,8 @@ impl Object {
         self.names_read = read;
     }
 
-    /// Replaces what pages show of the object, and returns whether anything else differs than the moment of the reading.
+    /// Replaces what pages show of the object, and returns whether anything else differs than the moment of the
+    /// reading.
     fn show(&mut self, shown: Shown) -> bool {
         let confirmed = shown.confirmed;
         let is_same = Shown {
@@ -218,9 +219,9 @@ impl Object {
         !is_same
     }
 
-    /// Notes the answer to a question that was submitted at `moment` or later, and returns whether it changes the object. The
-    /// answer confirms a role, or names of positions, as of the moment `read`, if there is one. An answer of another kind than
-    /// the question asks for changes nothing.
+    /// Notes the answer to a question that was submitted at `moment` or later, and returns whether it changes the
+    /// object. The answer confirms a role, or names of positions, as of the moment `read`, if there is one. An answer
+    /// of another kind than the question asks for changes nothing.
     fn learn(&mut self, ask: Ask, answer: Answer, moment: u64, read: Option<u64>) -> bool {
         let shown = self.shown;
         match (ask, answer) {
@@ -336,8 +337,8 @@ impl Objects {
         }
     }
 
-    /// The device refused the role, or the names of the positions, of the object at this place, when they were asked at this
-    /// moment.
+    /// The device refused the role, or the names of the positions, of the object at this place, when they were asked at
+    /// this moment.
     pub(crate) fn note_refused(&mut self, place: usize, trouble: Trouble, moment: u64) {
         if place < self.list.len() {
             self.list[place].refused = Some((trouble, moment));
@@ -404,8 +405,8 @@ fn numbered(objects: &[Object], ono: Ono) -> Option<&Object>
     objects.iter().find(|object| object.ono.0 == ono.0)
 }
 
-/// Whether the object of an order has the role that the page showed, in a block of the role that it showed (none where it
-/// showed an empty role), and if a switch is set, the position has the name that it showed: as far as is known.
+/// Whether the object of an order has the role that the page showed, in a block of the role that it showed (none where
+/// it showed an empty role), and if a switch is set, the position has the name that it showed: as far as is known.
 pub(crate) fn names_it(objects: &[Object], order: &Order) -> bool
     ensures { result ≡ names_it order.now objects.now }
 {
@@ -423,8 +424,9 @@ pub(crate) fn names_it(objects: &[Object], order: &Order) -> bool
     order.read.role.is(object.role.as_str()) && is_block && is_position
 }
 
-/// Whether the device said so of the object of an order at most 2,000 ms ago, and so it is the one that the page showed: of
-/// its role, of the role of its block, if there is one, and if a switch is set, of the names of its positions.
+/// Whether the device said so of the object of an order at most 2,000 ms ago, and so it is the one that the page
+/// showed: of its role, of the role of its block, if there is one, and if a switch is set, of the names of its
+/// positions.
 pub(crate) fn is_read(objects: &[Object], order: &Order, now: u64) -> bool
     ensures { result ≡ is_read now order.now objects.now }
 {
@@ -456,8 +458,8 @@ pub(crate) fn counts(order: &Order, read: Option<u64>, now: u64) -> bool {
     is_fresh(now, read) && is_behind(order, read)
 }
 
-/// Why an order is never sent, if the device refused the role of this object, or the names of its positions, when it was
-/// asked behind the order.
+/// Why an order is never sent, if the device refused the role of this object, or the names of its positions, when it
+/// was asked behind the order.
 pub(crate) fn refused_behind(order: &Order, object: &Object) -> Option<NotDone> {
     match object.refused {
         Some((trouble, moment)) if is_behind(order, Some(moment)) => Some(NotDone::Trouble(
@@ -467,8 +469,8 @@ pub(crate) fn refused_behind(order: &Order, object: &Object) -> Option<NotDone> 
     }
 }
 
-/// Whether all was asked behind an order that the device confirmed of its object, its block and the position to which it is
-/// set.
+/// Whether all was asked behind an order that the device confirmed of its object, its block and the position to which
+/// it is set.
 pub(crate) fn is_all_behind(objects: &[Object], order: &Order) -> bool {
     let Some(object) = numbered(objects, order.ono) else {
         return false;
@@ -508,8 +510,8 @@ pub fn class_name(class: Option<Class>) -> &'static str {
     }
 }
 
-/// Returns whether a text is the word of a class of this profile ([`class_word`]), which is its name in the answers to the
-/// page. The result is `false` for any other text, also for `unknown`.
+/// Returns whether a text is the word of a class of this profile ([`class_word`]), which is its name in the answers to
+/// the page. The result is `false` for any other text, also for `unknown`.
 pub fn is_class_name(name: &str) -> bool {
     macro_rules! is_word {
         ($($integer:ident $type:ty),*) => {

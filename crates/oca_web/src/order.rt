@@ -19,7 +19,8 @@ pub const MOST_RESULTS: usize = 512;
 /// For how many milliseconds after its request was read an order may be submitted: 5,000.
 pub const ORDER_MS: u64 = 5000;
 
-/// An order is submitted only if what its page showed was confirmed by the device so many milliseconds ago at most: 2,000.
+/// An order is submitted only if what its page showed was confirmed by the device so many milliseconds ago at most:
+/// 2,000.
 pub const CONFIRMED_MS: u64 = 2000;
 
 /// The most bytes of a label.

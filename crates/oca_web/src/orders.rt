@@ -1,5 +1,6 @@
-//! The orders of the pages: those that wait, those in flight, and how the last ones ended. Over a panel each that waits is
-//! submitted once, in time and for the object that its page showed, and what the answers say is noted under their tickets.
+//! The orders of the pages: those that wait, those in flight, and how the last ones ended. Over a panel each that waits
+//! is submitted once, in time and for the object that its page showed, and what the answers say is noted under their
+//! tickets.
 ghost use Rattle.std.specs.Prelude.{◌≡◌, ◌<◌, length, nat_lt, IfSome};
 ghost use Rattle.std.specs.List.{position};
 ghost use Rattle.oca_web.specs.Orders.{LosesOrders, SettlesAt, SettlesOrders, SubmitsFirst, SubmitsOrders};
@@ -74,8 +75,8 @@ impl Orders {
             && (count as u64) < u64::MAX - self.tickets
     }
 
-    /// Adds the orders `wanted`, all of them or none, as [`View::order_all`](crate::View::order_all) does. If `wanted` is
-    /// empty, the result is the next ticket, and no order is added.
+    /// Adds the orders `wanted`, all of them or none, as [`View::order_all`](crate::View::order_all) does. If `wanted`
+    /// is empty, the result is the next ticket, and no order is added.
     #[tactic(auto, using(crate::proofs::OrderLemmas::many_rules))]
     pub fn add_all(&mut self, wanted: &[Wanted], last: u64) -> Option<u64>
         ensures { AddsAll wanted.now last self.old result self.new }
@@ -269,11 +270,12 @@ fn place_behind(results: &[OrderResult], ticket: u64) -> Option<usize>
     results.iter().position(|other| ticket < other.ticket)
 }
 
-/// Submits the next order of the pages, and returns whether it did. Its command is then sent at once, and the order is in
-/// flight. `known` are the objects of the device, and the program's clock is `ahead` milliseconds ahead of the clock of the
-/// panel's end. The result is `false` if no order is ready ([`Orders::ready`]), its last moment has passed, its object is not
-/// the one that its page showed, the device did not say so within the last 2,000 ms when it was asked behind the order (at
-/// most 5,000 ms before the order's last moment), or the link refuses the command; then nothing is changed or sent.
+/// Submits the next order of the pages, and returns whether it did. Its command is then sent at once, and the order is
+/// in flight. `known` are the objects of the device, and the program's clock is `ahead` milliseconds ahead of the clock
+/// of the panel's end. The result is `false` if no order is ready ([`Orders::ready`]), its last moment has passed, its
+/// object is not the one that its page showed, the device did not say so within the last 2,000 ms when it was asked
+/// behind the order (at most 5,000 ms before the order's last moment), or the link refuses the command; then nothing is
+/// changed or sent.
 pub fn submit_first<E: End>(
     orders: &mut Orders,
     known: &[Object],
@@ -319,9 +321,9 @@ pub fn submit_orders<E: End>(
     }
 }
 
-/// Takes the outcome of the order at index `at` of those in flight, and stores its result under its ticket. Returns the order,
-/// which is then no longer in flight, and its outcome. The result is `None` if the outcome is not known yet, or there is no
-/// such order; then nothing is changed. The call sends nothing and does not wait.
+/// Takes the outcome of the order at index `at` of those in flight, and stores its result under its ticket. Returns the
+/// order, which is then no longer in flight, and its outcome. The result is `None` if the outcome is not known yet, or
+/// there is no such order; then nothing is changed. The call sends nothing and does not wait.
 pub fn settle_at<E: End>(
     orders: &mut Orders,
     panel: &mut Panel<E>,
@@ -355,9 +357,9 @@ impl Default for Settled {
     }
 }
 
-/// Takes the outcome of each order in flight whose outcome is known, and stores its result under its ticket. The outcome is
-/// known if the command was answered, and of all orders if the link is lost. Returns these orders with their outcomes,
-/// from 0 to 32; the others stay in flight. The call sends nothing, does not wait and takes no memory.
+/// Takes the outcome of each order in flight whose outcome is known, and stores its result under its ticket. The
+/// outcome is known if the command was answered, and of all orders if the link is lost. Returns these orders with their
+/// outcomes, from 0 to 32; the others stay in flight. The call sends nothing, does not wait and takes no memory.
 #[tactic(auto, using(crate::proofs::StepLemmas::settle_rules))]
 pub fn settle_orders<E: End>(orders: &mut Orders, panel: &mut Panel<E>) -> ArrayVec<Settled, 32>
     ensures { SettlesOrders orders.old panel.old orders.new panel.new }
@@ -375,9 +377,9 @@ pub fn settle_orders<E: End>(orders: &mut Orders, panel: &mut Panel<E>) -> Array
     all
 }
 
-/// Ends all orders if the link is lost or late ([`View`](crate::View)), and returns whether it is. The orders in flight are
-/// then stored as lost (they may have been carried out), and the orders that wait as not sent; otherwise nothing is changed.
-/// The call sends nothing and takes no memory.
+/// Ends all orders if the link is lost or late ([`View`](crate::View)), and returns whether it is. The orders in flight
+/// are then stored as lost (they may have been carried out), and the orders that wait as not sent; otherwise nothing is
+/// changed. The call sends nothing and takes no memory.
 pub fn lose_orders<E: End>(orders: &mut Orders, panel: &Panel<E>) -> bool
     ensures { LosesOrders result panel.now orders.old orders.new }
 {

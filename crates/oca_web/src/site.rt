@@ -125,8 +125,8 @@ impl Site {
         }
     }
 
-    /// Answers with the page, and gives the token in a cookie where there is one. Scripts can't read it, and a browser sends
-    /// it only with requests that a page of the same host makes (the port does not count).
+    /// Answers with the page, and gives the token in a cookie where there is one. Scripts can't read it, and a browser
+    /// sends it only with requests that a page of the same host makes (the port does not count).
     fn get_page(&self, response: &mut Response) -> Answered
         ensures { IfOk result (λ status. status ≡ 200) }
     {
@@ -287,8 +287,8 @@ fn number_in(query: Option<&str>, name: &str) -> u64 {
     text_in(query, name).map_or(0, |digits| digits.parse::<u64>().unwrap_or(0))
 }
 
-/// The ranges of places that a page shows, by its query: at most eight, as `0-12,40-8`, or one by its first place and how
-/// many.
+/// The ranges of places that a page shows, by its query: at most eight, as `0-12,40-8`, or one by its first place and
+/// how many.
 fn ranges_in(query: Option<&str>) -> ArrayVec<Range, MOST_RANGES> {
     let mut ranges = ArrayVec::new();
     let Some(shown) = text_in(query, "shown") else {

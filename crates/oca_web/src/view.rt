@@ -137,8 +137,8 @@ impl View {
         self.reach
     }
 
-    /// Returns the state of the link to the device: when it was heard, whether it is lost, and what was sent. All moments
-    /// are in milliseconds of the program's clock.
+    /// Returns the state of the link to the device: when it was heard, whether it is lost, and what was sent. All
+    /// moments are in milliseconds of the program's clock.
     pub fn news(&self) -> LinkNews {
         self.news
     }
@@ -187,8 +187,8 @@ impl View {
     /// Notes that the panel goes on over another end, with a new link whose first handle is `first`. `moment` is the
     /// present moment of the new end, in milliseconds of its clock. `last` is the last moment of the old end, in
     /// milliseconds of its clock, and `sent` is how many datagrams the old end sent. Returns `true` if the program was
-    /// suspended for more than 2,000 ms before `last`, as [`View::note`] does. Then the orders that wait end as not sent;
-    /// otherwise these orders stay. What is known of the device stays.
+    /// suspended for more than 2,000 ms before `last`, as [`View::note`] does. Then the orders that wait end as not
+    /// sent; otherwise these orders stay. What is known of the device stays.
     pub fn take_end(&mut self, first: Handle, moment: u64, last: u64, sent: u64) -> bool
         ensures now { self.new.news.now ≡ moment_noted self.old.over.ahead last self.old.news.now }
         ensures stood { result ≡ stood_still self.old.news.now self.new.news.now }
@@ -206,9 +206,9 @@ impl View {
         stood_still
     }
 
-    /// Notes that nothing more comes or goes over the present end. The orders in flight end as lost (they may have been carried
-    /// out), and the orders that wait as not sent; soon another walk begins. The caller then opens another end and calls
-    /// [`View::take_end`].
+    /// Notes that nothing more comes or goes over the present end. The orders in flight end as lost (they may have been
+    /// carried out), and the orders that wait as not sent; soon another walk begins. The caller then opens another end
+    /// and calls [`View::take_end`].
     pub fn lose_end(&mut self)
         ensures orders { self.new.orders ≡ lost_orders self.old.orders }
         ensures over { self.new.over ≡ self.old.over }
@@ -223,9 +223,9 @@ impl View {
         self.over.ahead
     }
 
-    /// Notes that a page asked for values at the present moment, and which objects it shows: `visible` objects (a number
-    /// above 512 counts as 512) from the place `first` on, which is counted from 0. Their values are then read again more
-    /// often than those of other objects, for 2,500 ms.
+    /// Notes that a page asked for values at the present moment, and which objects it shows: `visible` objects (a
+    /// number above 512 counts as 512) from the place `first` on, which is counted from 0. Their values are then read
+    /// again more often than those of other objects, for 2,500 ms.
     pub fn open(&mut self, first: usize, visible: usize)
         ensures orders { self.new.orders ≡ self.old.orders }
         ensures now { self.new.news.now ≡ self.old.news.now }
@@ -234,11 +234,11 @@ impl View {
         self.inventory.open(now, first, visible);
     }
 
-    /// Notes the present moment, in milliseconds of the end's clock, and how many datagrams the end sent until then. The
-    /// program's clock moves to that moment, and never goes back. Returns `true` if the clock moved by more than 2,000 ms
-    /// since the last note: the program was suspended. Then all waiting orders end as not sent. HTTP requests that are
-    /// read after this call may have waited for an unknown time ([`Site::doubt`](crate::Site::doubt)). Returns `false`
-    /// otherwise, and then no order changes.
+    /// Notes the present moment, in milliseconds of the end's clock, and how many datagrams the end sent until then.
+    /// The program's clock moves to that moment, and never goes back. Returns `true` if the clock moved by more than
+    /// 2,000 ms since the last note: the program was suspended. Then all waiting orders end as not sent. HTTP requests
+    /// that are read after this call may have waited for an unknown time ([`Site::doubt`](crate::Site::doubt)). Returns
+    /// `false` otherwise, and then no order changes.
     pub fn note(&mut self, moment: u64, sent: u64) -> bool
         ensures now { self.new.news.now ≡ moment_noted self.old.over.ahead moment self.old.news.now }
         ensures stood { result ≡ stood_still self.old.news.now self.new.news.now }
@@ -254,15 +254,16 @@ impl View {
         true
     }
 
-    /// Returns whether an object with this number was found on the device so far. At first only the root is known, which
-    /// has the number 100.
+    /// Returns whether an object with this number was found on the device so far. At first only the root is known,
+    /// which has the number 100.
     pub fn knows(&self, ono: Ono) -> bool {
         self.inventory.class_of(ono).is_some()
     }
 
-    /// Returns the value that a word means for the object with this number ([`value_from_word`]). The limits of the object
-    /// are not checked. Refusals, the first that applies: `NoObject` if no object with this number is known. `NoValue` if
-    /// this profile does not have its class, or its class has no value, or the word means no value of the class.
+    /// Returns the value that a word means for the object with this number ([`value_from_word`]). The limits of the
+    /// object are not checked. Refusals, the first that applies: `NoObject` if no object with this number is known.
+    /// `NoValue` if this profile does not have its class, or its class has no value, or the word means no value of the
+    /// class.
     pub fn value_named(&self, ono: Ono, word: &str) -> Result<Value, NoOrder>
         ensures { IfOk result (IsForWord word.now) }
     {
@@ -276,16 +277,16 @@ impl View {
         }
     }
 
-    /// Returns the ticket that the next order gets: 1 at first, and one more after each order. A ticket is the number by
-    /// which a page knows its order.
+    /// Returns the ticket that the next order gets: 1 at first, and one more after each order. A ticket is the number
+    /// by which a page knows its order.
     pub fn next_ticket(&self) -> u64
         ensures { result ≡ one_more self.now.orders.tickets }
     {
         self.orders.next_ticket()
     }
 
-    /// Returns whether `count` more orders can be added by [`order_all`](View::order_all). Then at most 256 orders would
-    /// wait, and each would get a ticket below 2^64 - 1.
+    /// Returns whether `count` more orders can be added by [`order_all`](View::order_all). Then at most 256 orders
+    /// would wait, and each would get a ticket below 2^64 - 1.
     pub fn has_room(&self, count: usize) -> bool
         ensures { result ≡ has_room_for count self.now.orders }
     {
@@ -303,8 +304,8 @@ impl View {
         self.orders.add_all(wanted, last)
     }
 
-    /// Takes one turn of the panel: receives once, at a socket for at most 50 ms, and sends what is due. Then it takes the
-    /// answers that came, and notes what they say: the results of orders, and what is known of the device. The only
+    /// Takes one turn of the panel: receives once, at a socket for at most 50 ms, and sends what is due. Then it takes
+    /// the answers that came, and notes what they say: the results of orders, and what is known of the device. The only
     /// refusal is `NoMemory`: facts about the device may then be missing.
     #[tactic(auto, using(crate::proofs::StepLemmas::turn_rules))]
     pub fn take_turn<E: End>(&mut self, panel: &mut Panel<E>) -> Result<(), NoMemory>
@@ -327,12 +328,12 @@ impl View {
         self.inventory.take_answers(panel)
     }
 
-    /// Does what must be done after a turn, and sends commands at once. If the link is lost or late, the orders in flight
-    /// end as lost and the waiting orders as not sent, and a new link and a new walk begin. Orders whose last moment has
-    /// passed, or whose object is not the one that their page showed, end as not sent; the other waiting orders are
-    /// submitted, each as soon as the device, asked behind the order, confirmed what its page showed. Then questions are
-    /// submitted, as far as there is room: first those on which orders wait. Nothing is submitted once half of the
-    /// handles are used. The only refusal is `NoMemory`: facts about the device may then be missing.
+    /// Does what must be done after a turn, and sends commands at once. If the link is lost or late, the orders in
+    /// flight end as lost and the waiting orders as not sent, and a new link and a new walk begin. Orders whose last
+    /// moment has passed, or whose object is not the one that their page showed, end as not sent; the other waiting
+    /// orders are submitted, each as soon as the device, asked behind the order, confirmed what its page showed. Then
+    /// questions are submitted, as far as there is room: first those on which orders wait. Nothing is submitted once
+    /// half of the handles are used. The only refusal is `NoMemory`: facts about the device may then be missing.
     #[tactic(auto, using(crate::proofs::StepLemmas::continues))]
     pub fn go_on<E: End>(&mut self, panel: &mut Panel<E>) -> Result<(), NoMemory>
         ensures orders { Continues self.old.reach self.old.next_handle self.old.over.ahead
@@ -345,8 +346,9 @@ impl View {
         self.ask_all(panel)
     }
 
-    /// Where the link is lost or late, all orders are noted as lost, and another link begins, and soon another walk: its first
-    /// handle is the view's next one, but no lower than the one that the next command of the old link would get.
+    /// Where the link is lost or late, all orders are noted as lost, and another link begins, and soon another walk:
+    /// its first handle is the view's next one, but no lower than the one that the next command of the old link would
+    /// get.
     fn renew_lost<E: End>(&mut self, panel: &mut Panel<E>)
         ensures orders { RenewsLost self.old.reach self.old.next_handle self.old.orders panel.old self.new.orders
             panel.new }
@@ -387,8 +389,8 @@ impl View {
         }
     }
 
-    /// Submits the orders that wait, in time and for the objects that their pages showed, unless half of the handles are
-    /// used.
+    /// Submits the orders that wait, in time and for the objects that their pages showed, unless half of the handles
+    /// are used.
     #[tactic(auto, using(crate::proofs::StepLemmas::submit_rules))]
     fn submit<E: End>(&mut self, panel: &mut Panel<E>)
         ensures orders { SubmitsOrders self.old.over.ahead self.old.inventory.objects.list.items self.old.orders panel.old
@@ -403,7 +405,8 @@ impl View {
         self.next_handle = self.next_handle.max(self.orders.next_handle());
     }
 
-    /// Asks what is to be asked: what orders wait for, and then the rest, as far as half of the span is left for orders.
+    /// Asks what is to be asked: what orders wait for, and then the rest, as far as half of the span is left for
+    /// orders.
     #[tactic(auto, using(crate::proofs::StepLemmas::question_rules))]
     fn ask_all<E: End>(&mut self, panel: &mut Panel<E>) -> Result<(), NoMemory>
         ensures panel { AsksQuestions panel.old panel.new }
@@ -434,8 +437,8 @@ impl View {
         Ok(())
     }
 
-    /// Asks what the first orders that wait are to be submitted for: what their pages showed, as far as the device did not
-    /// confirm it just now.
+    /// Asks what the first orders that wait are to be submitted for: what their pages showed, as far as the device did
+    /// not confirm it just now.
     #[tactic(auto, using(crate::proofs::StepLemmas::question_rules))]
     fn ask_for_orders<E: End>(&mut self, panel: &mut Panel<E>)
         ensures panel { AsksQuestions panel.old panel.new }
@@ -487,8 +490,9 @@ impl View {
         self.inventory.note_asked(handle, question, self.news.now);
     }
 
-    /// Returns the moment of the program's clock from which the next round of reads may begin, which can already be past.
-    /// The result is `None` if no page is open, or a walk or a round has not ended: it goes on when an answer comes.
+    /// Returns the moment of the program's clock from which the next round of reads may begin, which can already be
+    /// past. The result is `None` if no page is open, or a walk or a round has not ended: it goes on when an answer
+    /// comes.
     pub fn next_moment(&self) -> Option<u64> {
         self.inventory.next_moment(self.news.now)
     }

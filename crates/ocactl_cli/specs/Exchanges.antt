@@ -44,7 +44,8 @@ line_wait = 4294967295
 
 -- A link, what the end that it is driven over says of itself, the handles of the commands in flight in the order of
 -- their lines, how many may be, and whether a command got no answer so far; the end's descriptor, where it has one that
--- is awaited beside input; whether a command was submitted; and, where the next line was read, since when it is at hand.
+-- is awaited beside input; whether a command was submitted; and, where the next line was read, since when it is at
+-- hand.
 pub record SessionState : Type 0 where
   pub link : LinkState
   pub end_state : EndState
@@ -65,8 +66,8 @@ pub record IsFoundLostNow (s : SessionState) (found : Bool) : Type 0 where
   pub present : IsPresent now s.end_state
   pub lost : found ≡ (s.link.lost || late_at now s.link)
 
--- The first command in flight came out so: it was waited for, or that was known without a turn and without a look at the
--- end's moment.
+-- The first command in flight came out so: it was waited for, or that was known without a turn and without a look at
+-- the end's moment.
 pub record AwaitsFirst (old new : SessionState) (outcome : Outcome) : Type 0 where
   pub handle : ℕ
   pub first : old.in_flight ≡ handle ∷ new.in_flight

@@ -1,8 +1,8 @@
 //! The command line: its options, and what it asks for.
 //!
 //! A value of `set` may be a negative number, which is an option for `clap`, as each word that begins with `-`. So the
-//! words of `set` are matched with a blank in front of each negative number, which is then taken off the value. The time
-//! behind `--hold` is taken out of the words of `lock`, since `--hold` needs none.
+//! words of `set` are matched with a blank in front of each negative number, which is then taken off the value. The
+//! time behind `--hold` is taken out of the words of `lock`, since `--hold` needs none.
 
 use arrayvec::ArrayVec;
 use clap::{ArgMatches, Error};
@@ -473,16 +473,16 @@ fn time_of(word: &str) -> Option<u64> {
     Some(number(digits, 9, 999_999_999)?.saturating_mul(unit))
 }
 
-/// Matches the words of the command line with the commands and options that the program takes. Err if they do not match,
-/// ask for a help text or the version, or memory was refused; the error says which.
+/// Matches the words of the command line with the commands and options that the program takes. Err if they do not
+/// match, ask for a help text or the version, or memory was refused; the error says which.
 pub fn matches_of<'a>(alloc: Global, given: &'a Given) -> Result<ArgMatches<'a>, Error> {
     program_with_commands(alloc, &PROGRAM, &commands())?.try_get_matches_from(
         given.words.as_slice(),
     )
 }
 
-/// What a command line that matched asks for. Failures: `BadWords` if a word or the value of an option has not its form;
-/// the note says which form. `NoMemory` if memory was refused.
+/// What a command line that matched asks for. Failures: `BadWords` if a word or the value of an option has not its
+/// form; the note says which form. `NoMemory` if memory was refused.
 pub fn command_of(
     alloc: Global,
     given: &Given,

@@ -37,11 +37,11 @@ impl<'c, N: Net + Clock, R: Source, W: Sink, F: Sink> Console<'c, N, R, W, F> {
     /// Runs the program `ocactl` on the words of its command line, its name first, and returns its exit status. It is 0
     /// if all was done, also for a help text or the version. It is 2 if the words or a line are invalid, and 1 if
     /// something could not be done. It is 3 if an answer did not come or a command was not sent, 4 if an answer refuses
-    /// or can't be used, and 5 if a lock was lost that `lock --hold` was to keep. If several apply, the first of 5, 3, 2
-    /// and 4 is returned.
+    /// or can't be used, and 5 if a lock was lost that `lock --hold` was to keep. If several apply, the first of 5, 3,
+    /// 2 and 4 is returned.
     ///
-    /// A fault is printed on `faults` as one line, after a line that begins with `note: ` if more is known. If no answer
-    /// came, such a line also says why a send failed.
+    /// A fault is printed on `faults` as one line, after a line that begins with `note: ` if more is known. If no
+    /// answer came, such a line also says why a send failed.
     pub fn run<S: AsStr>(&mut self, words: &[S]) -> u8 {
         let ended = self.obey(words);
         status_of(ended, self.faults)
@@ -62,8 +62,8 @@ impl<'c, N: Net + Clock, R: Source, W: Sink, F: Sink> Console<'c, N, R, W, F> {
         }
     }
 
-    /// Replays the script of the input on a link of this device, first handle and span. The link, some 94 kB, lies in this
-    /// function alone.
+    /// Replays the script of the input on a link of this device, first handle and span. The link, some 94 kB, lies in
+    /// this function alone.
     #[inline(never)]
     fn replay(&mut self, device: Peer, first: Handle, span: Span) -> Result<u8, Failure> {
         let mut link = Link::new(device, first, 0, span);
@@ -131,8 +131,8 @@ impl<'c, N: Net + Clock, R: Source, W: Sink, F: Sink> Console<'c, N, R, W, F> {
         self.do_over(reached, reach, turns, task)
     }
 
-    /// Does something with objects over this end, and prints it. The panel, some 94 kB, lies in this function alone: the
-    /// search for the way has a link, too.
+    /// Does something with objects over this end, and prints it. The panel, some 94 kB, lies in this function alone:
+    /// the search for the way has a link, too.
     #[inline(never)]
     fn do_over(
         &mut self,

@@ -106,8 +106,8 @@ pub struct Keeper<'p, E: End, V: End> {
 }
 
 impl<E: End, V: End> Keeper<'_, E, V> {
-    /// Locks the objects `onos` one after another, and keeps those locks for as long as `hold` says. Then releases them.
-    /// Prints the outcome of each lock, and later of each release.
+    /// Locks the objects `onos` one after another, and keeps those locks for as long as `hold` says. Then releases
+    /// them. Prints the outcome of each lock, and later of each release.
     ///
     /// While the locks are kept, each is looked at in turn, one a second: another controller must be refused, and the
     /// object is locked again, which the device allows its holder alone. If one is lost, or all may be since the device
@@ -144,8 +144,9 @@ impl<E: End, V: End> Keeper<'_, E, V> {
         Ok(max_severity(status, after))
     }
 
-    /// Drives the link, which sends keep-alives, and looks at the locks, until the time is over or one is lost. `sure` is
-    /// the moment of the last command that the device is known to have heard. Returns the places of those that are lost.
+    /// Drives the link, which sends keep-alives, and looks at the locks, until the time is over or one is lost. `sure`
+    /// is the moment of the last command that the device is known to have heard. Returns the places of those that are
+    /// lost.
     fn keep<R: Source>(
         &mut self,
         held: &[Ono],
@@ -222,8 +223,8 @@ impl<E: End, V: End> Keeper<'_, E, V> {
     }
 }
 
-/// Whether locks were kept for long enough, after so many milliseconds. The input is read where a read does not wait, and
-/// what it gives is dropped.
+/// Whether locks were kept for long enough, after so many milliseconds. The input is read where a read does not wait,
+/// and what it gives is dropped.
 fn is_over<R: Source>(hold: Hold, time: u64, reader: &mut R) -> bool {
     match hold {
         Hold::Time(wanted) => wanted <= time,

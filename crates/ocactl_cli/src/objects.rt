@@ -98,8 +98,8 @@ fn read<E: End>(panel: &mut Panel<E>, ono: Ono) -> ObjectLine {
 /// or an object's class can't be read, nothing is set. Then only the lines of these objects are printed. If more than
 /// 15,000 ms pass between two questions, since the program was suspended, nothing is set either.
 ///
-/// Returns the most severe exit status of all lines. Failures: `Write` if a write failed; then commands in flight may be
-/// carried out or not. `NoMemory` if memory was refused.
+/// Returns the most severe exit status of all lines. Failures: `Write` if a write failed; then commands in flight may
+/// be carried out or not. `NoMemory` if memory was refused.
 pub fn set_all<E: End, W: Sink>(
     alloc: Global,
     panel: &mut Panel<E>,
@@ -131,8 +131,8 @@ pub fn set_all<E: End, W: Sink>(
     }
 }
 
-/// The value that a word names, if it is asked for at most 15,000 ms after the moment `since`, which becomes the present
-/// one. Later nothing is asked, as where the link is lost.
+/// The value that a word names, if it is asked for at most 15,000 ms after the moment `since`, which becomes the
+/// present one. Later nothing is asked, as where the link is lost.
 fn find<E: End>(panel: &mut Panel<E>, pair: &Pair, since: &mut u64) -> Result<Value, Trouble>
     ensures { FindsInTime since.old since.new (pair_of pair.now) panel.old panel.new result }
 {
@@ -277,8 +277,8 @@ fn begin_in_time<E: End>(
     panel.begin_set(assignment.ono, assignment.value)
 }
 
-/// Waits for set commands in flight, the first first, until at most so many are, and prints the outcome of each. Returns
-/// the exit status.
+/// Waits for set commands in flight, the first first, until at most so many are, and prints the outcome of each.
+/// Returns the exit status.
 fn await_until<E: End, W: Sink>(
     panel: &mut Panel<E>,
     left: usize,

@@ -66,9 +66,9 @@ impl<E: End> Session<E> {
     ghost use Rattle.std.specs.Prelude.{◌≡◌, ◌-◌, ◌<◌, [], true, false, length};
     ghost use Rattle.oca_types.specs.Sizes.{span_size};
 
-    /// A session over a new panel ([`Panel::open`]), with no command in flight. At most `ahead` commands (1 to 32) may be
-    /// in flight at once. `socket` is the end's descriptor: a wait for input also ends when a datagram comes there. If
-    /// `socket` is `None`, the session does not wait for input at all.
+    /// A session over a new panel ([`Panel::open`]), with no command in flight. At most `ahead` commands (1 to 32) may
+    /// be in flight at once. `socket` is the end's descriptor: a wait for input also ends when a datagram comes there.
+    /// If `socket` is `None`, the session does not wait for input at all.
     pub fn open(
         device: Peer,
         end: E,
@@ -139,8 +139,8 @@ impl<E: End> Session<E> {
     /// read at the end's present moment. A later line counts as read at the moment of the last submit since that read,
     /// or together with the first line if nothing was submitted since.
     ///
-    /// If the link is lost or late, and no command is in flight, a new link takes its place: the command of this line is
-    /// then sent again. Handles go on behind those of the old link; if these are used up, the link stays.
+    /// If the link is lost or late, and no command is in flight, a new link takes its place: the command of this line
+    /// is then sent again. Handles go on behind those of the old link; if these are used up, the link stays.
     pub fn take_up(&mut self)
         ensures { TakesUp self.old self.new }
     {

@@ -14,8 +14,8 @@ pub record StoreNow : Type 0 where
   pub is_behind : Bool
   pub store : StoreState
 
--- A DEVICE SERVED AN END, with a store that was in this state or without one, and returned the report of that, as far as 64
--- bits go.
+-- A DEVICE SERVED AN END, with a store that was in this state or without one, and returned the report of that, as far
+-- as 64 bits go.
 abbrev pub ServesFrom : Option StoreNow → (old new : DeviceState) → (before after : EndState) → Report → Type 0
 ServesFrom None old new before after returned = ServesLongWith old new before after no_electronics no_electronics returned
 ServesFrom (Some had) old new before after returned = (has : StoreNow)

@@ -40,10 +40,10 @@ pub struct Console<'c, N, R, W: Sink, F: Sink> {
 }
 
 impl<N: Net + Clock + Files<File = File>, R: Source, W: Sink, F: Sink> Console<'_, N, R, W, F> {
-    /// Runs the program `ocadev` on the words of its command line, its name first, and returns its exit status: 0 if all
-    /// was done, 2 if the command line or a line of a script or of a file of objects is wrong, and 1 if something else
-    /// could not be done. A fault is printed on `faults` as one line, after a line that begins with `note: ` if more is
-    /// known.
+    /// Runs the program `ocadev` on the words of its command line, its name first, and returns its exit status: 0 if
+    /// all was done, 2 if the command line or a line of a script or of a file of objects is wrong, and 1 if something
+    /// else could not be done. A fault is printed on `faults` as one line, after a line that begins with `note: ` if
+    /// more is known.
     pub fn run<S: AsStr>(&mut self, words: &[S]) -> u8 {
         let ended = self.obey(words);
         status_of(ended, self.faults)
@@ -123,9 +123,9 @@ impl<N: Net + Clock + Files<File = File>, R: Source, W: Sink, F: Sink> Console<'
         Ok(report)
     }
 
-    /// Prints where the device listens, and with which objects it began if it keeps them in the file at the path `keep`. A
-    /// note says if it listens at every address, and another if the system grants little room for datagrams that have not
-    /// left. A failed write is ignored.
+    /// Prints where the device listens, and with which objects it began if it keeps them in the file at the path
+    /// `keep`. A note says if it listens at every address, and another if the system grants little room for datagrams
+    /// that have not left. A failed write is ignored.
     fn note_start<C: Clock>(
         &mut self,
         end: &UdpEnd<'_, C>,

@@ -73,11 +73,11 @@ pub struct FileDisk<'l, 'p, N> {
     fresh: String,
     /// The new file, locked, until it takes the place of the old one.
     made: Option<File>,
-    /// The file at the path, locked: the one that was there at the start, or that took its place last. It stays open, so
-    /// that no other file gets its number.
+    /// The file at the path, locked: the one that was there at the start, or that took its place last. It stays open,
+    /// so that no other file gets its number.
     held: Option<File>,
-    /// Of what file a new one gets the mode and the owner: of the plain file that was there last, at the start or when one
-    /// was made, or of the new file that was made last.
+    /// Of what file a new one gets the mode and the owner: of the plain file that was there last, at the start or when
+    /// one was made, or of the new file that was made last.
     model: Option<Metadata>,
 }
 
@@ -118,7 +118,8 @@ impl<'l, 'p, N: Files<File = File>> FileDisk<'l, 'p, N> {
         Err(io::Error::new(ErrorKind::Other, why))
     }
 
-    /// Makes the new file and locks it. One that was left is removed first; a symbolic link in its place is not followed.
+    /// Makes the new file and locks it. One that was left is removed first; a symbolic link in its place is not
+    /// followed.
     fn make_new(&mut self) -> io::Result<File> {
         if let Some(found) = plain_at(self.system, self.path) {
             self.model = Some(found);
@@ -202,9 +203,9 @@ impl Claim {
     /// Locks the file FILE at this path for one device. FILE.lock beside it is made if it does not exist, and locked;
     /// and so is FILE itself if it exists, since anyone may remove FILE.lock.
     ///
-    /// The failure is `Read`: if FILE, FILE.new or FILE.lock exists and is no plain file (a folder, a FIFO or a symbolic
-    /// link), if FILE.lock can't be made, if FILE can't be opened, or if one of them can't be locked, for example
-    /// because another device has it; and `NoMemory` if memory was refused.
+    /// The failure is `Read`: if FILE, FILE.new or FILE.lock exists and is no plain file (a folder, a FIFO or a
+    /// symbolic link), if FILE.lock can't be made, if FILE can't be opened, or if one of them can't be locked, for
+    /// example because another device has it; and `NoMemory` if memory was refused.
     pub fn new<N: Files<File = File>>(
         alloc: Global,
         system: &N,

@@ -95,10 +95,11 @@ fn moment_and_peer(line: &[u8]) -> Option<(u64, Peer, &[u8])>
     Some((now, from, rest))
 }
 
-/// Reads what a line of a device's script asks for, in one pass where it is a datagram: `N P HEX` is a datagram of the peer P at the moment N, and `N
-/// quiet` a reading of the clock. Moments are in milliseconds. The line has at most 4,096 bytes (a premise, which the
-/// caller must prove). The bytes of a datagram are written to the front of `room`, and the result refers to them. The
-/// call takes no memory. Refusals, the first that applies; discard what `room` contains then:
+/// Reads what a line of a device's script asks for, in one pass where it is a datagram: `N P HEX` is a datagram of the
+/// peer P at the moment N, and `N quiet` a reading of the clock. Moments are in milliseconds. The line has at most
+/// 4,096 bytes (a premise, which the caller must prove). The bytes of a datagram are written to the front of `room`,
+/// and the result refers to them. The call takes no memory. Refusals, the first that applies; discard what `room`
+/// contains then:
 /// - `Form` if the line does not have these fields.
 /// - `Moment`, `Peer` or `Hex` for the first field, from the left, that does not have its form.
 #[tactic(auto, using(crate::proofs::RequestLemmas::left_rules))]

@@ -107,8 +107,8 @@ impl Client {
     }
 
     /// Where it is ready, reads, answers and writes as long as something moves, until an order was taken or the others
-    /// have their turn. Returns whether there may be more to do. Where it waits and has read all, nothing on it is from the
-    /// time of a stop: an answer that is not taken keeps it from reading.
+    /// have their turn. Returns whether there may be more to do. Where it waits and has read all, nothing on it is from
+    /// the time of a stop: an answer that is not taken keeps it from reading.
     fn serve(&mut self, site: &mut Site, now: u64) -> Result<bool, Over> {
         if !self.ready {
             return Ok(false);
@@ -217,12 +217,12 @@ impl Clients {
         Ok(())
     }
 
-    /// Lets the browsers in that wait, at the moment `now`, in milliseconds of the program's clock. Then reads, answers by
-    /// `site` and writes on each connection that is ready, and closes those that ended or are late. A connection is late if
-    /// nothing moved on it for more than 30,000 ms. It is also late if a request is not whole, or an answer is not taken,
-    /// for more than 5,000 ms. The beginning of a request that was read together with the end of the request before does
-    /// not count: 5,000 ms begin with the next byte. A new connection counts as one whose request is begun: it is late
-    /// 5,000 ms after its beginning even if no byte came.
+    /// Lets the browsers in that wait, at the moment `now`, in milliseconds of the program's clock. Then reads, answers
+    /// by `site` and writes on each connection that is ready, and closes those that ended or are late. A connection is
+    /// late if nothing moved on it for more than 30,000 ms. It is also late if a request is not whole, or an answer is
+    /// not taken, for more than 5,000 ms. The beginning of a request that was read together with the end of the request
+    /// before does not count: 5,000 ms begin with the next byte. A new connection counts as one whose request is begun:
+    /// it is late 5,000 ms after its beginning even if no byte came.
     pub fn serve<H: RandomSource>(&mut self, host: &H, site: &mut Site, now: u64) {
         if self.doubts {
             for client in self.clients.iter_mut() {
@@ -242,8 +242,8 @@ impl Clients {
         self.has_more = has_more;
     }
 
-    /// Lets the browsers in that wait. Nothing is from the time of a stop once no more do. A new connection is closed if
-    /// there is no place for it, if the system refuses random keys or the wait for it, or if memory was refused; a
+    /// Lets the browsers in that wait. Nothing is from the time of a stop once no more do. A new connection is closed
+    /// if there is no place for it, if the system refuses random keys or the wait for it, or if memory was refused; a
     /// connection that was closed for it stays closed.
     fn accept<H: RandomSource>(&mut self, host: &H, now: u64) {
         for _ in 0..16u32 {
@@ -286,8 +286,8 @@ impl Clients {
     }
 
     /// Whether there is a place for a new connection. If there are 128, one of them is closed to make room. That is the
-    /// oldest one on which no request was admitted so far (admitted: with the right host and token). If there is no such
-    /// connection, it is the first on which no request is begun and nothing moved for more than 1,000 ms.
+    /// oldest one on which no request was admitted so far (admitted: with the right host and token). If there is no
+    /// such connection, it is the first on which no request is begun and nothing moved for more than 1,000 ms.
     fn has_place(&mut self, now: u64) -> bool {
         if self.clients.len() < MOST {
             return true;

@@ -155,8 +155,8 @@ pub fn matches_of<'a, S: AsStr>(alloc: Global, words: &'a [S]) -> Result<ArgMatc
     program(alloc, &PROGRAM)?.try_get_matches_from(words)
 }
 
-/// What a command line that matched asks for. Failure: `BadWords` if an option's value is not of its form, or two options
-/// contradict each other. Its note names them, if there is memory for it.
+/// What a command line that matched asks for. Failure: `BadWords` if an option's value is not of its form, or two
+/// options contradict each other. Its note names them, if there is memory for it.
 pub fn options_of<'a>(alloc: Global, words: &ArgMatches<'a>) -> Result<Options<'a>, Failure> {
     check(alloc, words, PROGRAM.options)?;
     let Some(device) = host_in(words, DEVICE.name) else {

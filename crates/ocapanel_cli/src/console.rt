@@ -32,9 +32,9 @@ pub struct Console<'c, R, N, W: Sink, F: Sink> {
 }
 
 impl<'c, R: Net + RandomSource + Files, N: Net + Clock, W: Sink, F: Sink> Console<'c, R, N, W, F> {
-    /// Runs the program `ocapanel` on the words of its command line, its name first, and returns its exit status. It is 0
-    /// after a help text, 2 if the words are bad, and 1 if something could not be done. A fault is printed on `faults` as
-    /// one line, after a line that begins with `note: ` if more is known.
+    /// Runs the program `ocapanel` on the words of its command line, its name first, and returns its exit status. It is
+    /// 0 after a help text, 2 if the words are bad, and 1 if something could not be done. A fault is printed on
+    /// `faults` as one line, after a line that begins with `note: ` if more is known.
     pub fn run<S: AsStr>(&mut self, words: &[S]) -> u8 {
         let ended = self.obey(words);
         status_of(ended, self.faults)
@@ -48,10 +48,10 @@ impl<'c, R: Net + RandomSource + Files, N: Net + Clock, W: Sink, F: Sink> Consol
         }
     }
 
-    /// Reads the files that the options name, binds the sockets, and then serves until a call of the system fails or memory
-    /// is refused. Ok only after 2^64 - 1 waits, which no run reaches. Failures: `Read` if a file can't be read. `BadWords`
-    /// if a file has something that is refused. `Socket` if the system refused a socket, a wait or random numbers.
-    /// `NoMemory` if memory was refused.
+    /// Reads the files that the options name, binds the sockets, and then serves until a call of the system fails or
+    /// memory is refused. Ok only after 2^64 - 1 waits, which no run reaches. Failures: `Read` if a file can't be read.
+    /// `BadWords` if a file has something that is refused. `Socket` if the system refused a socket, a wait or random
+    /// numbers. `NoMemory` if memory was refused.
     fn serve(&mut self, options: &Options<'_>) -> Result<u8, Failure> {
         let token = token_of(self.alloc, self.host, options.access)?;
         let units = units_of(self.alloc, self.host, options.units)?;
@@ -79,8 +79,8 @@ impl<'c, R: Net + RandomSource + Files, N: Net + Clock, W: Sink, F: Sink> Consol
         Ok(0)
     }
 
-    /// A socket for the device, from this local port, and the first handle over it. A port at which the device answers no
-    /// command is noted.
+    /// A socket for the device, from this local port, and the first handle over it. A port at which the device answers
+    /// no command is noted.
     pub(super) fn reach(
         &mut self,
         options: &Options<'_>,

@@ -17,7 +17,8 @@ use std::rt::{Clock, Files};
 /// The most turns that are taken before the browsers have theirs.
 const MOST_TURNS: u32 = 256;
 
-/// Behind a receive that failed so many milliseconds are waited at least, unless a browser comes: what is due was not sent.
+/// Behind a receive that failed so many milliseconds are waited at least, unless a browser comes: what is due was not
+/// sent.
 const FAILED_WAIT_MS: u64 = 50;
 
 /// The answer to an order is waited for so many milliseconds at most before requests are answered again.
@@ -56,8 +57,8 @@ impl<'c, R: Net + RandomSource + Files, N: Net + Clock, W: Sink, F: Sink> Rounds
     W,
     F,
 > {
-    /// Goes round: what came from the device, what is to be sent to it, the browsers, and a wait. Where another socket for
-    /// the device is wanted, it goes on over that.
+    /// Goes round: what came from the device, what is to be sent to it, the browsers, and a wait. Where another socket
+    /// for the device is wanted, it goes on over that.
     pub fn go_on(&mut self) -> Result<(), Failure> {
         for _ in 0..u64::MAX {
             let wait = self.go_once()?;
@@ -71,8 +72,9 @@ impl<'c, R: Net + RandomSource + Files, N: Net + Clock, W: Sink, F: Sink> Rounds
         Ok(())
     }
 
-    /// Behind each loss of the link: if the system reaches the device from another address by now, goes on from there. What
-    /// is in flight then is lost, and never sent again. Where no socket is to be had, the next loss is the next try.
+    /// Behind each loss of the link: if the system reaches the device from another address by now, goes on from there.
+    /// What is in flight then is lost, and never sent again. Where no socket is to be had, the next loss is the next
+    /// try.
     fn follow_address(&mut self) -> Result<(), Failure> {
         let losses = self.site.view().news().lost;
         if losses == self.losses {
@@ -96,9 +98,9 @@ impl<'c, R: Net + RandomSource + Files, N: Net + Clock, W: Sink, F: Sink> Rounds
         self.go_over(reached)
     }
 
-    /// Goes on over another socket for the device, with a new link, which lies in this function's frame alone, some 94 kB.
-    /// The time until now is counted by the clock of the socket before. The new one's moment is taken first: so a stop
-    /// between the two is counted, if need be twice.
+    /// Goes on over another socket for the device, with a new link, which lies in this function's frame alone, some 94
+    /// kB. The time until now is counted by the clock of the socket before. The new one's moment is taken first: so a
+    /// stop between the two is counted, if need be twice.
     #[inline(never)]
     fn go_over(&mut self, reached: Reached<'c, N>) -> Result<(), Failure> {
         let Reached { end, first, .. } = reached;
@@ -113,7 +115,8 @@ impl<'c, R: Net + RandomSource + Files, N: Net + Clock, W: Sink, F: Sink> Rounds
         self.clients.watch(socket)
     }
 
-    /// Does what is to be done, for the device and for the browsers. Returns how long may be waited then, in milliseconds.
+    /// Does what is to be done, for the device and for the browsers. Returns how long may be waited then, in
+    /// milliseconds.
     fn go_once(&mut self) -> Result<u64, NoMemory> {
         let drained = self.turn()?;
         self.note_link();

@@ -27,10 +27,10 @@ const MOST_NAME: usize = 16;
 /// What is said where memory is refused.
 const NO_MEMORY: &str = "no memory";
 
-/// The terms of a panel that listens at `local` and wants this token. Its run gets a number of 64 random bits, so that two
-/// runs have the same number only with a chance of 1 in 2^64. The token is in the two forms in which browsers send it: as
-/// a cookie, whose name has the port in it since all ports of a host share its cookies, and as a query. Failures: `Socket`
-/// if the system gave no random numbers, `NoMemory` if memory was refused.
+/// The terms of a panel that listens at `local` and wants this token. Its run gets a number of 64 random bits, so that
+/// two runs have the same number only with a chance of 1 in 2^64. The token is in the two forms in which browsers send
+/// it: as a cookie, whose name has the port in it since all ports of a host share its cookies, and as a query.
+/// Failures: `Socket` if the system gave no random numbers, `NoMemory` if memory was refused.
 pub fn terms_of<R: RandomSource>(
     alloc: Global,
     host: &R,
@@ -81,9 +81,9 @@ fn put_name(alloc: Global, names: &mut Vec<Name>, host: String) -> Result<(), Al
     Ok(())
 }
 
-/// The token that browsers must bring: the first line of a file, or 128 random bits in hexadecimal; none where each is let
-/// in. Failures: `Read` if the file can't be read. `BadWords` if its first line is not 1 to 128 letters, digits, `-` and
-/// `_`. `Socket` if the system gave no random numbers. `NoMemory` if memory was refused.
+/// The token that browsers must bring: the first line of a file, or 128 random bits in hexadecimal; none where each is
+/// let in. Failures: `Read` if the file can't be read. `BadWords` if its first line is not 1 to 128 letters, digits,
+/// `-` and `_`. `Socket` if the system gave no random numbers. `NoMemory` if memory was refused.
 pub fn token_of<R: RandomSource + Files>(
     alloc: Global,
     host: &R,
@@ -137,9 +137,9 @@ fn random_number<R: RandomSource>(alloc: Global, host: &R) -> Result<u64, Failur
 }
 
 /// The units of values that the first 65,536 bytes of the file at a path list; none if no path is given. Each line is
-/// `class WORD FACTOR UNIT` or `ono N FACTOR UNIT`; lines that are empty or begin with `#` are skipped. Failures: `Read`
-/// if the file can't be read. `BadWords` if these bytes are not UTF-8, a line does not have its form, or memory was
-/// refused for a line. The note names the first such line, if there is memory for it.
+/// `class WORD FACTOR UNIT` or `ono N FACTOR UNIT`; lines that are empty or begin with `#` are skipped. Failures:
+/// `Read` if the file can't be read. `BadWords` if these bytes are not UTF-8, a line does not have its form, or memory
+/// was refused for a line. The note names the first such line, if there is memory for it.
 pub fn units_of<F: Files>(
     alloc: Global,
     files: &F,
@@ -228,8 +228,8 @@ fn are_digits(text: &[u8]) -> bool {
     !text.is_empty() && text.iter().all(|byte| byte.is_ascii_digit())
 }
 
-/// The first 65,536 bytes of the file at a path, or all if there are fewer. Failure: `Read` if the file can't be read or
-/// memory was refused. Its note names the path and the reason, if there is memory for the note.
+/// The first 65,536 bytes of the file at a path, or all if there are fewer. Failure: `Read` if the file can't be read
+/// or memory was refused. Its note names the path and the reason, if there is memory for the note.
 fn bytes_of<F: Files>(alloc: Global, files: &F, path: &str) -> Result<Vec<u8>, Failure> {
     let mut bytes = Vec::new(alloc);
     let read = fs::open(files, path).and_then(|file| file.take(MOST_BYTES).read_to_end(&mut bytes));
