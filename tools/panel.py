@@ -479,7 +479,8 @@ class Desk(Bench):
             "are kept": self.are_kept,
             "seconds until closed": self.seconds_until_closed,
         }, other_tree=TREE.replace(f"{MUTE} 4097 mute muted lockable mute", f"{MUTE} 4097 int16 -5 5 0 lockable mute"),
-            other_roles=TREE.replace("channel", "monitor").replace('"Mic,Line,Stage left,Off" Mic', '"Tape,Radio,Stage left,Off" Tape'))
+            other_roles=TREE.replace("channel", "monitor").replace('"Mic,Line,Stage left,Off" Mic', '"Tape,Radio,Stage left,Off" Tape'),
+            own_roles=re.sub(r"(mute|trim|source)$", r"other-\1", TREE, flags=re.M))
 
     def begins_panel(self, words="", **settings):
         panel = self.panel = self.open.enter_context(Panel(self.way or self.device, *words.split(), **settings))
@@ -567,7 +568,7 @@ class Desk(Bench):
     def is_old(self):
         """Whether the reading of the trim, at place 5, is told as old. What is told as younger than it is, or else wrong, is kept."""
         begun = time.monotonic()
-        told = {one["ono"]: one["age"] for one in self.panel.look("&shown=5-1")["old"]}
+        told = {one["ono"]: one["age"] for one in self.panel.look("&shown=0-1,5-1")["old"]}
         since = 1000 * (begun - self.device.answered)
         is_younger = self.panel.known(TRIM) is not None and since > told.get(TRIM, 1000) + 5
         if is_younger or not set(told) <= {TRIM} or min(told.values(), default=1001) <= 1000:
@@ -626,7 +627,9 @@ class Desk(Bench):
             fared = {*self.panel.settled(tickets)}
             is_held = ocactl(self.device.port, *"set 4100 0".split())
             told.append([ocactl(self.device.port, *"get 4098 4101".split()).split("\n")[:2], is_held, sorted(map(str, fared - self.UNSENT))])
-            check(waited(lambda: self.is_found_anew(0) and self.panel.in_tree()[4097]["role"] == re.search('4097 .*"(.*)"', other)[1], 20) is not None,
+            roles = {ono: re.search(rf'^{ono} .*?("[^"]*"|[\w-]+)$', other, re.M)[1].strip('"') for ono in (4097, 4098)}
+            has_these = lambda: all(self.panel.in_tree()[ono]["role"] == role for ono, role in roles.items())
+            check(waited(lambda: self.is_found_anew(0) and has_these(), 20) is not None,
                   f"a device that took the place of another {gap} s later is found")
         return told
 

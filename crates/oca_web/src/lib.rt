@@ -2,9 +2,9 @@
 //! requests of HTTP.
 //!
 //! Begin with [`View`]: it finds the objects of a device over a [`Panel`](oca_panel::Panel), reads their values again
-//! and again while a page is open, and submits what the pages order, each order once and in their order. A [`Site`] is
+//! and again while a page is open, and submits what the pages order, each order at most once and in their order. A [`Site`] is
 //! the service over a view that a connection of `http_server` calls; it is never given the panel, so no request can
-//! touch the link. Nothing here opens a socket or reads a clock.
+//! touch the link. Nothing here opens a socket; the time is that of the panel's end.
 #![tactic(auto)]
 
 mod admission;

@@ -159,7 +159,7 @@ pub struct Object {
 }
 
 impl Object {
-    ghost use Rattle.std.specs.Prelude.{◌≡◌, Some};
+    ghost use Rattle.std.specs.Prelude.{◌≡◌, ◌⊎◌, Some};
     ghost use Rattle.oca_web.specs.Known.{name_at};
 
     /// Returns an object of which only the number, the container and the class are known. `class` is `None` if this
@@ -209,7 +209,9 @@ impl Object {
 
     /// Replaces what pages show of the object, and returns whether anything else differs than the moment of the
     /// reading.
-    fn show(&mut self, shown: Shown) -> bool {
+    fn show(&mut self, shown: Shown) -> bool
+        ensures { self.new ≡ record self.old { shown = shown } }
+    {
         let confirmed = shown.confirmed;
         let is_same = Shown {
             confirmed,
@@ -222,7 +224,12 @@ impl Object {
     /// Notes the answer to a question that was submitted at `moment` or later, and returns whether it changes the
     /// object. The answer confirms a role, or names of positions, as of the moment `read`, if there is one. An answer
     /// of another kind than the question asks for changes nothing.
-    fn learn(&mut self, ask: Ask, answer: Answer, moment: u64, read: Option<u64>) -> bool {
+    fn learn(&mut self, ask: Ask, answer: Answer, moment: u64, read: Option<u64>) -> bool
+        ensures role { ((self.new.role ≡ self.old.role) × (self.new.role_read ≡ self.old.role_read))
+            ⊎ (self.new.role_read ≡ read) }
+        ensures names { ((self.new.names ≡ self.old.names) × (self.new.names_read ≡ self.old.names_read))
+            ⊎ (self.new.names_read ≡ read) }
+    {
         let shown = self.shown;
         match (ask, answer) {
             (Ask::Role, Answer::Text(role)) => {

@@ -1,5 +1,5 @@
 //! The orders of the pages: those that wait, those in flight, and how the last ones ended. Over a panel each that waits
-//! is submitted once, in time and for the object that its page showed, and what the answers say is noted under their
+//! is submitted at most once, in time and for the object that its page showed, and what the answers say is noted under their
 //! tickets.
 ghost use Rattle.std.specs.Prelude.{◌≡◌, ◌<◌, length, nat_lt, IfSome};
 ghost use Rattle.std.specs.List.{position};

@@ -236,7 +236,7 @@ const HOLD: OptionRow = OptionRow {
     name: "hold",
     value: "",
     help: "Keeps the locks until standard input ends, and then releases them. With a time behind it, for example 30s, 90m \
-        or 1h, it keeps them for that time, whatever the input. If a lock is lost meanwhile, that is printed at once, and \
+        or 1h, it keeps them for that time, whatever the input. If a lock is lost meanwhile, that is printed, and \
         the exit status is 5. If a signal stops the program, the locks lapse after 15 seconds",
     kind: Kind::Flag,
     form: Form::Text,

@@ -131,8 +131,8 @@ const STATS: OptionRow = OptionRow {
 const KEEP: OptionRow = OptionRow {
     name: "keep",
     help: "The file in which the device's state is stored. If it exists at the start, the device has its objects, \
-        whatever --tree and --channels say. It is written at the start, and after each datagram that wrote to an \
-        object. Locks, reply windows and sessions are not stored: after a restart, a duplicate of a command from \
+        whatever --tree and --channels say. It is written at the start, and before a change is \
+        answered. Locks, reply windows and sessions are not stored: after a restart, a duplicate of a command from \
         before is executed as new",
     ..TREE
 };
@@ -146,7 +146,7 @@ const TEXT: OptionRow = OptionRow {
 /// What stands behind the options of `serve` in its help text.
 const SERVE_EXAMPLE: &str =
     "In each turn the device handles one datagram, or waits 50 ms if none comes. So T turns take at most T times \
-    50 ms, and less if datagrams come.
+    50 ms if no datagram comes.
 A run that a signal ends (Ctrl-C, kill) prints no report.
 
 Example: ocadev serve --port 65000 --turns 1200";

@@ -103,7 +103,8 @@ impl<'l, 'p, N: Files<File = File>> FileDisk<'l, 'p, N> {
         })
     }
 
-    /// Refuses where a plain file is at the path that this device did not put there: another device has the state then.
+    /// Refuses where a plain file is at the path that this device neither found at its start nor put there: another
+    /// device has the state then.
     fn check_place(&self) -> io::Result<()> {
         let Some(found) = plain_at(self.system, self.path) else {
             return Ok(());

@@ -1,5 +1,5 @@
 //! A device that is served at an end until this is closed.
-ghost use Rattle.std.specs.Prelude.{[], IfOk};
+ghost use Rattle.std.specs.Prelude.{◌≤◌, ◌<◌, [], IfOk, IsTrue};
 ghost use Rattle.std.specs.Option.{option_map};
 ghost use Rattle.oca_types.specs.Sizes.{sizes_of};
 ghost use Rattle.oca_device.specs.Devices.{Represents};
@@ -45,9 +45,11 @@ pub fn serve<E: End, D: Disk + Drop, F: Sink>(
     log: &mut Log<'_, F>,
     turns: u64,
 ) -> Report
-    ensures { ServesFrom (option_map
+    ensures served { ServesFrom (option_map
         (λ k. record { is_behind = k.waiting.is_behind; store = store_of (D.state k.disk) }) kept.entry) served.old.device
         served.new.device (E.state end.old) (E.state end.new) result }
+    ensures turns { result.turns ≤ turns }
+    ensures closed { result.turns < turns → IsTrue (E.state end.new).closed }
 {
     let Served { device, outbox } = served;
     match kept {

@@ -1,7 +1,9 @@
 //! What the clauses leave open: commands that are sent over an end in memory, and readers and writers that give and
 //! take a little at a time or fail. Whole runs of the program are rows of `tools/rows/ocactl.toml`.
-use super::{first_place, first_wrong, none_wrong};
+use super::{Row, first_place, first_wrong, none_wrong};
 use oca_types::Peer;
+use ocactl_cli::command::Given;
+use std::alloc::Global;
 
 mod commands;
 mod objects;
@@ -13,6 +15,31 @@ const DEVICE: Peer = Peer {
     ip: 0x7f00_0001,
     port: 65000,
 };
+
+/// A word behind `--hold`, and the time that it says, in milliseconds.
+struct Holds(&'static str, Option<u64>);
+
+impl Row for Holds {
+    /// Whether it says this time.
+    fn agrees(&self, alloc: Global) -> bool {
+        match Given::of(alloc, &["ocactl", "lock", "--hold", self.0, "4097"]) {
+            Ok(given) => given.hold_ms == self.1,
+            Err(_) => false,
+        }
+    }
+}
+
+const HOLDS: &[Holds] = &[
+    Holds("30s", Some(30_000)),
+    Holds("90m", Some(5_400_000)),
+    Holds("1h", Some(3_600_000)),
+    Holds("999999999h", Some(3_599_999_996_400_000)),
+    Holds("0s", Some(0)),
+    Holds("1234567890s", None),
+    Holds("h", None),
+    Holds("1d", None),
+    Holds("4098", None),
+];
 
 /// Whatever a reader may give or a writer may take.
 const NO_LIMIT: usize = usize::MAX;
@@ -29,6 +56,15 @@ fn lines_over_an_end(rt: HostRuntime) {
             first_wrong(alloc, commands::ENDING),
             first_wrong(alloc, commands::CUT_LINES),
         ],
+    );
+}
+
+#[test]
+fn times_to_hold_locks(rt: HostRuntime) {
+    none_wrong(
+        &rt,
+        "times to hold locks",
+        &[first_wrong(rt.alloc(), HOLDS)],
     );
 }
 
