@@ -9,7 +9,8 @@
 #include <stdlib.h>
 #include <string.h>
 
-enum { FAULT = 4200 }; /* a light that panels read and cannot set */
+/* The objects' numbers: the block of a channel has 4096 + 16 * channel, its mute 1 more and its gain 2 more. */
+enum { CHANNELS = 2, FIRST = 4096, EACH = 16, MUTE = 1, GAIN = 2, FAULT = 4200 /* a light that panels read and cannot set */ };
 
 /* The objects: for each channel a block with a mute and a gain; and a fault light. */
 static enum oca_result build(struct oca_device *device) {
@@ -18,29 +19,29 @@ static enum oca_result build(struct oca_device *device) {
     enum oca_result answer = oca_device_open(device, 128);
     const struct oca_spec fault = oca_spec_of("fault", oca_alone(oca_boolean(false)));
     if (answer == OCA_DONE) answer = oca_device_add(device, 100, FAULT, &fault);
-    for (uint32_t channel = 0; channel < 2 && answer == OCA_DONE; channel++) {
-        uint32_t number = 4096 + 16 * channel;
+    for (uint32_t channel = 0; channel < CHANNELS && answer == OCA_DONE; channel++) {
+        const uint32_t number = FIRST + EACH * channel;
         char role[16];
         snprintf(role, sizeof role, "channel %u", (unsigned)channel + 1);
         const struct oca_spec block = oca_spec_of_block(role);
         answer = oca_device_add(device, 100, number, &block);
-        if (answer == OCA_DONE) answer = oca_device_add(device, number, number + 1, &mute);
-        if (answer == OCA_DONE) answer = oca_device_add(device, number, number + 2, &gain);
+        if (answer == OCA_DONE) answer = oca_device_add(device, number, number + MUTE, &mute);
+        if (answer == OCA_DONE) answer = oca_device_add(device, number, number + GAIN, &gain);
     }
     return answer == OCA_DONE ? oca_device_start(device, 32, 16) : answer;
 }
 
 /* What the channels are to be, and whether that is new. */
-struct channels { struct oca_device *device; bool muted[2]; int gain[2]; bool is_new; };
+struct channels { struct oca_device *device; bool muted[CHANNELS]; int gain[CHANNELS]; bool is_new; };
 
 /* Brings an object that was written to into the channels: here the hardware is to follow it. */
 static void follow(void *context, uint32_t ono) {
     struct channels *channels = (struct channels *)context;
-    struct oca_setting setting = {0, 0, 0};
-    const uint32_t channel = (ono - 4096) / 16;
-    if (oca_device_setting(channels->device, ono, &setting) != OCA_DONE) return;
-    const bool muted = ono % 16 == 1 ? setting.magnitude == OCA_MUTED : channels->muted[channel];
-    const int gain = ono % 16 == 2 ? (setting.negative ? -1 : 1) * (int)setting.magnitude : channels->gain[channel];
+    struct oca_reading now = oca_alone(oca_mute(true));
+    const uint32_t channel = (ono - FIRST) / EACH, part = ono % EACH;
+    if (ono < FIRST || channel >= CHANNELS || oca_device_value(channels->device, ono, &now) != OCA_DONE) return; /* a block, or no channel's */
+    const bool muted = part == MUTE ? now.value.bits == OCA_MUTED : channels->muted[channel];
+    const int gain = part == GAIN ? (int)oca_value_signed(now.value) : channels->gain[channel];
     channels->is_new = channels->is_new || muted != channels->muted[channel] || gain != channels->gain[channel];
     channels->muted[channel] = muted;
     channels->gain[channel] = gain;

@@ -1,5 +1,5 @@
 /* A mixer of 32 channels in C, which comes up as it was left: each channel has a mute, a gain in tenths of a decibel and a source.
- * Usage: mixer FILE [PORT [SECONDS]]
+ * Usage: mixer FILE [PORT [SECONDS]]     Without SECONDS it runs until it is stopped.
  * Lines on standard input are its front: "mute 5", "open 5", "gain 5 -60", "source 5 2". What a panel was told to be set is in FILE before
  * it is told so; what is set at the local front panel is there a tenth of a second later. It prints where it listens on standard error. */
 #define _POSIX_C_SOURCE 200809L
@@ -110,7 +110,7 @@ int main(int count, char **words) {
     if (answer != OCA_DONE) fprintf(stderr, "not started: %s\n", oca_result_text(answer));
     else if (!good) fprintf(stderr, "socket: %s: %s\n", own.call, strerror(own.error));
     else fprintf(stderr, "listening 127.0.0.1:%u\n", (unsigned)own.port);
-    end = oca_socket_now() + 1000 * (uint64_t)(count > 3 ? atoi(words[3]) : 1);
+    end = count > 3 ? oca_socket_now() + 1000 * (uint64_t)atoi(words[3]) : UINT64_MAX;
     good = good && pthread_create(&reading, NULL, front, NULL) == 0;
     while (good && oca_socket_now() < end) (void)oca_serve(&server, oca_socket_now() + 100);
     if (good) pthread_join(reading, NULL);
