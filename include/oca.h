@@ -5,9 +5,9 @@
  *
  * A device is one struct oca_device, and a link one struct oca_link, zeroed before the first call: then it is closed. A
  * call answers OCA_DONE, or another number of enum oca_result. After any number but OCA_DONE do not read what the call
- * would have written, except the count or length that comes with OCA_TOO_SMALL. Texts are bytes and a length, in UTF-8.
- * Addresses and ports are in the host's byte order: 127.0.0.1 is 0x7F000001. Moments are in milliseconds, of a clock
- * that does not go back. The profile is the part of AES70 that is here, with rules of its own (docs/PROTOCOL.md). Only
+ * would have written, except what comes with OCA_TOO_SMALL by the call's comment. Texts are bytes and a length, in
+ * UTF-8. Addresses and ports are in the host's byte order: 127.0.0.1 is 0x7F000001. Moments are in milliseconds, of a
+ * clock that does not go back. The profile is the part of AES70 that is here, with rules of its own (docs/PROTOCOL.md). Only
  * oca_store_.., oca_socket_.. and oca_serve.. open a file or a socket or read a clock, and nothing starts a thread.
  *
  * What the caller promises, at every call (no proof sees the C side):

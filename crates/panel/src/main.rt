@@ -11,8 +11,8 @@ use anyhow::Error;
 use objects::print_objects;
 use oca_model::{MuteState, Value, word_of};
 use oca_net::{End, UdpEnd, fill_standard_descriptors};
-use oca_panel::{Panel, Trouble};
-use oca_types::{Handle, Ono, Peer, Span};
+use oca_panel::{OwnPort, Panel, Trouble};
+use oca_types::{Ono, Peer, Span};
 use std::net::Net;
 use std::rt::Runtime;
 use words::asked;
@@ -35,15 +35,17 @@ fn run<R: Runtime + Net + AllocGlobal>(rt: &R) -> Result<(), Error> {
     ask_device(rt, Peer::loopback(port), lists)
 }
 
-/// Opens a panel for the device, over a socket at the address from which the system reaches it. A command waits for
-/// 10.5 seconds, longer than a link retransmits it.
+/// Opens a panel for the device, over a socket at the address from which the system reaches it. The first handle is
+/// above those of earlier runs, which the device may remember if they had the same port. A command waits for 10.5
+/// seconds, longer than a link retransmits it.
 fn ask_device<R: Runtime + Net + AllocGlobal>(
     rt: &R,
     device: Peer,
     lists: bool,
 ) -> Result<(), Error> {
     let end = UdpEnd::bind_towards(rt.alloc(), rt, device, 0)?;
-    let mut panel = Panel::open(device, end, Handle(1), Span::default(), 10_500);
+    let first = OwnPort::now(rt).first_handle;
+    let mut panel = Panel::open(device, end, first, Span::default(), 10_500);
     if lists {
         print_objects(rt, &mut panel)
     } else {
