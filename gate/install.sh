@@ -48,7 +48,7 @@ put_programs() {
 # The static library with all C of c/ (a panel, a device's loop and what it needs, a heap over malloc), the one without the heap, and
 # the shared one, whose names all begin with `oca_`; and the manual pages.
 make_library() {
-    parts="panel kept store socket serve close"
+    parts="panel kept objects store socket serve close"
     for name in $parts malloc; do ${CC:-cc} ${CFLAGS--O2} ${CPPFLAGS-} -fPIC -Wall -Wextra -Iinclude -c -o "$work/$name.o" "c/$name.c"; done
     cp "${LIBRARY:-crates/oca_c/out/$TARGET/liboca_c.a}" "$work/liboca_c.a"
     for name in $parts; do ${AR:-ar} rs "$work/liboca_c.a" "$work/$name.o" 2> /dev/null; done

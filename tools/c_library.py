@@ -48,7 +48,7 @@ DATA, VERSION = data("c_library"), reference.version_of(reference.HEADER.read_te
 CARELESS = [("unused-result", it) for it in DATA.unused] + [("nonnull", f"(void)!{it}") for it in DATA.null]
 INSTALLED = [*DATA.installed]
 CALLS = 1_500_000  # of a run of random ones
-PARTS = ("panel", "kept", "store", "socket", "serve", "close")  # of c/, but the heap
+PARTS = ("panel", "kept", "objects", "store", "socket", "serve", "close")  # of c/, but the heap
 FULL = oca.pdu(1, [oca.Command(handle, 4097, 4, 1).body() for handle in range(1, 87)])  # a datagram of 1,472 bytes
 CAREFUL = ["valgrind", "-q", "--error-exitcode=99", "--leak-check=full"]
 KINDS = (("", []), ("sanitized", SANITIZED))  # how a test in C is compiled
@@ -133,7 +133,7 @@ def each_call(checks, made, prefix):
 
 def random_calls(checks, made, prefix):
     """Calls of devices, links and panels in any order, with any numbers, under the sanitizers: what each answers, and what it writes."""
-    sources = c_rows.test("c_library_random", made), TOP / "c/panel.c", TOP / "c/kept.c"
+    sources = c_rows.test("c_library_random", made), *(TOP / f"c/{name}.c" for name in ("panel", "kept", "objects"))
     for seed, language in enumerate(LANGUAGES, 1):
         program = compiled(made / f"random-{language}", *SANITIZED, f"-I{prefix}/include", *sources, "-x", "none",
                            prefix / "lib/liboca.a", language=language)

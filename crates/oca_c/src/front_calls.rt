@@ -1,138 +1,14 @@
 //! What C calls to set the objects of a device at its local front panel.
-ghost use Rattle.std.specs.Prelude.{pos};
 ghost use Rattle.oca_model.specs.declared.request.Request.TheVariants as asked;
-ghost use Rattle.oca_model.specs.declared.value.Value.TheVariants as values;
 ghost use Rattle.oca_tree.specs.LocalChanges.{ToEnabled, ToUnlocked, ToFailing};
-ghost use Rattle.oca_calls.specs.Calls.{HandleSets, KeepsPackets, RefusesBuilding, RefusesClosed};
-ghost use Rattle.oca_calls.specs.FrontCalls.{HandleChanges, HandleLabels, HandleSetsEntry, HandleSetsWords, State};
-ghost use Rattle.oca_calls.specs.FrontCalls.{Integer};
+ghost use Rattle.oca_calls.specs.Calls.{KeepsPackets, RefusesBuilding, RefusesClosed};
+ghost use Rattle.oca_calls.specs.FrontCalls.{HandleChanges, HandleLabels, HandleSetsWords};
 ghost use Rattle.oca_calls.specs.Storings.{KeepsUnstored};
 
 use oca_calls::answer::Answer;
 use oca_calls::device_handle::DeviceHandle;
-use oca_calls::front::{set, set_integer};
 use oca_calls::value_words::ValueWords;
-use oca_tree::Value;
 use std::alloc::Global;
-
-/// Sets a mute (1 Muted, 2 Unmuted) or a polarity (1 NonInverted, 2 Inverted) at the local front panel. A lock of a
-/// controller does not refuse it, and no peer gets a message (the local front panel is the profile's, not AES70's).
-///
-/// Returns the number of an answer: `Done`. Otherwise the first of these that applies, and then nothing is changed.
-/// `Closed` if the device is closed. `NotStarted` before its start. `NoObject` if no object has the number `ono`.
-/// `NoSetting` if it is a block. `OtherKind` if it is of another class. `OutOfRange` if `state` is neither 1 nor 2.
-#[unsafe(no_mangle)]
-pub extern "C" fn oca_device_set_state(
-    alloc: Global,
-    handle: &mut DeviceHandle,
-    ono: u32,
-    state: u8,
-) -> u32
-    ensures closed { RefusesClosed handle.old.slot.inner handle.new.slot.inner result }
-    ensures building { RefusesBuilding handle.old.slot.inner handle.new.slot.inner result }
-    ensures packets { KeepsPackets handle.old.slot.inner handle.new.slot.inner }
-    ensures unstored { KeepsUnstored handle.old.slot.inner handle.new.slot.inner }
-    ensures sets { HandleSetsEntry result handle.old.slot.inner handle.new.slot.inner ono (State state) }
-{
-    let Some(mut behind) = handle.take(alloc) else {
-        return Answer::Closed.number();
-    };
-    let answer = behind.set_state(ono, state);
-    handle.put(behind);
-    answer.number()
-}
-
-/// Sets a switch to a position at the local front panel. `position` is counted from 0. A lock of a controller does not
-/// refuse it, and no peer gets a message (the local front panel is the profile's, not AES70's).
-///
-/// Returns the number of an answer: `Done`. Otherwise the first of these that applies, and then nothing is changed.
-/// `Closed` if the device is closed. `NotStarted` before its start. `NoObject` if no object has the number `ono`.
-/// `NoSetting` if it is a block. `OtherKind` if it is of another class. `OutOfRange` if the switch has no such
-/// position, or the position is disabled.
-#[unsafe(no_mangle)]
-pub extern "C" fn oca_device_set_position(
-    alloc: Global,
-    handle: &mut DeviceHandle,
-    ono: u32,
-    position: u16,
-) -> u32
-    ensures closed { RefusesClosed handle.old.slot.inner handle.new.slot.inner result }
-    ensures building { RefusesBuilding handle.old.slot.inner handle.new.slot.inner result }
-    ensures packets { KeepsPackets handle.old.slot.inner handle.new.slot.inner }
-    ensures unstored { KeepsUnstored handle.old.slot.inner handle.new.slot.inner }
-    ensures sets { HandleSets result handle.old.slot.inner handle.new.slot.inner ono (values.Switch position) }
-{
-    set(alloc, handle, ono, Value::Switch(position))
-}
-
-/// Sets a Boolean actuator to `truth` at the local front panel. A lock of a controller does not refuse it, and no peer
-/// gets a message (the local front panel is the profile's, not AES70's).
-///
-/// Returns the number of an answer: `Done`. Otherwise the first of these that applies, and then nothing is changed.
-/// `Closed` if the device is closed. `NotStarted` before its start. `NoObject` if no object has the number `ono`.
-/// `NoSetting` if it is a block. `OtherKind` if it is of another class.
-#[unsafe(no_mangle)]
-pub extern "C" fn oca_device_set_truth(
-    alloc: Global,
-    handle: &mut DeviceHandle,
-    ono: u32,
-    truth: bool,
-) -> u32
-    ensures closed { RefusesClosed handle.old.slot.inner handle.new.slot.inner result }
-    ensures building { RefusesBuilding handle.old.slot.inner handle.new.slot.inner result }
-    ensures packets { KeepsPackets handle.old.slot.inner handle.new.slot.inner }
-    ensures unstored { KeepsUnstored handle.old.slot.inner handle.new.slot.inner }
-    ensures sets { HandleSets result handle.old.slot.inner handle.new.slot.inner ono (values.Boolean truth) }
-{
-    set(alloc, handle, ono, Value::Boolean(truth))
-}
-
-/// Sets an actuator of integers, of any type, to `number` at the local front panel. A lock of a controller does not
-/// refuse it, and no peer gets a message (the local front panel is the profile's, not AES70's).
-///
-/// Returns the number of an answer: `Done`. Otherwise the first of these that applies, and then nothing is changed.
-/// `Closed` if the device is closed. `NotStarted` before its start. `NoObject` if no object has the number `ono`.
-/// `NoSetting` if it is a block. `OtherKind` if it is of another class. `OutOfRange` if the number is outside the
-/// object's limits.
-#[unsafe(no_mangle)]
-pub extern "C" fn oca_device_set_signed(
-    alloc: Global,
-    handle: &mut DeviceHandle,
-    ono: u32,
-    number: i64,
-) -> u32
-    ensures closed { RefusesClosed handle.old.slot.inner handle.new.slot.inner result }
-    ensures building { RefusesBuilding handle.old.slot.inner handle.new.slot.inner result }
-    ensures packets { KeepsPackets handle.old.slot.inner handle.new.slot.inner }
-    ensures unstored { KeepsUnstored handle.old.slot.inner handle.new.slot.inner }
-    ensures sets { HandleSetsEntry result handle.old.slot.inner handle.new.slot.inner ono (Integer number) }
-{
-    set_integer(alloc, handle, ono, i128::from(number))
-}
-
-/// Sets an actuator of integers, of any type, to `number` at the local front panel, also to a number above those of
-/// `oca_device_set_signed`. A lock of a controller does not refuse it, and no peer gets a message (the local front
-/// panel is the profile's, not AES70's).
-///
-/// Returns the number of an answer: `Done`. Otherwise the first of these that applies, and then nothing is changed.
-/// `Closed` if the device is closed. `NotStarted` before its start. `NoObject` if no object has the number `ono`.
-/// `NoSetting` if it is a block. `OtherKind` if it is of another class. `OutOfRange` if the number is outside the
-/// object's limits.
-#[unsafe(no_mangle)]
-pub extern "C" fn oca_device_set_unsigned(
-    alloc: Global,
-    handle: &mut DeviceHandle,
-    ono: u32,
-    number: u64,
-) -> u32
-    ensures closed { RefusesClosed handle.old.slot.inner handle.new.slot.inner result }
-    ensures building { RefusesBuilding handle.old.slot.inner handle.new.slot.inner result }
-    ensures packets { KeepsPackets handle.old.slot.inner handle.new.slot.inner }
-    ensures unstored { KeepsUnstored handle.old.slot.inner handle.new.slot.inner }
-    ensures sets { HandleSetsEntry result handle.old.slot.inner handle.new.slot.inner ono (Integer (pos number)) }
-{
-    set_integer(alloc, handle, ono, i128::from(number))
-}
 
 /// Sets the object `ono` at the local front panel to `value`, which must be of the object's class. A lock of a
 /// controller does not refuse it, and no peer gets a message (the local front panel is the profile's, not AES70's).
@@ -158,7 +34,7 @@ pub extern "C" fn oca_device_set(
     let Some(mut behind) = handle.take(alloc) else {
         return Answer::Closed.number();
     };
-    let answer = behind.set_words(ono, *value);
+    let answer = behind.set(ono, *value);
     handle.put(behind);
     answer.number()
 }

@@ -13,7 +13,6 @@
 //! `oca_calls`.
 #![tactic(auto)]
 
-mod adding_calls;
 mod answer_calls;
 mod device_calls;
 mod front_calls;

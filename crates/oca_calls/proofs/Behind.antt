@@ -1,27 +1,23 @@
 -- What a call makes of what is behind a handle holds of the handle.
-use Rattle.std.proofs.Common.{◌≡◌, ℕ, ◌≤◌, Bool, List, length, map, Option, Some, None, inl, inr, refl, ap, ◌∙◌, IsUtf8}
-use Rattle.std.specs.Prelude.{Result, Ok, Err, IsSome, IsSomeAnd}
+use Rattle.std.proofs.Common.{◌≡◌, ℕ, List, Option, Some, None, inl, inr, refl, ap, ◌∙◌, IsUtf8}
+use Rattle.std.specs.Prelude.{IsSome, IsSomeAnd}
 use Rattle.oca_model.specs.declared.request.Request.{Request}
 use Rattle.oca_model.specs.declared.request.Request.TheVariants as asked
 use Rattle.oca_tree.specs.LocalChanges.{LocalChange, ToLabel}
 use Rattle.oca_calls.specs.declared.answer.Answer.TheVariants as answers
-use Rattle.oca_tree.specs.declared.setting.SetFault.{SetFault}
-use Rattle.std.specs.List.{AllByRecursion}
-use Rattle.oca_tree.specs.declared.builder.Kind.{Kind}
 use Rattle.oca_tree.specs.Objects.{Store}
 use Rattle.oca_calls.specs.declared.answer.Answer.{Answer}
 use Rattle.oca_calls.specs.declared.device.DeviceBehind.{DeviceBehind}
-use Rattle.oca_calls.specs.declared.name.Name.{Name}
 use Rattle.oca_types.specs.Sizes.{DeviceSizes}
 use Rattle.oca_tree.specs.declared.object.Object.{Object}
 use Rattle.oca_device.specs.Events.{Event}
 use Rattle.oca_model.specs.declared.value.Value.{Value}
 use Rattle.oca_calls.specs.declared.value_words.ValueWords.{ValueWords}
 use Rattle.oca_calls.specs.CValues.{AreWordsOf}
-use Rattle.oca_calls.specs.FrontCalls.{ChangesFront, FrontNumber, HandleChanges, HandleLabels, HandleSetsEntry, HandleSetsFound, HandleSetsValue, HandleSetsWords, SetsEntry, SetsFrontFound, SetsWords}
+use Rattle.oca_calls.specs.FrontCalls.{ChangesFront, HandleChanges, HandleLabels, HandleSetsValue, HandleSetsWords, SetsWords}
 use Rattle.oca_calls.specs.Numbers.{answer_number}
 use Rattle.oca_calls.specs.LinkRooms.{Rooms}
-use Rattle.oca_calls.specs.Calls.{AddedBy, Builds, HandleBuilds, HandleRuns, HandleStarts, RunsBehind, IsName, IsSwitch, Starts, SwitchAddedBy, left_by_start, name_bytes}
+use Rattle.oca_calls.specs.Calls.{Builds, HandleBuilds, HandleRuns, HandleStarts, RunsBehind, Starts, left_by_start}
 
 -- an addition
 pub adds_behind : (old new : Option DeviceBehind) (u u' : DeviceBehind) (number : ℕ) (answer : Answer) (By : Answer → Store → Store → Type 0)
@@ -43,27 +39,6 @@ starts_behind old new u u' number answer r window peers packets o n e k B h = rw
     here (inr (inl (is, w, p, room, spent))) = rw is (inr (inl (refl, w, p, room, refl)))
     here (inr (inr (is, bad, same))) = rw is (inr (inr (refl, bad, rw same refl)))
 
--- an addition of a switch, once its names were read
-pub added_switch : (u : DeviceBehind) (answer : Answer) (B : Store) (container ono : ℕ) (role : List ℕ) (lockable : Bool) (names : List Name) (position : ℕ) (kind : Kind)
-    → length names ≤ 16 → AllByRecursion IsName names → IsSwitch kind (map name_bytes names) position
-    → (B' : Store) × Builds u B' × AddedBy answer B B' container ono role lockable kind
-    → (B' : Store) × Builds u B' × SwitchAddedBy answer B B' container ono role lockable names position
-added_switch u answer B container ono role lockable names position kind few all is r =
-    (r.0, r.1, inr (inr (few, all, kind, is, r.2)))
-
--- a change at the front
-found_behind : (r : Rooms) (w : DeviceSizes) (u' : DeviceBehind) (answer : Answer) (ono : ℕ) (T : List Object) (E : List Event) (found : Result Value SetFault)
-    → SetsFrontFound r w answer u' T E ono found → HandleSetsFound r w (answer_number answer) (Some u') T E ono found
-found_behind r w u' answer ono T E (Err fault) (is, runs) = (rw is refl, runs)
-found_behind r w u' answer ono T E (Ok value) (is, runs) = (rw is refl, runs)
-
-pub entry_behind : (old new : Option DeviceBehind) (u u' : DeviceBehind) (number : ℕ) (answer : Answer) (ono : ℕ) (entry : FrontNumber)
-    → old ≡ Some u → new ≡ Some u' → number ≡ answer_number answer
-    → ((r : Rooms) (w : DeviceSizes) (T : List Object) (E : List Event) → RunsBehind r w u T E → SetsEntry r w answer u' T E ono entry)
-    → HandleSetsEntry number old new ono entry
-entry_behind old new u u' number answer ono entry o n e k r w T E h =
-    let m = k r w T E (rw o at h) in (m.0, m.1, rw (n, e) (found_behind r w u' answer ono T E m.0 m.2))
-
 -- a change at the front by words
 pub sets_behind : (old new : Option DeviceBehind) (u u' : DeviceBehind) (number : ℕ) (answer : Answer) (ono : ℕ) (words : ValueWords)
     → old ≡ Some u → new ≡ Some u' → number ≡ answer_number answer
@@ -74,7 +49,7 @@ sets_behind old new u u' number answer ono words o n e k r w T E h =
   where
     by : (value : Option Value) → SetsWords r w answer u' T E ono value → HandleSetsValue r w (answer_number answer) (Some u') T E ono value
     by None (is, runs) = (rw is refl, runs)
-    by (Some value) m = found_behind r w u' answer ono T E (Ok value) m
+    by (Some value) (is, runs) = (rw is refl, runs)
 
 -- a change at the front of a label, of whether an object is enabled, of its lock, or of whether its hardware refuses
 pub changes_behind : (old new : Option DeviceBehind) (u u' : DeviceBehind) (number : ℕ) (answer : Answer) (ono : ℕ) (change : LocalChange) (q : Request)

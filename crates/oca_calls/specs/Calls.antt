@@ -1,27 +1,16 @@
 -- What the calls promise of what is behind a handle.
-use Rattle.std.specs.Prelude.{◌≡◌, ◌⊎◌, ℕ, ◌<◌, ◌≤◌, Bool, List, [], ◌∷◌, take, map, length, Option, Some, None, Result}
-use Rattle.std.specs.Prelude.{Ok, Err, IsSome, IsSomeAnd, if◌then◌else◌}
-use Rattle.std.specs.List.{AllByRecursion}
+use Rattle.std.specs.Prelude.{◌≡◌, ◌⊎◌, ℕ, ◌≤◌, List, [], ◌∷◌, take, map, length, Option, Some, None, IsSome}
+use Rattle.std.specs.Prelude.{IsSomeAnd}
 use Rattle.std.specs.Str.{IsUtf8}
 use Rattle.oca_types.specs.Sizes.{DeviceSizes}
 use Rattle.oca_tree.specs.declared.object.Object.{Object}
-use Rattle.oca_tree.specs.declared.builder.AddFault.{AddFault}
-use Rattle.oca_tree.specs.declared.builder.Spec.{Spec}
 use Rattle.oca_tree.specs.declared.builder.Kind.{Kind}
 use Rattle.oca_tree.specs.declared.builder.Kind.TheVariants as kinds
 use Rattle.oca_tree.specs.declared.setting.SetFault.{SetFault}
-use Rattle.oca_model.specs.declared.value.Value.{Value}
-use Rattle.oca_model.specs.declared.value.MuteState.{MuteState}
-use Rattle.oca_model.specs.declared.value.MuteState.TheVariants as mutes
-use Rattle.oca_model.specs.declared.value.PolarityState.{PolarityState}
-use Rattle.oca_model.specs.declared.value.PolarityState.TheVariants as polarities
-use Rattle.oca_tree.specs.Building.{Adds, root}
+use Rattle.oca_tree.specs.Building.{root}
 use Rattle.oca_tree.specs.Objects.{Store}
-use Rattle.oca_tree.specs.Settings.{set_fault}
-use Rattle.oca_tree.specs.LocalChanges.{ToValue}
-use Rattle.oca_device.specs.Events.{Event, Local}
+use Rattle.oca_device.specs.Events.{Event}
 use Rattle.oca_device.specs.Outboxes.{KeptPackets, first_packets}
-use Rattle.oca_device.specs.States.{state_after}
 use Rattle.oca_calls.specs.declared.answer.Answer.{Answer}
 use Rattle.oca_calls.specs.declared.answer.Answer.TheVariants as answers
 use Rattle.oca_calls.specs.declared.device.DeviceBehind.{DeviceBehind}
@@ -29,7 +18,7 @@ use Rattle.oca_calls.specs.declared.name.Name.{Name}
 use Rattle.oca_calls.specs.DeviceRooms.{RunsWithin}
 use Rattle.oca_calls.specs.LinkRooms.{Rooms}
 use Rattle.oca_calls.specs.Storings.{HasUnstored, all_stored}
-use Rattle.oca_calls.specs.Numbers.{add_answer, set_answer, answer_number}
+use Rattle.oca_calls.specs.Numbers.{set_answer}
 
 -- ---- where a device stands
 
@@ -147,32 +136,6 @@ HandleStarts number old new r window peers packets tree =
     ⊎ (((number ≡ 8) × IsSize window × IsSize peers × IsPacketRoom packets × (new ≡ None))
     ⊎ ((number ≡ 15) × (IsSize window → IsSize peers → IsPacketRoom packets → ⊥) × (new ≡ old)))
 
--- ---- additions
-
--- The builder's own addition of an object that is so described gave this result.
-abbrev pub AddsSo : {X : Type 0} → Result X AddFault → Store → Store → ℕ → ℕ → List ℕ → Bool → Kind → Type 0
-AddsSo r old new container ono role lockable kind =
-    (spec : Spec) × (spec.role.now ≡ role) × (spec.lockable ≡ lockable) × (spec.kind ≡ kind)
-    × Adds r old new container ono spec
-
--- what an addition is answered with
-abbrev pub add_answers : {X : Type 0} → Result X AddFault → Answer
-add_answers (Ok _) = answers.Done
-add_answers (Err fault) = add_answer fault
-
--- An addition answered this: bad text, where the role is no UTF-8, which changes nothing; else as the builder's own
--- addition.
-abbrev pub AddedBy : Answer → Store → Store → ℕ → ℕ → List ℕ → Bool → Kind → Type 0
-AddedBy answer old new container ono role lockable kind =
-    ((IsUtf8 role → ⊥) × (answer ≡ answers.BadText) × (new ≡ old))
-    ⊎ ((r : Result (Unit {0}) AddFault) × (answer ≡ add_answers r) × AddsSo r old new container ono role lockable kind)
-
--- behind an open handle, a tree was being built; an addition answered this number, and the tree is as that says
-abbrev pub HandleAdds : ℕ → Option DeviceBehind → Store → ℕ → ℕ → List ℕ → Bool → Kind → Type 0
-HandleAdds number behind built container ono role lockable kind =
-    (built' : Store) × HandleBuilds behind built' × (answer : Answer) × (number ≡ answer_number answer)
-    × AddedBy answer built built' container ono role lockable kind
-
 -- the bytes of a name, and whether it is one
 abbrev pub name_bytes : Name → List ℕ
 name_bytes name = take name.size name.text
@@ -189,39 +152,9 @@ abbrev pub IsSwitch : Kind → List (List ℕ) → ℕ → Type 0
 IsSwitch (kinds.Switch names at) texts position = (map (λ name. name.now) names.now ≡ texts) × (at ≡ position)
 IsSwitch _ texts position = ⊥
 
--- An addition of a switch answered this: bad range, where it has more than 16 names; bad text, where one is no name;
--- neither changes anything; else as the addition of a switch with the texts of these names.
-abbrev pub SwitchAddedBy : Answer → Store → Store → ℕ → ℕ → List ℕ → Bool → List Name → ℕ → Type 0
-SwitchAddedBy answer old new container ono role lockable names position =
-    ((16 < length names) × (answer ≡ answers.BadRange) × (new ≡ old))
-    ⊎ (((length names ≤ 16) × (AllByRecursion IsName names → ⊥) × (answer ≡ answers.BadText) × (new ≡ old))
-    ⊎ ((length names ≤ 16) × AllByRecursion IsName names
-    × (kind : Kind) × IsSwitch kind (map name_bytes names) position
-    × AddedBy answer old new container ono role lockable kind))
-
--- the same behind an open handle
-abbrev pub HandleAddsSwitch : ℕ → Option DeviceBehind → Store → ℕ → ℕ → List ℕ → Bool → List Name → ℕ → Type 0
-HandleAddsSwitch number behind built container ono role lockable names position =
-    (built' : Store) × HandleBuilds behind built' × (answer : Answer) × (number ≡ answer_number answer)
-    × SwitchAddedBy answer built built' container ono role lockable names position
-
--- the states of a mute and of a polarity
-abbrev pub muted_state : Bool → MuteState
-muted_state muted = if muted then mutes.Muted else mutes.Unmuted
-
-abbrev pub inverted_state : Bool → PolarityState
-inverted_state inverted = if inverted then polarities.Inverted else polarities.NonInverted
-
 -- ---- changes at the front
 
 -- what a change at the front is answered with
 abbrev pub set_answers : Option SetFault → Answer
 set_answers None = answers.Done
 set_answers (Some fault) = set_answer fault
-
--- Behind an open handle a device ran; it was set, with this answer.
-abbrev pub HandleSets : ℕ → Option DeviceBehind → Option DeviceBehind → ℕ → Value → Type 0
-HandleSets number old new ono value =
-    (r : Rooms) (w : DeviceSizes) (tree : List Object) (events : List Event) → HandleRuns r w old tree events →
-    HandleRuns r w new tree (Local ono (ToValue value) ∷ events)
-    × (number ≡ answer_number (set_answers (set_fault (state_after w tree events).tree ono value)))

@@ -8,8 +8,8 @@ ghost use Rattle.oca_device.specs.Rooms.{packets_within, told, verdict_within};
 ghost use Rattle.oca_device.specs.Outboxes.{first_packets};
 ghost use Rattle.oca_calls.specs.declared.answer.Answer.TheVariants.{Done, NotStarted, Started};
 ghost use Rattle.oca_calls.specs.declared.answer.Answer.TheVariants.{NoMemory as AnswerNoMemory};
-ghost use Rattle.oca_calls.specs.Calls.{AddedBy, AddsSo, Builds, IsPacketRoom, IsSize};
-ghost use Rattle.oca_calls.specs.Calls.{RunsBehind, Starts, SwitchAddedBy, WhateverRunsBehind};
+ghost use Rattle.oca_calls.specs.Calls.{Builds, IsPacketRoom, IsSize};
+ghost use Rattle.oca_calls.specs.Calls.{RunsBehind, Starts, WhateverRunsBehind};
 ghost use Rattle.oca_calls.specs.CSpecs.{SpecAddedBy};
 ghost use Rattle.oca_calls.specs.Outputs.{put_words, verdict_words};
 ghost use Rattle.oca_calls.specs.Storings.{all_stored};
@@ -18,16 +18,14 @@ ghost use Rattle.oca_calls.specs.LinkRooms.{rooms_of};
 
 use crate::answer::Answer;
 use crate::any_device::AnyDevice;
-use crate::name::{MOST_POSITIONS, Name, texts_of};
 use crate::spec_adding::add_spec;
 use crate::spec_words::SpecWords;
 use crate::unstored::{Unstored, duplicates_in, has_written};
 use crate::words::{put_words, words_of};
 use oca_device::BoundedOutbox;
-use oca_tree::{AddFault, Kind, Spec, TreeBuilder};
-use oca_types::{NoMemory, Ono, Peer, Peers, Sizes, Window};
+use oca_tree::TreeBuilder;
+use oca_types::{NoMemory, Peer, Peers, Sizes, Window};
 use std::alloc::Global;
-use std::str;
 
 mod local;
 mod outputs;
@@ -57,73 +55,6 @@ impl DeviceBehind {
             outbox,
             unstored: Unstored::none(),
         }
-    }
-
-    /// Adds an object, before the start. `container` is the number of its block, `ono` its own number, and `role` its
-    /// role, 1 to 64 bytes of UTF-8. `lockable` says whether it can be locked, and `kind` is its class with its first
-    /// setting. Returns `Done`. Otherwise the first of these that applies, and then nothing is added. `Started` after
-    /// the start. `BadText` if the role is not UTF-8. Then the answer for the builder's fault ([`Answer::of_add`]):
-    /// `Full`, `Reserved`, `Taken`, `NoSuchBlock`, `TooDeep`, `BadText`, `BadRange`.
-    pub fn add(
-        &mut self,
-        container: u32,
-        ono: u32,
-        role: &[u8],
-        lockable: bool,
-        kind: Kind<'_>,
-    ) -> Answer
-        ensures adds { (B : Store) → Builds self.old B →
-            (B' : Store) × Builds self.new B' × AddedBy result B B' container ono role.now lockable kind.entry }
-        ensures started { self.old.builder ≡ None → (result ≡ Started) × (self.new ≡ self.old) }
-    {
-        let Some(builder) = &mut self.builder else {
-            return Answer::Started;
-        };
-        let Ok(role) = str::from_utf8(role) else {
-            return Answer::BadText;
-        };
-        match add_to(builder, container, ono, role, lockable, kind) {
-            Ok(()) => Answer::Done,
-            Err(fault) => Answer::of_add(fault),
-        }
-    }
-
-    /// Adds a switch, before the start. `container` is the number of its block, `ono` its own number, and `role` its
-    /// role, 1 to 64 bytes of UTF-8. `lockable` says whether it can be locked. `names` are the names of its positions,
-    /// 1 to 16, and `position` is its first position, counted from 0. All positions are enabled.
-    ///
-    /// Returns `Done`. Otherwise the first of these that applies, and then nothing is added. `Started` after the start.
-    /// `BadRange` if there are more than 16 names. `BadText` if a name has more than 64 bytes, or the role or a name is
-    /// not UTF-8. Then the answer for the builder's fault ([`Answer::of_add`]): `Full`, `Reserved`, `Taken`,
-    /// `NoSuchBlock`, `TooDeep`, `BadText`, and `BadRange` if there is no name or none for the position.
-    pub fn add_switch(
-        &mut self,
-        container: u32,
-        ono: u32,
-        role: &[u8],
-        lockable: bool,
-        names: &[Name],
-        position: u16,
-    ) -> Answer
-        ensures adds { (B : Store) → Builds self.old B →
-            (B' : Store) × Builds self.new B'
-            × SwitchAddedBy result B B' container ono role.now lockable names.now position }
-        ensures started { self.old.builder ≡ None → (result ≡ Started) × (self.new ≡ self.old) }
-    {
-        if self.builder.is_none() {
-            return Answer::Started;
-        }
-        if names.len() > MOST_POSITIONS {
-            return Answer::BadRange;
-        }
-        let Some(texts) = texts_of(names) else {
-            return Answer::BadText;
-        };
-        let kind = Kind::Switch {
-            names: texts.as_slice(),
-            position,
-        };
-        self.add(container, ono, role, lockable, kind)
     }
 
     /// Adds the object that `words` describe, under the number `ono`, to the block with the number `container`, before
@@ -329,23 +260,4 @@ pub fn room_for(alloc: Global, packets: usize) -> Option<BoundedOutbox>
         Ok(outbox) => Some(outbox),
         Err(_) => None,
     }
-}
-
-/// Adds an object to a tree that is being built.
-fn add_to(
-    builder: &mut TreeBuilder,
-    container: u32,
-    ono: u32,
-    role: &str,
-    lockable: bool,
-    kind: Kind<'_>,
-) -> Result<(), AddFault>
-    ensures { AddsSo result builder.old builder.new container ono role.now lockable kind.entry }
-{
-    let spec = Spec {
-        role,
-        lockable,
-        kind,
-    };
-    builder.add(Ono(container), Ono(ono), &spec)
 }

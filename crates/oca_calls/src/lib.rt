@@ -2,7 +2,6 @@
 //! them, the numbers that a call returns, and structs as C has them. `specs/` says what each call promises.
 #![tactic(auto)]
 
-pub mod adding;
 pub mod answer;
 pub mod answer_words;
 pub mod any_device;
@@ -10,8 +9,6 @@ mod calling;
 pub mod device;
 pub mod device_handle;
 pub mod device_slot;
-pub mod front;
-pub mod front_values;
 pub mod laws;
 pub mod limits;
 pub mod link;

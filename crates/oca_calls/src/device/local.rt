@@ -1,33 +1,29 @@
 //! Setting the objects of the device behind a handle at its local front panel.
-ghost use Rattle.std.specs.Prelude.{◌≡◌, ◌∷◌, Option, None, IsSome, IsUtf8};
-ghost use Rattle.oca_tree.specs.Settings.{set_fault};
-ghost use Rattle.oca_tree.specs.LocalChanges.{ToValue, ToLabel, ToEnabled, ToUnlocked, ToFailing};
-ghost use Rattle.oca_device.specs.States.{state_after};
-ghost use Rattle.oca_device.specs.Events.{Local};
+ghost use Rattle.std.specs.Prelude.{◌≡◌, Option, None, IsSome, IsUtf8};
+ghost use Rattle.oca_tree.specs.LocalChanges.{ToLabel, ToEnabled, ToUnlocked, ToFailing};
 ghost use Rattle.oca_calls.specs.declared.answer.Answer.TheVariants.{NotStarted, BadText};
-ghost use Rattle.oca_calls.specs.Calls.{RunsBehind, set_answers, WhateverRunsBehind};
+ghost use Rattle.oca_calls.specs.Calls.{WhateverRunsBehind};
 ghost use Rattle.oca_model.specs.declared.value.Value.{Value as ValueItself};
 ghost use Rattle.oca_model.specs.declared.request.Request.TheVariants as asked;
 ghost use Rattle.oca_calls.specs.CValues.{AreWordsOf};
-ghost use Rattle.oca_calls.specs.FrontCalls.{ChangesFront, SetsEntry, SetsFrontFound, SetsWords, State, Integer};
+ghost use Rattle.oca_calls.specs.FrontCalls.{ChangesFront, SetsWords};
 
 use super::DeviceBehind;
 use crate::answer::Answer;
-use crate::front_values::{integer_at, state_at};
 use crate::value_words::ValueWords;
-use oca_tree::{SetFault, Value};
 use oca_types::Ono;
 use std::str;
 
 impl DeviceBehind {
-    /// Sets an object to a value at the local front panel. A lock does not refuse it. Returns `Done`. Otherwise the
-    /// first of these that applies, and then nothing is changed. `NotStarted` before the start. `NoObject` if no object
-    /// has the number `ono`. `NoSetting` if the object is a block. `OtherKind` if the value is of another class.
-    /// `OutOfRange` if a switch has no such position or the position is disabled, or a number is outside the object's
-    /// limits. In all cases the packets, and whether answers wait, stay as they are.
-    pub fn set(&mut self, ono: u32, value: Value) -> Answer
-        ensures sets { WhateverRunsBehind self.old (λ r w T E. RunsBehind r w self.new T (Local ono (ToValue value) ∷ E)
-            × (result ≡ set_answers (set_fault (state_after w T E).tree ono value))) }
+    /// Sets an object at the local front panel to the value that `words` hold. A lock does not refuse it. Returns
+    /// `Done`. Otherwise the first of these that applies, and then nothing is changed. `NotStarted` before the start.
+    /// `NoValue` if `words` hold no value. `NoObject` if no object has the number `ono`. `NoSetting` if the object is a
+    /// block. `OtherKind` if the value is of another class. `OutOfRange` if a switch has no such position or the
+    /// position is disabled, or a number is outside the object's limits. In all cases the packets, and whether answers
+    /// wait, stay as they are.
+    pub fn set(&mut self, ono: u32, words: ValueWords) -> Answer
+        ensures sets { WhateverRunsBehind self.old (λ r w T E.
+            (value : Option ValueItself) × AreWordsOf words value × SetsWords r w result self.new T E ono value) }
         ensures packets { self.new.outbox ≡ self.old.outbox }
         ensures unstored { self.new.unstored ≡ self.old.unstored }
         ensures building { self.old.device ≡ None → (result ≡ NotStarted) × (self.new ≡ self.old) }
@@ -35,73 +31,11 @@ impl DeviceBehind {
         let Some(device) = &mut self.device else {
             return Answer::NotStarted;
         };
+        let Some(value) = words.value() else {
+            return Answer::NoValue;
+        };
         match device.set(Ono(ono), value) {
             Ok(()) => Answer::Done,
-            Err(fault) => Answer::of_set(fault),
-        }
-    }
-
-    /// Sets an object at the local front panel to the value that `words` hold. A lock does not refuse it. Returns
-    /// `Done`. Otherwise the first of these that applies, and then nothing is changed. `NotStarted` before the start.
-    /// `NoValue` if `words` hold no value. Then the answers of [`set`](DeviceBehind::set).
-    pub fn set_words(&mut self, ono: u32, words: ValueWords) -> Answer
-        ensures sets { WhateverRunsBehind self.old (λ r w T E.
-            (value : Option ValueItself) × AreWordsOf words value × SetsWords r w result self.new T E ono value) }
-        ensures packets { self.new.outbox ≡ self.old.outbox }
-        ensures unstored { self.new.unstored ≡ self.old.unstored }
-        ensures building { self.old.device ≡ None → (result ≡ NotStarted) × (self.new ≡ self.old) }
-    {
-        if self.device.is_none() {
-            return Answer::NotStarted;
-        }
-        match words.value() {
-            Some(value) => self.set(ono, value),
-            None => Answer::NoValue,
-        }
-    }
-
-    /// Sets a mute (1 Muted, 2 Unmuted) or a polarity (1 NonInverted, 2 Inverted) at the local front panel. A lock does
-    /// not refuse it. Returns `Done`. Otherwise the first of these that applies, and then nothing is changed.
-    /// `NotStarted` before the start. `NoObject` if no object has the number `ono`. `NoSetting` if the object is a
-    /// block. `OtherKind` if it is of another class. `OutOfRange` if `state` is neither 1 nor 2.
-    pub fn set_state(&mut self, ono: u32, state: u8) -> Answer
-        ensures sets { WhateverRunsBehind self.old (λ r w T E. SetsEntry r w result self.new T E ono (State state)) }
-        ensures packets { self.new.outbox ≡ self.old.outbox }
-        ensures unstored { self.new.unstored ≡ self.old.unstored }
-        ensures building { self.old.device ≡ None → (result ≡ NotStarted) × (self.new ≡ self.old) }
-    {
-        let Some(device) = &self.device else {
-            return Answer::NotStarted;
-        };
-        let found = state_at(device.tree().class_of(Ono(ono)), state);
-        self.set_found(ono, found)
-    }
-
-    /// Sets an actuator of integers, of any type, to `number` at the local front panel. A lock does not refuse it.
-    /// Returns `Done`. Otherwise the first of these that applies, and then nothing is changed. `NotStarted` before the
-    /// start. `NoObject` if no object has the number `ono`. `NoSetting` if the object is a block. `OtherKind` if its
-    /// class is not one of integers. `OutOfRange` if `number` is outside the object's limits.
-    pub fn set_integer(&mut self, ono: u32, number: i128) -> Answer
-        ensures sets { WhateverRunsBehind self.old (λ r w T E. SetsEntry r w result self.new T E ono (Integer number)) }
-        ensures packets { self.new.outbox ≡ self.old.outbox }
-        ensures unstored { self.new.unstored ≡ self.old.unstored }
-        ensures building { self.old.device ≡ None → (result ≡ NotStarted) × (self.new ≡ self.old) }
-    {
-        let Some(device) = &self.device else {
-            return Answer::NotStarted;
-        };
-        let found = integer_at(device.tree().class_of(Ono(ono)), number);
-        self.set_found(ono, found)
-    }
-
-    /// Sets an object to the value that was found for it, where one was.
-    fn set_found(&mut self, ono: u32, found: Result<Value, SetFault>) -> Answer
-        ensures sets { WhateverRunsBehind self.old (λ r w T E. SetsFrontFound r w result self.new T E ono found) }
-        ensures packets { self.new.outbox ≡ self.old.outbox }
-        ensures unstored { self.new.unstored ≡ self.old.unstored }
-    {
-        match found {
-            Ok(value) => self.set(ono, value),
             Err(fault) => Answer::of_set(fault),
         }
     }
