@@ -14,11 +14,7 @@ use oca_calls::words::put_bytes;
 use oca_model::{read_class_fields, read_members, read_names, read_text};
 use oca_types::{Params, Text, put_text};
 
-/// Reads the text from the answer to GetRole, GetLabel or GetPositionName (AES70-2), and writes it to `text`. `params`
-/// are the parameters of the answer.
-///
-/// Returns the number of an answer: `Done`. `NoValue` if they are not exactly one text of at most 64 bytes of UTF-8:
-/// then nothing is written.
+/// Reads the text from the answer to GetRole, GetLabel or GetPositionName (AES70-2), and writes it to `text`.
 #[unsafe(no_mangle)]
 pub extern "C" fn oca_text_read(params: &[u8], text: &mut Name) -> u32
     ensures { WritesText (whole (text_at params.now)) text.old text.new result }
@@ -31,10 +27,7 @@ pub extern "C" fn oca_text_read(params: &[u8], text: &mut Name) -> u32
 }
 
 /// Reads the names of a switch's positions from the answer to GetPositionNames of OcaSwitch (AES70-2), and writes them
-/// to `names`, in the order of the positions. `params` are the parameters of the answer.
-///
-/// Returns the number of an answer: `Done`. `NoValue` if they are not exactly such an answer, or have more than 16
-/// names or a name of more than 64 bytes: then nothing is written.
+/// to `names`, in the order of the positions.
 #[unsafe(no_mangle)]
 pub extern "C" fn oca_names_read(params: &[u8], names: &mut Names) -> u32
     ensures { WritesNames (switch_names_in params.now) names.old names.new result }
@@ -47,10 +40,7 @@ pub extern "C" fn oca_names_read(params: &[u8], names: &mut Names) -> u32
 }
 
 /// Reads the numbers of a block's members from the answer to GetMembers of OcaBlock (AES70-2), and writes them to
-/// `members`, in their order: 0 to 181, since an answer has room for no more. `params` are the parameters of the
-/// answer.
-///
-/// Returns the number of an answer: `Done`. `NoValue` if they are not exactly such an answer: then nothing is written.
+/// `members`, in their order: 0 to 181, since an answer has room for no more.
 #[unsafe(no_mangle)]
 pub extern "C" fn oca_members_read(params: &[u8], members: &mut Members) -> u32
     ensures { WritesMembers (members_in params.now) members.old members.new result }
@@ -63,11 +53,7 @@ pub extern "C" fn oca_members_read(params: &[u8], members: &mut Members) -> u32
 }
 
 /// Reads the class from the answer to GetClassIdentification of OcaRoot (AES70-2), and writes it to `id`: its fields,
-/// and its number in `enum oca_class`, 0 for a class that is not of this profile. `params` are the parameters of the
-/// answer; the class's version is ignored.
-///
-/// Returns the number of an answer: `Done`. `NoValue` if `params` is not exactly such an answer, or has more than 16
-/// fields: then `id` is unchanged.
+/// and its number in `enum oca_class`, 0 for a class that is not of this profile.
 #[unsafe(no_mangle)]
 pub extern "C" fn oca_class_read(params: &[u8], id: &mut ClassId) -> u32
     ensures { WritesClass (class_id_in params.now) id.old id.new result }
@@ -90,9 +76,6 @@ pub extern "C" fn oca_class_with(fields: &[u16]) -> u32
 
 /// Encodes `text` as the one parameter of SetLabel of OcaWorker (AES70-2): writes its bytes to the front of `out`, and
 /// their number, 2 to 66, to `len`.
-///
-/// Returns the number of an answer: `Done`. `NoValue` if the text has more than 64 bytes or is not UTF-8: then nothing
-/// is written. `TooSmall` if `out` has fewer bytes than are needed: then only `len` is written.
 #[unsafe(no_mangle)]
 pub extern "C" fn oca_text_put(text: &Name, out: &mut [u8], len: &mut usize) -> u32
     ensures writes { WritesEncoding text.now out.old out.new len.new result }

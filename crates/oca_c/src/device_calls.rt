@@ -26,11 +26,6 @@ use oca_types::Peer;
 use std::alloc::Global;
 
 /// Opens a device that has its root alone (the block 100), with room for `room` objects, the root counted: 1 to 4,096.
-/// The call takes the memory for them.
-///
-/// Returns the number of an answer: `Done`. Otherwise the first of these that applies, and then nothing is changed.
-/// `Open` if the struct is open already. `BadSize` if `room` is outside its range. `NoMemory` if memory was refused:
-/// then none is kept.
 #[unsafe(no_mangle)]
 pub extern "C" fn oca_device_open(alloc: Global, handle: &mut DeviceHandle, room: u16) -> u32
     ensures open { IsSome handle.old.slot.inner → (result ≡ 10) × (handle.new.slot.inner ≡ handle.old.slot.inner) }
@@ -48,8 +43,7 @@ pub extern "C" fn oca_device_open(alloc: Global, handle: &mut DeviceHandle, room
     }
 }
 
-/// Closes a device and frees its memory. Its objects and sessions are lost; nothing is sent. A closed device stays
-/// closed. The device can be opened again.
+/// Closes a device and frees its memory.
 #[unsafe(no_mangle)]
 pub extern "C" fn oca_device_shut(alloc: Global, handle: &mut DeviceHandle)
     ensures { handle.new.slot.inner ≡ None }
@@ -57,14 +51,7 @@ pub extern "C" fn oca_device_shut(alloc: Global, handle: &mut DeviceHandle)
     handle.close(alloc);
 }
 
-/// Starts the device: from then on datagrams are handled, and no object can be added. `window` is for how many commands
-/// of one peer the device keeps the replies: 1 to 64; 32 is usual. It must be at least twice the panels' span less one.
-/// `peers` is how many peers can have a session at once: 1 to 64; 16 is usual. The call takes the memory for both, and
-/// for 122 packets that answer a datagram.
-///
-/// Returns the number of an answer: `Done`. Otherwise the first of these that applies. `Closed` if the device is
-/// closed, `Started` if it is started already, `BadSize` if a size is outside its range: then nothing is changed.
-/// `NoMemory` if memory was refused: then the objects are lost and the struct is closed; it can be opened again.
+/// Starts the device: from then on datagrams are handled, and no object can be added.
 #[unsafe(no_mangle)]
 pub extern "C" fn oca_device_start(
     alloc: Global,
@@ -81,12 +68,7 @@ pub extern "C" fn oca_device_start(
 }
 
 /// Starts the device as `oca_device_start` does, but with room for `packets` packets that answer a datagram: 1 to 122,
-/// of some 1,480 bytes each. `window` is for how many commands of one peer the device keeps the replies, and `peers` is
-/// how many peers can have a session at once: both 1 to 64. All commands of a datagram are executed, whatever the room.
-/// Packets for which there is no room are left out, as if the network had lost them: a controller that sends such a
-/// command again gets the retained reply. A datagram never gets more packets than it has commands and keep-alives.
-///
-/// Returns the number of an answer, as `oca_device_start` does.
+/// of some 1,480 bytes each.
 #[unsafe(no_mangle)]
 pub extern "C" fn oca_device_start_within(
     alloc: Global,
@@ -103,15 +85,7 @@ pub extern "C" fn oca_device_start_within(
     start(alloc, handle, window, peers, packets, false)
 }
 
-/// Starts a small device, with the arguments of `oca_device_start_within`. All calls of a device work on it. It is for
-/// objects of which panels set and read single values. The start takes 376 bytes for each command of a window, `window`
-/// times `peers` of them, instead of 2,952. A command may have 64 bytes of parameters: a datagram of more than 91 bytes
-/// is malformed (`OCA_FAULT_TOO_LONG`, at byte 91), and none of its commands is executed or answered. A reply may have
-/// 264: a command whose reply has more bytes of parameters is executed, but answered with the status BufferOverflow
-/// (14), ParamCount 0 and no parameters; only commands that read have such replies. A datagram of at most 91 bytes gets
-/// at most 7 packets.
-///
-/// Returns the number of an answer, as `oca_device_start` does.
+/// Starts a small device, with the arguments of `oca_device_start_within`.
 #[unsafe(no_mangle)]
 pub extern "C" fn oca_device_start_small(
     alloc: Global,
@@ -129,18 +103,7 @@ pub extern "C" fn oca_device_start_small(
 }
 
 /// Handles a datagram that came from the address `ip` and the port `port` at the moment `now`, in milliseconds, and
-/// writes what became of it to `out`. `ip` is an IPv4 address as a number, the first byte highest. The device's clock
-/// moves to `now` first, as `oca_device_tick` does. The answers are then the device's packets, all for the sender,
-/// until the next datagram: `oca_device_packet` has their bytes.
-///
-/// The words of the verdict go to the front of `out`, as many as it has room for. There are seven (`struct
-/// oca_verdict`). If the datagram was served, the first is 0. Then come four counts of its commands (executed,
-/// duplicates, too old, and those that ask something else under the handle of a retained command) and two zeros. For a
-/// malformed datagram the first is 1; after four zeros come the number of the fault (1 to 9) and its offset in bytes.
-/// If there was no room for a session of the sender, the first is 2, and the others are 0.
-///
-/// Returns the number of an answer: `Done`. `Closed` if the device is closed, and `NotStarted` before its start: then
-/// nothing is changed or written.
+/// writes what became of it to `out`.
 #[unsafe(no_mangle)]
 pub extern "C" fn oca_device_datagram_words(
     alloc: Global,
@@ -183,13 +146,7 @@ pub extern "C" fn oca_device_datagram_words(
     answer.number()
 }
 
-/// Moves the device's clock on to `now`, in milliseconds, when no datagram comes: sessions and locks lapse by it. The
-/// lock of a peer is released if the device heard nothing from the peer for more than three of its heartbeats. A
-/// session is forgotten if its peer was silent for more than 120,000 ms. A moment earlier than the latest one so far is
-/// taken as that latest one. Nothing is answered.
-///
-/// Returns the number of an answer: `Done`. `Closed` if the device is closed, and `NotStarted` before its start: then
-/// nothing is changed or written.
+/// Moves the device's clock on to `now`, in milliseconds, when no datagram comes: sessions and locks lapse by it.
 #[unsafe(no_mangle)]
 pub extern "C" fn oca_device_tick(alloc: Global, handle: &mut DeviceHandle, now: u64) -> u32
     ensures closed { RefusesClosed handle.old.slot.inner handle.new.slot.inner result }
@@ -208,11 +165,7 @@ pub extern "C" fn oca_device_tick(alloc: Global, handle: &mut DeviceHandle, now:
 }
 
 /// Writes to `moment` the earliest moment, in milliseconds, at which `oca_device_tick` releases a lock or forgets a
-/// session. The moment is not before the device's own. A loop may sleep until then if no datagram comes.
-///
-/// Returns the number of an answer: `Done`. Otherwise the first of these that applies, and then nothing is changed or
-/// written. `Closed` if the device is closed. `NotStarted` before its start. `Nothing` if there is no such moment
-/// within 64 bits, as without sessions.
+/// session.
 #[unsafe(no_mangle)]
 pub extern "C" fn oca_device_next_lapse(
     alloc: Global,
@@ -234,11 +187,7 @@ pub extern "C" fn oca_device_next_lapse(
     answer.number()
 }
 
-/// Writes to `count` how many packets answer the last datagram: 0 to 122, and 0 before the first datagram. Each is sent
-/// to the sender of the datagram, in order.
-///
-/// Returns the number of an answer: `Done`. `Closed` if the device is closed, and `NotStarted` before its start: then
-/// nothing is changed or written.
+/// Writes to `count` how many packets answer the last datagram: 0 to 122, and 0 before the first datagram.
 #[unsafe(no_mangle)]
 pub extern "C" fn oca_device_packets(
     alloc: Global,
@@ -261,10 +210,7 @@ pub extern "C" fn oca_device_packets(
 }
 
 /// Writes to `left_out` whether answers to the last datagram were left out because the device had no room for them
-/// (`oca_device_start_within`, `oca_device_start_small`). False before the first datagram.
-///
-/// Returns the number of an answer: `Done`. `Closed` if the device is closed, and `NotStarted` before its start: then
-/// nothing is changed or written.
+/// (`oca_device_start_within`, `oca_device_start_small`).
 #[unsafe(no_mangle)]
 pub extern "C" fn oca_device_left_out(
     alloc: Global,
@@ -287,11 +233,7 @@ pub extern "C" fn oca_device_left_out(
 }
 
 /// Writes the bytes of a packet that answers the last datagram to the front of `out`, and their number, at most 1,472,
-/// to `len`. `i` is the index of the packet, from 0 in the order in which the packets are sent. The packet stays.
-///
-/// Returns the number of an answer: `Done`. `Closed` if the device is closed, `NotStarted` before its start, and
-/// `Nothing` if there are `i` packets or fewer: then nothing is written. `TooSmall` if `out` has fewer bytes than the
-/// packet: then only `len` is written.
+/// to `len`.
 #[unsafe(no_mangle)]
 pub extern "C" fn oca_device_packet(
     alloc: Global,
@@ -319,13 +261,7 @@ pub extern "C" fn oca_device_packet(
 }
 
 /// Copies the numbers of the objects that the last datagram wrote to to the front of `out`, in order, each as often as
-/// it was written. `count` becomes how many there are: 0 to 86, and 0 before the first datagram. Each command that
-/// writes and was executed with the status OK is in the list. A lock, a refused command and a duplicate are not. Clock
-/// readings and settings at the local front panel leave the list as it is.
-///
-/// Returns the number of an answer: `Done`. `Closed` if the device is closed, and `NotStarted` before its start: then
-/// nothing is changed or written. `TooSmall` if `out` has no room for all: then it gets the first of them, and `count`
-/// is written too.
+/// it was written.
 #[unsafe(no_mangle)]
 pub extern "C" fn oca_device_written(
     alloc: Global,
@@ -349,15 +285,7 @@ pub extern "C" fn oca_device_written(
 }
 
 /// Writes what the device did with the command of the last datagram that has this index, counted from 0 in the order of
-/// the commands. To `out` go the number of the object that the command names, its method (the level in the upper 16
-/// bits, the index in the lower ones), what was done, and a status. What was done is 1 if the command was executed, 2
-/// if it is a duplicate, 3 if it is too old, and 4 if it asks something else under the handle of a retained command
-/// (`enum oca_command_outcome`). The status is that of an execution (OcaStatus, AES70-2), and 0 otherwise. They are
-/// written as far as there is room. Clock readings and settings at the local front panel leave them as they are.
-///
-/// Returns the number of an answer: `Done`. Otherwise the first of these that applies, and then nothing is changed or
-/// written. `Closed` if the device is closed. `NotStarted` before its start. `Nothing` if the last datagram had `index`
-/// commands or fewer, was malformed or found no room for a session, or there was none.
+/// the commands.
 #[unsafe(no_mangle)]
 pub extern "C" fn oca_device_effect_words(
     alloc: Global,
@@ -380,16 +308,7 @@ pub extern "C" fn oca_device_effect_words(
     answer.number()
 }
 
-/// Writes to `waits` whether the answers to the last datagram must wait until the objects are stored. This is for a
-/// device on which everything that was answered with OK must be there after a power cut. The answers wait if the
-/// datagram wrote to an object (`oca_device_written` lists one). While something that datagrams wrote is not stored,
-/// they also wait if the datagram had a duplicate, whose answer is that of an earlier command. Then store the objects
-/// (`oca_store_save`), call `oca_device_stored`, and send the packets. If the objects cannot be stored, send none of
-/// the packets. For the controller it is as if the network had lost them, and the answers to its next transmission of
-/// the command wait too. False before the first datagram.
-///
-/// Returns the number of an answer: `Done`. `Closed` if the device is closed, and `NotStarted` before its start: then
-/// nothing is changed or written.
+/// Writes to `waits` whether the answers to the last datagram must wait until the objects are stored.
 #[unsafe(no_mangle)]
 pub extern "C" fn oca_device_waits(
     alloc: Global,
@@ -411,11 +330,7 @@ pub extern "C" fn oca_device_waits(
     answer.number()
 }
 
-/// Notes that the objects are stored as they are now: `oca_device_waits` is then false. Call it before the next
-/// datagram is handled. What is set at the local front panel makes no answers wait. Nothing is sent.
-///
-/// Returns the number of an answer: `Done`. `Closed` if the device is closed, and `NotStarted` before its start: then
-/// nothing is changed or written.
+/// Notes that the objects are stored as they are now: `oca_device_waits` is then false.
 #[unsafe(no_mangle)]
 pub extern "C" fn oca_device_stored(alloc: Global, handle: &mut DeviceHandle) -> u32
     ensures closed { RefusesClosed handle.old.slot.inner handle.new.slot.inner result }

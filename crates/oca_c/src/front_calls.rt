@@ -10,14 +10,7 @@ use oca_calls::device_handle::DeviceHandle;
 use oca_calls::value_words::ValueWords;
 use std::alloc::Global;
 
-/// Sets the object `ono` at the local front panel to `value`, which must be of the object's class. A lock of a
-/// controller does not refuse it, and no peer gets a message (the local front panel is the profile's, not AES70's).
-///
-/// Returns the number of an answer: `Done`. Otherwise the first of these that applies, and then nothing is changed.
-/// `Closed` if the device is closed. `NotStarted` before its start. `NoValue` if the struct holds no value. `NoObject`
-/// if no object has the number `ono`. `NoSetting` if it is a block. `OtherKind` if the value is of another class, such
-/// as a polarity's for a mute, or an integer of another type. `OutOfRange` if a switch has no such position or it is
-/// disabled, or a number is outside the object's limits.
+/// Sets the object `ono` at the local front panel to `value`, which must be of the object's class.
 #[unsafe(no_mangle)]
 pub extern "C" fn oca_device_set(
     alloc: Global,
@@ -39,12 +32,7 @@ pub extern "C" fn oca_device_set(
     answer.number()
 }
 
-/// Gives an object the label `label`, 0 to 64 bytes of UTF-8, at the local front panel. A lock of a controller does not
-/// refuse it, and no peer gets a message (the local front panel is the profile's, not AES70's).
-///
-/// Returns the number of an answer: `Done`. Otherwise the first of these that applies, and then nothing is changed.
-/// `Closed` if the device is closed. `NotStarted` before its start. `BadText` if the bytes are not UTF-8. `NoObject` if
-/// no object has the number `ono`. `BadText` if the label has more than 64 bytes.
+/// Gives an object the label `label`, 0 to 64 bytes of UTF-8, at the local front panel.
 #[unsafe(no_mangle)]
 pub extern "C" fn oca_device_set_label(
     alloc: Global,
@@ -67,11 +55,7 @@ pub extern "C" fn oca_device_set_label(
 }
 
 /// Enables an object (`enabled` is true) or disables it at the local front panel, as SetEnabled of OcaWorker does
-/// (AES70-2). A lock of a controller does not refuse it, and no peer gets a message (the local front panel is the
-/// profile's, not AES70's).
-///
-/// Returns the number of an answer: `Done`. Otherwise the first of these that applies, and then nothing is changed.
-/// `Closed` if the device is closed. `NotStarted` before its start. `NoObject` if no object has the number `ono`.
+/// (AES70-2).
 #[unsafe(no_mangle)]
 pub extern "C" fn oca_device_set_enabled(
     alloc: Global,
@@ -94,12 +78,7 @@ pub extern "C" fn oca_device_set_enabled(
     answer.number()
 }
 
-/// Releases the lock of an object at the local front panel, whichever peer has it (`oca_device_lock` writes which). The
-/// peer gets no message. It keeps its session and its other locks, and may lock the object again.
-///
-/// Returns the number of an answer: `Done`. Otherwise the first of these that applies, and then nothing is changed.
-/// `Closed` if the device is closed. `NotStarted` before its start. `NoObject` if no object has the number `ono`.
-/// `Nothing` if the object is not locked.
+/// Releases the lock of an object at the local front panel, whichever peer has it (`oca_device_lock` writes which).
 #[unsafe(no_mangle)]
 pub extern "C" fn oca_device_unlock(alloc: Global, handle: &mut DeviceHandle, ono: u32) -> u32
     ensures closed { RefusesClosed handle.old.slot.inner handle.new.slot.inner result }
@@ -116,14 +95,7 @@ pub extern "C" fn oca_device_unlock(alloc: Global, handle: &mut DeviceHandle, on
     answer.number()
 }
 
-/// Sets whether the hardware of an object refuses changes (`failing`), until the next such call for the object. At
-/// first it does not. While it does, a command that writes to the object changes nothing and is answered
-/// ProcessingFailed, or with the status of another fault that the command has. When this status is sent is the
-/// profile's choice. A duplicate gets its retained reply. Commands that read or lock work as before, and so do the
-/// calls of the local front panel. The setting is in no `struct oca_spec` and is not stored.
-///
-/// Returns the number of an answer: `Done`. Otherwise the first of these that applies, and then nothing is changed.
-/// `Closed` if the device is closed. `NotStarted` before its start. `NoObject` if no object has the number `ono`.
+/// Sets whether the hardware of an object refuses changes (`failing`), until the next such call for the object.
 #[unsafe(no_mangle)]
 pub extern "C" fn oca_device_set_failing(
     alloc: Global,

@@ -1,4 +1,5 @@
-//! Both ends for C: `liboca_c.a`, with `include/oca.h`, which says what a caller promises.
+//! Both ends for C: `liboca_c.a`, with `include/oca.h`, which says what a caller promises, and of each call what it takes
+//! and answers, the first answer that applies.
 //!
 //! C gives the storage of a handle (16 bytes, zeroed at first) and one handle to a call. Everything behind it is taken
 //! by the calls that open and start; no other call takes memory.

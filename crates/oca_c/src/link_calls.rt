@@ -21,15 +21,7 @@ use oca_types::{Handle, MethodId, Ono, Peer};
 use std::alloc::Global;
 
 /// Opens a link to the device at the address `ip` (an IPv4 address as a number, the first byte highest) and the port
-/// `port`, and takes the memory for the link. Nothing is sent. `now` is the moment, in milliseconds of the caller's
-/// clock. The link's first command gets the handle `first_handle`, and each later command the next one. `first_handle`
-/// must be above every handle that the device heard from the same address and port. Handles from before a pause of more
-/// than two minutes, in which nothing was sent from there, do not count. `span` (1 to 32; 16 is usual) limits the
-/// commands in flight: a command is refused while its handle would not be below the lowest handle whose answer was not
-/// taken yet, plus the span.
-///
-/// Returns the number of an answer: `Done`. Otherwise the first of these that applies, and then nothing is changed.
-/// `Open` if the struct is open already. `BadSize` if the span is outside its range. `NoMemory` if memory was refused.
+/// `port`, and takes the memory for the link.
 #[unsafe(no_mangle)]
 pub extern "C" fn oca_link_open(
     alloc: Global,
@@ -56,14 +48,7 @@ pub extern "C" fn oca_link_open(
     )
 }
 
-/// Opens a small link, with the arguments of `oca_link_open`. All calls of a link work on it. It takes less memory: at
-/// most 12,288 bytes in one allocation, and 16 bytes in another one. It is for a panel that sets and reads single
-/// values: a command may have 64 bytes of parameters, and a longer one is refused (`TooLong`). If an answer has more
-/// than 264 bytes of parameters, `oca_link_take` writes the status BufferOverflow (14), ParamCount 0 and no parameters:
-/// the device executed the command or refused it.
-///
-/// Returns the number of an answer: `Done`. Otherwise the first of these that applies, and then nothing is changed.
-/// `Open` if the struct is open already. `BadSize` if the span is outside its range. `NoMemory` if memory was refused.
+/// Opens a small link, with the arguments of `oca_link_open`.
 #[unsafe(no_mangle)]
 pub extern "C" fn oca_link_open_small(
     alloc: Global,
@@ -90,8 +75,7 @@ pub extern "C" fn oca_link_open_small(
     )
 }
 
-/// Closes a link and frees its memory. Nothing is sent, and answers that were not taken are lost. The device may still
-/// carry out commands that were sent. A closed link stays closed.
+/// Closes a link and frees its memory.
 #[unsafe(no_mangle)]
 pub extern "C" fn oca_link_shut(alloc: Global, handle: &mut LinkHandle)
     ensures { handle.new.slot.inner ≡ None }
@@ -99,15 +83,7 @@ pub extern "C" fn oca_link_shut(alloc: Global, handle: &mut LinkHandle)
     handle.close(alloc);
 }
 
-/// Submits a command at the moment `now`, in milliseconds, and writes its handle to `command`. `target` is the number
-/// of the object, `level` and `index` name the method (DefLevel and MethodIndex, AES70-2), `count` is ParamCount, and
-/// `params` are the encoded parameters, at most 1,445 bytes (for a small link 64), which are not checked. The call
-/// sends nothing: call `oca_link_due` then.
-///
-/// Returns the number of an answer: `Done`. Otherwise the first of these that applies, and then nothing is changed,
-/// written or sent. `Closed` if the link is closed. `Lost` if the link is lost. `HandlesSpent` if a command has the
-/// handle 4294967295 already. `SpanFull` if the next handle is not below the lowest handle whose answer was not taken
-/// yet, plus the span. `TooLong` if the parameters have more bytes.
+/// Submits a command at the moment `now`, in milliseconds, and writes its handle to `command`.
 #[unsafe(no_mangle)]
 pub extern "C" fn oca_link_submit(
     alloc: Global,
@@ -143,16 +119,6 @@ pub extern "C" fn oca_link_submit(
 }
 
 /// Puts what is due at the moment `now`, in milliseconds, to the front of `out`, for the caller to send to the device.
-/// Call it until `kind` is 0 or 3 (`enum oca_due`). `len` becomes the size in bytes, at most 1,472, and `command` the
-/// handle of the command.
-///
-/// `kind` becomes 1 for the command with the lowest handle that is due: it has no answer, and was never sent or was
-/// last sent 250 ms ago or earlier. 3 if that command was sent 20 times, and at each later call: the link is lost. 2
-/// for a keep-alive, if no command is due and nothing was sent for 2,500 ms: `command` is then 0. 0 if nothing is due.
-/// For 0 and 3 `len` and `command` are 0.
-///
-/// Returns the number of an answer: `Done`. `Closed` if the link is closed, and `TooSmall` if `out` has fewer than
-/// 1,472 bytes, whatever is due: then nothing is changed or written.
 #[unsafe(no_mangle)]
 pub extern "C" fn oca_link_due(
     alloc: Global,
@@ -182,15 +148,7 @@ pub extern "C" fn oca_link_due(
     number
 }
 
-/// Handles a datagram that came from the address `ip` and the port `port` at the moment `now`, in milliseconds. `ip` is
-/// an IPv4 address as a number, the first byte highest. `kind` becomes 2 if it came from another address or port than
-/// the device's. Otherwise 3 if it is not well-formed (AES70-3). Otherwise 1 if commands got their first answer in it,
-/// and 0 if none did (`enum oca_reception`). `answered` becomes how many commands got theirs.
-///
-/// Each such answer is stored: `oca_link_take` takes it. A small link stores an answer with more than 264 bytes of
-/// parameters as the status BufferOverflow (14, AES70-2) without parameters. In all cases the link's clock moves on to
-/// `now`; a stranger's or malformed datagram changes nothing else. Returns the number of an answer: `Done`. `Closed` if
-/// the link is closed: then nothing is changed or written.
+/// Handles a datagram that came from the address `ip` and the port `port` at the moment `now`, in milliseconds.
 #[unsafe(no_mangle)]
 pub extern "C" fn oca_link_datagram(
     alloc: Global,
@@ -219,13 +177,7 @@ pub extern "C" fn oca_link_datagram(
     number
 }
 
-/// Takes the answer to the command under the handle `command`, and removes the command. Writes the number of the
-/// answer's status into `status` (AES70-2, OcaStatus), its ParamCount into `count`, its parameters to the front of
-/// `out`, and their size in bytes into `len`. `out` must have room for 1,452 bytes.
-///
-/// Returns the number of an answer: `Done`. Otherwise the first of these that applies, and then nothing is changed or
-/// written. `Closed` if the link is closed. `TooSmall` if `out` has fewer bytes, whatever the answer. `Nothing` if no
-/// answer is there under the handle.
+/// Takes the answer to the command under the handle `command`, and removes the command.
 #[unsafe(no_mangle)]
 pub extern "C" fn oca_link_take(
     alloc: Global,
@@ -254,11 +206,7 @@ pub extern "C" fn oca_link_take(
 }
 
 /// Writes to `moment` the earliest moment, in milliseconds, at which `oca_link_due` has something to send or finds the
-/// link lost. A loop may wait until then. The moment is not before the latest one that the link was given; for a lost
-/// link it is that latest one.
-///
-/// Returns the number of an answer: `Done`. `Closed` if the link is closed, and `Nothing` if the moment does not fit 64
-/// bits: then nothing is changed or written.
+/// link lost.
 #[unsafe(no_mangle)]
 pub extern "C" fn oca_link_next_due(alloc: Global, handle: &mut LinkHandle, moment: &mut u64) -> u32
     ensures closed { RefusesClosed handle.old.slot.inner handle.new.slot.inner result }
@@ -274,11 +222,7 @@ pub extern "C" fn oca_link_next_due(alloc: Global, handle: &mut LinkHandle, mome
     number
 }
 
-/// Writes to `command` the lowest handle whose answer came and was not taken yet. The answer stays: `oca_link_take`
-/// takes it.
-///
-/// Returns the number of an answer: `Done`. `Closed` if the link is closed, and `Nothing` if no answer waits, as in a
-/// new link: then nothing is changed or written.
+/// Writes to `command` the lowest handle whose answer came and was not taken yet.
 #[unsafe(no_mangle)]
 pub extern "C" fn oca_link_answered(
     alloc: Global,
@@ -299,10 +243,7 @@ pub extern "C" fn oca_link_answered(
     number
 }
 
-/// Writes into `in_flight` whether the command under the handle `command` was submitted and has no answer yet. It is
-/// false for a command whose answer came and was not taken, and for a handle that no command has.
-///
-/// Returns the number of an answer: `Done`. `Closed` if the link is closed: then nothing is changed or written.
+/// Writes into `in_flight` whether the command under the handle `command` was submitted and has no answer yet.
 #[unsafe(no_mangle)]
 pub extern "C" fn oca_link_in_flight(
     alloc: Global,
@@ -324,11 +265,7 @@ pub extern "C" fn oca_link_in_flight(
     number
 }
 
-/// Writes to `command` the handle that the next command gets: at first the handle that the link was opened with. A link
-/// that is opened after this one to the same device must begin there or above.
-///
-/// Returns the number of an answer: `Done`. `Closed` if the link is closed, and `Nothing` once a command has the handle
-/// 4294967295: then nothing is changed or written.
+/// Writes to `command` the handle that the next command gets: at first the handle that the link was opened with.
 #[unsafe(no_mangle)]
 pub extern "C" fn oca_link_next_handle(
     alloc: Global,
@@ -348,10 +285,7 @@ pub extern "C" fn oca_link_next_handle(
     number
 }
 
-/// Writes to `moment` the moment, in milliseconds, at which the last well-formed datagram came from the device. Before
-/// the first one it is the moment of the opening.
-///
-/// Returns the number of an answer: `Done`. `Closed` if the link is closed: then nothing is changed or written.
+/// Writes to `moment` the moment, in milliseconds, at which the last well-formed datagram came from the device.
 #[unsafe(no_mangle)]
 pub extern "C" fn oca_link_last_heard(
     alloc: Global,
@@ -372,10 +306,7 @@ pub extern "C" fn oca_link_last_heard(
 }
 
 /// Writes to `lost` whether the link is lost: a command got no answer to 20 transmissions, and `oca_link_due` found
-/// that. False at first. A lost link stays lost, takes no command and sends nothing more; answers that still come are
-/// stored.
-///
-/// Returns the number of an answer: `Done`. `Closed` if the link is closed: then nothing is changed or written.
+/// that.
 #[unsafe(no_mangle)]
 pub extern "C" fn oca_link_is_lost(alloc: Global, handle: &mut LinkHandle, lost: &mut bool) -> u32
     ensures closed { RefusesClosed handle.old.slot.inner handle.new.slot.inner result }
@@ -392,10 +323,7 @@ pub extern "C" fn oca_link_is_lost(alloc: Global, handle: &mut LinkHandle, lost:
 }
 
 /// Writes to `late` whether the link is late at the moment `now`, in milliseconds: a command was submitted more than
-/// 15,000 ms ago and has no answer, whether it was sent or not (a rule of the profile). That is so, for example, if the
-/// program was suspended. No command may act so late: then do not call `oca_link_due`, and open a new link.
-///
-/// Returns the number of an answer: `Done`. `Closed` if the link is closed: then nothing is changed or written.
+/// 15,000 ms ago and has no answer, whether it was sent or not (a rule of the profile).
 #[unsafe(no_mangle)]
 pub extern "C" fn oca_link_is_late(
     alloc: Global,

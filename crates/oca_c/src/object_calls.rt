@@ -11,9 +11,6 @@ use oca_calls::reading::Reading;
 use std::alloc::Global;
 
 /// Writes to `count` how many objects the device has, the root counted: 1 to 4,096.
-///
-/// Returns the number of an answer: `Done`. `Closed` if the device is closed, and `NotStarted` before its start: then
-/// nothing is changed or written.
 #[unsafe(no_mangle)]
 pub extern "C" fn oca_device_objects(
     alloc: Global,
@@ -35,14 +32,7 @@ pub extern "C" fn oca_device_objects(
     answer.number()
 }
 
-/// Writes what the object with this index is. `index` counts from 0 for the root, in the order of adding. To `out` go
-/// the object's number, its container's number (0 for the root), the number of its class (1 to 13, `enum oca_class`)
-/// and the size of its role in bytes. The object's role, 1 to 64 bytes of UTF-8, goes to `role`. Each is written as far
-/// as there is room.
-///
-/// Returns the number of an answer: `Done`. Otherwise the first of these that applies, and then nothing is changed or
-/// written. `Closed` if the device is closed. `NotStarted` before its start. `Nothing` if there are `index` objects or
-/// fewer.
+/// Writes what the object with this index is.
 #[unsafe(no_mangle)]
 pub extern "C" fn oca_device_object_words(
     alloc: Global,
@@ -66,14 +56,7 @@ pub extern "C" fn oca_device_object_words(
     answer.number()
 }
 
-/// Writes what lock an object has, and the address and the port of the peer that has it. `kind` becomes 1 if the lock
-/// keeps other peers from all access (LockTotal, AES70-2), and 2 if it lets them read (LockReadonly). `ip` becomes an
-/// IPv4 address as a number, the first byte highest, and `port` the UDP port. The lock of a block does not lock its
-/// members.
-///
-/// Returns the number of an answer: `Done`. Otherwise the first of these that applies, and then nothing is changed or
-/// written. `Closed` if the device is closed. `NotStarted` before its start. `Nothing` if the object is not locked, or
-/// no object has the number `ono`.
+/// Writes what lock an object has, and the address and the port of the peer that has it.
 #[unsafe(no_mangle)]
 pub extern "C" fn oca_device_lock(
     alloc: Global,
@@ -99,11 +82,6 @@ pub extern "C" fn oca_device_lock(
 }
 
 /// Writes to `failing` whether the hardware of an object refuses changes, as `oca_device_set_failing` last set it.
-/// False before the first such call.
-///
-/// Returns the number of an answer: `Done`. Otherwise the first of these that applies, and then nothing is changed or
-/// written. `Closed` if the device is closed. `NotStarted` before its start. `NoObject` if no object has the number
-/// `ono`.
 #[unsafe(no_mangle)]
 pub extern "C" fn oca_device_is_failing(
     alloc: Global,
@@ -126,13 +104,7 @@ pub extern "C" fn oca_device_is_failing(
     answer.number()
 }
 
-/// Writes to `reading` how an object is set. Its kind is 1 for a state, 2 for a position, 3 for a Boolean and 4 for an
-/// integer. `negative` is 1 if the number is below 0, and otherwise 0. `magnitude` is the number without its sign: 1 or
-/// 2 for a state (AES70-2), 0 or 1 for a Boolean, and a position counted from 0.
-///
-/// Returns the number of an answer: `Done`. Otherwise the first of these that applies, and then nothing is changed or
-/// written. `Closed` if the device is closed. `NotStarted` before its start. `Nothing` if the object is a block, or no
-/// object has the number `ono`.
+/// Writes to `reading` how an object is set.
 #[unsafe(no_mangle)]
 pub extern "C" fn oca_device_setting(
     alloc: Global,
@@ -155,11 +127,7 @@ pub extern "C" fn oca_device_setting(
     answer.number()
 }
 
-/// Writes to `count` how many peers have a session at the device's present moment: 0 to 64. A session ends when the
-/// clock finds that its peer was not heard for more than 120,000 ms.
-///
-/// Returns the number of an answer: `Done`. `Closed` if the device is closed, and `NotStarted` before its start: then
-/// nothing is changed or written.
+/// Writes to `count` how many peers have a session at the device's present moment: 0 to 64.
 #[unsafe(no_mangle)]
 pub extern "C" fn oca_device_peers(
     alloc: Global,
@@ -181,13 +149,7 @@ pub extern "C" fn oca_device_peers(
     answer.number()
 }
 
-/// Writes the address and the port of a peer that has a session. `index` counts from 0, in the order in which the
-/// sessions were opened; if a session ends, the later ones move down by one. `ip` becomes an IPv4 address as a number,
-/// the first byte highest, and `port` the UDP port.
-///
-/// Returns the number of an answer: `Done`. Otherwise the first of these that applies, and then nothing is changed or
-/// written. `Closed` if the device is closed. `NotStarted` before its start. `Nothing` if there are `index` sessions or
-/// fewer.
+/// Writes the address and the port of a peer that has a session.
 #[unsafe(no_mangle)]
 pub extern "C" fn oca_device_peer(
     alloc: Global,

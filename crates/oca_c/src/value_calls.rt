@@ -12,9 +12,6 @@ use oca_model::{Reading, get_request, set_request};
 
 /// Encodes `value` as the one parameter of a set method (AES70-3): writes its bytes to the front of `out`, and their
 /// number, 1 to 8, to `len`.
-///
-/// Returns the number of an answer: `Done`. `NoValue` if the struct holds no value: then nothing is written. `TooSmall`
-/// if `out` has fewer bytes than are needed: then only `len` is written.
 #[unsafe(no_mangle)]
 pub extern "C" fn oca_value_put(value: &ValueWords, out: &mut [u8], len: &mut usize) -> u32
     ensures writes { PutsWords value.now out.old out.new len.new result }
@@ -28,11 +25,6 @@ pub extern "C" fn oca_value_put(value: &ValueWords, out: &mut [u8], len: &mut us
 }
 
 /// Reads the value and its limits from the answer to a get method (AES70-2), and writes them to `reading`.
-/// `class_number` is the number of the object's class (`enum oca_class`), and `params` are the parameters of the answer
-/// to `oca_get_request` of the same class.
-///
-/// Returns the number of an answer: `Done`. `NoValue` if no class has the number, it is the number of a block, or the
-/// parameters are not exactly such an answer: then nothing is written.
 #[unsafe(no_mangle)]
 pub extern "C" fn oca_value_read(
     class_number: u32,
@@ -53,9 +45,7 @@ pub extern "C" fn oca_value_read(
 }
 
 /// Writes to `request` the request that sets an object to `value`: the set method of the value's class (AES70-2) with
-/// the value as its parameter. Nothing is sent: `oca_link_ask` submits it.
-///
-/// Returns the number of an answer: `Done`. `NoValue` if the struct holds no value: then nothing is written.
+/// the value as its parameter.
 #[unsafe(no_mangle)]
 pub extern "C" fn oca_set_request(value: &ValueWords, request: &mut RequestWords) -> u32
     ensures writes { WritesSetOf value.now request.new result }
@@ -69,10 +59,7 @@ pub extern "C" fn oca_set_request(value: &ValueWords, request: &mut RequestWords
 }
 
 /// Writes to `request` the request that reads how an object is set: the get method of the class with the number
-/// `class_number` (`enum oca_class`, AES70-2), without parameters. Nothing is sent: `oca_link_ask` submits it.
-///
-/// Returns the number of an answer: `Done`. `NoValue` if no class has the number, and for a block: then nothing is
-/// written.
+/// `class_number` (`enum oca_class`, AES70-2), without parameters.
 #[unsafe(no_mangle)]
 pub extern "C" fn oca_get_request(class_number: u32, request: &mut RequestWords) -> u32
     ensures writes { WritesGetOf class_number request.new result }
@@ -89,11 +76,7 @@ pub extern "C" fn oca_get_request(class_number: u32, request: &mut RequestWords)
 }
 
 /// Writes the word for `value` to the front of `out`, without a 0 after it, and the number of its bytes, 1 to 20, to
-/// `len`. The words are "muted", "unmuted", "non-inverted", "inverted", "on", "off", and decimal digits for a position
-/// and an integer.
-///
-/// Returns the number of an answer: `Done`. `NoValue` if the struct holds no value: then nothing is written. `TooSmall`
-/// if `out` has fewer bytes than the word: then only `len` is written.
+/// `len`.
 #[unsafe(no_mangle)]
 pub extern "C" fn oca_value_text(value: &ValueWords, out: &mut [u8], len: &mut usize) -> u32
     ensures writes { WritesWordOf value.now out.old out.new len.new result }
@@ -105,12 +88,7 @@ pub extern "C" fn oca_value_text(value: &ValueWords, out: &mut [u8], len: &mut u
 }
 
 /// Writes to `value` the value that a word means for an object of the class with the number `class_number` (`enum
-/// oca_class`). The word `text` is a word of the class as `oca_value_text` writes it, or a number in decimal digits
-/// within the class's type. A number may begin with +, and of a signed type also with -. For a switch the word is the
-/// number of a position, and not the position's name.
-///
-/// Returns the number of an answer: `Done`. `NoValue` for any other word, for a block, and if no class has the number:
-/// then nothing is written.
+/// oca_class`).
 #[unsafe(no_mangle)]
 pub extern "C" fn oca_value_from_text(class_number: u32, text: &[u8], value: &mut ValueWords) -> u32
     ensures writes { WritesNamed class_number text.now value.old value.new result }

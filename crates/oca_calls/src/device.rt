@@ -34,7 +34,8 @@ mod outputs;
 pub const MOST_PACKETS: usize = 122;
 
 /// A device as the calls for C have it: the objects before its start, the device after it, the packets that answer the
-/// last datagram, and whether something that datagrams wrote is not stored.
+/// last datagram, and whether something that datagrams wrote is not stored. What its functions take and answer is
+/// said of the calls of C in `include/oca.h` (`peers` is that of `oca_device_peers`).
 #[derive(Drop)]
 pub struct DeviceBehind {
     builder: Option<TreeBuilder>,
@@ -58,8 +59,7 @@ impl DeviceBehind {
     }
 
     /// Adds the object that `words` describe, under the number `ono`, to the block with the number `container`, before
-    /// the start. Returns `Done`. `Started` after the start, otherwise the answers of
-    /// [`add_spec`](crate::spec_adding::add_spec): then nothing is added.
+    /// the start.
     pub fn add_spec(&mut self, container: u32, ono: u32, words: &SpecWords) -> Answer
         ensures adds { (B : Store) → Builds self.old B →
             (B' : Store) × Builds self.new B' × SpecAddedBy result B B' container ono words.now }
@@ -73,13 +73,6 @@ impl DeviceBehind {
 
     /// Starts the device with the objects that were added: a small one if `is_small` is true
     /// ([`SmallDevice`](oca_device::SmallDevice)), and otherwise one with room for each command and each reply.
-    /// `window` is for how many commands of each peer it keeps the replies, `peers` is how many peers can have a
-    /// session, and `packets` is for how many packets of answers it has room, some 1,480 bytes each. The call takes the
-    /// memory for all of them.
-    ///
-    /// Returns `Done`. Otherwise the first of these that applies. `Started` if the device is started already, `BadSize`
-    /// if the window or the peers are not 1 to 64 or the packets not 1 to 122: then nothing is changed. `NoMemory` if
-    /// memory was refused: then the objects are lost.
     pub fn start(
         &mut self,
         alloc: Global,
@@ -164,13 +157,7 @@ impl DeviceBehind {
     }
 
     /// Handles a datagram that came from a peer at the moment `now`, in milliseconds of the caller's clock, as
-    /// [`Device::datagram_within`](oca_device::Device::datagram_within) does. A small device handles it as that of
-    /// [`SmallDevice`](oca_device::SmallDevice) does. The answers replace the packets of the last datagram, as many as
-    /// there is room for ([`left_out`](DeviceBehind::left_out)). A moment earlier than the latest one so far is taken
-    /// as that latest one.
-    ///
-    /// The words of the verdict ([`words_of`](crate::words::words_of)) go to the front of `out`, as many as it has room
-    /// for. Returns `Done`. `NotStarted` before the start: then nothing is changed or written.
+    /// [`Device::datagram_within`](oca_device::Device::datagram_within) does.
     pub fn datagram(&mut self, from: Peer, bytes: &[u8], now: u64, out: &mut [u32]) -> Answer
         ensures serves { WhateverRunsBehind self.old (λ r w T E.
             RunsBehind r w self.new T (DatagramEvent from (told r.command bytes.now) now ∷ E)
@@ -194,10 +181,7 @@ impl DeviceBehind {
         Answer::Done
     }
 
-    /// Moves the device's clock on to `now`, in milliseconds of the caller's clock. The lock of a peer is released if
-    /// the device heard nothing from the peer for more than three of its heartbeats. A session is forgotten if its peer
-    /// was silent for more than 120,000 ms. A moment earlier than the latest one so far is taken as that latest one.
-    /// Returns `Done`. `NotStarted` before the start: then nothing is changed.
+    /// Moves the device's clock on to `now`, in milliseconds of the caller's clock.
     pub fn tick(&mut self, now: u64) -> Answer
         ensures serves { WhateverRunsBehind self.old (λ r w T E.
             RunsBehind r w self.new T (Tick now ∷ E) × (result ≡ Done)) }
@@ -212,8 +196,7 @@ impl DeviceBehind {
         Answer::Done
     }
 
-    /// Notes that the objects are stored as they are now: no answers wait then. Nothing is sent. Returns `Done`.
-    /// `NotStarted` before the start: then nothing is changed.
+    /// Notes that the objects are stored as they are now: no answers wait then.
     pub fn stored(&mut self) -> Answer
         ensures notes { IsSome self.old.device → (result ≡ Done) × (self.new.unstored ≡ all_stored) }
         ensures building { self.old.device ≡ None → (result ≡ NotStarted) × (self.new ≡ self.old) }

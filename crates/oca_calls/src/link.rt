@@ -80,7 +80,8 @@ impl AnyLink {
 }
 
 /// A link as the calls for C have it. It has room for each command and each answer of a datagram ([`Link`]), or it is
-/// small ([`SmallLink`]): for commands with 64 bytes of parameters and answers with 264 bytes.
+/// small ([`SmallLink`]): for commands with 64 bytes of parameters and answers with 264 bytes. What its functions take
+/// and answer is said of the calls of C in `include/oca.h` (`submit` is that of `oca_link_submit`).
 #[derive(Drop)]
 pub struct LinkBehind {
     link: AnyLink,
@@ -145,13 +146,6 @@ impl LinkBehind {
     }
 
     /// Submits a command at the moment `now`, in milliseconds of the caller's clock, and writes its handle to `handle`.
-    /// `target` is the number of the object, `method` has the method's DefLevel and MethodIndex (AES70-2), `count` is
-    /// ParamCount, and `params` are the encoded parameters. Nothing is sent.
-    ///
-    /// Returns the number of an answer: `Done`. Otherwise the first of these that applies, and then nothing is changed
-    /// or written. `Lost` if the link is lost. `HandlesSpent` if a command has the handle 4294967295 already.
-    /// `SpanFull` if the next handle is not below the lowest handle whose answer was not taken yet, plus the span.
-    /// `TooLong` if the parameters have more than 1,445 bytes, or for a small link more than 64.
     pub fn submit(
         &mut self,
         target: Ono,
@@ -191,11 +185,7 @@ impl LinkBehind {
     }
 
     /// Puts the next packet that is due at the moment `now`, in milliseconds of the caller's clock, to the front of
-    /// `out`, for the caller to send. Call it until `kind` is 0 or 3. `len` becomes the size of the packet, at most
-    /// 1,472 bytes, and 0 if there is none. `kind` becomes 0 if nothing is due, 1 for a command, 2 for a keep-alive,
-    /// and 3 if the link is lost. `handle` becomes the handle of the command, or 0 if no command is due. A moment
-    /// earlier than the latest one so far is taken as that latest one. Returns the number of an answer: `Done`.
-    /// `TooSmall` if `out` has fewer than 1,472 bytes: then nothing is changed or written.
+    /// `out`, for the caller to send.
     pub fn due(
         &mut self,
         now: u64,
@@ -228,14 +218,7 @@ impl LinkBehind {
         Answer::Done.number()
     }
 
-    /// Handles a datagram that came from a peer at the moment `now`, in milliseconds of the caller's clock. `kind`
-    /// becomes 2 if the datagram came from another address or port than the device's. Otherwise 3 if it is not
-    /// well-formed (AES70-3). Otherwise 1 if commands got their first answer in it, and 0 if none did. `answered`
-    /// becomes how many commands got theirs: 0 to 32.
-    ///
-    /// An answer to a command in flight is stored, even if the link is lost. A small link stores an answer with more
-    /// than 264 bytes of parameters as the status BufferOverflow (14, AES70-2) without parameters. If `kind` becomes 2
-    /// or 3, only the link's clock is changed. Returns the number of an answer, always `Done`.
+    /// Handles a datagram that came from a peer at the moment `now`, in milliseconds of the caller's clock.
     pub fn datagram(
         &mut self,
         from: Peer,
@@ -261,11 +244,7 @@ impl LinkBehind {
         Answer::Done.number()
     }
 
-    /// Takes the answer under the handle `handle`, and removes the command. Writes the number of the answer's status to
-    /// `status` (AES70-2, OcaStatus), its ParamCount to `count`, its parameters to the front of `out`, and their size
-    /// in bytes to `len`. Returns the number of an answer: `Done`. Otherwise the first of these that applies, and then
-    /// nothing is changed or written. `TooSmall` if `out` has fewer than 1,452 bytes, for a small link too. `Nothing`
-    /// if no answer is there under the handle.
+    /// Takes the answer under the handle `handle`, and removes the command.
     pub fn take(
         &mut self,
         handle: u32,
@@ -297,8 +276,7 @@ impl LinkBehind {
     }
 
     /// Writes to `moment` the earliest moment at which something is due or the link is lost, in milliseconds of the
-    /// caller's clock. The moment is not before the latest one that the link was given. Returns the number of an
-    /// answer: `Done`. `Nothing` if the moment does not fit 64 bits: then nothing is written.
+    /// caller's clock.
     pub fn next_due(&self, moment: &mut u64) -> u32
         ensures writes { WritesNextDue result moment.new self.now.link }
         ensures unwritten { (result ≡ 0) ⊎ (moment.new ≡ moment.old) }
@@ -316,8 +294,7 @@ impl LinkBehind {
         }
     }
 
-    /// Writes to `handle` the lowest handle whose answer came and was not taken yet. The answer stays. Returns the
-    /// number of an answer: `Done`. `Nothing` if no answer waits: then nothing is written.
+    /// Writes to `handle` the lowest handle whose answer came and was not taken yet.
     pub fn answered(&self, handle: &mut u32) -> u32
         ensures writes { WritesNumber result handle.new (first_answered self.now.link.untaken) }
         ensures unwritten { (result ≡ 0) ⊎ (handle.new ≡ handle.old) }
@@ -335,9 +312,7 @@ impl LinkBehind {
         }
     }
 
-    /// Writes to `in_flight` whether the command under the handle `handle` was submitted and has no answer yet. False
-    /// for a command whose answer came and was not taken, and for a handle that no command has. Returns the number of
-    /// an answer, always `Done`.
+    /// Writes to `in_flight` whether the command under the handle `handle` was submitted and has no answer yet.
     pub fn is_in_flight(&self, handle: u32, in_flight: &mut bool) -> u32
         ensures { (result ≡ 0) × (in_flight.new ≡ list_any (waits handle) self.now.link.untaken) }
     {
@@ -348,8 +323,7 @@ impl LinkBehind {
         Answer::Done.number()
     }
 
-    /// Writes to `handle` the handle that the next command gets. Returns the number of an answer: `Done`. `Nothing`
-    /// once a command has the handle 4294967295: then nothing is written.
+    /// Writes to `handle` the handle that the next command gets.
     pub fn next_handle(&self, handle: &mut u32) -> u32
         ensures writes { WritesNumber result handle.new self.now.link.next }
         ensures unwritten { (result ≡ 0) ⊎ (handle.new ≡ handle.old) }
@@ -368,8 +342,7 @@ impl LinkBehind {
     }
 
     /// Writes to `moment` the moment, in milliseconds of the caller's clock, at which the last well-formed datagram
-    /// came from the device. Before the first one it is the moment of the opening. Returns the number of an answer,
-    /// always `Done`.
+    /// came from the device.
     pub fn last_heard(&self, moment: &mut u64) -> u32
         ensures { (result ≡ 0) × (moment.new ≡ self.now.link.heard) }
     {
@@ -380,8 +353,7 @@ impl LinkBehind {
         Answer::Done.number()
     }
 
-    /// Writes to `lost` whether the link is lost: a command got no answer to 20 transmissions. False at first. A lost
-    /// link stays lost. Returns the number of an answer, always `Done`.
+    /// Writes to `lost` whether the link is lost: a command got no answer to 20 transmissions.
     pub fn is_lost(&self, lost: &mut bool) -> u32
         ensures { (result ≡ 0) × (lost.new ≡ self.now.link.lost) }
     {
@@ -393,8 +365,7 @@ impl LinkBehind {
     }
 
     /// Writes to `late` whether the link is late at the moment `now`, in milliseconds of the caller's clock: a command
-    /// was submitted more than 15,000 ms ago and has no answer, whether it was sent or not. Returns the number of an
-    /// answer, always `Done`.
+    /// was submitted more than 15,000 ms ago and has no answer, whether it was sent or not.
     pub fn is_late(&self, now: u64, late: &mut bool) -> u32
         ensures { (result ≡ 0) × (late.new ≡ late_at now self.now.link) }
     {

@@ -24,13 +24,7 @@ const _: () = prove!(std::mem::size_of::<LinkHandle>() == 16);
 
 impl LinkHandle {
     /// Opens the struct over a link to the device at the address `device`: a small one if `is_small` is true
-    /// ([`SmallLink`](oca_control::SmallLink)), and otherwise one with room for each command and each answer. The call
-    /// takes memory for the link. `first_handle` is the handle of the link's first command, `now` the moment in
-    /// milliseconds of the caller's clock, and `span` its span, 1 to 32.
-    ///
-    /// Returns the number of an answer: `Done`. Otherwise the first of these that applies, and then nothing is changed.
-    /// `Open` if the struct is open already. `BadSize` if the span is outside its range. `NoMemory` if memory was
-    /// refused.
+    /// ([`SmallLink`](oca_control::SmallLink)), and otherwise one with room for each command and each answer.
     pub fn open(
         &mut self,
         alloc: Global,

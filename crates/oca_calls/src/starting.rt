@@ -8,14 +8,7 @@ use crate::device_handle::DeviceHandle;
 use std::alloc::Global;
 
 /// Starts the device of the struct `handle`: a small one if `is_small` is true
-/// ([`SmallDevice`](oca_device::SmallDevice)), and otherwise one with room for each command and each reply. `window` is
-/// for how many commands of one peer the device keeps the replies, and `peers` is how many peers can have a session at
-/// once: both 1 to 64. `packets` is for how many packets that answer a datagram it has room: 1 to 122, of some 1,480
-/// bytes each. The call takes the memory for all of them.
-///
-/// Returns the number of an [`Answer`]: `Done`. Otherwise the first of these that applies. `Closed` if the device is
-/// closed, `Started` if it is started already, `BadSize` if a size is outside its range: then nothing is changed.
-/// `NoMemory` if memory was refused: then the objects are lost and the struct is closed.
+/// ([`SmallDevice`](oca_device::SmallDevice)), and otherwise one with room for each command and each reply.
 pub fn start(
     alloc: Global,
     handle: &mut DeviceHandle,

@@ -15,12 +15,7 @@ use oca_types::Ono;
 use std::str;
 
 impl DeviceBehind {
-    /// Sets an object at the local front panel to the value that `words` hold. A lock does not refuse it. Returns
-    /// `Done`. Otherwise the first of these that applies, and then nothing is changed. `NotStarted` before the start.
-    /// `NoValue` if `words` hold no value. `NoObject` if no object has the number `ono`. `NoSetting` if the object is a
-    /// block. `OtherKind` if the value is of another class. `OutOfRange` if a switch has no such position or the
-    /// position is disabled, or a number is outside the object's limits. In all cases the packets, and whether answers
-    /// wait, stay as they are.
+    /// Sets an object at the local front panel to the value that `words` hold.
     pub fn set(&mut self, ono: u32, words: ValueWords) -> Answer
         ensures sets { WhateverRunsBehind self.old (λ r w T E.
             (value : Option ValueItself) × AreWordsOf words value × SetsWords r w result self.new T E ono value) }
@@ -40,10 +35,7 @@ impl DeviceBehind {
         }
     }
 
-    /// Gives an object a label of 0 to 64 bytes of UTF-8 at the local front panel. A lock does not refuse it. Returns
-    /// `Done`. Otherwise the first of these that applies, and then nothing is changed. `NotStarted` before the start.
-    /// `BadText` if the bytes are not UTF-8. `NoObject` if no object has the number `ono`. `BadText` if the label has
-    /// more than 64 bytes.
+    /// Gives an object a label of 0 to 64 bytes of UTF-8 at the local front panel.
     pub fn set_label(&mut self, ono: u32, label: &[u8]) -> Answer
         ensures labels { IsUtf8 label.now → WhateverRunsBehind self.old (λ r w T E.
             ChangesFront r w result self.new T E ono (ToLabel label.now) (asked.SetLabel label.now)) }
@@ -78,8 +70,7 @@ impl DeviceBehind {
         }
     }
 
-    /// Enables or disables an object at the local front panel. A lock does not refuse it. Returns `Done`. `NotStarted`
-    /// before the start, or `NoObject` if no object has the number `ono`: then nothing is changed.
+    /// Enables or disables an object at the local front panel.
     pub fn set_enabled(&mut self, ono: u32, enabled: bool) -> Answer
         ensures sets { WhateverRunsBehind self.old (λ r w T E.
             ChangesFront r w result self.new T E ono (ToEnabled enabled) (asked.SetEnabled enabled)) }
@@ -96,9 +87,7 @@ impl DeviceBehind {
         }
     }
 
-    /// Releases the lock of an object at the local front panel, whichever peer has it. The peer gets no message.
-    /// Returns `Done`. Otherwise the first of these that applies, and then nothing is changed. `NotStarted` before the
-    /// start. `NoObject` if no object has the number `ono`. `Nothing` if the object is not locked.
+    /// Releases the lock of an object at the local front panel, whichever peer has it.
     pub fn unlock(&mut self, ono: u32) -> Answer
         ensures unlocks { WhateverRunsBehind self.old (λ r w T E.
             ChangesFront r w result self.new T E ono ToUnlocked asked.Unlock) }
@@ -115,11 +104,7 @@ impl DeviceBehind {
         }
     }
 
-    /// Sets, at the local front panel, whether the hardware of an object refuses changes (`failing`). While it does, a
-    /// command that writes to the object changes nothing and is answered ProcessingFailed (AES70-2, OcaStatus), or with
-    /// the status of another fault that the command has ([`Device::set_failing`](oca_device::Device::set_failing)).
-    /// Returns `Done`. `NotStarted` before the start, or `NoObject` if no object has the number `ono`: then nothing is
-    /// changed.
+    /// Sets, at the local front panel, whether the hardware of an object refuses changes (`failing`).
     pub fn set_failing(&mut self, ono: u32, failing: bool) -> Answer
         ensures tells { WhateverRunsBehind self.old (λ r w T E.
             ChangesFront r w result self.new T E ono (ToFailing failing) (asked.SetEnabled failing)) }
