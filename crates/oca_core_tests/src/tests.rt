@@ -33,73 +33,90 @@ mod types;
 
 use oca_types::{Peers, Sizes, Window};
 use std::alloc::Global;
-use std::fmt::Display;
+use std::fmt::{Debug, Display, Write};
 use std::process::Abort;
+
+/// What is said of a row that comes out otherwise: the script that is played and its step, and what was found in place
+/// of what must be.
+#[derive(Drop)]
+struct Said {
+    alloc: Global,
+    script: &'static str,
+    step: usize,
+    text: String,
+}
+
+impl Said {
+    /// Nothing yet.
+    fn new(alloc: Global) -> Said {
+        Said {
+            alloc,
+            script: "",
+            step: 0,
+            text: String::new(alloc),
+        }
+    }
+
+    /// Whether what was found is what must be. Where it is not, both are noted.
+    fn same<T: PartialEq + Debug + Copy>(&mut self, found: T, wanted: T) -> bool {
+        let is_same = found == wanted;
+        if !is_same {
+            self.text.clear();
+            let _ = write!(self.text, "found {found:?} in place of {wanted:?}");
+        }
+        is_same
+    }
+
+    /// Whether a value prints these words.
+    fn prints<T: Display>(&mut self, value: &T, words: &str) -> bool {
+        match value.to_string(self.alloc) {
+            Ok(text) => self.same(text.as_str(), words),
+            Err(_) => false,
+        }
+    }
+}
 
 /// A row of a table: what goes in, and what must come of it.
 trait Row {
     /// Whether it comes out as the row says.
-    fn agrees(&self, alloc: Global) -> bool;
+    fn agrees(&self, said: &mut Said) -> bool;
 }
 
-/// The first row of a table that comes out otherwise.
-fn first_wrong<R: Row>(alloc: Global, rows: &[R]) -> Option<usize> {
+/// Each row of the table of this name comes out as it says.
+fn all_agree<A: Abort + AllocGlobal, R: Row>(rt: &A, table: &str, rows: &[R]) {
+    let mut said = Said::new(rt.alloc());
     for (at, row) in rows.iter().enumerate() {
-        if !row.agrees(alloc) {
-            return Some(at);
+        if !row.agrees(&mut said) {
+            fail(rt, table, at, &said);
         }
     }
-    None
 }
 
-/// What stands for a row that is wrong where this does not hold.
-fn wrong_unless(holds: bool) -> Option<usize> {
-    if holds { None } else { Some(0) }
-}
-
-/// A row of a table of the group of this name came out otherwise.
-fn fail(rt: &impl Abort, group: &str, table: usize, row: usize) {
-    panic!(rt; "{group}: table {table}, row {row}");
-}
-
-/// In no table of the group of this name a row comes out otherwise.
-fn none_wrong(rt: &impl Abort, group: &str, tables: &[Option<usize>]) {
-    for (table, wrong) in tables.iter().enumerate() {
-        if let Some(row) = wrong {
-            fail(rt, group, table, *row);
-        }
+/// A row of the table of this name came out otherwise.
+fn fail(rt: &impl Abort, table: &str, row: usize, said: &Said) {
+    let (script, step, text) = (said.script, said.step, said.text.as_str());
+    if script.is_empty() {
+        panic!(rt; "{table}: row {row}: {text}");
     }
+    panic!(rt; "{table}: {script}: step {step}: {text}");
 }
 
 /// A step of a script: what is done with something, or is seen of it, and what must come of that.
 trait Agrees<T> {
     /// Whether that comes of it.
-    fn agrees(&self, on: &mut T) -> bool;
+    fn agrees(&self, on: &mut T, said: &mut Said) -> bool;
 }
 
-/// The first step of a script of which something else comes.
-fn first_wrong_step<T, S: Agrees<T>>(on: &mut T, steps: &[S]) -> Option<usize> {
+/// Whether each step of the script of this name comes out as it says.
+fn plays<T, S: Agrees<T>>(on: &mut T, script: &'static str, steps: &[S], said: &mut Said) -> bool {
+    said.script = script;
     for (at, step) in steps.iter().enumerate() {
-        if !step.agrees(on) {
-            return Some(at);
+        said.step = at;
+        if !step.agrees(on, said) {
+            return false;
         }
     }
-    None
-}
-
-/// No step of the script of this name comes out otherwise.
-fn no_step_wrong(rt: &impl Abort, name: &str, wrong: Option<usize>) {
-    if let Some(step) = wrong {
-        panic!(rt; "{name}: step {step}");
-    }
-}
-
-/// Whether a value prints these words.
-fn prints<T: Display>(alloc: Global, value: &T, words: &str) -> bool {
-    match value.to_string(alloc) {
-        Ok(text) => text.as_str() == words,
-        Err(_) => false,
-    }
+    true
 }
 
 /// A value, and the words that it prints.
@@ -107,30 +124,25 @@ struct Words<T>(T, &'static str);
 
 impl<T: Display> Row for Words<T> {
     /// Whether it prints them.
-    fn agrees(&self, alloc: Global) -> bool {
-        prints(alloc, &self.0, self.1)
+    fn agrees(&self, said: &mut Said) -> bool {
+        said.prints(&self.0, self.1)
     }
 }
 
 /// What must be found at a place of a list.
 trait Wanted<T> {
     /// Whether it is this.
-    fn is(&self, found: &T) -> bool;
+    fn is(&self, found: &T, said: &mut Said) -> bool;
 }
 
-/// The first place of a list at which something else is found than is wanted, or nothing, or too much.
-fn first_other<T, W: Wanted<T>>(found: &[T], wanted: &[W]) -> Option<usize> {
-    for (at, want) in wanted.iter().enumerate() {
-        match found.get(at) {
-            Some(one) if want.is(one) => {}
-            _ => return Some(at),
+/// Whether at each place of a list that is found which is wanted, and nothing behind it.
+fn are_found<T, W: Wanted<T>>(found: &[T], wanted: &[W], said: &mut Said) -> bool {
+    for (one, want) in found.iter().zip(wanted.iter()) {
+        if !want.is(one, said) {
+            return false;
         }
     }
-    if found.len() == wanted.len() {
-        None
-    } else {
-        Some(wanted.len())
-    }
+    said.same(found.len(), wanted.len())
 }
 
 /// Windows of one command, and sessions of at most so many peers.

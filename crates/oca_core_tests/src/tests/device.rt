@@ -30,7 +30,7 @@ mod reports;
 mod serving;
 mod small;
 
-use super::sizes;
+use crate::tests::{Said, sizes};
 use oca_device::{Device, Outbox, Report, Verdict};
 use oca_pdu::{PduFault, PduFaultKind};
 use oca_tree::bench;
@@ -98,12 +98,16 @@ pub fn device_of(alloc: Global, setup: Setup) -> Option<Device> {
 }
 
 /// Whether the outbox holds these packets.
-fn holds(outbox: &Outbox, packets: &[&[Part]]) -> bool {
+fn holds(outbox: &Outbox, packets: &[&[Part]], said: &mut Said) -> bool {
     for (at, parts) in packets.iter().enumerate() {
         match outbox.get(at) {
-            Some(packet) if is_of(packet.as_slice(), parts) => {}
-            _ => return false,
+            Some(packet) => {
+                if !is_of(packet.as_slice(), parts, said) {
+                    return false;
+                }
+            }
+            None => return false,
         }
     }
-    outbox.len() == packets.len()
+    said.same(outbox.len(), packets.len())
 }

@@ -1,9 +1,9 @@
 //! What ends in memory deliver, and what they took.
 ghost use Rattle.std.specs.Prelude.{IsTrue};
 
-use super::Wanted;
 use super::control::{DEVICE, response};
 use super::device::parts::{Part, bytes_of};
+use crate::tests::{Said, Wanted};
 use oca_net::{End, MemoryEnd, Scripted};
 use oca_types::{Packet, Peer};
 use std::alloc::Global;
@@ -86,12 +86,14 @@ pub fn end_of(alloc: Global, ending: Ending) -> Option<MemoryEnd> {
 
 impl Wanted<Scripted> for Entry {
     /// Whether this was delivered for the entry.
-    fn is(&self, found: &Scripted) -> bool {
+    fn is(&self, found: &Scripted, said: &mut Said) -> bool {
         match (found, *self) {
             (Scripted::Datagram { from, bytes, now }, Entry::Datagram(sender, wanted, moment)) => {
-                *from == sender && bytes.as_slice() == wanted && *now == moment
+                said.same(*from, sender)
+                    && said.same(bytes.as_slice(), wanted)
+                    && said.same(*now, moment)
             }
-            (Scripted::Quiet { now }, Entry::Quiet(moment)) => *now == moment,
+            (Scripted::Quiet { now }, Entry::Quiet(moment)) => said.same(*now, moment),
             (Scripted::Failed, Entry::Failed) => true,
             _ => false,
         }
@@ -104,7 +106,7 @@ pub struct Took(pub Peer, pub &'static [u8]);
 
 impl Wanted<(Peer, Packet)> for Took {
     /// Whether this was taken.
-    fn is(&self, found: &(Peer, Packet)) -> bool {
-        found.0 == self.0 && found.1.as_slice() == self.1
+    fn is(&self, found: &(Peer, Packet), said: &mut Said) -> bool {
+        said.same(found.0, self.0) && said.same(found.1.as_slice(), self.1)
     }
 }

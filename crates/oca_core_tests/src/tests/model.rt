@@ -1,25 +1,26 @@
 //! Requests and answers byte by byte, and the words.
 mod methods;
 
-use super::{Row, first_wrong, none_wrong};
+use crate::tests::{Row, Said, all_agree};
 use oca_model::{
     MuteState, PolarityState, Ranged, Reading, SettingFault, Value, ValueFault, ValueRequest,
     class_with, get_request, read_class_fields, read_members, read_names, read_text, read_value,
     set_request, status_name, value_from_word, word_of,
 };
 use oca_types::{Class, MethodId, Params};
-use std::alloc::Global;
 
 /// A method by DefLevel and MethodIndex.
 type Called = (u16, u16);
 
 /// Whether a request has this method, ParamCount and bytes of parameters.
-fn asks(request: &ValueRequest, method: Called, count: u8, params: &[u8]) -> bool {
+fn asks(request: &ValueRequest, method: Called, count: u8, params: &[u8], said: &mut Said) -> bool {
     let wanted = MethodId {
         level: method.0,
         index: method.1,
     };
-    request.method == wanted && request.count == count && request.params.as_slice() == params
+    said.same(request.method, wanted)
+        && said.same(request.count, count)
+        && said.same(request.params.as_slice(), params)
 }
 
 /// The request that sets a value: its method and its parameters, one by ParamCount.
@@ -27,8 +28,8 @@ struct Sets(Value, Called, &'static [u8]);
 
 impl Row for Sets {
     /// Whether the request is this.
-    fn agrees(&self, _alloc: Global) -> bool {
-        asks(&set_request(self.0), self.1, 1, self.2)
+    fn agrees(&self, said: &mut Said) -> bool {
+        asks(&set_request(self.0), self.1, 1, self.2, said)
     }
 }
 
@@ -37,9 +38,9 @@ struct Gets(Class, Option<Called>);
 
 impl Row for Gets {
     /// Whether the object is read so.
-    fn agrees(&self, _alloc: Global) -> bool {
+    fn agrees(&self, said: &mut Said) -> bool {
         match (get_request(self.0), self.1) {
-            (Some(request), Some(method)) => asks(&request, method, 0, &[]),
+            (Some(request), Some(method)) => asks(&request, method, 0, &[], said),
             (None, None) => true,
             _ => false,
         }
@@ -51,8 +52,8 @@ struct Reads(Class, &'static [u8], Option<Value>);
 
 impl Row for Reads {
     /// Whether this value is read.
-    fn agrees(&self, _alloc: Global) -> bool {
-        read_value(self.0, self.1) == self.2
+    fn agrees(&self, said: &mut Said) -> bool {
+        said.same(read_value(self.0, self.1), self.2)
     }
 }
 
@@ -61,11 +62,11 @@ struct IsEncoded(Value, &'static [u8]);
 
 impl Row for IsEncoded {
     /// Whether the value is written as these bytes, and they are read as it.
-    fn agrees(&self, _alloc: Global) -> bool {
+    fn agrees(&self, said: &mut Said) -> bool {
         let mut out = Params::new();
         self.0.put(&mut out).is_ok()
-            && out.as_slice() == self.1
-            && Value::read(self.0.class(), self.1) == Ok(self.0)
+            && said.same(out.as_slice(), self.1)
+            && said.same(Value::read(self.0.class(), self.1), Ok(self.0))
     }
 }
 
@@ -74,8 +75,8 @@ struct IsNoValue(Class, &'static [u8], ValueFault);
 
 impl Row for IsNoValue {
     /// Whether they are refused so.
-    fn agrees(&self, _alloc: Global) -> bool {
-        Value::read(self.0, self.1) == Err(self.2)
+    fn agrees(&self, said: &mut Said) -> bool {
+        said.same(Value::read(self.0, self.1), Err(self.2))
     }
 }
 
@@ -84,16 +85,16 @@ struct HasLimits(Class, Reading, u8, &'static [u8]);
 
 impl Row for HasLimits {
     /// Whether the reading has so many parameters and these bytes, and they are read as it.
-    fn agrees(&self, _alloc: Global) -> bool {
+    fn agrees(&self, said: &mut Said) -> bool {
         let mut out = Params::new();
         self.1.put(&mut out).is_ok()
-            && out.as_slice() == self.3
-            && self.1.count() == self.2
-            && Reading::read(self.0, self.3) == Some(self.1)
-            && read_value(self.0, self.3) == Some(self.1.value())
-            && self.1.class() == self.0
+            && said.same(out.as_slice(), self.3)
+            && said.same(self.1.count(), self.2)
+            && said.same(Reading::read(self.0, self.3), Some(self.1))
+            && said.same(read_value(self.0, self.3), Some(self.1.value()))
+            && said.same(self.1.class(), self.0)
             && self.1.is_within()
-            && self.1.set_to(self.1.value()) == Ok(self.1)
+            && said.same(self.1.set_to(self.1.value()), Ok(self.1))
     }
 }
 
@@ -102,14 +103,14 @@ struct IsSetTo(Reading, Value, Option<SettingFault>);
 
 impl Row for IsSetTo {
     /// Whether it is set so, and set back is as it was; or it is refused so.
-    fn agrees(&self, _alloc: Global) -> bool {
+    fn agrees(&self, said: &mut Said) -> bool {
         match self.0.set_to(self.1) {
             Ok(set) => {
                 self.2.is_none()
-                    && set.value() == self.1
-                    && set.set_to(self.0.value()) == Ok(self.0)
+                    && said.same(set.value(), self.1)
+                    && said.same(set.set_to(self.0.value()), Ok(self.0))
             }
-            Err(fault) => self.2 == Some(fault),
+            Err(fault) => said.same(self.2, Some(fault)),
         }
     }
 }
@@ -119,9 +120,9 @@ struct Says(&'static str, Value);
 
 impl Row for Says {
     /// Whether the value is printed so and read so.
-    fn agrees(&self, _alloc: Global) -> bool {
-        word_of(self.1).as_str() == self.0
-            && value_from_word(self.1.class(), self.0) == Some(self.1)
+    fn agrees(&self, said: &mut Said) -> bool {
+        said.same(word_of(self.1).as_str(), self.0)
+            && said.same(value_from_word(self.1.class(), self.0), Some(self.1))
     }
 }
 
@@ -130,7 +131,7 @@ struct SaysNothing(Class, &'static str);
 
 impl Row for SaysNothing {
     /// Whether the word is refused.
-    fn agrees(&self, _alloc: Global) -> bool {
+    fn agrees(&self, said: &mut Said) -> bool {
         value_from_word(self.0, self.1).is_none()
     }
 }
@@ -140,9 +141,9 @@ struct IsClass(&'static [u8], Option<Class>);
 
 impl Row for IsClass {
     /// Whether the class is the one in the answer.
-    fn agrees(&self, _alloc: Global) -> bool {
+    fn agrees(&self, said: &mut Said) -> bool {
         match read_class_fields(self.0) {
-            Some(fields) => class_with(fields.as_slice()) == self.1,
+            Some(fields) => said.same(class_with(fields.as_slice()), self.1),
             None => self.1.is_none(),
         }
     }
@@ -153,9 +154,9 @@ struct IsText(&'static [u8], Option<&'static str>);
 
 impl Row for IsText {
     /// Whether this text is read.
-    fn agrees(&self, _alloc: Global) -> bool {
+    fn agrees(&self, said: &mut Said) -> bool {
         match (read_text(self.0), self.1) {
-            (Some(text), Some(wanted)) => text.as_str() == wanted,
+            (Some(text), Some(wanted)) => said.same(text.as_str(), wanted),
             (None, None) => true,
             _ => false,
         }
@@ -167,9 +168,9 @@ struct Status(u8, Option<&'static str>);
 
 impl Row for Status {
     /// Whether the status has this name.
-    fn agrees(&self, _alloc: Global) -> bool {
+    fn agrees(&self, said: &mut Said) -> bool {
         match (status_name(self.0), self.1) {
-            (Some(name), Some(wanted)) => name == wanted,
+            (Some(name), Some(wanted)) => said.same(name, wanted),
             (None, None) => true,
             _ => false,
         }
@@ -181,9 +182,9 @@ struct Members(&'static [u8], Option<&'static [u32]>);
 
 impl Row for Members {
     /// Whether these members are read.
-    fn agrees(&self, _alloc: Global) -> bool {
+    fn agrees(&self, said: &mut Said) -> bool {
         match (read_members(self.0), self.1) {
-            (Some(members), Some(wanted)) => members.as_slice() == wanted,
+            (Some(members), Some(wanted)) => said.same(members.as_slice(), wanted),
             (None, None) => true,
             _ => false,
         }
@@ -195,9 +196,9 @@ struct Names(&'static [u8], Option<usize>);
 
 impl Row for Names {
     /// Whether so many names are read.
-    fn agrees(&self, _alloc: Global) -> bool {
+    fn agrees(&self, said: &mut Said) -> bool {
         match read_names(self.0) {
-            Some(names) => self.1 == Some(names.len()),
+            Some(names) => said.same(self.1, Some(names.len())),
             None => self.1.is_none(),
         }
     }
@@ -336,53 +337,40 @@ const NAMES: &[Names] = &[
 ];
 
 #[test]
-fn methods_of_classes(rt: HostRuntime) {
-    let alloc = rt.alloc();
-    none_wrong(
+fn requests_and_answers_are_read_and_written(rt: HostRuntime) {
+    all_agree(
         &rt,
-        "methods of classes",
-        &[
-            first_wrong(alloc, methods::REQUESTS),
-            first_wrong(alloc, methods::REFUSALS),
-            first_wrong(alloc, methods::OF_OTHERS),
-            first_wrong(alloc, methods::ANSWERS),
-            first_wrong(alloc, methods::NO_ANSWERS),
-        ],
+        "requests are understood and asked so",
+        methods::REQUESTS,
     );
+    all_agree(&rt, "other parameters are refused", methods::REFUSALS);
+    all_agree(
+        &rt,
+        "a class is not set to a value of another",
+        methods::OF_OTHERS,
+    );
+    all_agree(&rt, "answers are read and written so", methods::ANSWERS);
+    all_agree(&rt, "other parameters are no answer", methods::NO_ANSWERS);
 }
 
 #[test]
-fn values_and_words(rt: HostRuntime) {
-    let alloc = rt.alloc();
-    none_wrong(
-        &rt,
-        "values and words",
-        &[
-            first_wrong(alloc, SET_REQUESTS),
-            first_wrong(alloc, GET_REQUESTS),
-            first_wrong(alloc, ANSWERS),
-            first_wrong(alloc, VALUES),
-            first_wrong(alloc, NO_VALUES),
-            first_wrong(alloc, READINGS),
-            first_wrong(alloc, SETTINGS),
-            first_wrong(alloc, WORDS),
-            first_wrong(alloc, NO_WORDS),
-        ],
-    );
+fn values_have_bytes_and_words(rt: HostRuntime) {
+    all_agree(&rt, "requests that set", SET_REQUESTS);
+    all_agree(&rt, "requests that read", GET_REQUESTS);
+    all_agree(&rt, "values in answers", ANSWERS);
+    all_agree(&rt, "values are written and read", VALUES);
+    all_agree(&rt, "other parameters are no value", NO_VALUES);
+    all_agree(&rt, "readings are written and read", READINGS);
+    all_agree(&rt, "readings are set", SETTINGS);
+    all_agree(&rt, "values have words", WORDS);
+    all_agree(&rt, "other words are no value", NO_WORDS);
 }
 
 #[test]
-fn answers_of_any_object(rt: HostRuntime) {
-    let alloc = rt.alloc();
-    none_wrong(
-        &rt,
-        "answers of any object",
-        &[
-            first_wrong(alloc, CLASSES),
-            first_wrong(alloc, TEXTS),
-            first_wrong(alloc, STATUSES),
-            first_wrong(alloc, MEMBERS),
-            first_wrong(alloc, NAMES),
-        ],
-    );
+fn answers_of_any_object_are_read(rt: HostRuntime) {
+    all_agree(&rt, "the class in an answer", CLASSES);
+    all_agree(&rt, "the text in an answer", TEXTS);
+    all_agree(&rt, "statuses have names", STATUSES);
+    all_agree(&rt, "the members in an answer", MEMBERS);
+    all_agree(&rt, "the names in an answer", NAMES);
 }

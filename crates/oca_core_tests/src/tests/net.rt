@@ -6,7 +6,7 @@ mod refusals;
 mod sockets;
 mod stale;
 
-use super::{Agrees, first_wrong_step, no_step_wrong};
+use crate::tests::{Agrees, Said, fail, plays};
 use oca_net::{End, Heard, UdpEnd};
 use oca_types::{Packet, Peer};
 use std::net::{Ipv4Addr, UdpSocket};
@@ -41,8 +41,8 @@ pub fn end_here(rt: &HostRuntime) -> Option<SocketEnd<'_>> {
 }
 
 /// Whether a send of at most so many bytes as a datagram has is taken, or not.
-fn sends<E: End>(end: &mut E, to: Peer, bytes: &[u8], taken: bool) -> bool {
-    bytes.len() <= LARGEST && end.send(to, bytes) == taken
+fn sends<E: End>(end: &mut E, to: Peer, bytes: &[u8], taken: bool, said: &mut Said) -> bool {
+    bytes.len() <= LARGEST && said.same(end.send(to, bytes), taken)
 }
 
 /// What loops ask of any end: its moment, what it hears until then, and its moment then.
@@ -107,23 +107,22 @@ fn bound(rt: &HostRuntime) -> Option<Machine<'_>> {
 }
 
 /// Calls of new sockets, by their name.
-struct AtSockets<'s, C>(&'s str, &'s [C]);
-
-/// The first call that is answered otherwise; the last number where there are no sockets.
-fn wrong_call<'a, C: Agrees<Machine<'a>>>(rt: &'a HostRuntime, calls: &[C]) -> Option<usize> {
-    match bound(rt) {
-        Some(mut on) => first_wrong_step(&mut on, calls),
-        None => Some(usize::MAX),
-    }
-}
+struct AtSockets<'a, C>(&'static str, &'a [C]);
 
 /// Plays scripts: each call is answered as they say.
-fn play<'a, 's, C: Agrees<Machine<'a>>>(
+fn play<'a, C: Agrees<Machine<'a>>>(
     abort: &impl Abort,
     rt: &'a HostRuntime,
-    scripts: &[AtSockets<'s, C>],
+    scripts: &[AtSockets<'_, C>],
 ) {
-    for script in scripts {
-        no_step_wrong(abort, script.0, wrong_call(rt, script.1));
+    let mut said = Said::new(rt.alloc());
+    for (at, script) in scripts.iter().enumerate() {
+        let agrees = match bound(rt) {
+            Some(mut on) => plays(&mut on, script.0, script.1, &mut said),
+            None => false,
+        };
+        if !agrees {
+            fail(abort, "sockets", at, &said);
+        }
     }
 }

@@ -5,7 +5,7 @@ mod cases;
 mod schedules;
 mod turns;
 
-use super::no_step_wrong;
+use crate::tests::{Said, fail};
 use oca_types::Peer;
 
 /// The peer of the first link.
@@ -20,10 +20,9 @@ pub const GET: &[u8] = &[
 ];
 
 #[test]
-fn turn_by_turn(rt: HostRuntime) {
-    no_step_wrong(
-        &rt,
-        "a_device_and_a_link_turn_by_turn",
-        turns::wrong_step(&rt),
-    );
+fn a_device_and_a_link_go_on_turn_by_turn(rt: HostRuntime) {
+    let mut said = Said::new(rt.alloc());
+    if !turns::agree(&rt, &mut said) {
+        fail(&rt, "a device and a link", 0, &said);
+    }
 }

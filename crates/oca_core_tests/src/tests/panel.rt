@@ -1,5 +1,5 @@
 //! What the clauses leave open: that calls succeed, and what is printed.
-use super::{Row, first_wrong, none_wrong};
+use crate::tests::{Row, Said, all_agree};
 use oca_net::{MemoryEnd, Scripted};
 use oca_panel::Panel;
 use oca_types::{Handle, Peer, Span};
@@ -87,7 +87,7 @@ fn panel(
 /// What is asked of a panel, and what must come of it.
 trait Asked {
     /// Whether it comes out so.
-    fn comes_out(&self, alloc: Global, panel: &mut Panel<MemoryEnd>) -> bool;
+    fn comes_out(&self, panel: &mut Panel<MemoryEnd>, said: &mut Said) -> bool;
 }
 
 /// What is asked of a panel whose end delivers these answers, whose calls wait for so many milliseconds, and whose span
@@ -96,37 +96,25 @@ struct Over<A>(&'static [Answer], u32, Option<u8>, A);
 
 impl<A: Asked> Row for Over<A> {
     /// Whether it comes out so.
-    fn agrees(&self, alloc: Global) -> bool {
-        match panel(alloc, self.0, self.1, self.2) {
-            Some(mut panel) => self.3.comes_out(alloc, &mut panel),
+    fn agrees(&self, said: &mut Said) -> bool {
+        match panel(said.alloc, self.0, self.1, self.2) {
+            Some(mut panel) => self.3.comes_out(&mut panel, said),
             None => false,
         }
     }
 }
 
 #[test]
-fn tables_of_rows(rt: HostRuntime) {
-    let alloc = rt.alloc();
-    none_wrong(&rt, "turns", &[first_wrong(alloc, ports::TURNS)]);
-    none_wrong(
-        &rt,
-        "what was given up",
-        &[first_wrong(alloc, given_up::ROWS)],
-    );
-    none_wrong(&rt, "floods", &[first_wrong(alloc, floods::ROWS)]);
-    none_wrong(
-        &rt,
-        "keep-alives beside the link",
-        &[first_wrong(alloc, calls::ROWS)],
-    );
-    none_wrong(&rt, "walks", &[first_wrong(alloc, walks::WALKS)]);
+fn a_panel_waits_gives_up_and_walks(rt: HostRuntime) {
+    all_agree(&rt, "the ports take turns", ports::TURNS);
+    all_agree(&rt, "what was given up is not taken", given_up::ROWS);
+    all_agree(&rt, "floods of strangers end no wait", floods::ROWS);
+    all_agree(&rt, "keep-alives beside the link", calls::ROWS);
+    all_agree(&rt, "walks ask each object once", walks::WALKS);
 }
 
 #[test]
-fn commands_in_flight(rt: HostRuntime) {
-    let wrong = [
-        first_wrong(rt.alloc(), in_flight::ROWS),
-        first_wrong(rt.alloc(), in_flight::DOCUMENTED),
-    ];
-    none_wrong(&rt, "commands in flight", &wrong);
+fn commands_in_flight_come_out_in_order(rt: HostRuntime) {
+    all_agree(&rt, "the statuses of two commands", in_flight::ROWS);
+    all_agree(&rt, "the mute that was refused last", in_flight::DOCUMENTED);
 }

@@ -7,29 +7,30 @@ mod printing;
 mod reading;
 mod writing;
 
-use super::{first_wrong, none_wrong};
+use crate::tests::all_agree;
 
 #[test]
-fn faults_and_words(rt: HostRuntime) {
-    let alloc = rt.alloc();
-    let wrong = [
-        first_wrong(alloc, faults::WORKED_EXAMPLES),
-        first_wrong(alloc, faults::ACCEPTED),
-        first_wrong(alloc, printing::KINDS),
-        first_wrong(alloc, printing::PLACES),
-        first_wrong(alloc, printing::OF_WRITES),
-    ];
-    none_wrong(&rt, "faults and words", &wrong);
+fn the_first_fault_is_found_at_its_place(rt: HostRuntime) {
+    all_agree(
+        &rt,
+        "a malformed datagram has its first fault at its place",
+        faults::WORKED_EXAMPLES,
+    );
+    all_agree(&rt, "the largest numbers are refused", faults::LARGEST);
+    all_agree(
+        &rt,
+        "a well-formed datagram has its messages",
+        faults::ACCEPTED,
+    );
+    all_agree(&rt, "faults have numbers and words", printing::KINDS);
+    all_agree(&rt, "a fault is printed with its place", printing::PLACES);
+    all_agree(&rt, "faults of writes have words", printing::OF_WRITES);
 }
 
 #[test]
-fn messages_and_packets(rt: HostRuntime) {
-    let alloc = rt.alloc();
-    let wrong = [
-        first_wrong(alloc, reading::MESSAGES),
-        first_wrong(alloc, reading::COMMANDS),
-        first_wrong(alloc, extending::JOINED),
-        first_wrong(alloc, writing::SCRIPTS),
-    ];
-    none_wrong(&rt, "messages and packets", &wrong);
+fn what_is_written_is_read(rt: HostRuntime) {
+    all_agree(&rt, "worked examples are read", reading::MESSAGES);
+    all_agree(&rt, "the commands of a datagram", reading::COMMANDS);
+    all_agree(&rt, "a response joins the PDU before it", extending::JOINED);
+    all_agree(&rt, "packets are written", writing::SCRIPTS);
 }

@@ -16,14 +16,14 @@ macro_rules! command {
 mod script;
 
 use super::answers::Answer;
-use super::no_step_wrong;
+use crate::tests::all_agree;
 use oca_session::Admission::{Known, NoRoom, Opened};
 use oca_session::Sessions;
 use oca_types::{Command, Handle, MethodId, NoMemory, Ono, Peer, Status, Window};
 use script::Made::{Plain, RoomFor, WindowsOf};
 use script::Served::{Executed, Kept, Old, Reused, Stranger};
 use script::Step::*;
-use script::{Script, Step, wrong_step};
+use script::{Script, Step};
 use std::alloc::Global;
 
 const A: Peer = peer!(9001);
@@ -128,10 +128,8 @@ const SCRIPTS: &[Script] = rows! {
 };
 
 #[test]
-fn scripts(rt: HostRuntime) {
-    for script in SCRIPTS {
-        no_step_wrong(&rt, script.0, wrong_step(rt.alloc(), script));
-    }
+fn sessions_answer_events_in_turn(rt: HostRuntime) {
+    all_agree(&rt, "sessions", SCRIPTS);
 }
 
 /// Whether sessions are there and empty, or memory was refused.

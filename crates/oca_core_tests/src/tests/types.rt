@@ -9,61 +9,49 @@ mod sizes;
 mod takes;
 mod texts;
 
-use super::{first_wrong, none_wrong};
+use crate::tests::all_agree;
 use oca_types::{Params, Peer, PutFault, Status, Text, put_u8, sooner, write_over};
 
 #[test]
-fn classes_and_methods(rt: HostRuntime) {
-    let alloc = rt.alloc();
-    let wrong = [
-        first_wrong(alloc, classes::CLASSES),
-        first_wrong(alloc, classes::STATUSES),
-        first_wrong(alloc, methods::METHODS),
-        first_wrong(alloc, methods::OF_NO_CLASS),
-    ];
-    none_wrong(&rt, "classes and methods", &wrong);
+fn classes_know_their_names_and_methods(rt: HostRuntime) {
+    all_agree(&rt, "classes have fields and names", classes::CLASSES);
+    all_agree(&rt, "statuses have numbers and names", classes::STATUSES);
+    all_agree(&rt, "a class knows its methods", methods::METHODS);
+    all_agree(&rt, "a class has no other methods", methods::OF_NO_CLASS);
     assert_eq!(rt; Status::with_number(15), None);
 }
 
 #[test]
-fn words_and_peers(rt: HostRuntime) {
-    let alloc = rt.alloc();
-    let wrong = [
-        first_wrong(alloc, faults::OF_TAKES),
-        first_wrong(alloc, faults::OF_PUTS),
-        first_wrong(alloc, faults::OF_MEMORY),
-        first_wrong(alloc, faults::HANDLES),
-        first_wrong(alloc, faults::OBJECTS),
-        first_wrong(alloc, faults::METHODS),
-        first_wrong(alloc, peers::PEERS),
-        first_wrong(alloc, peers::NO_PEERS),
-    ];
-    none_wrong(&rt, "words and peers", &wrong);
+fn faults_numbers_and_peers_are_printed(rt: HostRuntime) {
+    all_agree(&rt, "faults of takes have words", faults::OF_TAKES);
+    all_agree(&rt, "faults of puts have words", faults::OF_PUTS);
+    all_agree(&rt, "refused memory has words", faults::OF_MEMORY);
+    all_agree(&rt, "a handle is printed", faults::HANDLES);
+    all_agree(&rt, "an object number is printed", faults::OBJECTS);
+    all_agree(&rt, "a method is printed", faults::METHODS);
+    all_agree(&rt, "a peer is printed and read", peers::PEERS);
+    all_agree(&rt, "other texts are no peers", peers::NO_PEERS);
 }
 
 #[test]
-fn numbers(rt: HostRuntime) {
-    let alloc = rt.alloc();
-    let wrong = [
-        first_wrong(alloc, takes::TAKEN),
-        first_wrong(alloc, puts::PUT),
-        first_wrong(alloc, puts::NUMBERS),
-        first_wrong(alloc, puts::SIGNED_NUMBERS),
-        first_wrong(alloc, puts::BOOLEANS),
-    ];
-    none_wrong(&rt, "numbers", &wrong);
+fn numbers_are_taken_and_put(rt: HostRuntime) {
+    all_agree(&rt, "numbers are taken", takes::TAKEN);
+    all_agree(&rt, "values are put", puts::PUT);
+    all_agree(&rt, "a u16 is read back", puts::NUMBERS);
+    all_agree(&rt, "an i64 is read back", puts::SIGNED_NUMBERS);
+    all_agree(&rt, "a Boolean is read back", puts::BOOLEANS);
 }
 
 #[test]
-fn texts_with_counts(rt: HostRuntime) {
-    let alloc = rt.alloc();
-    let wrong = [
-        first_wrong(alloc, texts::WORKED_EXAMPLES),
-        first_wrong(alloc, texts::COUNTS),
-        first_wrong(alloc, texts::EDGES),
-        first_wrong(alloc, texts::SHORT),
-    ];
-    none_wrong(&rt, "texts with counts", &wrong);
+fn a_text_has_its_count_and_at_most_64_bytes(rt: HostRuntime) {
+    all_agree(&rt, "worked examples of texts", texts::WORKED_EXAMPLES);
+    all_agree(
+        &rt,
+        "a text has as many characters as it counts",
+        texts::COUNTS,
+    );
+    all_agree(&rt, "a text at its limits", texts::EDGES);
+    all_agree(&rt, "a text has at most 64 bytes", texts::SHORT);
     assert_eq!(rt; Text::default().as_str(), "");
 }
 
@@ -78,7 +66,7 @@ fn no_more_than_1452_bytes_are_put(rt: HostRuntime) {
 }
 
 #[test]
-fn single_calls(rt: HostRuntime) {
+fn bytes_are_written_over_and_moments_compared(rt: HostRuntime) {
     let mut room = [9u8; 3];
     write_over(&mut room, &[1, 2, 3]);
     assert_eq!(rt; room, [1, 2, 3]);
@@ -93,7 +81,7 @@ fn sizes_are_limited_and_chosen(rt: HostRuntime) {
 }
 
 #[test]
-fn what_is_documented(rt: HostRuntime) {
+fn the_examples_of_the_comments_hold(rt: HostRuntime) {
     assert!(rt; documented::take(&rt).is_ok());
     documented::name_a_status(&rt);
 }

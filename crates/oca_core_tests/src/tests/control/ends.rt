@@ -3,14 +3,13 @@ use super::links::Step::{IsLost, Submits, Takes};
 use super::links::{agrees as link_agrees, is_answer};
 use super::{ANSWER, COMMAND, DEVICE, GET_STATE, Gave, KEEP_ALIVE, STRANGER, links};
 use crate::tests::ending::{Ending, Entry, end_of};
-use crate::tests::{Agrees, first_wrong_step, no_step_wrong};
+use crate::tests::{Agrees, Row, Said, all_agree, plays};
 use oca_control::{
     ControlFault, DriveReport, Link, Outcome, ask, drive, send_due, send_in_time, wait_for,
     wait_until, wait_while,
 };
 use oca_net::MemoryEnd;
 use oca_types::{Handle, Packet, Span};
-use std::alloc::Global;
 
 /// How a command fared.
 #[derive(Clone, Copy)]
@@ -51,10 +50,10 @@ pub enum Step {
 use Step::*;
 
 /// Whether a command fared so.
-pub fn is_outcome(outcome: &Outcome, want: Fared) -> bool {
+pub fn is_outcome(outcome: &Outcome, want: Fared, said: &mut Said) -> bool {
     match (outcome, want) {
-        (Outcome::Answered(answer), Fared::Answered(want)) => is_answer(answer, want),
-        (Outcome::Refused(fault), Fared::Refused(want)) => *fault == want,
+        (Outcome::Answered(answer), Fared::Answered(want)) => is_answer(answer, want, said),
+        (Outcome::Refused(fault), Fared::Refused(want)) => said.same(*fault, want),
         (Outcome::Lost, Fared::Lost) => true,
         (Outcome::Unanswered, Fared::Unanswered) => true,
         _ => false,
@@ -62,7 +61,7 @@ pub fn is_outcome(outcome: &Outcome, want: Fared) -> bool {
 }
 
 /// Whether the answer to a command is asked for, or waited for, and the command fares so.
-fn fares(link: &mut Link, end: &mut MemoryEnd, step: Step) -> bool {
+fn fares(link: &mut Link, end: &mut MemoryEnd, step: Step, said: &mut Said) -> bool {
     let (outcome, want) = match step {
         Asks(turns, want) => (ask(link, end, GET_STATE, turns), want),
         Waits(handle, turns, want) => (wait_for(link, end, Handle(handle), turns), want),
@@ -70,16 +69,16 @@ fn fares(link: &mut Link, end: &mut MemoryEnd, step: Step) -> bool {
         WaitsWhile(handle, ms, want) => (wait_while(link, end, Handle(handle), ms), want),
         _ => return false,
     };
-    is_outcome(&outcome, want)
+    is_outcome(&outcome, want, said)
 }
 
 /// Whether the end took or delivered this.
-fn shows(end: &MemoryEnd, step: Step) -> bool {
+fn shows(end: &MemoryEnd, step: Step, said: &mut Said) -> bool {
     match step {
-        Delivered(count) => end.delivered().len() == count,
-        Taken(count) => end.taken().len() == count,
+        Delivered(count) => said.same(end.delivered().len(), count),
+        Taken(count) => said.same(end.taken().len(), count),
         Sent(number, bytes) => match end.taken().get(number) {
-            Some((to, packet)) => *to == DEVICE && packet.as_slice() == bytes,
+            Some((to, packet)) => said.same(*to, DEVICE) && said.same(packet.as_slice(), bytes),
             None => false,
         },
         _ => false,
@@ -96,18 +95,24 @@ struct Bench {
 
 impl Agrees<Bench> for Step {
     /// Whether the step is answered so.
-    fn agrees(&self, on: &mut Bench) -> bool {
+    fn agrees(&self, on: &mut Bench, said: &mut Said) -> bool {
         let (link, end) = (&mut on.link, &mut on.end);
         match *self {
-            At(step) => link_agrees(link, &mut on.packet, step),
+            At(step) => link_agrees(link, &mut on.packet, step, said),
             SendsDue(now, sent, beats) => {
-                send_due(link, end, now) == drove!(0, sent, beats, 0, 0, 0, false)
+                said.same(
+                    send_due(link, end, now),
+                    drove!(0, sent, beats, 0, 0, 0, false),
+                )
             }
             SendsInTime(now, sent, lost) => {
-                send_in_time(link, end, now) == drove!(0, sent, 0, 0, 0, 0, lost)
+                said.same(
+                    send_in_time(link, end, now),
+                    drove!(0, sent, 0, 0, 0, 0, lost),
+                )
             }
-            Drives(turns, want) => drive(link, end, turns) == want,
-            other => shows(end, other) || fares(link, end, other),
+            Drives(turns, want) => said.same(drive(link, end, turns), want),
+            other => shows(end, other, said) || fares(link, end, other, said),
         }
     }
 }
@@ -256,25 +261,23 @@ const DRIVING: &[OverEnd] = rows! {
     OverEnd("keep_alives_are_sent", 16, OF_30_TURNS, KEEP_ALIVES),
 };
 
-/// The first step that is answered otherwise; the last number where there is no such span or no end.
-fn wrong_step(alloc: Global, script: &OverEnd) -> Option<usize> {
-    let (Some(span), Some(end)) = (Span::new(script.1), end_of(alloc, script.2)) else {
-        return Some(usize::MAX);
-    };
-    let mut on = Bench {
-        link: Link::new(DEVICE, Handle(1), 0, span),
-        packet: Packet::new(),
-        end,
-    };
-    first_wrong_step(&mut on, script.3)
+impl Row for OverEnd {
+    /// Whether each step is answered so.
+    fn agrees(&self, said: &mut Said) -> bool {
+        let (Some(span), Some(end)) = (Span::new(self.1), end_of(said.alloc, self.2)) else {
+            return false;
+        };
+        let mut on = Bench {
+            link: Link::new(DEVICE, Handle(1), 0, span),
+            packet: Packet::new(),
+            end,
+        };
+        plays(&mut on, self.0, self.3, said)
+    }
 }
 
 #[test]
-fn scripts(rt: HostRuntime) {
-    for script in ASKING {
-        no_step_wrong(&rt, script.0, wrong_step(rt.alloc(), script));
-    }
-    for script in DRIVING {
-        no_step_wrong(&rt, script.0, wrong_step(rt.alloc(), script));
-    }
+fn commands_are_asked_waited_for_and_driven(rt: HostRuntime) {
+    all_agree(&rt, "commands that are asked", ASKING);
+    all_agree(&rt, "links that are driven", DRIVING);
 }

@@ -1,6 +1,6 @@
 //! A link alone, of either size: what is sent and when, handles and spans, datagrams of any bytes, and what it tells.
 use super::{ANSWER, COMMAND, DEVICE, Gave, KEEP_ALIVE, STRANGER, response};
-use crate::tests::no_step_wrong;
+use crate::tests::{Row, Said, all_agree};
 use oca_control::{
     Answer, ControlFault, Due, Link, LinkOf, Reception, SmallLink, is_late, law_of_answering,
     law_of_histories, law_of_sending,
@@ -59,6 +59,7 @@ fn submits<const C: usize, const A: usize>(
     size: Option<usize>,
     now: u64,
     want: Result<u32, ControlFault>,
+    said: &mut Said,
 ) -> bool {
     let (index, count, size) = match size {
         Some(size) => (2, 1, size),
@@ -66,8 +67,8 @@ fn submits<const C: usize, const A: usize>(
     };
     let params = BYTES.get(..size).unwrap_or_default();
     match link.submit(Ono(4097), MethodId { level: 4, index }, count, params, now) {
-        Ok(handle) => want == Ok(handle.0),
-        Err(fault) => want == Err(fault),
+        Ok(handle) => said.same(want, Ok(handle.0)),
+        Err(fault) => said.same(want, Err(fault)),
     }
 }
 
@@ -77,6 +78,7 @@ fn repeats<const C: usize, const A: usize>(
     link: &mut LinkOf<C, A>,
     moments: (u64, u64),
     packet: &mut Packet,
+    said: &mut Said,
 ) -> bool {
     for count in moments.0..moments.1 {
         let due = link.due(count.saturating_mul(250), packet);
@@ -103,8 +105,10 @@ fn long_response(handle: u8, size: u16) -> Packet {
 }
 
 /// Whether an answer is this one.
-pub fn is_answer(answer: &Answer, want: Gave) -> bool {
-    answer.status == want.0 && answer.count == want.1 && answer.params.as_slice() == want.2
+pub fn is_answer(answer: &Answer, want: Gave, said: &mut Said) -> bool {
+    said.same(answer.status, want.0)
+        && said.same(answer.count, want.1)
+        && said.same(answer.params.as_slice(), want.2)
 }
 
 /// Whether this is taken under the handle.
@@ -112,32 +116,33 @@ fn takes<const C: usize, const A: usize>(
     link: &mut LinkOf<C, A>,
     handle: u32,
     want: Option<Gave>,
+    said: &mut Said,
 ) -> bool {
     match (link.take(Handle(handle)), want) {
-        (Some(answer), Some(want)) => is_answer(&answer, want),
+        (Some(answer), Some(want)) => is_answer(&answer, want, said),
         (None, None) => true,
         _ => false,
     }
 }
 
 /// Whether this is the handle, or there is none.
-fn is_number(found: Option<Handle>, want: Option<u32>) -> bool {
+fn is_number(found: Option<Handle>, want: Option<u32>, said: &mut Said) -> bool {
     match found {
-        Some(handle) => want == Some(handle.0),
+        Some(handle) => said.same(want, Some(handle.0)),
         None => want.is_none(),
     }
 }
 
 /// Whether the link tells this of itself.
-fn tells<const C: usize, const A: usize>(link: &LinkOf<C, A>, step: Step) -> bool {
+fn tells<const C: usize, const A: usize>(link: &LinkOf<C, A>, step: Step, said: &mut Said) -> bool {
     match step {
-        NextDue(want) => link.next_due() == want,
-        Answered(want) => is_number(link.answered(), want),
-        InFlight(handle, want) => link.is_in_flight(Handle(handle)) == want,
-        Next(want) => is_number(link.next_handle(), want),
-        LastHeard(want) => link.last_heard() == want,
-        IsLost(want) => link.is_lost() == want,
-        IsLate(now, want) => is_late(link, now) == want,
+        NextDue(want) => said.same(link.next_due(), want),
+        Answered(want) => is_number(link.answered(), want, said),
+        InFlight(handle, want) => said.same(link.is_in_flight(Handle(handle)), want),
+        Next(want) => is_number(link.next_handle(), want, said),
+        LastHeard(want) => said.same(link.last_heard(), want),
+        IsLost(want) => said.same(link.is_lost(), want),
+        IsLate(now, want) => said.same(is_late(link, now), want),
         _ => false,
     }
 }
@@ -147,21 +152,28 @@ pub fn agrees<const C: usize, const A: usize>(
     link: &mut LinkOf<C, A>,
     packet: &mut Packet,
     step: Step,
+    said: &mut Said,
 ) -> bool {
     match step {
-        Submits(now, want) => submits(link, None, now, want),
-        SubmitsLong(size, want) => submits(link, Some(size), 0, want),
-        Gives(now, want) => link.due(now, packet) == want,
-        Repeats(first, end) => repeats(link, (first, end), packet),
-        Gave(want) => packet.as_slice() == want,
-        GaveLen(want) => packet.len() == want,
-        Hears(from, bytes, now, want) => link.datagram(from, bytes, now) == want,
-        HearsResponse(handle, now, want) => link.datagram(DEVICE, &response(handle), now) == want,
+        Submits(now, want) => submits(link, None, now, want, said),
+        SubmitsLong(size, want) => submits(link, Some(size), 0, want, said),
+        Gives(now, want) => said.same(link.due(now, packet), want),
+        Repeats(first, end) => repeats(link, (first, end), packet, said),
+        Gave(want) => said.same(packet.as_slice(), want),
+        GaveLen(want) => said.same(packet.len(), want),
+        Hears(from, bytes, now, want) => said.same(link.datagram(from, bytes, now), want),
+        HearsResponse(handle, now, want) => said.same(
+            link.datagram(DEVICE, &response(handle), now),
+            want,
+        ),
         HearsLong(handle, size, now, want) => {
-            link.datagram(DEVICE, long_response(handle, size).as_slice(), now) == want
+            said.same(
+                link.datagram(DEVICE, long_response(handle, size).as_slice(), now),
+                want,
+            )
         }
-        Takes(handle, want) => takes(link, handle, want),
-        other => tells(link, other),
+        Takes(handle, want) => takes(link, handle, want, said),
+        other => tells(link, other, said),
     }
 }
 
@@ -283,24 +295,30 @@ const SCRIPTS: &[OverLink] = rows! {
     OverLink("other_senders_and_other_bytes", 1, 16, OTHERS),
 };
 
+/// A script over a small link.
+struct OverSmallLink(OverLink);
+
 /// Scripts over a small link.
-const OF_SMALL: &[OverLink] = rows! {
-    OverLink("a_command_has_at_most_64_bytes", 1, 16, SMALL_COMMANDS),
-    OverLink("an_answer_of_more_than_264_bytes_is_shortened", 1, 16, SMALL_ANSWERS),
+const OF_SMALL: &[OverSmallLink] = rows! {
+    OverSmallLink(OverLink("a_command_has_at_most_64_bytes", 1, 16, SMALL_COMMANDS)),
+    OverSmallLink(OverLink("an_answer_of_more_than_264_bytes_is_shortened", 1, 16, SMALL_ANSWERS)),
 };
 
-/// The first step that is answered otherwise over this link.
-fn wrong_step<const C: usize, const A: usize>(
+/// Whether each step of a script is answered so over this link.
+fn plays_over<const C: usize, const A: usize>(
     link: &mut LinkOf<C, A>,
-    steps: &[Step],
-) -> Option<usize> {
+    script: &OverLink,
+    said: &mut Said,
+) -> bool {
     let mut packet = Packet::new();
-    for (at, step) in steps.iter().enumerate() {
-        if !agrees(link, &mut packet, *step) {
-            return Some(at);
+    said.script = script.0;
+    for (at, step) in script.3.iter().enumerate() {
+        said.step = at;
+        if !agrees(link, &mut packet, *step, said) {
+            return false;
         }
     }
-    None
+    true
 }
 
 /// The span of a script; that which nobody chose where it has none.
@@ -308,22 +326,32 @@ fn span_of(script: &OverLink) -> Span {
     Span::new(script.2).unwrap_or(Span::default())
 }
 
-#[test]
-fn scripts(rt: HostRuntime) {
-    // The laws of a link can be called.
-    law_of_histories();
-    law_of_answering();
-    law_of_sending();
-    for script in SCRIPTS {
-        let mut link = Link::new(DEVICE, Handle(script.1), 0, span_of(script));
-        no_step_wrong(&rt, script.0, wrong_step(&mut link, script.3));
+impl Row for OverLink {
+    /// Whether each step is answered so over a link.
+    fn agrees(&self, said: &mut Said) -> bool {
+        let mut link = Link::new(DEVICE, Handle(self.1), 0, span_of(self));
+        plays_over(&mut link, self, said)
+    }
+}
+
+impl Row for OverSmallLink {
+    /// Whether each step is answered so over a small link.
+    fn agrees(&self, said: &mut Said) -> bool {
+        let mut link = SmallLink::new(DEVICE, Handle(self.0.1), 0, span_of(&self.0));
+        plays_over(&mut link, &self.0, said)
     }
 }
 
 #[test]
-fn scripts_of_a_small_link(rt: HostRuntime) {
-    for script in OF_SMALL {
-        let mut link = SmallLink::new(DEVICE, Handle(script.1), 0, span_of(script));
-        no_step_wrong(&rt, script.0, wrong_step(&mut link, script.3));
-    }
+fn a_link_sends_and_hears(rt: HostRuntime) {
+    // The laws of a link can be called.
+    law_of_histories();
+    law_of_answering();
+    law_of_sending();
+    all_agree(&rt, "links", SCRIPTS);
+}
+
+#[test]
+fn a_small_link_has_short_commands_and_answers(rt: HostRuntime) {
+    all_agree(&rt, "small links", OF_SMALL);
 }

@@ -1,7 +1,6 @@
 //! Reports that are added, and outcomes as text.
-use crate::tests::{Row, first_wrong, none_wrong, prints};
+use crate::tests::{Row, Said, all_agree};
 use oca_control::{ControlFault, DriveReport, Outcome, refused};
-use std::alloc::Global;
 
 /// The last number of 64 bits.
 const LAST: u64 = u64::MAX;
@@ -11,8 +10,8 @@ struct Sum(DriveReport, DriveReport, DriveReport);
 
 impl Row for Sum {
     /// Whether both did that.
-    fn agrees(&self, _alloc: Global) -> bool {
-        self.0 + self.1 == self.2
+    fn agrees(&self, said: &mut Said) -> bool {
+        said.same(self.0 + self.1, self.2)
     }
 }
 
@@ -31,8 +30,8 @@ struct Refusal(ControlFault, &'static str);
 
 impl Row for Refusal {
     /// Whether it reads so.
-    fn agrees(&self, alloc: Global) -> bool {
-        prints(alloc, &refused(self.0), self.1)
+    fn agrees(&self, said: &mut Said) -> bool {
+        said.prints(&refused(self.0), self.1)
     }
 }
 
@@ -44,13 +43,10 @@ const TEXTS: &[Refusal] = rows! {
 };
 
 #[test]
-fn rows(rt: HostRuntime) {
-    let wrong = [
-        first_wrong(rt.alloc(), SUMS),
-        first_wrong(rt.alloc(), TEXTS),
-    ];
-    none_wrong(&rt, "sums and texts", &wrong);
+fn reports_add_up_and_refusals_have_words(rt: HostRuntime) {
+    all_agree(&rt, "sums of reports", SUMS);
+    all_agree(&rt, "words of refusals", TEXTS);
     // A report that nobody made is that of nothing.
     assert!(rt; DriveReport::default() == drove!(0, 0, 0, 0, 0, 0, false));
-    assert!(rt; prints(rt.alloc(), &Outcome::Unanswered, "not answered yet"));
+    assert!(rt; Said::new(rt.alloc()).prints(&Outcome::Unanswered, "not answered yet"));
 }

@@ -3,13 +3,12 @@ ghost use Rattle.std.specs.Prelude.{[], false, None};
 
 use super::ends::{Fared, is_outcome};
 use super::{DEVICE, GET_STATE};
-use crate::tests::{Row, first_wrong, none_wrong};
+use crate::tests::{Row, Said, all_agree};
 use arrayvec::ArrayVec;
 use oca_control::{Link, ask};
 use oca_net::{End, Heard};
 use oca_panel::{Probed, Watched, probe};
 use oca_types::{Handle, Packet, Peer, Span};
-use std::alloc::Global;
 
 /// An end that keeps time: it is quiet until the moment of each receive, stands still once, and notes when it sends.
 #[derive(Drop)]
@@ -83,15 +82,19 @@ struct Standstill(u64, (u64, u64), u32, Fared, &'static [u64]);
 
 impl Row for Standstill {
     /// Whether it fares so over a new link, and asked once more sends nothing where the link is lost.
-    fn agrees(&self, _alloc: Global) -> bool {
+    fn agrees(&self, said: &mut Said) -> bool {
         let mut link = Link::new(DEVICE, Handle(1), 0, Span::default());
         let mut end = quiet_until(self.0, self.1);
-        let fares = is_outcome(&ask(&mut link, &mut end, GET_STATE, self.2), self.3);
+        let fares = is_outcome(&ask(&mut link, &mut end, GET_STATE, self.2), self.3, said);
         let is_over = match self.3 {
-            Fared::Lost => is_outcome(&ask(&mut link, &mut end, GET_STATE, self.2), Fared::Lost),
+            Fared::Lost => is_outcome(
+                &ask(&mut link, &mut end, GET_STATE, self.2),
+                Fared::Lost,
+                said,
+            ),
             _ => true,
         };
-        fares && is_over && end.sends.as_slice() == self.4
+        fares && is_over && said.same(end.sends.as_slice(), self.4)
     }
 }
 
@@ -111,10 +114,10 @@ struct Silence(u64, &'static [u64]);
 
 impl Row for Silence {
     /// Whether the device is not heard, and the end sends then.
-    fn agrees(&self, _alloc: Global) -> bool {
+    fn agrees(&self, said: &mut Said) -> bool {
         let mut end = Watched::new(quiet_until(self.0, (0, 0)), DEVICE);
         let found = probe(&mut end, DEVICE, Handle(7));
-        found == Probed::NotHeard && end.end().sends.as_slice() == self.1
+        found == Probed::NotHeard && said.same(end.end().sends.as_slice(), self.1)
     }
 }
 
@@ -125,10 +128,7 @@ const SILENCES: &[Silence] = rows! {
 };
 
 #[test]
-fn rows(rt: HostRuntime) {
-    let wrong = [
-        first_wrong(rt.alloc(), ROWS),
-        first_wrong(rt.alloc(), SILENCES),
-    ];
-    none_wrong(&rt, "standstills and silences", &wrong);
+fn nothing_is_sent_behind_a_long_standstill(rt: HostRuntime) {
+    all_agree(&rt, "a command behind a standstill", ROWS);
+    all_agree(&rt, "a probe of a silent device", SILENCES);
 }

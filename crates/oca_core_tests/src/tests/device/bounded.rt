@@ -1,7 +1,7 @@
 //! Outboxes with room for some packets only.
 use super::parts::bytes_of;
 use super::*;
-use crate::tests::{Agrees, first_wrong_step, no_step_wrong};
+use crate::tests::{Agrees, Row, Said, all_agree, plays};
 use Part::*;
 use oca_device::BoundedOutbox;
 
@@ -16,25 +16,30 @@ struct Bench {
 }
 
 /// Whether the outbox holds these packets.
-fn keeps(outbox: &BoundedOutbox, packets: &[&[Part]]) -> bool {
+fn keeps(outbox: &BoundedOutbox, packets: &[&[Part]], said: &mut Said) -> bool {
     for (at, parts) in packets.iter().enumerate() {
         match outbox.get(at) {
-            Some(packet) if is_of(packet.as_slice(), parts) => {}
-            _ => return false,
+            Some(packet) => {
+                if !is_of(packet.as_slice(), parts, said) {
+                    return false;
+                }
+            }
+            None => return false,
         }
     }
-    outbox.packets().len() == packets.len()
+    said.same(outbox.packets().len(), packets.len())
 }
 
 impl Agrees<Bench> for Hears {
     /// Whether this comes of it.
-    fn agrees(&self, on: &mut Bench) -> bool {
+    fn agrees(&self, on: &mut Bench, said: &mut Said) -> bool {
         let bytes = bytes_of(self.0);
-        on.device
-            .datagram_within(A, bytes.as_slice(), 0, &mut on.outbox)
-            == self.1
-            && keeps(&on.outbox, self.2)
-            && on.outbox.is_cut() == self.3
+        said.same(
+            on.device
+                .datagram_within(A, bytes.as_slice(), 0, &mut on.outbox),
+            self.1,
+        ) && keeps(&on.outbox, self.2, said)
+            && said.same(on.outbox.is_cut(), self.3)
     }
 }
 
@@ -89,27 +94,23 @@ const SCRIPTS: &[Script] = rows! {
     Script("room_for_all", 3, ALL),
 };
 
-/// The first wrong step, after which the outbox is emptied; the last number where there is no device.
-fn wrong_step(alloc: Global, script: &Script) -> Option<usize> {
-    let outbox = BoundedOutbox::with_room(alloc, script.1);
-    let (Some(device), Ok(outbox)) = (device_of(alloc, Setup::Window(32)), outbox) else {
-        return Some(usize::MAX);
-    };
-    let mut on = Bench { device, outbox };
-    let wrong = first_wrong_step(&mut on, script.2);
-    on.outbox.clear();
-    if on.outbox.packets().is_empty() && on.outbox.room() == script.1 {
-        wrong
-    } else {
-        Some(usize::MAX)
+impl Row for Script {
+    /// Whether each datagram comes out so, and the outbox can be emptied then.
+    fn agrees(&self, said: &mut Said) -> bool {
+        let outbox = BoundedOutbox::with_room(said.alloc, self.1);
+        let (Some(device), Ok(outbox)) = (device_of(said.alloc, Setup::Window(32)), outbox) else {
+            return false;
+        };
+        let mut on = Bench { device, outbox };
+        let agrees = plays(&mut on, self.0, self.2, said);
+        on.outbox.clear();
+        agrees && on.outbox.packets().is_empty() && said.same(on.outbox.room(), self.1)
     }
 }
 
 #[test]
-fn outboxes(rt: HostRuntime) {
-    for script in SCRIPTS {
-        no_step_wrong(&rt, script.0, wrong_step(rt.alloc(), script));
-    }
+fn an_outbox_keeps_what_it_has_room_for(rt: HostRuntime) {
+    all_agree(&rt, "outboxes with little room", SCRIPTS);
     // An outbox is refused that no memory has room for.
     assert!(rt; BoundedOutbox::with_room(rt.alloc(), usize::MAX).is_err());
 }

@@ -1,7 +1,7 @@
 //! Commands, datagrams that are no datagrams, hardware that refuses, and silence.
 use super::parts::bytes_of;
 use super::*;
-use crate::tests::{Agrees, first_wrong_step, no_step_wrong};
+use crate::tests::{Agrees, Row, Said, all_agree, plays};
 use Part::*;
 use Step::*;
 use oca_device::{CommandOutcome, Effect, law_by_events, law_of_groups};
@@ -45,46 +45,56 @@ struct Bench {
 }
 
 /// Whether the device makes this of a datagram.
-fn hears(on: &mut Bench, from: Peer, now: u64, parts: &[Part], verdict: Verdict) -> bool {
+fn hears(
+    on: &mut Bench,
+    from: Peer,
+    now: u64,
+    parts: &[Part],
+    verdict: Verdict,
+    said: &mut Said,
+) -> bool {
     let bytes = bytes_of(parts);
-    on.device
-        .datagram(from, bytes.as_slice(), now, &mut on.outbox)
-        == verdict
+    said.same(
+        on.device
+            .datagram(from, bytes.as_slice(), now, &mut on.outbox),
+        verdict,
+    )
 }
 
 /// Whether the device stands as a step says that is no event.
-fn stands(device: &Device, step: Step) -> bool {
+fn stands(device: &Device, step: Step, said: &mut Said) -> bool {
     match step {
-        Sessions(count) => device.sessions() == count,
-        Objects(count) => device.tree().len() == count,
-        Locked(locked) => device.tree().lock_of(Ono(4097)).is_some() == locked,
-        NextLapse(moment) => device.next_lapse() == moment,
-        Failing(ono, failing) => device.is_failing(Ono(ono)) == failing,
-        Effects(effects) => device.effects() == effects,
+        Sessions(count) => said.same(device.sessions(), count),
+        Objects(count) => said.same(device.tree().len(), count),
+        Locked(locked) => said.same(device.tree().lock_of(Ono(4097)).is_some(), locked),
+        NextLapse(moment) => said.same(device.next_lapse(), moment),
+        Failing(ono, failing) => said.same(device.is_failing(Ono(ono)), failing),
+        Effects(effects) => said.same(device.effects(), effects),
         _ => false,
     }
 }
 
 impl Agrees<Bench> for Step {
     /// Whether this comes of it.
-    fn agrees(&self, on: &mut Bench) -> bool {
+    fn agrees(&self, on: &mut Bench, said: &mut Said) -> bool {
         match *self {
             Answers(from, now, part, verdict, reply) => {
-                hears(on, from, now, &[part], verdict) && holds(&on.outbox, &[&[reply]])
+                hears(on, from, now, &[part], verdict, said) && holds(&on.outbox, &[&[reply]], said)
             }
             Ignores(from, now, parts, verdict) => {
-                hears(on, from, now, parts, verdict) && holds(&on.outbox, &[])
+                hears(on, from, now, parts, verdict, said) && holds(&on.outbox, &[], said)
             }
             Becomes(from, now, parts, verdict, effects) => {
-                hears(on, from, now, parts, verdict) && on.device.effects() == effects
+                hears(on, from, now, parts, verdict, said)
+                    && said.same(on.device.effects(), effects)
             }
             Tick(now) => {
                 on.device.tick(now);
                 true
             }
-            Fails(ono, failing, want) => on.device.set_failing(Ono(ono), failing) == want,
+            Fails(ono, failing, want) => said.same(on.device.set_failing(Ono(ono), failing), want),
             NoPackets => on.outbox.is_empty(),
-            other => stands(&on.device, other),
+            other => stands(&on.device, other, said),
         }
     }
 }
@@ -229,20 +239,21 @@ const SCRIPTS: &[Script] = rows! {
     Script("a_lock_lapses_before_its_session", Setup::Window(32), LOCK_FIRST),
 };
 
-/// The first step of which something else comes; the last number where there is no device.
-fn wrong_step(alloc: Global, script: &Script) -> Option<usize> {
-    let (Some(device), Ok(outbox)) = (device_of(alloc, script.1), Outbox::new(alloc)) else {
-        return Some(usize::MAX);
-    };
-    first_wrong_step(&mut Bench { device, outbox }, script.2)
+impl Row for Script {
+    /// Whether each event comes out so.
+    fn agrees(&self, said: &mut Said) -> bool {
+        let (Some(device), Ok(outbox)) = (device_of(said.alloc, self.1), Outbox::new(said.alloc))
+        else {
+            return false;
+        };
+        plays(&mut Bench { device, outbox }, self.0, self.2, said)
+    }
 }
 
 #[test]
-fn scripts(rt: HostRuntime) {
+fn events_come_out_as_the_laws_say(rt: HostRuntime) {
     // The laws can be called.
     law_by_events();
     law_of_groups();
-    for script in SCRIPTS {
-        no_step_wrong(&rt, script.0, wrong_step(rt.alloc(), script));
-    }
+    all_agree(&rt, "events of a device", SCRIPTS);
 }

@@ -2,7 +2,7 @@
 use super::*;
 use crate::tests::ending::Entry::{self, Parts, Quiet};
 use crate::tests::ending::{Ending, end_of};
-use crate::tests::{Agrees, first_wrong_step, no_step_wrong};
+use crate::tests::{Agrees, Row, Said, all_agree, plays};
 use arrayvec::ArrayVec;
 use oca_device::{Keeping, NoElectronics, Store, serve_keeping};
 use oca_net::{End, Heard, MemoryEnd};
@@ -12,7 +12,7 @@ use std::alloc::Global;
 
 /// What a store is told of a turn: what it did, the moment, how many bytes its datagram and how many answers it has,
 /// and to how many objects the last datagram wrote.
-#[derive(Clone, Copy, Default, PartialEq, Eq)]
+#[derive(Clone, Copy, Debug, Default, PartialEq, Eq)]
 struct Told {
     report: Report,
     now: u64,
@@ -141,14 +141,18 @@ struct Bench {
 }
 
 /// Whether the end has taken these datagrams for the first peer, and no others.
-fn has_taken(end: &MemoryEnd, parts: &[Part]) -> bool {
+fn has_taken(end: &MemoryEnd, parts: &[Part], said: &mut Said) -> bool {
     for (at, part) in parts.iter().enumerate() {
         match end.taken().get(at) {
-            Some((to, packet)) if *to == A && is_of(packet.as_slice(), &[*part]) => {}
-            _ => return false,
+            Some((to, packet)) => {
+                if *to != A || !is_of(packet.as_slice(), &[*part], said) {
+                    return false;
+                }
+            }
+            None => return false,
         }
     }
-    end.taken().len() == parts.len()
+    said.same(end.taken().len(), parts.len())
 }
 
 /// The loop runs for at most so many turns.
@@ -167,13 +171,13 @@ fn served(on: &mut Bench, turns: u64) -> Report {
 
 impl Agrees<Bench> for Run {
     /// Whether the loop does what it must.
-    fn agrees(&self, on: &mut Bench) -> bool {
+    fn agrees(&self, on: &mut Bench, said: &mut Said) -> bool {
         let Run(turns, report, is_behind, taken, waits, told) = *self;
-        served(on, turns) == report
-            && on.keeping.is_behind() == is_behind
-            && has_taken(&on.end.end, taken)
-            && on.end.waits.as_slice() == waits
-            && on.store.told.as_slice() == told
+        said.same(served(on, turns), report)
+            && said.same(on.keeping.is_behind(), is_behind)
+            && has_taken(&on.end.end, taken, said)
+            && said.same(on.end.waits.as_slice(), waits)
+            && said.same(on.store.told.as_slice(), told)
     }
 }
 
@@ -300,17 +304,17 @@ fn bench_of(alloc: Global, play: &Kept) -> Option<Bench> {
     })
 }
 
-/// The first run in which the loop does something else; the last number where it has nothing to run on.
-fn wrong_run(alloc: Global, play: &Kept) -> Option<usize> {
-    match bench_of(alloc, play) {
-        Some(mut on) => first_wrong_step(&mut on, play.2),
-        None => Some(usize::MAX),
+impl Row for Kept {
+    /// Whether the loop does what it must in each run.
+    fn agrees(&self, said: &mut Said) -> bool {
+        match bench_of(said.alloc, self) {
+            Some(mut on) => plays(&mut on, self.0, self.2, said),
+            None => false,
+        }
     }
 }
 
 #[test]
-fn keeps(rt: HostRuntime) {
-    for play in PLAYS {
-        no_step_wrong(&rt, play.0, wrong_run(rt.alloc(), play));
-    }
+fn answers_wait_until_the_objects_are_stored(rt: HostRuntime) {
+    all_agree(&rt, "stores", PLAYS);
 }

@@ -1,4 +1,5 @@
 //! The bytes of datagrams, as data.
+use crate::tests::Said;
 use arrayvec::ArrayVec;
 
 /// The bytes of a datagram, with room for one byte more than a datagram may have.
@@ -125,6 +126,6 @@ pub fn bytes_of(parts: &[Part]) -> Bytes {
 }
 
 /// Whether these are the bytes of the parts.
-pub fn is_of(bytes: &[u8], parts: &[Part]) -> bool {
-    bytes_of(parts).as_slice() == bytes
+pub fn is_of(bytes: &[u8], parts: &[Part], said: &mut Said) -> bool {
+    said.same(bytes_of(parts).as_slice(), bytes)
 }

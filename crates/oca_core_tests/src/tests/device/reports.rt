@@ -1,8 +1,7 @@
 //! Reports that are added, and verdicts as text.
 use super::NOTHING;
-use crate::tests::{Row, Words, first_wrong, none_wrong};
+use crate::tests::{Row, Said, Words, all_agree};
 use oca_device::{Report, Verdict};
-use std::alloc::Global;
 
 /// A report of these numbers.
 macro_rules! numbers {
@@ -31,8 +30,8 @@ struct Sum(Report, Report, Report);
 
 impl Row for Sum {
     /// Whether both did this.
-    fn agrees(&self, _alloc: Global) -> bool {
-        self.0 + self.1 == self.2
+    fn agrees(&self, said: &mut Said) -> bool {
+        said.same(self.0 + self.1, self.2)
     }
 }
 
@@ -57,12 +56,9 @@ const TEXTS: &[Words<Verdict>] = rows! {
 };
 
 #[test]
-fn tables(rt: HostRuntime) {
-    let wrong = [
-        first_wrong(rt.alloc(), SUMS),
-        first_wrong(rt.alloc(), TEXTS),
-    ];
-    none_wrong(&rt, "sums and texts", &wrong);
+fn reports_add_up_and_verdicts_have_words(rt: HostRuntime) {
+    all_agree(&rt, "sums of reports", SUMS);
+    all_agree(&rt, "words of verdicts", TEXTS);
     // A report that nobody made is that of nothing.
     assert!(rt; Report::default() == NOTHING);
 }

@@ -2,7 +2,7 @@
 use super::*;
 use crate::tests::ending::Entry::{Failed, Parts, Quiet};
 use crate::tests::ending::{Ending, Entry, end_of};
-use crate::tests::{Agrees, first_wrong_step, no_step_wrong};
+use crate::tests::{Agrees, Row, Said, all_agree, plays};
 use oca_device::serve;
 use oca_net::MemoryEnd;
 
@@ -31,17 +31,20 @@ struct Bench {
 
 impl Agrees<Bench> for Turn {
     /// Whether the turn tells what it must.
-    fn agrees(&self, on: &mut Bench) -> bool {
+    fn agrees(&self, on: &mut Bench, said: &mut Said) -> bool {
         match *self {
             Serves(turns, report) => {
-                serve(&mut on.device, &mut on.end, &mut on.outbox, turns) == report
+                said.same(
+                    serve(&mut on.device, &mut on.end, &mut on.outbox, turns),
+                    report,
+                )
             }
-            Taken(count) => on.end.taken().len() == count,
+            Taken(count) => said.same(on.end.taken().len(), count),
             First(peer, parts) => match on.end.taken().first() {
-                Some((to, packet)) => *to == peer && is_of(packet.as_slice(), parts),
+                Some((to, packet)) => said.same(*to, peer) && is_of(packet.as_slice(), parts, said),
                 None => false,
             },
-            Failures(count) => on.end.failures() == count,
+            Failures(count) => said.same(on.end.failures(), count),
         }
     }
 }
@@ -98,26 +101,26 @@ const PLAYS: &[Play] = rows! {
     Play("counts_all_that_comes", Setup::Peers(1), delivers!(ALL_THAT_COMES, 4), &[Serves(100, ALL_COUNTED), Taken(2)]),
 };
 
-/// The first turn that tells something else; the last number where there is no device or no end.
-fn wrong_turn(alloc: Global, play: &Play) -> Option<usize> {
-    let (Some(device), Ok(outbox), Some(end)) = (
-        device_of(alloc, play.1),
-        Outbox::new(alloc),
-        end_of(alloc, play.2),
-    ) else {
-        return Some(usize::MAX);
-    };
-    let mut on = Bench {
-        device,
-        outbox,
-        end,
-    };
-    first_wrong_step(&mut on, play.3)
+impl Row for Play {
+    /// Whether each turn tells what it must.
+    fn agrees(&self, said: &mut Said) -> bool {
+        let (Some(device), Ok(outbox), Some(end)) = (
+            device_of(said.alloc, self.1),
+            Outbox::new(said.alloc),
+            end_of(said.alloc, self.2),
+        ) else {
+            return false;
+        };
+        let mut on = Bench {
+            device,
+            outbox,
+            end,
+        };
+        plays(&mut on, self.0, self.3, said)
+    }
 }
 
 #[test]
-fn plays(rt: HostRuntime) {
-    for play in PLAYS {
-        no_step_wrong(&rt, play.0, wrong_turn(rt.alloc(), play));
-    }
+fn the_loop_answers_and_reports(rt: HostRuntime) {
+    all_agree(&rt, "turns of the loop", PLAYS);
 }

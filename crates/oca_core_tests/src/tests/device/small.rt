@@ -1,7 +1,7 @@
 //! A small device: the longest datagram and the longest reply for which it has room.
 use super::parts::bytes_of;
 use super::*;
-use crate::tests::none_wrong;
+use crate::tests::{Agrees, Row, Said, all_agree, plays};
 use oca_device::{DeviceOf, SmallDevice};
 use oca_tree::{Kind, MuteState, Spec, Tree, TreeBuilder};
 use oca_types::Ono;
@@ -61,25 +61,39 @@ fn objects(alloc: Global) -> Option<Tree> {
     Some(builder.finish())
 }
 
-/// The first row of which something else comes, at a small device; the last number where there is none.
-fn first_wrong(alloc: Global, rows: &[Hears]) -> Option<usize> {
-    let Some(tree) = objects(alloc) else {
-        return Some(usize::MAX);
-    };
-    let (Ok(mut device), Ok(mut outbox)) = (
-        SmallDevice::new(alloc, tree, Window::default()),
-        Outbox::new(alloc),
-    ) else {
-        return Some(usize::MAX);
-    };
-    for (at, row) in rows.iter().enumerate() {
-        let bytes = bytes_of(row.0);
-        let verdict = device.datagram(A, bytes.as_slice(), 0, &mut outbox);
-        if verdict != row.1 || !holds(&outbox, row.2) {
-            return Some(at);
-        }
+/// A small device and its outbox.
+#[derive(Drop)]
+struct Bench {
+    device: SmallDevice,
+    outbox: Outbox,
+}
+
+impl Agrees<Bench> for Hears {
+    /// Whether this comes of it.
+    fn agrees(&self, on: &mut Bench, said: &mut Said) -> bool {
+        let bytes = bytes_of(self.0);
+        let verdict = on.device.datagram(A, bytes.as_slice(), 0, &mut on.outbox);
+        said.same(verdict, self.1) && holds(&on.outbox, self.2, said)
     }
-    None
+}
+
+/// A script by its name.
+struct Script(&'static str, &'static [Hears]);
+
+impl Row for Script {
+    /// Whether each datagram comes out so, at a small device.
+    fn agrees(&self, said: &mut Said) -> bool {
+        let Some(tree) = objects(said.alloc) else {
+            return false;
+        };
+        let (Ok(device), Ok(outbox)) = (
+            SmallDevice::new(said.alloc, tree, Window::default()),
+            Outbox::new(said.alloc),
+        ) else {
+            return false;
+        };
+        plays(&mut Bench { device, outbox }, self.0, self.1, said)
+    }
 }
 
 /// The fault of a datagram of more than 91 bytes.
@@ -134,12 +148,16 @@ fn is_made<const COMMAND: usize, const ANSWER: usize>(alloc: Global) -> bool {
     }
 }
 
+const SCRIPTS: &[Script] = &[
+    Script("serves_no_long_datagram", DATAGRAMS),
+    Script("gives_no_long_reply", REPLIES),
+];
+
 #[test]
-fn of_a_small_device(rt: HostRuntime) {
+fn a_small_device_has_short_datagrams_and_replies(rt: HostRuntime) {
     let alloc = rt.alloc();
     // Devices are made with as much room as there may be, and none with more.
     assert!(rt; is_made::<0, 0>(alloc) && is_made::<1445, 1>(alloc) && is_made::<2, 1452>(alloc));
     assert!(rt; !is_made::<1446, 1>(alloc) && !is_made::<2, 1453>(alloc));
-    let wrong = [first_wrong(alloc, DATAGRAMS), first_wrong(alloc, REPLIES)];
-    none_wrong(&rt, "a small device", &wrong);
+    all_agree(&rt, "a small device", SCRIPTS);
 }

@@ -1,8 +1,7 @@
 //! Each method: parameters that are understood and asked for again, answers that are read and written again.
-use crate::tests::Row;
+use crate::tests::{Row, Said};
 use oca_model::{Answer, Request, RequestFault, Shape, Value, ValueFault, shape_of};
 use oca_types::{Class, Method, MethodId, Params};
-use std::alloc::Global;
 
 /// A method by DefLevel and MethodIndex.
 type Called = (u16, u16);
@@ -11,23 +10,25 @@ type Called = (u16, u16);
 pub struct Asks(Class, Method, Called, u8, &'static [u8]);
 
 /// Whether the request, asked of the class of the row, is that of the row.
-fn is_asked(request: &Request, row: &Asks) -> bool {
+fn is_asked(request: &Request, row: &Asks, said: &mut Said) -> bool {
     let wanted = MethodId {
         level: row.2.0,
         index: row.2.1,
     };
     let mut out = Params::new();
     match request.call(row.0, &mut out) {
-        Ok(call) => call.method == wanted && call.count == row.3 && out.as_slice() == row.4,
+        Ok(call) => said.same(call.method, wanted)
+            && said.same(call.count, row.3)
+            && said.same(out.as_slice(), row.4),
         Err(_) => false,
     }
 }
 
 impl Row for Asks {
     /// Whether it is understood, and asked so.
-    fn agrees(&self, _alloc: Global) -> bool {
+    fn agrees(&self, said: &mut Said) -> bool {
         match Request::read(self.0, self.1, self.3, self.4) {
-            Ok(request) => is_asked(&request, self),
+            Ok(request) => is_asked(&request, self, said),
             Err(_) => false,
         }
     }
@@ -38,10 +39,10 @@ pub struct Refuses(Class, Method, u8, &'static [u8], ValueFault);
 
 impl Row for Refuses {
     /// Whether they are refused so.
-    fn agrees(&self, _alloc: Global) -> bool {
+    fn agrees(&self, said: &mut Said) -> bool {
         match Request::read(self.0, self.1, self.2, self.3) {
             Ok(_) => false,
-            Err(found) => found == self.4,
+            Err(found) => said.same(found, self.4),
         }
     }
 }
@@ -51,14 +52,14 @@ pub struct Answers(Class, Method, Shape, u8, &'static [u8]);
 
 impl Row for Answers {
     /// Whether it is an answer of this kind, and is written so.
-    fn agrees(&self, _alloc: Global) -> bool {
+    fn agrees(&self, said: &mut Said) -> bool {
         let mut out = Params::new();
         match Answer::read(self.0, self.1, self.3, self.4) {
             Some(answer) => {
-                shape_of(self.1) == self.2
-                    && answer.count() == self.3
+                said.same(shape_of(self.1), self.2)
+                    && said.same(answer.count(), self.3)
                     && answer.put(&mut out).is_ok()
-                    && out.as_slice() == self.4
+                    && said.same(out.as_slice(), self.4)
             }
             None => false,
         }
@@ -70,7 +71,7 @@ pub struct AnswersNothing(Class, Method, u8, &'static [u8]);
 
 impl Row for AnswersNothing {
     /// Whether they are no answer.
-    fn agrees(&self, _alloc: Global) -> bool {
+    fn agrees(&self, said: &mut Said) -> bool {
         Answer::read(self.0, self.1, self.2, self.3).is_none()
     }
 }
@@ -80,11 +81,11 @@ pub struct IsOfAnother(Class, Value);
 
 impl Row for IsOfAnother {
     /// Whether the class does not know that its objects are set to the value.
-    fn agrees(&self, _alloc: Global) -> bool {
+    fn agrees(&self, said: &mut Said) -> bool {
         let mut out = Params::new();
         match Request::Set(self.1).call(self.0, &mut out) {
             Ok(_) => false,
-            Err(fault) => fault == RequestFault::OtherClass,
+            Err(fault) => said.same(fault, RequestFault::OtherClass),
         }
     }
 }

@@ -1,10 +1,9 @@
 //! Ends in memory.
 use super::{A, B, LARGEST, heard_by_now, hold, sends};
 use crate::tests::ending::{Ending, Entry, Took, end_of};
-use crate::tests::{Agrees, first_other, first_wrong_step, no_step_wrong};
+use crate::tests::{Agrees, Row, Said, all_agree, are_found, plays};
 use oca_net::{End, Heard, MemoryEnd};
 use oca_types::{Packet, Peer};
-use std::alloc::Global;
 
 /// A call of an end, and what it must answer.
 #[derive(Clone, Copy)]
@@ -34,15 +33,19 @@ struct Bench {
 
 impl Agrees<Bench> for Step {
     /// Whether the call is answered so.
-    fn agrees(&self, on: &mut Bench) -> bool {
+    fn agrees(&self, on: &mut Bench, said: &mut Said) -> bool {
         let (end, packet) = (&mut on.end, &mut on.packet);
         match *self {
-            Hears(heard, bytes) => end.receive(packet) == heard && packet.as_slice() == bytes,
-            HearsByNow(before, heard, after) => heard_by_now(end, packet) == (before, heard, after),
-            Sends(to, bytes, taken) => sends(end, to, bytes, taken),
-            Failures(count) => end.failures() == count,
-            Delivered(entries) => first_other(end.delivered(), entries).is_none(),
-            Taken(wanted) => first_other(end.taken(), wanted).is_none(),
+            Hears(heard, bytes) => said.same(end.receive(packet), heard)
+                && said.same(packet.as_slice(), bytes),
+            HearsByNow(before, heard, after) => said.same(
+                heard_by_now(end, packet),
+                (before, heard, after),
+            ),
+            Sends(to, bytes, taken) => sends(end, to, bytes, taken, said),
+            Failures(count) => said.same(end.failures(), count),
+            Delivered(entries) => are_found(end.delivered(), entries, said),
+            Taken(wanted) => are_found(end.taken(), wanted, said),
         }
     }
 }
@@ -50,18 +53,19 @@ impl Agrees<Bench> for Step {
 /// An end and its calls, by their name.
 struct InMemory(&'static str, Ending, &'static [Step]);
 
-/// The first call that is answered otherwise; the last number where there is no end. The packet holds bytes before the
-/// first.
-fn wrong_call(alloc: Global, script: &InMemory) -> Option<usize> {
-    let Some(end) = end_of(alloc, script.1) else {
-        return Some(usize::MAX);
-    };
-    let mut on = Bench {
-        end,
-        packet: Packet::new(),
-    };
-    hold(&mut on.packet, &[1, 2, 3]);
-    first_wrong_step(&mut on, script.2)
+impl Row for InMemory {
+    /// Whether each call is answered so. The packet holds bytes before the first.
+    fn agrees(&self, said: &mut Said) -> bool {
+        let Some(end) = end_of(said.alloc, self.1) else {
+            return false;
+        };
+        let mut on = Bench {
+            end,
+            packet: Packet::new(),
+        };
+        hold(&mut on.packet, &[1, 2, 3]);
+        plays(&mut on, self.0, self.2, said)
+    }
 }
 
 /// Datagrams of 2, 1,473 and 1,472 bytes, and between them silence and a receive that fails.
@@ -108,8 +112,6 @@ const SCRIPTS: &[InMemory] = rows! {
 };
 
 #[test]
-fn scripts(rt: HostRuntime) {
-    for script in SCRIPTS {
-        no_step_wrong(&rt, script.0, wrong_call(rt.alloc(), script));
-    }
+fn an_end_in_memory_delivers_its_script(rt: HostRuntime) {
+    all_agree(&rt, "ends in memory", SCRIPTS);
 }

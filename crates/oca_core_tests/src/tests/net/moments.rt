@@ -3,7 +3,7 @@
 use super::{
     AtSockets, HELD, LOCALHOST, Machine, SocketEnd, heard_by_now, hold, instant, play, sends,
 };
-use crate::tests::Agrees;
+use crate::tests::{Agrees, Said};
 use oca_net::{CountsSleep, End, Heard, UdpEnd};
 use oca_types::Packet;
 use std::cell::Cell;
@@ -161,16 +161,22 @@ fn are_past(rt: &HostRuntime, end: &mut SocketEnd<'_>, packet: &mut Packet, most
 }
 
 /// Whether a receive by this moment hears these bytes.
-fn hears_by(end: &mut SocketEnd<'_>, packet: &mut Packet, bytes: &[u8], moment: u64) -> bool {
+fn hears_by(
+    end: &mut SocketEnd<'_>,
+    packet: &mut Packet,
+    bytes: &[u8],
+    moment: u64,
+    said: &mut Said,
+) -> bool {
     match end.receive_by(packet, moment) {
-        Heard::Datagram { .. } => packet.as_slice() == bytes,
+        Heard::Datagram { .. } => said.same(packet.as_slice(), bytes),
         _ => false,
     }
 }
 
 impl Agrees<Machine<'_>> for Step {
     /// Whether it is answered so by the first end.
-    fn agrees(&self, on: &mut Machine<'_>) -> bool {
+    fn agrees(&self, on: &mut Machine<'_>, said: &mut Said) -> bool {
         if let Follows(pause) = *self {
             return follows(on, pause);
         }
@@ -180,7 +186,8 @@ impl Agrees<Machine<'_>> for Step {
             TwentyPast(most) => are_past(on.rt, first, packet, most),
             Echoes(bytes, moment) => {
                 let here = first.local();
-                sends(first, here, bytes, true) && hears_by(first, packet, bytes, moment)
+                sends(first, here, bytes, true, said)
+                    && hears_by(first, packet, bytes, moment, said)
             }
             IsTimed | Follows(_) => is_timed(first, packet),
         }
@@ -388,7 +395,7 @@ fn counts_sleep(rt: &HostRuntime, packet: &mut Packet) -> bool {
 }
 
 #[test]
-fn scripts(rt: HostRuntime) {
+fn a_receive_waits_until_its_moment(rt: HostRuntime) {
     play(&rt, &rt, SCRIPTS);
 }
 

@@ -1,6 +1,6 @@
 //! Where no end is bound, why, and the words of that; and the descriptor of one that is.
 use super::{AtSockets, LOCALHOST, Machine, SocketEnd, play};
-use crate::tests::{Agrees, Words, first_wrong, none_wrong, prints};
+use crate::tests::{Agrees, Said, Words, all_agree};
 use oca_net::{
     BindError, BindFault, UdpEnd, fill_standard_descriptors, is_gone, is_refused as host_refuses,
 };
@@ -23,10 +23,16 @@ fn bound(rt: &HostRuntime, at: Peer) -> Result<Peer, BindFault> {
 }
 
 /// Whether no end is bound there for a reason of this kind with these words.
-fn is_refused_for(rt: &HostRuntime, at: Peer, kind: ErrorKind, text: &str) -> bool {
+fn is_refused_for(
+    rt: &HostRuntime,
+    at: Peer,
+    kind: ErrorKind,
+    text: &str,
+    said: &mut Said,
+) -> bool {
     match UdpEnd::bind_with_reason(rt.alloc(), rt, at.ip, at.port) {
         Err(BindError::Io(reason)) => {
-            reason.kind() == kind && prints(rt.alloc(), &BindError::Io(reason), text)
+            said.same(reason.kind(), kind) && said.prints(&BindError::Io(reason), text)
         }
         _ => false,
     }
@@ -49,9 +55,15 @@ fn free_port(rt: &HostRuntime) -> u16 {
 }
 
 /// Why no end for this device is bound at this port.
-fn is_towards_nowhere(rt: &HostRuntime, device: Peer, port: u16, kind: ErrorKind) -> bool {
+fn is_towards_nowhere(
+    rt: &HostRuntime,
+    device: Peer,
+    port: u16,
+    kind: ErrorKind,
+    said: &mut Said,
+) -> bool {
     match UdpEnd::bind_towards_with_reason(rt.alloc(), rt, device, port) {
-        Err(BindError::Io(reason)) => reason.kind() == kind,
+        Err(BindError::Io(reason)) => said.same(reason.kind(), kind),
         _ => false,
     }
 }
@@ -101,16 +113,16 @@ use Step::*;
 
 impl Agrees<Machine<'_>> for Step {
     /// Whether it is answered so.
-    fn agrees(&self, on: &mut Machine<'_>) -> bool {
+    fn agrees(&self, on: &mut Machine<'_>, said: &mut Said) -> bool {
         let (rt, first) = (on.rt, on.first.local());
         match *self {
             IsRefused(at) => matches!(bound(rt, peer(on, at)), Err(BindFault::Io)),
-            IsRefusedFor(at, kind, text) => is_refused_for(rt, peer(on, at), kind, text),
+            IsRefusedFor(at, kind, text) => is_refused_for(rt, peer(on, at), kind, text, said),
             HasAProgram => !host_refuses(rt, LOCALHOST, first),
             IsTowards => {
                 is_towards(rt, first, 0)
                     && is_towards(rt, first, free_port(rt))
-                    && is_towards_nowhere(rt, first, first.port, ErrorKind::AddrInUse)
+                    && is_towards_nowhere(rt, first, first.port, ErrorKind::AddrInUse, said)
             }
             HasItsAddress => !is_gone(rt, first.ip) && is_gone(rt, NO_MACHINE.ip),
             HasADescriptor => has_a_descriptor(&on.first),
@@ -161,15 +173,15 @@ const FAULTS: &[Words<BindFault>] = &[
 ];
 
 #[test]
-fn scripts(rt: HostRuntime) {
+fn an_end_is_refused_where_the_system_has_none(rt: HostRuntime) {
     assert!(rt; fill_standard_descriptors(&rt).is_ok());
     play(&rt, &rt, SCRIPTS);
 }
 
 #[test]
-fn rows(rt: HostRuntime) {
+fn a_port_is_free_behind_its_end(rt: HostRuntime) {
     // A port is free once its end is gone.
     assert!(rt; is_free_again(&rt));
-    none_wrong(&rt, "faults_in_words", &[first_wrong(rt.alloc(), FAULTS)]);
-    assert!(rt; prints(rt.alloc(), &BindError::NoMemory, "no memory"));
+    all_agree(&rt, "faults of a bind have words", FAULTS);
+    assert!(rt; Said::new(rt.alloc()).prints(&BindError::NoMemory, "no memory"));
 }

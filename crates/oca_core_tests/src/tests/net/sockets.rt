@@ -2,7 +2,7 @@
 //! Each port is the system's choice. No clause says what goes through a socket, so these tests alone refuse an end that
 //! always returns Quiet or Failed, that drops datagrams, or that sends nothing and returns true.
 use super::{AtSockets, HELD, LARGEST, LOCALHOST, Machine, SocketEnd, hold, play, sends};
-use crate::tests::Agrees;
+use crate::tests::{Agrees, Said};
 use oca_net::{End, Heard};
 use oca_types::{Packet, Peer};
 use std::io::ErrorKind;
@@ -75,19 +75,27 @@ fn plain_sends(plain: &UdpSocket, to: Peer, bytes: &[u8], taken: bool) -> bool {
 }
 
 /// Whether an end hears these bytes of this peer.
-fn end_hears(end: &mut SocketEnd<'_>, packet: &mut Packet, peer: Peer, bytes: &[u8]) -> bool {
+fn end_hears(
+    end: &mut SocketEnd<'_>,
+    packet: &mut Packet,
+    peer: Peer,
+    bytes: &[u8],
+    said: &mut Said,
+) -> bool {
     hold(packet, HELD);
     match end.receive(packet) {
-        Heard::Datagram { from, .. } => from == peer && packet.as_slice() == bytes,
+        Heard::Datagram { from, .. } => said.same(from, peer)
+            && said.same(packet.as_slice(), bytes),
         _ => false,
     }
 }
 
 /// Whether a socket without an end hears these bytes of this peer.
-fn plain_hears(plain: &UdpSocket, peer: Peer, wanted: &[u8]) -> bool {
+fn plain_hears(plain: &UdpSocket, peer: Peer, wanted: &[u8], said: &mut Said) -> bool {
     let mut bytes = [0; LARGEST + 1];
     match plain.recv_from(&mut bytes) {
-        Ok((count, from)) => from.port() == peer.port && bytes.get(..count) == Some(wanted),
+        Ok((count, from)) => said.same(from.port(), peer.port)
+            && said.same(bytes.get(..count), Some(wanted)),
         Err(_) => false,
     }
 }
@@ -102,50 +110,57 @@ fn hears_oversize(end: &mut SocketEnd<'_>, packet: &mut Packet) -> bool {
 }
 
 /// Whether the last send failed for this reason, or none has, and no receive has failed.
-fn failed_for(end: &SocketEnd<'_>, wanted: Option<ErrorKind>) -> bool {
+fn failed_for(end: &SocketEnd<'_>, wanted: Option<ErrorKind>, said: &mut Said) -> bool {
     let kind = match end.last_failed_send() {
         Some(reason) => Some(reason.kind()),
         None => None,
     };
-    kind == wanted && end.last_failed_receive().is_none()
+    said.same(kind, wanted) && end.last_failed_receive().is_none()
 }
 
 /// Whether the socket sends these bytes there, and they are taken, or not.
-fn is_sent(on: &mut Machine<'_>, who: Holder, to: Peer, bytes: &[u8], taken: bool) -> bool {
+fn is_sent(
+    on: &mut Machine<'_>,
+    who: Holder,
+    to: Peer,
+    bytes: &[u8],
+    taken: bool,
+    said: &mut Said,
+) -> bool {
     match who {
-        First => sends(&mut on.first, to, bytes, taken),
-        Second => sends(&mut on.second, to, bytes, taken),
+        First => sends(&mut on.first, to, bytes, taken, said),
+        Second => sends(&mut on.second, to, bytes, taken, said),
         Plain => plain_sends(&on.plain, to, bytes, taken),
         Nobody | Everyone => false,
     }
 }
 
 /// Whether the socket hears these bytes of this peer.
-fn is_heard(on: &mut Machine<'_>, who: Holder, from: Peer, bytes: &[u8]) -> bool {
+fn is_heard(on: &mut Machine<'_>, who: Holder, from: Peer, bytes: &[u8], said: &mut Said) -> bool {
     match who {
-        First => end_hears(&mut on.first, &mut on.packet, from, bytes),
-        Second => end_hears(&mut on.second, &mut on.packet, from, bytes),
-        Plain => plain_hears(&on.plain, from, bytes),
+        First => end_hears(&mut on.first, &mut on.packet, from, bytes, said),
+        Second => end_hears(&mut on.second, &mut on.packet, from, bytes, said),
+        Plain => plain_hears(&on.plain, from, bytes, said),
         Nobody | Everyone => false,
     }
 }
 
 impl Agrees<Machine<'_>> for Step {
     /// Whether it is answered so.
-    fn agrees(&self, on: &mut Machine<'_>) -> bool {
+    fn agrees(&self, on: &mut Machine<'_>, said: &mut Said) -> bool {
         match *self {
             Granted(least) => on.first.send_buffer() >= least,
             AreBound => are_bound(on.first.local(), on.second.local()),
             Sends(who, to, bytes, taken) => {
                 let to = place(on, to);
-                is_sent(on, who, to, bytes, taken)
+                is_sent(on, who, to, bytes, taken, said)
             }
             Hears(who, from, bytes) => {
                 let from = place(on, from);
-                is_heard(on, who, from, bytes)
+                is_heard(on, who, from, bytes, said)
             }
             HearsOversize => hears_oversize(&mut on.first, &mut on.packet),
-            LastFailure(reason) => failed_for(&on.first, reason),
+            LastFailure(reason) => failed_for(&on.first, reason, said),
         }
     }
 }
@@ -214,6 +229,6 @@ const SCRIPTS: &[AtSockets<'static, Step>] = &[
 ];
 
 #[test]
-fn scripts(rt: HostRuntime) {
+fn datagrams_come_whole_and_in_order(rt: HostRuntime) {
     play(&rt, &rt, SCRIPTS);
 }

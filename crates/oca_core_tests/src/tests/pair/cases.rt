@@ -1,7 +1,7 @@
 //! Commands that come twice, what is lost, links that are renewed, windows, peers, and changes at the device's front.
-use super::schedules::{Case, Network, Ran, Row, Seen, is_so};
+use super::schedules::{Case, Network, Ran, Row, Seen};
 use super::{A, B, GET};
-use crate::tests::{none_wrong, wrong_unless};
+use crate::tests::all_agree;
 use Row::*;
 use oca_control::{ControlFault, Reception};
 use oca_device::Verdict;
@@ -183,15 +183,11 @@ fn laws_of_calls() {
 }
 
 #[test]
-fn cases(rt: HostRuntime) {
+fn schedules_lead_to_what_the_laws_allow(rt: HostRuntime) {
     laws();
     laws_of_calls();
-    for case in OF_ONE_LINK {
-        none_wrong(&rt, case.0, &[wrong_unless(is_so(rt.alloc(), case))]);
-    }
-    for case in OF_OTHERS {
-        none_wrong(&rt, case.0, &[wrong_unless(is_so(rt.alloc(), case))]);
-    }
+    all_agree(&rt, "schedules of one link", OF_ONE_LINK);
+    all_agree(&rt, "schedules of other sizes", OF_OTHERS);
 }
 
 #[test]

@@ -1,5 +1,5 @@
 //! Networks with the bench device, steps as data with what each must lead to, and what schedules over them led to.
-use crate::tests::{Wanted, first_other};
+use crate::tests::{Row as Tested, Said, Wanted, are_found};
 use oca_control::{ControlFault, Reception};
 use oca_device::Verdict;
 use oca_pair::{Outcome, PairFault, Start, Step, Transcript, run_pair, run_pair_with_sizes};
@@ -33,7 +33,7 @@ pub enum Seen {
 }
 
 /// Whether the device's verdict is this.
-fn is_verdict(verdict: Verdict, want: Seen) -> bool {
+fn is_verdict(verdict: Verdict, want: Seen, said: &mut Said) -> bool {
     match (verdict, want) {
         (
             Verdict::Served {
@@ -43,31 +43,36 @@ fn is_verdict(verdict: Verdict, want: Seen) -> bool {
                 reused,
             },
             Seen::Served(new, duplicates, late, again),
-        ) => executed == new && kept == duplicates && old == late && reused == again,
+        ) => said.same(executed, new)
+            && said.same(kept, duplicates)
+            && said.same(old, late)
+            && said.same(reused, again),
         (Verdict::Served { .. }, _) => false,
-        (other, Seen::Device(wanted)) => other == wanted,
+        (other, Seen::Device(wanted)) => said.same(other, wanted),
         _ => false,
     }
 }
 
 impl Wanted<Outcome> for Seen {
     /// Whether a step led to this.
-    fn is(&self, outcome: &Outcome) -> bool {
+    fn is(&self, outcome: &Outcome, said: &mut Said) -> bool {
         match (outcome, *self) {
-            (Outcome::Submitted(handle), Seen::Submitted(wanted)) => handle.0 == wanted,
-            (Outcome::Refused(fault), Seen::Refused(wanted)) => *fault == wanted,
-            (Outcome::Sent(number), Seen::Sent(wanted)) => *number == wanted,
+            (Outcome::Submitted(handle), Seen::Submitted(wanted)) => said.same(handle.0, wanted),
+            (Outcome::Refused(fault), Seen::Refused(wanted)) => said.same(*fault, wanted),
+            (Outcome::Sent(number), Seen::Sent(wanted)) => said.same(*number, wanted),
             (Outcome::Nothing, Seen::Nothing) => true,
             (Outcome::Lost, Seen::Lost) => true,
-            (Outcome::Device(verdict), _) => is_verdict(*verdict, *self),
-            (Outcome::Link(reception), Seen::Link(wanted)) => *reception == wanted,
+            (Outcome::Device(verdict), _) => is_verdict(*verdict, *self, said),
+            (Outcome::Link(reception), Seen::Link(wanted)) => said.same(*reception, wanted),
             (Outcome::Ticked, Seen::Ticked) => true,
             (Outcome::Set, Seen::Set) => true,
-            (Outcome::NotSet(fault), Seen::NotSet(wanted)) => *fault == wanted,
+            (Outcome::NotSet(fault), Seen::NotSet(wanted)) => said.same(*fault, wanted),
             (Outcome::Changed, Seen::Changed) => true,
-            (Outcome::NotChanged(fault), Seen::NotChanged(wanted)) => *fault == wanted,
+            (Outcome::NotChanged(fault), Seen::NotChanged(wanted)) => said.same(*fault, wanted),
             (Outcome::Answer(answer), Seen::Answer(status, count, size)) => {
-                answer.status == status && answer.count == count && answer.params.len() == size
+                said.same(answer.status, status)
+                    && said.same(answer.count, count)
+                    && said.same(answer.params.len(), size)
             }
             (Outcome::NoAnswer, Seen::NoAnswer) => true,
             (Outcome::Renewed, Seen::Renewed) => true,
@@ -304,22 +309,30 @@ fn last_byte(transcript: &Transcript) -> Option<u8> {
 }
 
 /// Whether a run led to this.
-fn is_ran(transcript: &Transcript, wants: &[Seen], want: Ran) -> bool {
-    first_other(transcript.log.as_slice(), wants) == want.0
-        && transcript.to_device.len() == want.1
-        && transcript.to_links.len() == want.2
-        && last_byte(transcript) == want.3
-        && transcript.device.sessions() == want.4
+fn is_ran(transcript: &Transcript, wants: &[Seen], want: Ran, said: &mut Said) -> bool {
+    are_found(transcript.log.as_slice(), wants, said)
+        && said.same(transcript.to_device.len(), want.1)
+        && said.same(transcript.to_links.len(), want.2)
+        && said.same(last_byte(transcript), want.3)
+        && said.same(transcript.device.sessions(), want.4)
 }
 
-/// Whether the case is so.
-pub fn is_so(alloc: Global, case: &Case) -> bool {
-    let Some(script) = script_of(alloc, case.2) else {
-        return false;
-    };
-    match (run(alloc, case.1, script.steps.as_slice()), case.3) {
-        (Some(Ok(transcript)), Ok(want)) => is_ran(&transcript, script.wants.as_slice(), want),
-        (Some(Err(fault)), Err(want)) => fault == want,
-        _ => false,
+impl Tested for Case {
+    /// Whether the case is so.
+    fn agrees(&self, said: &mut Said) -> bool {
+        said.script = self.0;
+        let Some(script) = script_of(said.alloc, self.2) else {
+            return false;
+        };
+        match (run(said.alloc, self.1, script.steps.as_slice()), self.3) {
+            (Some(Ok(transcript)), Ok(want)) => is_ran(
+                &transcript,
+                script.wants.as_slice(),
+                want,
+                said,
+            ),
+            (Some(Err(fault)), Err(want)) => said.same(fault, want),
+            _ => false,
+        }
     }
 }

@@ -2,7 +2,7 @@
 //! received.
 use crate::tests::device::{Setup, device_of};
 use crate::tests::net::end_here;
-use crate::tests::{Agrees, first_wrong_step};
+use crate::tests::{Agrees, Said, plays};
 use oca_control::{Link, drive};
 use oca_device::{Device, Outbox, serve};
 use oca_net::UdpEnd;
@@ -47,9 +47,12 @@ const STEPS: &[Step] = &[
 ];
 
 /// Whether GetState of 4097 gets each of these handles.
-fn submits(link: &mut Link, first: u32, end: u32) -> bool {
+fn submits(link: &mut Link, first: u32, end: u32, said: &mut Said) -> bool {
     for handle in first..end {
-        if link.submit(Ono(4097), GET_STATE, 0, NONE, 0) != Ok(Handle(handle)) {
+        if !said.same(
+            link.submit(Ono(4097), GET_STATE, 0, NONE, 0),
+            Ok(Handle(handle)),
+        ) {
             return false;
         }
     }
@@ -57,7 +60,7 @@ fn submits(link: &mut Link, first: u32, end: u32) -> bool {
 }
 
 /// Whether each of these handles has an answer, which says Muted.
-fn takes(link: &mut Link, first: u32, end: u32) -> bool {
+fn takes(link: &mut Link, first: u32, end: u32, said: &mut Said) -> bool {
     for handle in first..end {
         match link.take(Handle(handle)) {
             Some(answer)
@@ -81,31 +84,34 @@ struct Bench<'a> {
 
 impl Agrees<Bench<'_>> for Step {
     /// Whether the step comes out so.
-    fn agrees(&self, on: &mut Bench<'_>) -> bool {
+    fn agrees(&self, on: &mut Bench<'_>, said: &mut Said) -> bool {
         match *self {
-            Submits(first, end) => submits(&mut on.link, first, end),
-            Sends(count) => drive(&mut on.link, &mut on.link_end, 1).sent == count,
+            Submits(first, end) => submits(&mut on.link, first, end, said),
+            Sends(count) => said.same(drive(&mut on.link, &mut on.link_end, 1).sent, count),
             Executes(count) => {
                 let report = serve(&mut on.device, &mut on.device_end, &mut on.outbox, count);
-                report.executed == u64::from(count)
+                said.same(report.executed, u64::from(count))
             }
             Hears(count) => {
-                drive(&mut on.link, &mut on.link_end, count).answered == u64::from(count)
+                said.same(
+                    drive(&mut on.link, &mut on.link_end, count).answered,
+                    u64::from(count),
+                )
             }
-            Takes(first, end) => takes(&mut on.link, first, end),
+            Takes(first, end) => takes(&mut on.link, first, end, said),
         }
     }
 }
 
-/// The first step that comes out otherwise; the last number where there is no device or no end.
-pub fn wrong_step(rt: &HostRuntime) -> Option<usize> {
+/// Whether each step comes out so.
+pub fn agree(rt: &HostRuntime, said: &mut Said) -> bool {
     let alloc = rt.alloc();
     let (Some(device), Ok(outbox)) = (device_of(alloc, Setup::Window(32)), Outbox::new(alloc))
     else {
-        return Some(usize::MAX);
+        return false;
     };
     let (Some(device_end), Some(link_end)) = (end_here(rt), end_here(rt)) else {
-        return Some(usize::MAX);
+        return false;
     };
     let link = Link::new(device_end.local(), Handle(1), 0, Span::default());
     let mut on = Bench {
@@ -115,5 +121,5 @@ pub fn wrong_step(rt: &HostRuntime) -> Option<usize> {
         link,
         link_end,
     };
-    first_wrong_step(&mut on, STEPS)
+    plays(&mut on, "turns", STEPS, said)
 }

@@ -1,12 +1,11 @@
 //! A panel to whose end strangers send.
-use crate::tests::Row;
 use crate::tests::control::{DEVICE, GET_STATE, STRANGER};
 use crate::tests::ending::{Ending, Entry, end_of};
+use crate::tests::{Row, Said};
 use oca_control::Outcome;
 use oca_net::MemoryEnd;
 use oca_panel::Panel;
 use oca_types::{Handle, Span};
-use std::alloc::Global;
 
 /// A stranger's datagram.
 const JUNK: Entry = Entry::Datagram(STRANGER, &[0x3b], 10);
@@ -46,9 +45,9 @@ fn is_answered(end: MemoryEnd, wait: u32) -> bool {
 
 impl Row for Flooded {
     /// Whether the command is answered where it is to be.
-    fn agrees(&self, alloc: Global) -> bool {
-        match end_of(alloc, FLOOD) {
-            Some(end) => is_answered(end, self.0) == self.1,
+    fn agrees(&self, said: &mut Said) -> bool {
+        match end_of(said.alloc, FLOOD) {
+            Some(end) => said.same(is_answered(end, self.0), self.1),
             None => false,
         }
     }

@@ -1,23 +1,23 @@
 //! Several commands in flight, and how they come out in the order in which they were begun.
 use super::{Answer, Asked, Over, panel};
-use crate::tests::Row;
+use crate::tests::{Row, Said};
 use oca_control::{ControlFault, Outcome};
 use oca_model::{MuteState, Value, set_request};
 use oca_net::MemoryEnd;
 use oca_panel::{InFlight, Panel, done_in};
 use oca_types::{Handle, Ono};
-use std::alloc::Global;
 
 /// Whether it is this command, and its answer has this status.
-fn is_answered(first: Option<(u8, Outcome)>, command: u8, status: u8) -> bool {
+fn is_answered(first: Option<(u8, Outcome)>, command: u8, status: u8, said: &mut Said) -> bool {
     match first {
-        Some((item, Outcome::Answered(answer))) => item == command && answer.status == status,
+        Some((item, Outcome::Answered(answer))) => said.same(item, command)
+            && said.same(answer.status, status),
         _ => false,
     }
 }
 
 /// Begins two commands, as many as the panel's span has, and a third, which is refused.
-fn begins(panel: &mut Panel<MemoryEnd>, in_flight: &mut InFlight<u8>) -> bool {
+fn begins(panel: &mut Panel<MemoryEnd>, in_flight: &mut InFlight<u8>, said: &mut Said) -> bool {
     let mute = Value::Mute(MuteState::Muted);
     let request = set_request(mute);
     let is_empty = in_flight.is_empty() && !in_flight.is_full();
@@ -31,18 +31,23 @@ fn begins(panel: &mut Panel<MemoryEnd>, in_flight: &mut InFlight<u8>) -> bool {
     in_flight.push(second, 2);
     let third = in_flight.begin_behind(panel, request.of(Ono(4099)), 3);
     is_empty
-        && first == Ok(Handle(7))
-        && third == Err(ControlFault::SpanFull)
-        && in_flight.len() == 2
+        && said.same(first, Ok(Handle(7)))
+        && said.same(third, Err(ControlFault::SpanFull))
+        && said.same(in_flight.len(), 2)
 }
 
 /// The first is waited for; the second comes out at the turn behind it.
-fn finishes(panel: &mut Panel<MemoryEnd>, in_flight: &mut InFlight<u8>, statuses: [u8; 2]) -> bool {
+fn finishes(
+    panel: &mut Panel<MemoryEnd>,
+    in_flight: &mut InFlight<u8>,
+    statuses: [u8; 2],
+    said: &mut Said,
+) -> bool {
     let is_open = in_flight.try_finish_first(panel).is_none();
-    let first = is_answered(in_flight.finish_first(panel), 1, statuses[0]);
-    let is_next_open = in_flight.try_finish_first(panel).is_none() && in_flight.len() == 1;
+    let first = is_answered(in_flight.finish_first(panel), 1, statuses[0], said);
+    let is_next_open = in_flight.try_finish_first(panel).is_none() && said.same(in_flight.len(), 1);
     let goes_on = panel.turn();
-    let second = is_answered(in_flight.try_finish_first(panel), 2, statuses[1]);
+    let second = is_answered(in_flight.try_finish_first(panel), 2, statuses[1], said);
     is_open
         && first
         && is_next_open
@@ -57,11 +62,11 @@ pub struct Statuses([u8; 2]);
 
 impl Asked for Statuses {
     /// Whether both commands come out so.
-    fn comes_out(&self, _alloc: Global, panel: &mut Panel<MemoryEnd>) -> bool {
+    fn comes_out(&self, panel: &mut Panel<MemoryEnd>, said: &mut Said) -> bool {
         let mut in_flight = InFlight::new();
-        begins(panel, &mut in_flight)
+        begins(panel, &mut in_flight, said)
             && !panel.link().is_lost()
-            && finishes(panel, &mut in_flight, self.0)
+            && finishes(panel, &mut in_flight, self.0, said)
     }
 }
 
@@ -96,9 +101,9 @@ pub struct LastRefused(&'static [Answer], Option<u32>);
 
 impl Row for LastRefused {
     /// Whether it is the one that its answer refuses.
-    fn agrees(&self, alloc: Global) -> bool {
-        match panel(alloc, self.0, 10, None) {
-            Some(panel) => mutes(panel) == Ok(self.1),
+    fn agrees(&self, said: &mut Said) -> bool {
+        match panel(said.alloc, self.0, 10, None) {
+            Some(panel) => said.same(mutes(panel), Ok(self.1)),
             None => false,
         }
     }

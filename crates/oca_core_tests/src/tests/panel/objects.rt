@@ -1,12 +1,11 @@
 //! What is asked of one object: the commands that are sent, the answers, and what is made of them.
 use super::{Answer, panel};
-use crate::tests::{Row, Wanted, Words, first_other, first_wrong, none_wrong};
+use crate::tests::{Row, Said, Wanted, Words, all_agree, are_found};
 use oca_control::ControlFault;
 use oca_model::{MuteState, Ranged, Reading, Value};
 use oca_net::MemoryEnd;
 use oca_panel::{Panel, Trouble};
 use oca_types::{Class, Ono, Packet, Peer, Text};
-use std::alloc::Global;
 
 const OBJECT: Ono = Ono(4097);
 
@@ -111,96 +110,96 @@ const FAILURES: &[Exchange] = rows! {
 };
 
 /// Whether the text is this.
-fn is_text(read: Result<Text, Trouble>, expected: &str) -> bool {
+fn is_text(read: Result<Text, Trouble>, expected: &str, said: &mut Said) -> bool {
     match read {
-        Ok(text) => text.as_str() == expected,
+        Ok(text) => said.same(text.as_str(), expected),
         Err(_) => false,
     }
 }
 
 /// Two set commands in flight at once.
-fn sets_both(panel: &mut Panel<MemoryEnd>, first: Value, second: Value) -> bool {
+fn sets_both(panel: &mut Panel<MemoryEnd>, first: Value, second: Value, said: &mut Said) -> bool {
     let Ok(one) = panel.begin_set(OBJECT, first) else {
         return false;
     };
     let Ok(two) = panel.begin_set(OBJECT, second) else {
         return false;
     };
-    panel.finish_set(one) == Ok(()) && panel.finish_set(two) == Ok(())
+    said.same(panel.finish_set(one), Ok(())) && said.same(panel.finish_set(two), Ok(()))
 }
 
 impl Wanted<Text> for &'static str {
     /// Whether it is this text.
-    fn is(&self, found: &Text) -> bool {
-        found.as_str() == *self
+    fn is(&self, found: &Text, said: &mut Said) -> bool {
+        said.same(found.as_str(), *self)
     }
 }
 
 /// Sets a label.
-fn sets_label(panel: &mut Panel<MemoryEnd>, label: &str) -> bool {
+fn sets_label(panel: &mut Panel<MemoryEnd>, label: &str, said: &mut Said) -> bool {
     match Text::new(label) {
-        Some(label) => panel.set_label(OBJECT, label) == Ok(()),
+        Some(label) => said.same(panel.set_label(OBJECT, label), Ok(())),
         None => false,
     }
 }
 
 /// Whether an object has the fields of this class.
-fn has_fields(panel: &mut Panel<MemoryEnd>, fields: &[u16]) -> bool {
+fn has_fields(panel: &mut Panel<MemoryEnd>, fields: &[u16], said: &mut Said) -> bool {
     match panel.class_fields(OBJECT) {
-        Ok(read) => read.as_slice() == fields,
+        Ok(read) => said.same(read.as_slice(), fields),
         Err(_) => false,
     }
 }
 
 /// Whether a block has these members.
-fn has_members(panel: &mut Panel<MemoryEnd>, members: &[u32]) -> bool {
+fn has_members(panel: &mut Panel<MemoryEnd>, members: &[u32], said: &mut Said) -> bool {
     match panel.members(OBJECT) {
-        Ok(read) => read.as_slice() == members,
+        Ok(read) => said.same(read.as_slice(), members),
         Err(_) => false,
     }
 }
 
 /// Whether a switch has these names.
-fn has_names(panel: &mut Panel<MemoryEnd>, names: &[&'static str]) -> bool {
+fn has_names(panel: &mut Panel<MemoryEnd>, names: &[&'static str], said: &mut Said) -> bool {
     match panel.position_names(OBJECT) {
-        Ok(read) => first_other(read.as_slice(), names).is_none(),
+        Ok(read) => are_found(read.as_slice(), names, said),
         Err(_) => false,
     }
 }
 
 /// Whether what is asked comes out so.
-fn comes_out(panel: &mut Panel<MemoryEnd>, asked: &Asks) -> bool {
+fn comes_out(panel: &mut Panel<MemoryEnd>, asked: &Asks, said: &mut Said) -> bool {
     match asked {
-        Asks::Class(class) => panel.class(OBJECT) == Ok(*class),
-        Asks::Get(value) => panel.get(OBJECT) == Ok(*value),
-        Asks::Reads(reading) => panel.reading(OBJECT) == Ok(*reading),
-        Asks::Enabled(enabled) => panel.enabled(OBJECT) == Ok(*enabled),
-        Asks::Fails(trouble) => panel.get(OBJECT) == Err(*trouble),
-        _ => is_done(panel, asked) || is_told(panel, asked),
+        Asks::Class(class) => said.same(panel.class(OBJECT), Ok(*class)),
+        Asks::Get(value) => said.same(panel.get(OBJECT), Ok(*value)),
+        Asks::Reads(reading) => said.same(panel.reading(OBJECT), Ok(*reading)),
+        Asks::Enabled(enabled) => said.same(panel.enabled(OBJECT), Ok(*enabled)),
+        Asks::Fails(trouble) => said.same(panel.get(OBJECT), Err(*trouble)),
+        _ => is_done(panel, asked, said) || is_told(panel, asked, said),
     }
 }
 
 /// Whether what is asked changes something, and is done.
-fn is_done(panel: &mut Panel<MemoryEnd>, asked: &Asks) -> bool {
+fn is_done(panel: &mut Panel<MemoryEnd>, asked: &Asks, said: &mut Said) -> bool {
     match asked {
-        Asks::Set(value) => panel.set(OBJECT, *value) == Ok(()),
-        Asks::TwoSets(first, second) => sets_both(panel, *first, *second),
-        Asks::Lock => panel.lock(OBJECT) == Ok(()),
-        Asks::Unlock => panel.unlock(OBJECT) == Ok(()),
-        Asks::SetLabel(label) => sets_label(panel, label),
+        Asks::Set(value) => said.same(panel.set(OBJECT, *value), Ok(())),
+        Asks::TwoSets(first, second) => sets_both(panel, *first, *second, said),
+        Asks::Lock => said.same(panel.lock(OBJECT), Ok(())),
+        Asks::Unlock => said.same(panel.unlock(OBJECT), Ok(())),
+        Asks::SetLabel(label) => sets_label(panel, label, said),
         _ => false,
     }
 }
 
 /// Whether what is asked has a text or a list as an answer, and is told so.
-fn is_told(panel: &mut Panel<MemoryEnd>, asked: &Asks) -> bool {
+fn is_told(panel: &mut Panel<MemoryEnd>, asked: &Asks, said: &mut Said) -> bool {
     match asked {
-        Asks::Fields(fields) => has_fields(panel, fields),
-        Asks::Label(label) => is_text(panel.label(OBJECT), label),
-        Asks::Role(role) => is_text(panel.role(OBJECT), role),
-        Asks::Members(members) => has_members(panel, members),
-        Asks::Name(position, name) => is_text(panel.position_name(OBJECT, *position), name),
-        Asks::Names(names) => has_names(panel, names),
+        Asks::Fields(fields) => has_fields(panel, fields, said),
+        Asks::Label(label) => is_text(panel.label(OBJECT), label, said),
+        Asks::Role(role) => is_text(panel.role(OBJECT), role, said),
+        Asks::Members(members) => has_members(panel, members, said),
+        Asks::Name(position, name) => is_text(panel.position_name(OBJECT, *position), name, said),
+        Asks::Names(names) => has_names(panel, names, said),
         _ => false,
     }
 }
@@ -210,18 +209,18 @@ struct Sent(&'static [u8]);
 
 impl Wanted<(Peer, Packet)> for Sent {
     /// Whether just this was sent.
-    fn is(&self, found: &(Peer, Packet)) -> bool {
+    fn is(&self, found: &(Peer, Packet), said: &mut Said) -> bool {
         let packet = found.1.as_slice();
-        packet.ends_with(self.0) && packet.len() == self.0.len().saturating_add(14)
+        packet.ends_with(self.0) && said.same(packet.len(), self.0.len().saturating_add(14))
     }
 }
 
 impl Row for Exchange {
     /// Whether what is asked of a panel comes out so, and just this is sent.
-    fn agrees(&self, alloc: Global) -> bool {
-        match panel(alloc, self.1, 10, None) {
+    fn agrees(&self, said: &mut Said) -> bool {
+        match panel(said.alloc, self.1, 10, None) {
             Some(mut panel) => {
-                comes_out(&mut panel, &self.0) && first_other(panel.end().taken(), self.2).is_none()
+                comes_out(&mut panel, &self.0, said) && are_found(panel.end().taken(), self.2, said)
             }
             None => false,
         }
@@ -241,18 +240,10 @@ const TEXTS: &[Words<Trouble>] = rows! {
 };
 
 #[test]
-fn exchanges(rt: HostRuntime) {
-    let alloc = rt.alloc();
-    let wrong = [
-        first_wrong(alloc, VALUES),
-        first_wrong(alloc, LOCKS_AND_LABELS),
-        first_wrong(alloc, LISTS),
-        first_wrong(alloc, FAILURES),
-        first_wrong(alloc, TEXTS),
-    ];
-    none_wrong(
-        &rt,
-        "values, locks and labels, lists, failures and texts",
-        &wrong,
-    );
+fn a_panel_asks_and_hands_answers_on(rt: HostRuntime) {
+    all_agree(&rt, "values", VALUES);
+    all_agree(&rt, "locks and labels", LOCKS_AND_LABELS);
+    all_agree(&rt, "lists", LISTS);
+    all_agree(&rt, "failures", FAILURES);
+    all_agree(&rt, "troubles have words", TEXTS);
 }

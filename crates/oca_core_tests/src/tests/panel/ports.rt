@@ -1,18 +1,20 @@
 //! A port of one's own and the first handle by the clock.
-use crate::tests::Row;
+use crate::tests::{Row, Said};
 use oca_panel::OwnPort;
 use oca_types::Handle;
-use std::alloc::Global;
 
 /// Seconds and microseconds since the beginning of 1970; the port whose turn it is, and the first handle.
 pub struct Turn(u64, u32, u16, u32);
 
 impl Row for Turn {
     /// Whether it is this port's turn, and the handle is the first.
-    fn agrees(&self, _alloc: Global) -> bool {
+    fn agrees(&self, said: &mut Said) -> bool {
         let own = OwnPort::at(self.0, self.1);
         let other = if self.2 == 65001 { 65002 } else { 65001 };
-        (own.port, own.other, own.first_handle) == (self.2, other, Handle(self.3))
+        said.same(
+            (own.port, own.other, own.first_handle),
+            (self.2, other, Handle(self.3)),
+        )
     }
 }
 

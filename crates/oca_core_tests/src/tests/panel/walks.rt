@@ -1,8 +1,8 @@
 //! A walk through a device, some of whose objects refuse, and one of whose blocks lists its own container.
 use super::{Answer, Asked, Over};
+use crate::tests::Said;
 use oca_net::MemoryEnd;
 use oca_panel::{Found, Panel, Trouble, Walk};
-use std::alloc::Global;
 
 /// The answers to GetClassIdentification of a block and of a mute.
 const BLOCK: Answer = (0, 1, &[0, 3, 0, 1, 0, 1, 0, 3, 0, 2]);
@@ -72,13 +72,18 @@ fn next_step(walk: &mut Walk, panel: &mut Panel<MemoryEnd>) -> (u8, u32, u32) {
 }
 
 /// Whether a walk finds just this.
-fn finds_all(walk: &mut Walk, panel: &mut Panel<MemoryEnd>, steps: &[(u8, u32, u32)]) -> bool {
+fn finds_all(
+    walk: &mut Walk,
+    panel: &mut Panel<MemoryEnd>,
+    steps: &[(u8, u32, u32)],
+    said: &mut Said,
+) -> bool {
     for step in steps {
-        if next_step(walk, panel) != *step {
+        if !said.same(next_step(walk, panel), *step) {
             return false;
         }
     }
-    next_step(walk, panel) == OVER && !walk.is_unfinished()
+    said.same(next_step(walk, panel), OVER) && !walk.is_unfinished()
 }
 
 /// What a walk finds, and how many commands it asks.
@@ -86,10 +91,11 @@ pub struct Finds(Steps, usize);
 
 impl Asked for Finds {
     /// Whether a walk finds just this, and asks so often.
-    fn comes_out(&self, alloc: Global, panel: &mut Panel<MemoryEnd>) -> bool {
-        match Walk::new(alloc) {
+    fn comes_out(&self, panel: &mut Panel<MemoryEnd>, said: &mut Said) -> bool {
+        match Walk::new(said.alloc) {
             Ok(mut walk) => {
-                finds_all(&mut walk, panel, self.0) && panel.end().taken().len() == self.1
+                finds_all(&mut walk, panel, self.0, said)
+                    && said.same(panel.end().taken().len(), self.1)
             }
             Err(_) => false,
         }

@@ -3,11 +3,10 @@ ghost use Rattle.std.specs.Prelude.{IfSome};
 ghost use Rattle.oca_pdu.specs.Writing.{HoldsResponses};
 
 use super::building::messages_in;
-use crate::tests::Row;
 use crate::tests::answers::{Answer, reply};
+use crate::tests::{Row, Said};
 use oca_pdu::{WriteFault, extend_response, write_response};
 use oca_types::{Handle, Packet, Reply, Status};
-use std::alloc::Global;
 
 /// A packet with a PDU of one response, where it has room.
 fn one_response(handle: Handle, reply: &Reply) -> Option<Packet>
@@ -41,17 +40,17 @@ pub struct Joins(
 
 impl Row for Joins {
     /// Whether it is answered so, and the packet is so.
-    fn agrees(&self, _alloc: Global) -> bool {
+    fn agrees(&self, said: &mut Said) -> bool {
         let (one, two) = (self.0, self.1);
         let first = reply(one.status, one.count, one.params);
         let second = reply(two.status, two.count, two.params);
         let Some(mut packet) = one_response(Handle(1), &first) else {
             return false;
         };
-        one_more(&mut packet, 2, &second) == self.2
+        said.same(one_more(&mut packet, 2, &second), self.2)
             && packet.as_slice().starts_with(self.3)
-            && packet.len() == self.4
-            && messages_in(packet.as_slice()) == self.5
+            && said.same(packet.len(), self.4)
+            && said.same(messages_in(packet.as_slice()), self.5)
     }
 }
 

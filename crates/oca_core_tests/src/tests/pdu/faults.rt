@@ -2,16 +2,15 @@
 use super::building::Part::{All, Changed, Front, Times};
 use super::building::{Part, built, messages_in, refusal};
 use super::examples::{GET_STATE, MUTED, ONE_SECOND, TWO_COMMANDS};
-use crate::tests::Row;
-use std::alloc::Global;
+use crate::tests::{Row, Said};
 
 /// The parts of bytes that are refused, and the number and the place of the first fault.
 pub struct Refused(&'static [Part], u8, u16);
 
 impl Row for Refused {
     /// Whether they are refused so.
-    fn agrees(&self, _alloc: Global) -> bool {
-        refusal(built(self.0).as_slice()) == (self.1, self.2)
+    fn agrees(&self, said: &mut Said) -> bool {
+        said.same(refusal(built(self.0).as_slice()), (self.1, self.2))
     }
 }
 
@@ -60,9 +59,9 @@ pub struct Accepted(&'static [Part], usize, usize);
 
 impl Row for Accepted {
     /// Whether they are so many, with so many messages.
-    fn agrees(&self, _alloc: Global) -> bool {
+    fn agrees(&self, said: &mut Said) -> bool {
         let bytes = built(self.0);
-        bytes.len() == self.1 && messages_in(bytes.as_slice()) == self.2
+        said.same(bytes.len(), self.1) && said.same(messages_in(bytes.as_slice()), self.2)
     }
 }
 

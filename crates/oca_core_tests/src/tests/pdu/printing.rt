@@ -1,15 +1,14 @@
 //! What a fault prints.
-use crate::tests::{Row, Words, prints};
+use crate::tests::{Row, Said, Words};
 use oca_pdu::{PduFaultKind, WriteFault, check};
-use std::alloc::Global;
 
 /// A check that fails, its number and its words.
 pub struct Kind(PduFaultKind, u8, &'static str);
 
 impl Row for Kind {
     /// Whether it has the number, and prints the words.
-    fn agrees(&self, alloc: Global) -> bool {
-        self.0.number() == self.1 && prints(alloc, &self.0, self.2)
+    fn agrees(&self, said: &mut Said) -> bool {
+        said.same(self.0.number(), self.1) && said.prints(&self.0, self.2)
     }
 }
 
@@ -30,10 +29,10 @@ pub struct Told(&'static [u8], &'static str);
 
 impl Row for Told {
     /// Whether they are refused with these words.
-    fn agrees(&self, alloc: Global) -> bool {
+    fn agrees(&self, said: &mut Said) -> bool {
         match check(self.0) {
             Ok(_) => false,
-            Err(fault) => prints(alloc, &fault, self.1),
+            Err(fault) => said.prints(&fault, self.1),
         }
     }
 }

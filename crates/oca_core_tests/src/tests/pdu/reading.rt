@@ -4,10 +4,9 @@ ghost use Rattle.oca_pdu.specs.Limits.{is_command};
 ghost use Rattle.oca_pdu.specs.Datagrams.{datagram_messages};
 
 use super::examples::*;
-use crate::tests::Row;
+use crate::tests::{Row, Said};
 use oca_pdu::{Datagram, Form, Message, check};
 use oca_types::{Command, MethodId};
-use std::alloc::Global;
 
 /// A message, in numbers.
 #[derive(Clone, Copy)]
@@ -47,22 +46,30 @@ pub const MESSAGES: &[Messages] = rows! {
 };
 
 /// Whether a command has these numbers.
-fn is_command_of(command: &Command<'_>, handle: u32, target: u32, method: (u16, u16)) -> bool {
+fn is_command_of(
+    command: &Command<'_>,
+    handle: u32,
+    target: u32,
+    method: (u16, u16),
+    said: &mut Said,
+) -> bool {
     let id = MethodId {
         level: method.0,
         index: method.1,
     };
-    command.handle.0 == handle && command.target.0 == target && command.method == id
+    said.same(command.handle.0, handle)
+        && said.same(command.target.0, target)
+        && said.same(command.method, id)
 }
 
 /// Whether a message is this one.
-fn is_read(message: &Message<'_>, read: Read) -> bool {
+fn is_read(message: &Message<'_>, read: Read, said: &mut Said) -> bool {
     match (*message, read) {
         (Message::Command { respond, command }, Read::Command(asks, of, target, id, n, bytes)) => {
-            respond == asks
-                && is_command_of(&command, of, target, id)
-                && command.count == n
-                && command.params == bytes
+            said.same(respond, asks)
+                && is_command_of(&command, of, target, id, said)
+                && said.same(command.count, n)
+                && said.same(command.params, bytes)
         }
         (
             Message::Response {
@@ -72,20 +79,23 @@ fn is_read(message: &Message<'_>, read: Read) -> bool {
                 params,
             },
             Read::Response(of, number, n, bytes),
-        ) => handle.0 == of && status == number && count == n && params == bytes,
-        (Message::KeepAlive { form }, Read::KeepAlive(time)) => form == time,
+        ) => said.same(handle.0, of)
+            && said.same(status, number)
+            && said.same(count, n)
+            && said.same(params, bytes),
+        (Message::KeepAlive { form }, Read::KeepAlive(time)) => said.same(form, time),
         _ => false,
     }
 }
 
 /// Whether the messages are these, in order.
-fn are_read(datagram: &Datagram<'_>, reads: &[Read]) -> bool {
+fn are_read(datagram: &Datagram<'_>, reads: &[Read], said: &mut Said) -> bool {
     let mut rest = reads;
     for message in datagram.messages() {
         let Some((read, others)) = rest.split_first() else {
             return false;
         };
-        if !is_read(&message, *read) {
+        if !is_read(&message, *read, said) {
             return false;
         }
         rest = others;
@@ -95,9 +105,9 @@ fn are_read(datagram: &Datagram<'_>, reads: &[Read]) -> bool {
 
 impl Row for Messages {
     /// Whether the bytes are a datagram of these messages.
-    fn agrees(&self, _alloc: Global) -> bool {
+    fn agrees(&self, said: &mut Said) -> bool {
         match check(self.0) {
-            Ok(datagram) => are_read(&datagram, self.1),
+            Ok(datagram) => are_read(&datagram, self.1, said),
             Err(_) => false,
         }
     }
@@ -127,9 +137,9 @@ pub const COMMANDS: &[Commands] = &[Commands(TWO_COMMANDS, 2)];
 
 impl Row for Commands {
     /// Whether it has so many.
-    fn agrees(&self, _alloc: Global) -> bool {
+    fn agrees(&self, said: &mut Said) -> bool {
         match check(self.0) {
-            Ok(datagram) => commands_in(&datagram) == self.1,
+            Ok(datagram) => said.same(commands_in(&datagram), self.1),
             Err(_) => false,
         }
     }

@@ -1,14 +1,13 @@
 //! Packets that are full, and packets that are written over.
 use super::building::messages_in;
 use super::examples::{GET_STATE, MUTED, ONE_SECOND, SETTING};
-use crate::tests::Row;
 use crate::tests::answers::{Answer, reply};
+use crate::tests::{Row, Said};
 use oca_pdu::{
     Form, WriteFault, holds_responses, replace_response, write_command, write_keepalive,
     write_response,
 };
 use oca_types::{Command, Handle, MethodId, Ono, Packet, Status};
-use std::alloc::Global;
 
 /// What is done to a packet, and what that answers.
 #[derive(Clone, Copy)]
@@ -45,9 +44,14 @@ const COMMAND: Command<'static> = Command {
 };
 
 /// Whether each of so many commands is answered so.
-fn writes_commands(packet: &mut Packet, times: u16, answer: Result<(), WriteFault>) -> bool {
+fn writes_commands(
+    packet: &mut Packet,
+    times: u16,
+    answer: Result<(), WriteFault>,
+    said: &mut Said,
+) -> bool {
     for _ in 0..times {
-        if write_command(packet, true, &COMMAND) != answer {
+        if !said.same(write_command(packet, true, &COMMAND), answer) {
             return false;
         }
     }
@@ -74,17 +78,17 @@ fn replace(packet: &mut Packet, handle: u32, answer: Answer) -> bool {
 }
 
 /// Whether the step is answered so.
-fn is_done(packet: &mut Packet, step: Step) -> bool {
+fn is_done(packet: &mut Packet, step: Step, said: &mut Said) -> bool {
     match step {
         Bytes(bytes) => packet.try_extend_from_slice(bytes).is_ok(),
-        Commands(times, answer) => writes_commands(packet, times, answer),
-        Response(handle, parts, answer) => write_answer(packet, handle, parts) == answer,
-        KeepAlive(form, answer) => write_keepalive(packet, form) == answer,
+        Commands(times, answer) => writes_commands(packet, times, answer, said),
+        Response(handle, parts, answer) => said.same(write_answer(packet, handle, parts), answer),
+        KeepAlive(form, answer) => said.same(write_keepalive(packet, form), answer),
         Replace(handle, parts) => replace(packet, handle, parts),
-        Holds(bytes) => packet.as_slice() == bytes,
-        Len(length) => packet.len() == length,
-        Messages(count) => messages_in(packet.as_slice()) == count,
-        OfResponses(answer) => holds_responses(packet) == answer,
+        Holds(bytes) => said.same(packet.as_slice(), bytes),
+        Len(length) => said.same(packet.len(), length),
+        Messages(count) => said.same(messages_in(packet.as_slice()), count),
+        OfResponses(answer) => said.same(holds_responses(packet), answer),
     }
 }
 
@@ -93,10 +97,10 @@ pub struct Script(&'static [Step]);
 
 impl Row for Script {
     /// Whether each step is answered so.
-    fn agrees(&self, _alloc: Global) -> bool {
+    fn agrees(&self, said: &mut Said) -> bool {
         let mut packet = Packet::new();
         for step in self.0 {
-            if !is_done(&mut packet, *step) {
+            if !is_done(&mut packet, *step, said) {
                 return false;
             }
         }

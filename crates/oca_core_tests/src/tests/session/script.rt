@@ -1,13 +1,13 @@
 //! Scripts of events, each with what it must answer, and what a device does with commands by what its sessions say.
 use crate::tests::answers::{Answer, reply};
-use crate::tests::{Agrees, first_wrong_step, sizes};
+use crate::tests::{Agrees, Row, Said, plays, sizes};
 use arrayvec::ArrayVec;
 use oca_session::{Admission, Judged, Sessions};
 use oca_types::{Command, Handle, MOST_PEERS, MethodId, Ono, Peer, Reply, Status, Window};
 use std::alloc::Global;
 
 /// What a device does with a command.
-#[derive(Clone, Copy, PartialEq, Eq)]
+#[derive(Clone, Copy, Debug, PartialEq, Eq)]
 pub enum Served {
     Executed,
     /// A duplicate got the reply with this ParamCount.
@@ -102,34 +102,37 @@ fn serve(sessions: &mut Sessions, peer: Peer, command: &Command<'_>) -> Served {
 }
 
 /// Whether the command of a handle is a duplicate that gets this answer.
-fn retains(sessions: &Sessions, peer: Peer, handle: u32, answer: Answer) -> bool {
+fn retains(sessions: &Sessions, peer: Peer, handle: u32, answer: Answer, said: &mut Said) -> bool {
     if !sessions.is_known(peer) {
         return false;
     }
     match sessions.judge(peer, &command!(handle)) {
         Judged::Kept(reply) => {
-            reply.status == answer.status
-                && reply.count == answer.count
-                && reply.params.as_slice() == answer.params
+            said.same(reply.status, answer.status)
+                && said.same(reply.count, answer.count)
+                && said.same(reply.params.as_slice(), answer.params)
         }
         _ => false,
     }
 }
 
 /// Whether the event changes the sessions, and is answered so.
-fn is_answered(sessions: &mut Sessions, step: Step) -> bool {
+fn is_answered(sessions: &mut Sessions, step: Step, said: &mut Said) -> bool {
     match step {
-        Hears(peer, moment, answer) => sessions.hear(peer, moment) == answer,
+        Hears(peer, moment, answer) => said.same(sessions.hear(peer, moment), answer),
         Beats(peer, ms) if sessions.is_known(peer) => {
             sessions.beat(peer, ms);
             true
         }
-        Serves(peer, command, answer) => serve(sessions, peer, &command) == answer,
+        Serves(peer, command, answer) => said.same(serve(sessions, peer, &command), answer),
         Executes(peer, handle, answer) => {
             let reply = reply(answer.status, answer.count, answer.params);
-            serve_with(sessions, peer, &command!(handle), &reply) == Served::Executed
+            said.same(
+                serve_with(sessions, peer, &command!(handle), &reply),
+                Served::Executed,
+            )
         }
-        Silent(moment, peers) => sessions.advance(moment).as_slice() == peers,
+        Silent(moment, peers) => said.same(sessions.advance(moment).as_slice(), peers),
         _ => false,
     }
 }
@@ -143,20 +146,21 @@ struct Heard {
 
 impl Agrees<Heard> for Step {
     /// Whether the event is answered so, or the sessions stand so.
-    fn agrees(&self, on: &mut Heard) -> bool {
+    fn agrees(&self, on: &mut Heard, said: &mut Said) -> bool {
         let sessions = &mut on.sessions;
         match *self {
             SilentInto(moment, peers) => {
                 sessions.advance_into(moment, &mut on.silent);
-                on.silent.as_slice() == peers
+                said.same(on.silent.as_slice(), peers)
             }
-            Retains(peer, handle, answer) => retains(sessions, peer, handle, answer),
-            Len(count) => sessions.len() == count && sessions.is_empty() == (count == 0),
-            IsKnown(peer, answer) => sessions.is_known(peer) == answer,
-            Moment(moment) => sessions.moment() == moment,
-            ForgottenFrom(moment) => sessions.forgotten_from() == moment,
-            LapsedFrom(peer, moment) => sessions.lapsed_from(peer) == moment,
-            other => is_answered(sessions, other),
+            Retains(peer, handle, answer) => retains(sessions, peer, handle, answer, said),
+            Len(count) => said.same(sessions.len(), count)
+                && said.same(sessions.is_empty(), count == 0),
+            IsKnown(peer, answer) => said.same(sessions.is_known(peer), answer),
+            Moment(moment) => said.same(sessions.moment(), moment),
+            ForgottenFrom(moment) => said.same(sessions.forgotten_from(), moment),
+            LapsedFrom(peer, moment) => said.same(sessions.lapsed_from(peer), moment),
+            other => is_answered(sessions, other, said),
         }
     }
 }
@@ -170,14 +174,16 @@ fn sessions(alloc: Global, made: Made) -> Option<Sessions> {
     }
 }
 
-/// The first event of the script that is answered otherwise; the last number where there are no sessions.
-pub fn wrong_step(alloc: Global, script: &Script) -> Option<usize> {
-    let Some(sessions) = sessions(alloc, script.1) else {
-        return Some(usize::MAX);
-    };
-    let mut on = Heard {
-        sessions,
-        silent: ArrayVec::new(),
-    };
-    first_wrong_step(&mut on, script.2)
+impl Row for Script {
+    /// Whether each event is answered so.
+    fn agrees(&self, said: &mut Said) -> bool {
+        let Some(sessions) = sessions(said.alloc, self.1) else {
+            return false;
+        };
+        let mut on = Heard {
+            sessions,
+            silent: ArrayVec::new(),
+        };
+        plays(&mut on, self.0, self.2, said)
+    }
 }

@@ -3,8 +3,9 @@ use super::methods::{COMMON, LOCKABLE};
 use super::script::Addition::{Many, One};
 use super::script::Over::{Bench, Built};
 use super::script::Row::{Does, Measures, Reads};
-use super::script::{Addition, At, Row, Script, play};
+use super::script::{Addition, At, Row, Script};
 use super::words::*;
+use crate::tests::all_agree;
 use oca_tree::{Kind, Spec};
 use oca_types::Status;
 use oca_types::Status::{BadMethod, BufferOverflow, NotImplemented};
@@ -118,6 +119,6 @@ const SCRIPTS: &[Script] = rows! {
 };
 
 #[test]
-fn scripts(rt: HostRuntime) {
-    play(&rt, rt.alloc(), SCRIPTS);
+fn blocks_answer_with_their_members(rt: HostRuntime) {
+    all_agree(&rt, "blocks", SCRIPTS);
 }

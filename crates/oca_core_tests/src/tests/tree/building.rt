@@ -1,10 +1,10 @@
 //! What a builder refuses.
-use super::super::{Words, first_wrong, none_wrong};
 use super::script::Addition::{Many, Nested, One};
 use super::script::Over::Built;
 use super::script::Row::{Holds, Len, Reads};
-use super::script::{Addition, At, Script, play};
+use super::script::{Addition, At, Script};
 use super::words::*;
+use crate::tests::{Words, all_agree};
 use oca_tree::{AddFault, Kind, Room, Setting, Spec, TreeBuilder};
 use oca_types::Ono;
 use std::alloc::Global;
@@ -98,9 +98,9 @@ const SCRIPTS: &[Script] = rows! {
 };
 
 #[test]
-fn scripts(rt: HostRuntime) {
-    play(&rt, rt.alloc(), SCRIPTS);
-    none_wrong(&rt, "words", &[first_wrong(rt.alloc(), WORDS)]);
+fn a_builder_refuses_what_does_not_fit(rt: HostRuntime) {
+    all_agree(&rt, "building", SCRIPTS);
+    all_agree(&rt, "faults of an addition have words", WORDS);
     assert!(rt; is_filled(rt.alloc()));
     assert_eq!(rt; Room::default().get(), 128);
 }

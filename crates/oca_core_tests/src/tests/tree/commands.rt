@@ -1,8 +1,9 @@
 //! Commands of the bench device and their refusals.
 use super::script::Over::Bench;
 use super::script::Row::{Does, Holds, Reads, Sends};
-use super::script::{At, Script, play};
+use super::script::{At, Script};
 use super::words::*;
+use crate::tests::all_agree;
 use oca_tree::Setting;
 use oca_types::Status;
 use oca_types::Status::{
@@ -107,6 +108,6 @@ const SCRIPTS: &[Script] = rows! {
 };
 
 #[test]
-fn scripts(rt: HostRuntime) {
-    play(&rt, rt.alloc(), SCRIPTS);
+fn commands_are_refused_by_the_first_status(rt: HostRuntime) {
+    all_agree(&rt, "commands", SCRIPTS);
 }

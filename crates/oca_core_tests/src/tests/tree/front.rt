@@ -1,14 +1,13 @@
 //! Setting objects at the local front panel.
-use super::super::{Row, first_wrong, none_wrong};
 use super::script::Over::Bench;
 use super::script::Row::{
     Calls, Does, Enables, Failing, Fails, Holds, Labels, Locked, Puts, Reads, Sends, Unlocks,
 };
-use super::script::{At, Script, play};
+use super::script::{At, Script};
 use super::words::*;
+use crate::tests::{Row, Said, all_agree};
 use oca_tree::{FrontFault, Lock, LockKind, MuteState, PolarityState, SetFault, Setting, Value};
 use oca_types::{Class, Status};
-use std::alloc::Global;
 
 const UNMUTE: Value = Value::Mute(MuteState::Unmuted);
 
@@ -169,8 +168,8 @@ struct OfState(Class, u8, Option<Value>);
 
 impl Row for OfState {
     /// Whether it is this.
-    fn agrees(&self, _alloc: Global) -> bool {
-        Value::of_state(self.0, self.1) == self.2
+    fn agrees(&self, said: &mut Said) -> bool {
+        said.same(Value::of_state(self.0, self.1), self.2)
     }
 }
 
@@ -189,8 +188,8 @@ struct OfInteger(Class, i128, Option<Value>);
 
 impl Row for OfInteger {
     /// Whether it is this.
-    fn agrees(&self, _alloc: Global) -> bool {
-        Value::of_integer(self.0, self.1) == self.2
+    fn agrees(&self, said: &mut Said) -> bool {
+        said.same(Value::of_integer(self.0, self.1), self.2)
     }
 }
 
@@ -205,11 +204,8 @@ const INTEGERS: &[OfInteger] = rows! {
 };
 
 #[test]
-fn scripts(rt: HostRuntime) {
-    play(&rt, rt.alloc(), SCRIPTS);
-    let wrong = [
-        first_wrong(rt.alloc(), STATES),
-        first_wrong(rt.alloc(), INTEGERS),
-    ];
-    none_wrong(&rt, "states and integers", &wrong);
+fn the_front_changes_whatever_is_locked(rt: HostRuntime) {
+    all_agree(&rt, "front", SCRIPTS);
+    all_agree(&rt, "values of states", STATES);
+    all_agree(&rt, "values of integers", INTEGERS);
 }

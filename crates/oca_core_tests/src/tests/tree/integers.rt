@@ -2,8 +2,9 @@
 use super::script::Addition::One;
 use super::script::Over::Built;
 use super::script::Row::{Holds, Reads, Sends};
-use super::script::{Addition, At, Script, play};
+use super::script::{Addition, At, Script};
 use super::words::*;
+use crate::tests::all_agree;
 use oca_tree::{Kind, Setting, Spec};
 use oca_types::Status;
 
@@ -73,6 +74,6 @@ const SCRIPTS: &[Script] = rows! {
 };
 
 #[test]
-fn scripts(rt: HostRuntime) {
-    play(&rt, rt.alloc(), SCRIPTS);
+fn integers_are_set_in_their_own_width(rt: HostRuntime) {
+    all_agree(&rt, "integers", SCRIPTS);
 }

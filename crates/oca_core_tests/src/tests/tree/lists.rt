@@ -1,7 +1,8 @@
 //! What is read of each object.
 use super::script::Over::{Bench, Channels};
 use super::script::Row::{Ends, Holds, Len, Shows};
-use super::script::{At, Script, play};
+use super::script::{At, Script};
+use crate::tests::all_agree;
 use oca_tree::{bench, bench_with_channels};
 use oca_types::Class;
 use std::alloc::Global;
@@ -59,8 +60,8 @@ fn are_in_order(alloc: Global) -> bool {
 }
 
 #[test]
-fn scripts(rt: HostRuntime) {
-    play(&rt, rt.alloc(), SCRIPTS);
+fn objects_stand_in_the_order_of_their_places(rt: HostRuntime) {
+    all_agree(&rt, "lists", SCRIPTS);
     assert!(rt; are_in_order(rt.alloc()));
     assert!(rt; bench_with_channels(rt.alloc(), 1023).is_err());
 }

@@ -1,8 +1,9 @@
 //! Locks of two peers.
 use super::script::Over::Bench;
 use super::script::Row::{Calls, Locked, Releases};
-use super::script::{At, Script, play};
+use super::script::{At, Script};
 use super::words::*;
+use crate::tests::all_agree;
 use oca_tree::{Lock, LockKind};
 use oca_types::Status;
 
@@ -81,6 +82,6 @@ const SCRIPTS: &[Script] = rows! {
 };
 
 #[test]
-fn scripts(rt: HostRuntime) {
-    play(&rt, rt.alloc(), SCRIPTS);
+fn a_lock_keeps_other_peers_out(rt: HostRuntime) {
+    all_agree(&rt, "locks", SCRIPTS);
 }

@@ -1,8 +1,9 @@
 //! The table of methods once over the bench device: what every object has, mutes and polarities, and basic actuators.
 use super::script::Over::Bench;
 use super::script::Row::{Does, Holds, Reads, Sends};
-use super::script::{At, Row, Script, play};
+use super::script::{At, Row, Script};
 use super::words::*;
+use crate::tests::all_agree;
 use oca_tree::Setting;
 use oca_types::Status;
 use oca_types::Status::{
@@ -158,6 +159,6 @@ const SCRIPTS: &[Script] = rows! {
 };
 
 #[test]
-fn scripts(rt: HostRuntime) {
-    play(&rt, rt.alloc(), SCRIPTS);
+fn each_method_of_an_actuator_answers(rt: HostRuntime) {
+    all_agree(&rt, "methods", SCRIPTS);
 }

@@ -1,13 +1,12 @@
 //! Trees that are built by a table, and scripts of commands over them.
-use super::super::fail;
 use super::words::{A, BLOCK, Called};
+use crate::tests::{Agrees, Row as Tested, Said, plays};
 use oca_tree::{
     AddFault, FrontFault, Lock, Room, SetFault, Setting, Spec, Start, StartFault, Tree,
     TreeBuilder, Value, bench, bench_with_channels,
 };
 use oca_types::{Class, Command, Handle, MethodId, Ono, Params, Peer, Status, class_fields};
-use std::alloc::Global;
-use std::process::Abort;
+use std::fmt::Write;
 
 /// What is done at an object, and what comes of it.
 #[derive(Clone, Copy)]
@@ -85,10 +84,6 @@ pub enum Over {
 /// A script by its name, the tree that it is run over, and its parts.
 pub struct Script(pub &'static str, pub Over, pub &'static [At]);
 
-/// What went otherwise than a table says: of the script's part at an index the row at an index; the last number of all
-/// where there was no tree, or an addition was answered otherwise.
-type Wrong = (usize, usize);
-
 /// The status and the ParamCount that a command is answered with, and its parameters.
 fn call(
     tree: &mut Tree,
@@ -122,9 +117,10 @@ fn gives(
     method: Called,
     params: (u8, &[u8]),
     want: (Status, u8, &[u8]),
+    said: &mut Said,
 ) -> bool {
     let (status, count, out) = call(tree, peer, target, method, params);
-    status == want.0 && count == want.1 && out.as_slice() == want.2
+    said.same(status, want.0) && said.same(count, want.1) && said.same(out.as_slice(), want.2)
 }
 
 /// Whether this is read of the object at a place.
@@ -135,19 +131,20 @@ fn shows(
     class: (Class, &[u16]),
     container: u32,
     role: &str,
+    said: &mut Said,
 ) -> bool {
     let Some(info) = tree.object_at(place) else {
         return false;
     };
-    info.ono == Ono(ono)
-        && info.class == class.0
-        && class_fields(info.class).as_slice() == class.1
-        && info.container == Ono(container)
-        && info.role.as_str() == role
+    said.same(info.ono, Ono(ono))
+        && said.same(info.class, class.0)
+        && said.same(class_fields(info.class).as_slice(), class.1)
+        && said.same(info.container, Ono(container))
+        && said.same(info.role.as_str(), role)
 }
 
 /// Whether what is done at the object comes out so.
-fn agrees(tree: &mut Tree, ono: u32, row: Row) -> bool {
+fn agrees(tree: &mut Tree, ono: u32, row: Row, said: &mut Said) -> bool {
     match row {
         Reads(method, count, answer) => gives(
             tree,
@@ -156,69 +153,72 @@ fn agrees(tree: &mut Tree, ono: u32, row: Row) -> bool {
             method,
             (0, &[]),
             (Status::Ok, count, answer),
+            said,
         ),
-        Does(method, status) => gives(tree, A, ono, method, (0, &[]), (status, 0, &[])),
+        Does(method, status) => gives(tree, A, ono, method, (0, &[]), (status, 0, &[]), said),
         Sends(method, count, params, status) => {
-            gives(tree, A, ono, method, (count, params), (status, 0, &[]))
+            gives(
+                tree,
+                A,
+                ono,
+                method,
+                (count, params),
+                (status, 0, &[]),
+                said,
+            )
         }
-        Calls(peer, method, params, want) => gives(tree, peer, ono, method, params, want),
-        other => comes(tree, ono, other),
+        Calls(peer, method, params, want) => gives(tree, peer, ono, method, params, want, said),
+        other => comes(tree, ono, other, said),
     }
 }
 
 /// Whether what is done at the object comes out so, where it is no call whose whole answer is known.
-fn comes(tree: &mut Tree, ono: u32, row: Row) -> bool {
+fn comes(tree: &mut Tree, ono: u32, row: Row, said: &mut Said) -> bool {
     match row {
         Measures(method, status, count, size) => {
             let (found, params, out) = call(tree, A, ono, method, (0, &[]));
-            found == status && params == count && out.len() == size
+            said.same(found, status) && said.same(params, count) && said.same(out.len(), size)
         }
-        Puts(value, want) => tree.set(Ono(ono), value) == want,
-        Labels(label, want) => tree.set_label(Ono(ono), label) == want,
-        Enables(enabled, want) => tree.set_enabled(Ono(ono), enabled) == want,
-        Unlocks(want) => tree.unlock(Ono(ono)) == want,
-        Fails(failing, want) => tree.set_failing(Ono(ono), failing) == want,
+        Puts(value, want) => said.same(tree.set(Ono(ono), value), want),
+        Labels(label, want) => said.same(tree.set_label(Ono(ono), label), want),
+        Enables(enabled, want) => said.same(tree.set_enabled(Ono(ono), enabled), want),
+        Unlocks(want) => said.same(tree.unlock(Ono(ono)), want),
+        Fails(failing, want) => said.same(tree.set_failing(Ono(ono), failing), want),
         Releases(peer) => {
             tree.release(peer);
             true
         }
-        other => stands(tree, ono, other),
+        other => stands(tree, ono, other, said),
     }
 }
 
 /// Whether the objects stand so.
-fn stands(tree: &Tree, ono: u32, row: Row) -> bool {
+fn stands(tree: &Tree, ono: u32, row: Row, said: &mut Said) -> bool {
     match row {
-        Holds(want) => tree.setting_of(Ono(ono)) == want,
-        Locked(want) => tree.lock_of(Ono(ono)) == want,
-        Failing(want) => tree.is_failing(Ono(ono)) == want,
-        Len(count) => tree.len() == count,
+        Holds(want) => said.same(tree.setting_of(Ono(ono)), want),
+        Locked(want) => said.same(tree.lock_of(Ono(ono)), want),
+        Failing(want) => said.same(tree.is_failing(Ono(ono)), want),
+        Len(count) => said.same(tree.len(), count),
         Shows(place, class, fields, container, role) => {
-            shows(tree, place, ono, (class, fields), container, role)
+            shows(tree, place, ono, (class, fields), container, role, said)
         }
         Ends(place) => tree.object_at(place).is_none(),
         _ => false,
     }
 }
 
-/// The first row that comes out otherwise.
-fn first_wrong_row(tree: &mut Tree, ono: u32, rows: &[Row]) -> Option<usize> {
-    for (at, row) in rows.iter().enumerate() {
-        if !agrees(tree, ono, *row) {
-            return Some(at);
+impl Agrees<Tree> for At {
+    /// Whether each row comes out so.
+    fn agrees(&self, tree: &mut Tree, said: &mut Said) -> bool {
+        for (at, row) in self.1.iter().enumerate() {
+            if !agrees(tree, self.0, *row, said) {
+                let ono = self.0;
+                let _ = write!(said.text, ", row {at} of object {ono}");
+                return false;
+            }
         }
+        true
     }
-    None
-}
-
-/// The first part of a script with a row that comes out otherwise, and the row.
-fn first_wrong(tree: &mut Tree, script: &[At]) -> Option<Wrong> {
-    for (at, part) in script.iter().enumerate() {
-        if let Some(row) = first_wrong_row(tree, part.0, part.1) {
-            return Some((at, row));
-        }
-    }
-    None
 }
 
 /// Whether a builder takes an object so often, each as the next number: into the root, or each into the one before it.
@@ -237,11 +237,17 @@ fn takes(builder: &mut TreeBuilder, first: u32, end: u32, spec: &Spec<'_>, neste
 }
 
 /// Whether the builder answers an addition so.
-fn adds(builder: &mut TreeBuilder, addition: &Addition) -> bool {
+fn adds(builder: &mut TreeBuilder, addition: &Addition, said: &mut Said) -> bool {
     match addition {
-        One(container, ono, spec, want) => builder.add(Ono(*container), Ono(*ono), spec) == *want,
+        One(container, ono, spec, want) => said.same(
+            builder.add(Ono(*container), Ono(*ono), spec),
+            *want,
+        ),
         Stored(container, ono, spec, start, want) => {
-            builder.add_with(Ono(*container), Ono(*ono), spec, start) == *want
+            said.same(
+                builder.add_with(Ono(*container), Ono(*ono), spec, start),
+                *want,
+            )
         }
         Many(first, end, spec) => takes(builder, *first, *end, spec, false),
         Nested(first, end) => takes(builder, *first, *end, &BLOCK, true),
@@ -249,9 +255,9 @@ fn adds(builder: &mut TreeBuilder, addition: &Addition) -> bool {
 }
 
 /// The tree of a builder with these additions to it, where all are answered so.
-fn built(mut builder: TreeBuilder, additions: &[Addition]) -> Option<Tree> {
+fn built(mut builder: TreeBuilder, additions: &[Addition], said: &mut Said) -> Option<Tree> {
     for addition in additions {
-        if !adds(&mut builder, addition) {
+        if !adds(&mut builder, addition, said) {
             return None;
         }
     }
@@ -259,31 +265,26 @@ fn built(mut builder: TreeBuilder, additions: &[Addition]) -> Option<Tree> {
 }
 
 /// The tree that a script is run over; none where it is not there, or an addition is answered otherwise.
-pub fn tree_of(alloc: Global, over: Over) -> Option<Tree> {
+pub fn tree_of(over: Over, said: &mut Said) -> Option<Tree> {
+    let alloc = said.alloc;
     match over {
         Over::Bench => bench(alloc).ok(),
         Over::Channels(count) => bench_with_channels(alloc, count).ok(),
-        Over::Built(additions) => built(TreeBuilder::new(alloc).ok()?, additions),
+        Over::Built(additions) => built(TreeBuilder::new(alloc).ok()?, additions, said),
         Over::Root(stored, additions) => {
             let builder = TreeBuilder::with_root(alloc, Room::default(), &stored);
-            built(builder.ok()?, additions)
+            built(builder.ok()?, additions, said)
         }
     }
 }
 
-/// What goes wrong in a script.
-fn wrong_in(alloc: Global, script: &Script) -> Option<Wrong> {
-    match tree_of(alloc, script.1) {
-        Some(mut tree) => first_wrong(&mut tree, script.2),
-        None => Some((usize::MAX, usize::MAX)),
-    }
-}
-
-/// Plays scripts: each row comes out as it says.
-pub fn play(rt: &impl Abort, alloc: Global, scripts: &[Script]) {
-    for script in scripts {
-        if let Some((part, row)) = wrong_in(alloc, script) {
-            fail(rt, script.0, part, row);
+impl Tested for Script {
+    /// Whether each row comes out so.
+    fn agrees(&self, said: &mut Said) -> bool {
+        said.script = self.0;
+        match tree_of(self.1, said) {
+            Some(mut tree) => plays(&mut tree, self.0, self.2, said),
+            None => false,
         }
     }
 }

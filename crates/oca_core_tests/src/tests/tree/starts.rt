@@ -1,10 +1,10 @@
 //! What was stored of an object is there when the device begins again.
-use super::super::{Words, first_wrong, none_wrong};
 use super::script::Addition::{One, Stored};
 use super::script::Over::{Built, Root};
 use super::script::Row::{Len, Reads};
-use super::script::{Addition, At, Script, play, tree_of};
+use super::script::{Addition, At, Script, tree_of};
 use super::words::*;
+use crate::tests::{Said, Words, all_agree};
 use oca_tree::{AddFault, Kind, Spec, Start, StartFault, Tree, bench};
 use oca_types::{Class, Ono};
 use std::alloc::Global;
@@ -131,8 +131,8 @@ fn is_absent(tree: &Tree, ono: u32) -> bool {
 }
 
 /// Whether this is read of what was stored, and the tree is the same but for locks as itself, and not as the bench.
-fn is_so(alloc: Global) -> bool {
-    let (Some(tree), Ok(other)) = (tree_of(alloc, Root(GREETING, STORED_SWITCH)), bench(alloc))
+fn is_so(alloc: Global, said: &mut Said) -> bool {
+    let (Some(tree), Ok(other)) = (tree_of(Root(GREETING, STORED_SWITCH), said), bench(alloc))
     else {
         return false;
     };
@@ -151,10 +151,10 @@ const SCRIPTS: &[Script] = rows! {
 };
 
 #[test]
-fn scripts(rt: HostRuntime) {
-    play(&rt, rt.alloc(), SCRIPTS);
-    none_wrong(&rt, "words", &[first_wrong(rt.alloc(), WORDS)]);
-    assert!(rt; is_so(rt.alloc()));
+fn what_was_stored_is_there_again(rt: HostRuntime) {
+    all_agree(&rt, "starts", SCRIPTS);
+    all_agree(&rt, "faults of what was stored have words", WORDS);
+    assert!(rt; is_so(rt.alloc(), &mut Said::new(rt.alloc())));
     // Nothing stored is an object as added.
     let start = Start::default();
     assert!(rt; start.label == "" && start.enabled && start.position_enableds.is_none());

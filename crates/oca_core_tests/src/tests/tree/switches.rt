@@ -2,8 +2,9 @@
 use super::methods::{COMMON, DESK, LOCKABLE};
 use super::script::Over::Bench;
 use super::script::Row::{Calls, Does, Holds, Reads, Sends};
-use super::script::{At, Row, Script, play};
+use super::script::{At, Row, Script};
 use super::words::*;
+use crate::tests::all_agree;
 use oca_tree::Setting;
 use oca_types::Status;
 use oca_types::Status::{BadMethod, ParameterError, ParameterOutOfRange};
@@ -76,6 +77,6 @@ const SCRIPTS: &[Script] = rows! {
 };
 
 #[test]
-fn scripts(rt: HostRuntime) {
-    play(&rt, rt.alloc(), SCRIPTS);
+fn each_method_of_a_switch_answers(rt: HostRuntime) {
+    all_agree(&rt, "switches", SCRIPTS);
 }

@@ -1,7 +1,6 @@
 //! Classes and statuses by their numbers, and their names.
-use crate::tests::{Row, prints};
+use crate::tests::{Row, Said};
 use oca_types::{Class, Status, class_fields};
-use std::alloc::Global;
 
 /// A class, the fields of its identifier, and its name.
 pub struct IsClass(Class, &'static [u16], &'static str);
@@ -24,10 +23,10 @@ pub const CLASSES: &[IsClass] = &[
 
 impl Row for IsClass {
     /// Whether the class has these fields and this name, and prints the name.
-    fn agrees(&self, alloc: Global) -> bool {
-        class_fields(self.0).as_slice() == self.1
-            && self.0.name() == self.2
-            && prints(alloc, &self.0, self.2)
+    fn agrees(&self, said: &mut Said) -> bool {
+        said.same(class_fields(self.0).as_slice(), self.1)
+            && said.same(self.0.name(), self.2)
+            && said.prints(&self.0, self.2)
     }
 }
 
@@ -54,10 +53,10 @@ pub const STATUSES: &[IsStatus] = &[
 
 impl Row for IsStatus {
     /// Whether the status has this number and this name, and prints the name.
-    fn agrees(&self, alloc: Global) -> bool {
-        self.0.number() == self.1
-            && Status::with_number(self.1) == Some(self.0)
-            && self.0.name() == self.2
-            && prints(alloc, &self.0, self.2)
+    fn agrees(&self, said: &mut Said) -> bool {
+        said.same(self.0.number(), self.1)
+            && said.same(Status::with_number(self.1), Some(self.0))
+            && said.same(self.0.name(), self.2)
+            && said.prints(&self.0, self.2)
     }
 }

@@ -1,9 +1,8 @@
 //! Methods of the classes by their numbers.
-use crate::tests::Row;
+use crate::tests::{Row, Said};
 use oca_types::Class::{Block, Boolean, Int16, Mute, Polarity, Switch, Uint64};
 use oca_types::MethodKind::{Known, LeftOut, Unknown};
 use oca_types::{Access, Class, Method, MethodId, MethodKind, access_of, method_id, method_of};
-use std::alloc::Global;
 
 /// A class, a DefLevel and a MethodIndex, and what the class knows of them.
 pub struct Knows(Class, u16, u16, MethodKind);
@@ -41,17 +40,18 @@ pub const METHODS: &[Knows] = rows! {
 
 impl Row for Knows {
     /// Whether the class knows this of the numbers, and a method that is known has them and this access.
-    fn agrees(&self, _alloc: Global) -> bool {
+    fn agrees(&self, said: &mut Said) -> bool {
         let id = MethodId {
             level: self.1,
             index: self.2,
         };
-        if method_of(self.0, id) != self.3 {
+        if !said.same(method_of(self.0, id), self.3) {
             return false;
         }
         match self.3 {
             Known(method, access) => {
-                method_id(self.0, method) == Some(id) && access_of(method) == access
+                said.same(method_id(self.0, method), Some(id))
+                    && said.same(access_of(method), access)
             }
             LeftOut | Unknown => true,
         }
@@ -71,7 +71,7 @@ pub const OF_NO_CLASS: &[Lacks] = &[
 
 impl Row for Lacks {
     /// Whether the class does not have the method.
-    fn agrees(&self, _alloc: Global) -> bool {
+    fn agrees(&self, said: &mut Said) -> bool {
         method_id(self.0, self.1).is_none()
     }
 }

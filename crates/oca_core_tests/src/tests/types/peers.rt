@@ -1,7 +1,6 @@
 //! Peers as text.
-use crate::tests::{Row, prints};
+use crate::tests::{Row, Said};
 use oca_types::Peer;
-use std::alloc::Global;
 use std::net::SocketAddrV4;
 
 /// A peer, its address as four numbers, and its text.
@@ -15,23 +14,23 @@ pub const PEERS: &[IsPeer] = rows! {
 };
 
 /// Whether the text names this peer.
-fn reads(text: &str, peer: Peer) -> bool {
+fn reads(text: &str, peer: Peer, said: &mut Said) -> bool {
     match text.parse::<Peer>() {
-        Ok(read) => read == peer,
+        Ok(read) => said.same(read, peer),
         Err(_) => false,
     }
 }
 
 /// Whether a peer is that of these four numbers and its port, and of its own address.
-fn is_at(peer: Peer, numbers: [u8; 4]) -> bool {
+fn is_at(peer: Peer, numbers: [u8; 4], said: &mut Said) -> bool {
     let address = SocketAddrV4::from(peer);
-    Peer::from((numbers, peer.port)) == peer && Peer::from(address) == peer
+    said.same(Peer::from((numbers, peer.port)), peer) && said.same(Peer::from(address), peer)
 }
 
 impl Row for IsPeer {
     /// Whether the peer has these numbers, and this text.
-    fn agrees(&self, alloc: Global) -> bool {
-        is_at(self.0, self.1) && prints(alloc, &self.0, self.2) && reads(self.2, self.0)
+    fn agrees(&self, said: &mut Said) -> bool {
+        is_at(self.0, self.1, said) && said.prints(&self.0, self.2) && reads(self.2, self.0, said)
     }
 }
 
@@ -49,7 +48,7 @@ pub const NO_PEERS: &[NoPeer] = &[
 
 impl Row for NoPeer {
     /// Whether the text is not read.
-    fn agrees(&self, _alloc: Global) -> bool {
+    fn agrees(&self, said: &mut Said) -> bool {
         self.0.parse::<Peer>().is_err()
     }
 }

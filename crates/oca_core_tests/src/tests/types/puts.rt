@@ -1,10 +1,10 @@
 //! What is put, and how much room it needs.
-use crate::tests::Row;
+use crate::tests::{Row, Said};
 use oca_types::{
     Class, Cursor, Field, Params, PutFault, Text, put_bool, put_class_identification, put_i8,
     put_i16, put_i32, put_i64, put_text, put_u8, put_u16, put_u32, put_u64,
 };
-use std::alloc::Global;
+use std::fmt::Debug;
 
 /// A value that is put.
 #[derive(Clone, Copy)]
@@ -48,9 +48,9 @@ fn put(params: &mut Params, value: Value) -> Result<(), PutFault> {
 }
 
 /// Whether the values are put one after the other.
-fn puts_all(params: &mut Params, values: &[Value]) -> bool {
+fn puts_all(params: &mut Params, values: &[Value], said: &mut Said) -> bool {
     for value in values {
-        if put(params, *value) != Ok(()) {
+        if !said.same(put(params, *value), Ok(())) {
             return false;
         }
     }
@@ -62,9 +62,9 @@ pub struct AllPut(&'static [Value], &'static [u8]);
 
 impl Row for AllPut {
     /// Whether the values, put one after the other, are these bytes.
-    fn agrees(&self, _alloc: Global) -> bool {
+    fn agrees(&self, said: &mut Said) -> bool {
         let mut params = Params::new();
-        puts_all(&mut params, self.0) && params.as_slice() == self.1
+        puts_all(&mut params, self.0, said) && said.same(params.as_slice(), self.1)
     }
 }
 
@@ -110,16 +110,16 @@ pub const PUT: &[AllPut] = &[
 /// A value of one length.
 pub struct ReadBack<F>(F);
 
-impl<F: Field + PartialEq> Row for ReadBack<F> {
+impl<F: Field + PartialEq + Debug + Copy> Row for ReadBack<F> {
     /// Whether it is read back from what was put, of so many bytes.
-    fn agrees(&self, _alloc: Global) -> bool {
+    fn agrees(&self, said: &mut Said) -> bool {
         let mut params = Params::new();
         if self.0.put(&mut params).is_err() || params.len() != F::SIZE {
             return false;
         }
         let mut cursor = Cursor::new(params.as_slice());
         match cursor.take::<F>() {
-            Ok(read) => read == self.0,
+            Ok(read) => said.same(read, self.0),
             Err(_) => false,
         }
     }

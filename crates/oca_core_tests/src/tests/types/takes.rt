@@ -1,7 +1,6 @@
 //! Numbers and Booleans that are taken.
-use crate::tests::Row;
+use crate::tests::{Row, Said};
 use oca_types::{Cursor, ReadFault};
-use std::alloc::Global;
 
 /// What is taken, and what that answers.
 #[derive(Clone, Copy)]
@@ -19,18 +18,18 @@ pub enum Take {
 }
 
 /// Whether a take answers so.
-fn answers(cursor: &mut Cursor<'_>, take: Take) -> bool {
+fn answers(cursor: &mut Cursor<'_>, take: Take, said: &mut Said) -> bool {
     match take {
-        Take::U8(answer) => cursor.take_u8() == answer,
-        Take::U16(answer) => cursor.take_u16() == answer,
-        Take::U32(answer) => cursor.take_u32() == answer,
-        Take::U64(answer) => cursor.take_u64() == answer,
-        Take::I8(answer) => cursor.take_i8() == answer,
-        Take::I16(answer) => cursor.take_i16() == answer,
-        Take::I32(answer) => cursor.take_i32() == answer,
-        Take::I64(answer) => cursor.take_i64() == answer,
-        Take::Bool(answer) => cursor.take_bool() == answer,
-        Take::Finish(answer) => cursor.finish() == answer,
+        Take::U8(answer) => said.same(cursor.take_u8(), answer),
+        Take::U16(answer) => said.same(cursor.take_u16(), answer),
+        Take::U32(answer) => said.same(cursor.take_u32(), answer),
+        Take::U64(answer) => said.same(cursor.take_u64(), answer),
+        Take::I8(answer) => said.same(cursor.take_i8(), answer),
+        Take::I16(answer) => said.same(cursor.take_i16(), answer),
+        Take::I32(answer) => said.same(cursor.take_i32(), answer),
+        Take::I64(answer) => said.same(cursor.take_i64(), answer),
+        Take::Bool(answer) => said.same(cursor.take_bool(), answer),
+        Take::Finish(answer) => said.same(cursor.finish(), answer),
     }
 }
 
@@ -39,10 +38,10 @@ pub struct Taken(&'static [u8], &'static [Take]);
 
 impl Row for Taken {
     /// Whether each of the takes answers so.
-    fn agrees(&self, _alloc: Global) -> bool {
+    fn agrees(&self, said: &mut Said) -> bool {
         let mut cursor = Cursor::new(self.0);
         for take in self.1 {
-            if !answers(&mut cursor, *take) {
+            if !answers(&mut cursor, *take, said) {
                 return false;
             }
         }

@@ -1,54 +1,53 @@
 //! Texts: well-formed, cut short, too long and no UTF-8.
-use crate::tests::Row;
+use crate::tests::{Row, Said};
 use oca_types::ReadFault::{NotUtf8, Short, TooLong};
 use oca_types::{Cursor, ReadFault, Text};
-use std::alloc::Global;
 
 /// Bytes, and the text that is taken of them with the number of the bytes behind it, or the refusal.
 pub struct Taken(&'static [u8], Result<(&'static str, u8), ReadFault>);
 
 /// Whether so many bytes are left.
-fn leaves(cursor: &mut Cursor<'_>, left: u8) -> bool {
+fn leaves(cursor: &mut Cursor<'_>, left: u8, said: &mut Said) -> bool {
     for _ in 0..left {
         if cursor.take_u8().is_err() {
             return false;
         }
     }
-    cursor.finish() == Ok(())
+    said.same(cursor.finish(), Ok(()))
 }
 
 /// Whether the text is taken, and so many bytes are left.
-fn is_text(bytes: &[u8], text: &str, left: u8) -> bool {
+fn is_text(bytes: &[u8], text: &str, left: u8, said: &mut Said) -> bool {
     let mut cursor = Cursor::new(bytes);
     match cursor.take_text() {
-        Ok(found) => found.as_str() == text && leaves(&mut cursor, left),
+        Ok(found) => said.same(found.as_str(), text) && leaves(&mut cursor, left, said),
         Err(_) => false,
     }
 }
 
 /// Whether the first byte is still to come.
-fn is_unchanged(cursor: &mut Cursor<'_>, bytes: &[u8]) -> bool {
+fn is_unchanged(cursor: &mut Cursor<'_>, bytes: &[u8], said: &mut Said) -> bool {
     match bytes.first() {
-        Some(first) => cursor.take_u8() == Ok(*first),
-        None => cursor.take_u8() == Err(Short),
+        Some(first) => said.same(cursor.take_u8(), Ok(*first)),
+        None => said.same(cursor.take_u8(), Err(Short)),
     }
 }
 
 /// Whether `take_text` refuses so, and the cursor is unchanged.
-fn is_no_text(bytes: &[u8], want: ReadFault) -> bool {
+fn is_no_text(bytes: &[u8], want: ReadFault, said: &mut Said) -> bool {
     let mut cursor = Cursor::new(bytes);
     match cursor.take_text() {
         Ok(_) => false,
-        Err(fault) => fault == want && is_unchanged(&mut cursor, bytes),
+        Err(fault) => said.same(fault, want) && is_unchanged(&mut cursor, bytes, said),
     }
 }
 
 impl Row for Taken {
     /// Whether the bytes are answered so.
-    fn agrees(&self, _alloc: Global) -> bool {
+    fn agrees(&self, said: &mut Said) -> bool {
         match self.1 {
-            Ok((text, left)) => is_text(self.0, text, left),
-            Err(fault) => is_no_text(self.0, fault),
+            Ok((text, left)) => is_text(self.0, text, left, said),
+            Err(fault) => is_no_text(self.0, fault, said),
         }
     }
 }
@@ -126,9 +125,13 @@ pub const SHORT: &[AtMost64] = &[
 
 impl Row for AtMost64 {
     /// Whether it is a text, and the same once more, where it has at most 64 bytes.
-    fn agrees(&self, _alloc: Global) -> bool {
+    fn agrees(&self, said: &mut Said) -> bool {
         match Text::new(self.0) {
-            Some(text) => { self.1 && text.as_str() == self.0 && text.copied().as_str() == self.0 }
+            Some(text) => {
+                self.1
+                    && said.same(text.as_str(), self.0)
+                    && said.same(text.copied().as_str(), self.0)
+            }
             None => !self.1,
         }
     }
