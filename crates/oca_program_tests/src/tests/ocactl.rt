@@ -1,9 +1,8 @@
 //! What the clauses leave open: commands that are sent over an end in memory, and readers and writers that give and
 //! take a little at a time or fail. Whole runs of the program are rows of `tools/rows/ocactl.toml`.
-use super::{Row, first_place, first_wrong, none_wrong};
+use crate::tests::{Row, Said, all_agree, all_hold};
 use oca_types::Peer;
 use ocactl_cli::command::Given;
-use std::alloc::Global;
 
 mod commands;
 mod objects;
@@ -21,9 +20,9 @@ struct Holds(&'static str, Option<u64>);
 
 impl Row for Holds {
     /// Whether it says this time.
-    fn agrees(&self, alloc: Global) -> bool {
-        match Given::of(alloc, &["ocactl", "lock", "--hold", self.0, "4097"]) {
-            Ok(given) => given.hold_ms == self.1,
+    fn agrees(&self, said: &mut Said) -> bool {
+        match Given::of(said.alloc, &["ocactl", "lock", "--hold", self.0, "4097"]) {
+            Ok(given) => said.same(given.hold_ms, self.1),
             Err(_) => false,
         }
     }
@@ -45,69 +44,67 @@ const HOLDS: &[Holds] = &[
 const NO_LIMIT: usize = usize::MAX;
 
 #[test]
-fn lines_over_an_end(rt: HostRuntime) {
-    let alloc = rt.alloc();
-    none_wrong(
+fn lines_are_answered_in_their_order(rt: HostRuntime) {
+    all_agree(&rt, "lines, one at a time", commands::ONE_AT_A_TIME);
+    all_agree(&rt, "lines, many at once", commands::AT_ONCE);
+    all_agree(&rt, "lines behind which the end closes", commands::ENDING);
+    all_agree(&rt, "lines that are cut off", commands::CUT_LINES);
+}
+
+#[test]
+fn a_time_to_hold_is_read(rt: HostRuntime) {
+    all_agree(&rt, "a time to hold is in seconds, minutes or hours", HOLDS);
+}
+
+#[test]
+fn commands_go_on_while_no_line_comes(rt: HostRuntime) {
+    all_agree(
         &rt,
-        "lines over an end",
-        &[
-            first_wrong(alloc, commands::ONE_AT_A_TIME),
-            first_wrong(alloc, commands::AT_ONCE),
-            first_wrong(alloc, commands::ENDING),
-            first_wrong(alloc, commands::CUT_LINES),
-        ],
+        "what is in flight is driven while no line comes",
+        commands::IDLE,
+    );
+    all_agree(&rt, "a read fails behind a pause", commands::IDLE_THEN_READ);
+}
+
+#[test]
+fn a_command_ends_as_its_answer_says(rt: HostRuntime) {
+    all_agree(&rt, "one command is asked", commands::ASKINGS);
+    all_agree(
+        &rt,
+        "a command is driven whatever stands behind it",
+        commands::BEHIND,
+    );
+    all_agree(&rt, "three mutes are set", objects::SETTINGS);
+    all_agree(&rt, "what a probe finds", probes::FOUND);
+    all_hold(
+        &rt,
+        "an answer without room is a failed write",
+        &commands::Cut,
+        0,
+        14,
     );
 }
 
 #[test]
-fn times_to_hold_locks(rt: HostRuntime) {
-    none_wrong(
+fn a_link_replays_wherever_it_is_cut(rt: HostRuntime) {
+    all_agree(
         &rt,
-        "times to hold locks",
-        &[first_wrong(rt.alloc(), HOLDS)],
+        "a script is read and written in pieces",
+        replay::PIECES,
     );
-}
-
-#[test]
-fn idle_and_bad_lines(rt: HostRuntime) {
-    let alloc = rt.alloc();
-    none_wrong(
+    all_agree(&rt, "a bad line ends a script", replay::FAULTS);
+    all_hold(
         &rt,
-        "idle and bad lines",
-        &[
-            first_wrong(alloc, commands::IDLE),
-            first_wrong(alloc, commands::IDLE_THEN_READ),
-        ],
+        "wherever a reader fails",
+        &replay::Reads,
+        0,
+        replay::EXCHANGE.len(),
     );
-}
-
-#[test]
-fn commands_over_an_end(rt: HostRuntime) {
-    let alloc = rt.alloc();
-    none_wrong(
+    all_hold(
         &rt,
-        "commands over an end",
-        &[
-            first_wrong(alloc, commands::ASKINGS),
-            first_wrong(alloc, commands::BEHIND),
-            first_wrong(alloc, objects::SETTINGS),
-            first_wrong(alloc, probes::FOUND),
-            first_place(alloc, &commands::Cut, 0, 14),
-        ],
-    );
-}
-
-#[test]
-fn replays_of_links(rt: HostRuntime) {
-    let alloc = rt.alloc();
-    none_wrong(
-        &rt,
-        "replays of links",
-        &[
-            first_wrong(alloc, replay::PIECES),
-            first_wrong(alloc, replay::FAULTS),
-            first_place(alloc, &replay::Reads, 0, replay::EXCHANGE.len()),
-            first_place(alloc, &replay::Writes, 0, replay::EXCHANGED.len()),
-        ],
+        "wherever a writer fails",
+        &replay::Writes,
+        0,
+        replay::EXCHANGED.len(),
     );
 }

@@ -1,10 +1,10 @@
 //! What the clauses leave open: replays between ends that cut what they give and take, or fail at each place, and what
 //! goes over sockets. Whole runs of the program are rows of `tools/rows/ocadev.toml`.
-use super::{first_place, first_wrong, none_wrong, wrong_unless};
+use crate::tests::{Said, all_agree, all_hold, fail};
 use oca_device::{Device, Outbox};
-use oca_tree::{Tree, bench};
+use oca_tree::bench;
 use oca_types::Window;
-use std::alloc::Global;
+use std::process::Abort;
 
 mod ends;
 mod replay;
@@ -45,90 +45,92 @@ const WHOLE: Cuts = Cuts {
 
 /// What is tried on a device.
 trait Trial {
-    /// The first place at which it goes otherwise on a device and with its outbox.
-    fn first_wrong(&mut self, device: &mut Device, outbox: &mut Outbox) -> Option<usize>;
+    /// Whether it goes on a device and with its outbox as it must.
+    fn goes(&mut self, device: &mut Device, outbox: &mut Outbox, said: &mut Said) -> bool;
 }
 
-/// The first place at which it goes otherwise on a device; the last number where there is no outbox.
-fn first_wrong_on<T: Trial>(alloc: Global, trial: &mut T, device: &mut Device) -> Option<usize> {
-    match Outbox::new(alloc) {
-        Ok(mut outbox) => trial.first_wrong(device, &mut outbox),
-        Err(_) => Some(usize::MAX),
+/// Whether it goes so on the bench device before any event.
+fn goes_on_bench<T: Trial>(trial: &mut T, said: &mut Said) -> bool {
+    let Ok(tree) = bench(said.alloc) else {
+        return false;
+    };
+    match (
+        Device::new(said.alloc, tree, Window::default()),
+        Outbox::new(said.alloc),
+    ) {
+        (Ok(mut device), Ok(mut outbox)) => trial.goes(&mut device, &mut outbox, said),
+        _ => false,
     }
 }
 
-/// The same on the device of a tree.
-fn first_wrong_of<T: Trial>(alloc: Global, trial: &mut T, tree: Tree) -> Option<usize> {
-    match Device::new(alloc, tree, Window::default()) {
-        Ok(mut device) => first_wrong_on(alloc, trial, &mut device),
-        Err(_) => Some(usize::MAX),
-    }
-}
-
-/// The same on the bench device before any event.
-fn on_bench<T: Trial>(alloc: Global, trial: &mut T) -> Option<usize> {
-    match bench(alloc) {
-        Ok(tree) => first_wrong_of(alloc, trial, tree),
-        Err(_) => Some(usize::MAX),
+/// What has this name goes so.
+fn on_bench<A: Abort + AllocGlobal, T: Trial>(rt: &A, name: &str, trial: &mut T) {
+    let mut said = Said::new(rt.alloc());
+    if !goes_on_bench(trial, &mut said) {
+        fail(rt, name, 0, &said);
     }
 }
 
 #[test]
-fn ends_that_fail(rt: HostRuntime) {
-    let alloc = rt.alloc();
-    none_wrong(
+fn a_device_replays_wherever_it_is_cut(rt: HostRuntime) {
+    all_hold(&rt, "in pieces of each size", &ends::Pieces, 1, 100);
+    all_hold(
         &rt,
-        "ends that fail",
-        &[
-            first_place(alloc, &ends::Pieces, 1, 100),
-            first_place(alloc, &ends::Reads, 0, UNMUTES.len()),
-            first_place(alloc, &ends::Writes, 0, UNMUTED.len()),
-        ],
+        "wherever the reader fails",
+        &ends::Reads,
+        0,
+        UNMUTES.len(),
+    );
+    all_hold(
+        &rt,
+        "wherever the writer fails",
+        &ends::Writes,
+        0,
+        UNMUTED.len(),
     );
 }
 
 #[test]
-fn more_peers_than_sessions(rt: HostRuntime) {
-    let alloc = rt.alloc();
-    none_wrong(
+fn a_17th_peer_finds_no_room(rt: HostRuntime) {
+    on_bench(
         &rt,
-        "more peers than sessions",
-        &[on_bench(alloc, &mut replay::KeepAlives)],
+        "a keep-alive of each of 17 peers",
+        &mut replay::KeepAlives,
     );
 }
 
 #[test]
-fn at_sockets(rt: HostRuntime) {
-    let alloc = rt.alloc();
-    none_wrong(
+fn a_device_serves_at_a_socket(rt: HostRuntime) {
+    all_agree(&rt, "a report is printed", sockets::REPORTS);
+    on_bench(
         &rt,
-        "at sockets",
-        &[
-            first_wrong(alloc, sockets::REPORTS),
-            on_bench(alloc, &mut sockets::AtSockets { alloc, system: &rt }),
-        ],
+        "a device and an asker at sockets",
+        &mut sockets::AtSockets { system: &rt },
     );
 }
 
 #[test]
-fn traced_datagrams(rt: HostRuntime) {
-    let alloc = rt.alloc();
-    none_wrong(
-        &rt,
-        "traced datagrams",
-        &[
-            wrong_unless(traces::serves(alloc, false, b"")),
-            wrong_unless(traces::serves(alloc, true, traces::TRACE)),
-            wrong_unless(traces::counts_while_receives_fail(alloc)),
-        ],
+fn each_datagram_is_traced(rt: HostRuntime) {
+    let mut said = Said::new(rt.alloc());
+    assert!(rt;
+        traces::serves(false, b"", &mut said),
+        "nothing is traced: {said}"
+    );
+    assert!(rt;
+        traces::serves(true, traces::TRACE, &mut said),
+        "each datagram is traced: {said}"
+    );
+    assert!(rt;
+        traces::counts_while_receives_fail(&mut said),
+        "counts while receives fail: {said}"
     );
 }
 
 #[test]
 fn a_store_that_fails_is_logged_each_minute(rt: HostRuntime) {
-    none_wrong(
-        &rt,
-        "a store that fails",
-        &[wrong_unless(traces::reminds_each_minute(rt.alloc()))],
+    let mut said = Said::new(rt.alloc());
+    assert!(rt;
+        traces::reminds_each_minute(&mut said),
+        "a store that fails is told each minute: {said}"
     );
 }

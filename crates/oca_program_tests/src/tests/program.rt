@@ -1,6 +1,6 @@
 //! What the clauses leave open: printed texts, and faults where memory or the writer refuses.
-use super::{AtPlace, Row, displays, first_place, first_wrong, none_wrong, wrong_unless};
 use crate::tests::fakes::ShortWriter;
+use crate::tests::{AtPlace, Row, Said, all_agree, all_hold};
 use oca_program::{Failure, Form, RunFault, replayed, report, status_of};
 use oca_script::{LineFault, Printer, ReplayFault, WriteFailed};
 use oca_textree::ObjectFault;
@@ -32,15 +32,16 @@ fn failure(cause: Cause) -> Failure {
 }
 
 /// Whether the failure ends a run with this status, and prints just that.
-fn reports_as(failure: &Failure, status: u8, text: &[u8]) -> bool {
+fn reports_as(failure: &Failure, status: u8, text: &[u8], said: &mut Said) -> bool {
     let mut faults = Printer::new(ShortWriter::new(3, usize::MAX));
-    report(failure, &mut faults) == status && faults.sink().taken.as_slice() == text
+    said.same(report(failure, &mut faults), status)
+        && said.same_text(faults.sink().taken.as_slice(), text)
 }
 
 /// Whether a fault displays this text but for its line feed.
-fn displays_line(alloc: Global, fault: &RunFault, text: &str) -> bool {
+fn displays_line(fault: &RunFault, text: &str, said: &mut Said) -> bool {
     match text.strip_suffix('\n') {
-        Some(line) => displays(alloc, fault, line),
+        Some(line) => said.displays(fault, line),
         None => false,
     }
 }
@@ -50,12 +51,12 @@ struct Reported(Cause, u8, &'static str);
 
 impl Row for Reported {
     /// Whether it ends a run so; a fault of a run also displays the text.
-    fn agrees(&self, alloc: Global) -> bool {
+    fn agrees(&self, said: &mut Said) -> bool {
         let is_displayed = match self.0 {
-            Run(fault) => displays_line(alloc, &fault, self.2),
+            Run(fault) => displays_line(&fault, self.2, said),
             Replay(_) | Writing | Memory | Allocating => true,
         };
-        is_displayed && reports_as(&failure(self.0), self.1, self.2.as_bytes())
+        is_displayed && reports_as(&failure(self.0), self.1, self.2.as_bytes(), said)
     }
 }
 
@@ -89,8 +90,8 @@ struct IsOf(Form, &'static str, bool);
 
 impl Row for IsOf {
     /// Whether that is so.
-    fn agrees(&self, _alloc: Global) -> bool {
-        self.0.takes(self.1.as_bytes()) == self.2
+    fn agrees(&self, said: &mut Said) -> bool {
+        said.same(self.0.takes(self.1.as_bytes()), self.2)
     }
 }
 
@@ -144,9 +145,9 @@ const LINES: &[Reported] = &[
 ];
 
 /// Whether a run that ended so has this exit status.
-fn ends_with(ended: Result<u8, Failure>, status: u8) -> bool {
+fn ends_with(ended: Result<u8, Failure>, status: u8, said: &mut Said) -> bool {
     let mut faults = Printer::new(ShortWriter::new(9, usize::MAX));
-    status_of(ended, &mut faults) == status
+    said.same(status_of(ended, &mut faults), status)
 }
 
 /// A fault with a note of these bytes; the status with which it ends a run, how what is printed begins, and of how many
@@ -154,21 +155,21 @@ fn ends_with(ended: Result<u8, Failure>, status: u8) -> bool {
 struct Noted(RunFault, &'static [u8], u8, &'static [u8], usize);
 
 /// Whether the failure ends a run so.
-fn is_told(failure: &Failure, row: &Noted) -> bool {
+fn is_told(failure: &Failure, row: &Noted, said: &mut Said) -> bool {
     let mut faults = Printer::new(ShortWriter::new(9, usize::MAX));
-    report(failure, &mut faults) == row.2
+    said.same(report(failure, &mut faults), row.2)
         && faults.sink().taken.starts_with(row.3)
-        && faults.sink().taken.len() == row.4
+        && said.same(faults.sink().taken.len(), row.4)
 }
 
 impl Row for Noted {
     /// Whether the fault with this note ends a run so.
-    fn agrees(&self, alloc: Global) -> bool {
+    fn agrees(&self, said: &mut Said) -> bool {
         let Ok(note) = from_utf8(self.1) else {
             return false;
         };
-        match String::from_str(alloc, note) {
-            Ok(note) => is_told(&Failure::noted(self.0, note), self),
+        match String::from_str(said.alloc, note) {
+            Ok(note) => is_told(&Failure::noted(self.0, note), self, said),
             Err(_) => false,
         }
     }
@@ -198,29 +199,35 @@ struct Filled;
 
 impl AtPlace for Filled {
     /// Whether a writer with so much room is filled by a fault, where the status is 2.
-    fn holds(&self, _alloc: Global, room: usize) -> bool {
+    fn holds(&self, room: usize, said: &mut Said) -> bool {
         let mut faults = Printer::new(ShortWriter::new(3, room));
-        report(&Failure::from(RunFault::BadWords), &mut faults) == 2
-            && faults.sink().taken.len() == room
+        said.same(report(&Failure::from(RunFault::BadWords), &mut faults), 2)
+            && said.same(faults.sink().taken.len(), room)
     }
 }
 
 #[test]
-fn faults_and_forms_of_runs(rt: HostRuntime) {
-    let alloc = rt.alloc();
-    none_wrong(
-        &rt,
-        "faults and forms of runs",
-        &[
-            first_wrong(alloc, FAULTS),
-            first_wrong(alloc, LINES),
-            first_wrong(alloc, FORMS),
-            first_place(alloc, &Filled, 0, 10),
-            first_wrong(alloc, NOTES),
-            wrong_unless(ends_with(Ok(3), 3)),
-            wrong_unless(ends_with(Err(Failure::from(RunFault::BadWords)), 2)),
-            wrong_unless(ends_with(replayed(Ok(())), 0)),
-            wrong_unless(ends_with(replayed(Err(ReplayFault::Read)), 1)),
-        ],
+fn faults_have_their_status_and_words(rt: HostRuntime) {
+    let mut said = Said::new(rt.alloc());
+    all_agree(&rt, "faults have a status and a text", FAULTS);
+    all_agree(&rt, "faults of lines have a status and a text", LINES);
+    all_agree(&rt, "texts are of their forms", FORMS);
+    all_hold(&rt, "a fault fills its room", &Filled, 0, 10);
+    all_agree(&rt, "a note is one line before its fault", NOTES);
+    assert!(rt;
+        ends_with(Ok(3), 3, &mut said),
+        "a status is handed on: {said}"
+    );
+    assert!(rt;
+        ends_with(Err(Failure::from(RunFault::BadWords)), 2, &mut said),
+        "a failure has its status: {said}"
+    );
+    assert!(rt;
+        ends_with(replayed(Ok(())), 0, &mut said),
+        "a whole replay has the status 0: {said}"
+    );
+    assert!(rt;
+        ends_with(replayed(Err(ReplayFault::Read)), 1, &mut said),
+        "a failed read has the status 1: {said}"
     );
 }

@@ -3,19 +3,12 @@
 mod copies;
 mod faults;
 
-use super::{first_wrong, none_wrong};
+use crate::tests::all_agree;
 
 #[test]
-fn texts_of_trees(rt: HostRuntime) {
-    let alloc = rt.alloc();
-    none_wrong(
-        &rt,
-        "texts of trees",
-        &[
-            first_wrong(alloc, faults::DISPLAYED),
-            first_wrong(alloc, copies::BENCHES),
-            first_wrong(alloc, copies::SETS),
-            first_wrong(alloc, copies::NUMBERS),
-        ],
-    );
+fn a_tree_is_read_back_from_its_text(rt: HostRuntime) {
+    all_agree(&rt, "faults of texts have words", faults::DISPLAYED);
+    all_agree(&rt, "the bench is read back", copies::BENCHES);
+    all_agree(&rt, "a set object is written and read back", copies::SETS);
+    all_agree(&rt, "a number is written and read back", copies::NUMBERS);
 }

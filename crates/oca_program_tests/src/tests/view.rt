@@ -2,7 +2,7 @@
 //! in memory.
 use super::coming::Coming::{self, Datagram, Quiet};
 use super::coming::end;
-use super::{Row, first_wrong, none_wrong};
+use crate::tests::{Row, Said, all_agree};
 use oca_net::MemoryEnd;
 use oca_panel::Panel;
 use oca_types::{Handle, Ono, Packet, Peer, Span};
@@ -82,28 +82,30 @@ fn number_at(packet: &Packet, place: usize) -> Option<u32> {
 }
 
 /// Whether a datagram has the command of this handle for this object.
-fn is_command(packet: &Packet, wanted: (u32, u32)) -> bool {
-    number_at(packet, 14) == Some(wanted.0) && number_at(packet, 18) == Some(wanted.1)
+fn is_command(packet: &Packet, wanted: (u32, u32), said: &mut Said) -> bool {
+    said.same(number_at(packet, 14), Some(wanted.0))
+        && said.same(number_at(packet, 18), Some(wanted.1))
 }
 
 /// Whether the first commands that an end took are these, each once.
-fn took(end: &MemoryEnd, wanted: &[(u32, u32)]) -> bool {
+fn took(end: &MemoryEnd, wanted: &[(u32, u32)], said: &mut Said) -> bool {
     let taken = end.taken();
-    wanted.len() <= taken.len() && (0..wanted.len()).all(|at| is_command(&taken[at].1, wanted[at]))
+    wanted.len() <= taken.len()
+        && (0..wanted.len()).all(|at| is_command(&taken[at].1, wanted[at], said))
 }
 
 /// Takes an order.
-fn takes_order(view: &mut View) -> bool {
+fn takes_order(view: &mut View, said: &mut Said) -> bool {
     let wanted = Wanted {
         ono: Ono(100),
         read: Read::default(),
         action: Action::Lock,
     };
-    view.order_all(&[wanted], u64::MAX).is_some() && view.next_ticket() == 2
+    view.order_all(&[wanted], u64::MAX).is_some() && said.same(view.next_ticket(), 2)
 }
 
 /// Goes on, and takes so many turns. Whether there was memory.
-fn goes_on(view: &mut View, panel: &mut Panel<MemoryEnd>, turns: usize) -> bool {
+fn goes_on(view: &mut View, panel: &mut Panel<MemoryEnd>, turns: usize, said: &mut Said) -> bool {
     if view.go_on(panel).is_err() {
         return false;
     }
@@ -122,11 +124,12 @@ fn runs(
     first: Handle,
     coming: &[Coming],
     wanted: &[(u32, u32)],
+    said: &mut Said,
 ) -> bool {
     match end(alloc, coming, 64, None) {
         Some(end) => {
             let mut panel = Panel::open(DEVICE, end, first, Span::default(), 0);
-            goes_on(view, &mut panel, coming.len()) && took(panel.end(), wanted)
+            goes_on(view, &mut panel, coming.len(), said) && took(panel.end(), wanted, said)
         }
         None => false,
     }
@@ -134,45 +137,44 @@ fn runs(
 
 impl Changes {
     /// Whether the view goes on as it must over both ends.
-    fn goes_on(&self, alloc: Global, view: &mut View) -> bool {
-        takes_order(view)
+    fn goes_on(&self, alloc: Global, view: &mut View, said: &mut Said) -> bool {
+        takes_order(view, said)
             && !view.wants_end()
-            && runs(alloc, view, Handle(FIRST), ANSWERS, TAKEN)
+            && runs(alloc, view, Handle(FIRST), ANSWERS, TAKEN, said)
             && view.wants_end()
-            && self.changes(view)
-            && runs(alloc, view, Handle(1), ANSWERS_BEHIND, TAKEN_BEHIND)
+            && self.changes(view, said)
+            && runs(alloc, view, Handle(1), ANSWERS_BEHIND, TAKEN_BEHIND, said)
     }
 
     /// Whether the view keeps what it is to keep when it takes another end: the objects and the tickets, and the orders
     /// that wait where the program did not stand still.
-    fn changes(&self, view: &mut View) -> bool {
+    fn changes(&self, view: &mut View, said: &mut Said) -> bool {
         let objects = view.inventory().objects().as_slice().len();
         let stood_still = view.take_end(Handle(1), 500, self.last, 3);
-        stood_still == self.stood_still
-            && view.orders().waits() == !stood_still
+        said.same(stood_still, self.stood_still)
+            && said.same(view.orders().waits(), !stood_still)
             && !view.wants_end()
-            && view.next_ticket() == 2
-            && view.moment() == self.last
-            && view.ahead() == self.last.saturating_sub(500)
-            && view.inventory().objects().as_slice().len() == objects
-            && view.submitted() == 3
+            && said.same(view.next_ticket(), 2)
+            && said.same(view.moment(), self.last)
+            && said.same(view.ahead(), self.last.saturating_sub(500))
+            && said.same(view.inventory().objects().as_slice().len(), objects)
+            && said.same(view.submitted(), 3)
     }
 }
 
 impl Row for Changes {
     /// Whether it does.
-    fn agrees(&self, alloc: Global) -> bool {
-        match View::new(alloc, DEVICE, Span::default(), Handle(FIRST), 0) {
-            Ok(mut view) => self.goes_on(alloc, &mut view),
+    fn agrees(&self, said: &mut Said) -> bool {
+        match View::new(said.alloc, DEVICE, Span::default(), Handle(FIRST), 0) {
+            Ok(mut view) => self.goes_on(said.alloc, &mut view, said),
             Err(_) => false,
         }
     }
 }
 
 #[test]
-fn other_ends(rt: HostRuntime) {
-    let alloc = rt.alloc();
-    none_wrong(&rt, "other ends", &[first_wrong(alloc, CHANGES)]);
+fn a_view_goes_on_over_another_end(rt: HostRuntime) {
+    all_agree(&rt, "a view goes on over another end", CHANGES);
 }
 
 /// What comes in the first turn of a view's link, and when the view then tells that the device was heard.
@@ -200,20 +202,20 @@ pub const HEARINGS: &[Hearing] = &[
 
 impl Hearing {
     /// Whether a view that was made at 0 ms tells so behind a turn.
-    fn is_told(&self, view: &mut View, end: MemoryEnd) -> bool {
+    fn is_told(&self, view: &mut View, end: MemoryEnd, said: &mut Said) -> bool {
         let mut panel = Panel::open(DEVICE, end, Handle(FIRST), Span::default(), 0);
         view.news().heard.is_none()
             && view.take_turn(&mut panel).is_ok()
-            && view.news().heard == self.heard
+            && said.same(view.news().heard, self.heard)
     }
 }
 
 impl Row for Hearing {
     /// Whether it does.
-    fn agrees(&self, alloc: Global) -> bool {
-        match View::new(alloc, DEVICE, Span::default(), Handle(FIRST), 0) {
-            Ok(mut view) => match end(alloc, self.coming, 64, None) {
-                Some(end) => self.is_told(&mut view, end),
+    fn agrees(&self, said: &mut Said) -> bool {
+        match View::new(said.alloc, DEVICE, Span::default(), Handle(FIRST), 0) {
+            Ok(mut view) => match end(said.alloc, self.coming, 64, None) {
+                Some(end) => self.is_told(&mut view, end, said),
                 None => false,
             },
             Err(_) => false,
@@ -222,7 +224,6 @@ impl Row for Hearing {
 }
 
 #[test]
-fn hearings(rt: HostRuntime) {
-    let alloc = rt.alloc();
-    none_wrong(&rt, "hearings", &[first_wrong(alloc, HEARINGS)]);
+fn a_view_tells_when_it_heard_the_device(rt: HostRuntime) {
+    all_agree(&rt, "a view tells when the device was heard", HEARINGS);
 }

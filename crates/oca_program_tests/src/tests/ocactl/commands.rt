@@ -3,7 +3,7 @@ use super::{DEVICE, NO_LIMIT};
 use crate::tests::coming::Coming::{self, Datagram, Quiet};
 use crate::tests::coming::end;
 use crate::tests::fakes::{PausedReader, PieceReader, ShortWriter};
-use crate::tests::{AtPlace, Row};
+use crate::tests::{AtPlace, Row, Said};
 use oca_control::Link;
 use oca_net::MemoryEnd;
 use oca_script::{LineFault, Printer, ReplayFault, WriteFailed};
@@ -155,31 +155,33 @@ pub const ASKINGS: &[Asking] = &[
 ];
 
 /// Whether the command ends so over an end: it leaves at once, and each turn receives once.
-fn ends_over(end: &mut MemoryEnd, asking: &Asking) -> bool {
+fn ends_over(end: &mut MemoryEnd, asking: &Asking, said: &mut Said) -> bool {
     let mut to = Printer::new(ShortWriter::new(5, NO_LIMIT));
     let exit = ask_once(&mut link(), end, GET, asking.turns, &mut to);
-    exit == Ok(asking.exit)
-        && to.sink().taken.as_slice() == asking.output
-        && end.delivered().len() == asking.turns as usize
+    said.same(exit, Ok(asking.exit))
+        && said.same_text(to.sink().taken.as_slice(), asking.output)
+        && said.same(end.delivered().len(), asking.turns as usize)
         && !end.taken().is_empty()
 }
 
 impl Row for Asking {
     /// Whether the command ends so.
-    fn agrees(&self, alloc: Global) -> bool {
-        match end(alloc, self.coming, 30, None) {
-            Some(mut end) => ends_over(&mut end, self),
+    fn agrees(&self, said: &mut Said) -> bool {
+        match end(said.alloc, self.coming, 30, None) {
+            Some(mut end) => ends_over(&mut end, self, said),
             None => false,
         }
     }
 }
 
 /// Whether an answer over an end, for which there is only so much room, is a failed write.
-fn is_cut_over(end: &mut MemoryEnd, room: usize) -> bool {
+fn is_cut_over(end: &mut MemoryEnd, room: usize, said: &mut Said) -> bool {
     let mut to = Printer::new(ShortWriter::new(5, room));
     let exit = ask_once(&mut link(), end, GET, 2, &mut to);
     let text = to.sink().taken.as_slice();
-    exit == Err(WriteFailed) && text.len() == room && b"answer 0 1 01\n".starts_with(text)
+    said.same(exit, Err(WriteFailed))
+        && said.same(text.len(), room)
+        && b"answer 0 1 01\n".starts_with(text)
 }
 
 /// An answer for which there are fewer than 14 bytes of room: what can't be written is a failed write, whatever the
@@ -188,9 +190,9 @@ pub struct Cut;
 
 impl AtPlace for Cut {
     /// Whether it is where there is only so much room.
-    fn holds(&self, alloc: Global, room: usize) -> bool {
-        match end(alloc, &[Datagram(DEVICE, ANSWER_1_0, 10)], 30, None) {
-            Some(mut end) => is_cut_over(&mut end, room),
+    fn holds(&self, room: usize, said: &mut Said) -> bool {
+        match end(said.alloc, &[Datagram(DEVICE, ANSWER_1_0, 10)], 30, None) {
+            Some(mut end) => is_cut_over(&mut end, room, said),
             None => false,
         }
     }
@@ -285,7 +287,7 @@ fn session(alloc: Global, ahead: u8, deliveries: &[Coming]) -> Option<Session<Me
 }
 
 /// Whether the lines end so in a session.
-fn sends_over(session: &mut Session<MemoryEnd>, row: &Lines) -> bool {
+fn sends_over(session: &mut Session<MemoryEnd>, row: &Lines, said: &mut Said) -> bool {
     if row.piece == 0 {
         return false;
     }
@@ -298,17 +300,17 @@ fn sends_over(session: &mut Session<MemoryEnd>, row: &Lines) -> bool {
     let mut from = PausedReader::new(reader, row.pauses);
     let mut to = Printer::new(ShortWriter::new(5000, row.room));
     let ended = send_all(session, &mut from, &mut to);
-    ended == row.ended
-        && from.reader.failed == row.read_failed
-        && session.unanswered() == row.unanswered
-        && to.sink().taken.as_slice() == row.output
+    said.same(ended, row.ended)
+        && said.same(from.reader.failed, row.read_failed)
+        && said.same(session.unanswered(), row.unanswered)
+        && said.same_text(to.sink().taken.as_slice(), row.output)
 }
 
 impl Row for Lines {
     /// Whether the lines end so.
-    fn agrees(&self, alloc: Global) -> bool {
-        match session(alloc, self.ahead, self.deliveries) {
-            Some(mut session) => sends_over(&mut session, self),
+    fn agrees(&self, said: &mut Said) -> bool {
+        match session(said.alloc, self.ahead, self.deliveries) {
+            Some(mut session) => sends_over(&mut session, self, said),
             None => false,
         }
     }
@@ -464,12 +466,12 @@ pub struct BeforeARead(&'static [u8]);
 
 impl Row for BeforeARead {
     /// Whether they end so.
-    fn agrees(&self, alloc: Global) -> bool {
+    fn agrees(&self, said: &mut Said) -> bool {
         let row = Lines {
             lines: self.0,
             ..BEFORE_A_READ
         };
-        row.agrees(alloc)
+        row.agrees(said)
     }
 }
 
@@ -513,23 +515,28 @@ const SLOW: &[Coming] = &[
 
 /// Whether a command in a session, behind which more comes in pieces of this size, is sent, sent again twice and
 /// answered, and a keep-alive sent, while input is awaited: the reader pauses often before each piece.
-fn is_driven_over(session: &mut Session<MemoryEnd>, behind: &[u8], piece: usize) -> bool {
+fn is_driven_over(
+    session: &mut Session<MemoryEnd>,
+    behind: &[u8],
+    piece: usize,
+    said: &mut Said,
+) -> bool {
     if piece == 0 {
         return false;
     }
     let mut from = PausedReader::new(PieceReader::new(behind, piece, NO_LIMIT), 9);
     let mut to = Printer::new(ShortWriter::new(5000, NO_LIMIT));
     let ended = send_all(session, &mut from, &mut to);
-    ended == Ok(())
-        && to.sink().taken.as_slice() == b"answer 1 1 01\n".as_slice()
-        && session.end().taken().len() == 4
-        && session.end().delivered().len() == SLOW.len()
+    said.same(ended, Ok(()))
+        && said.same_text(to.sink().taken.as_slice(), b"answer 1 1 01\n".as_slice())
+        && said.same(session.end().taken().len(), 4)
+        && said.same(session.end().delivered().len(), SLOW.len())
 }
 
 /// Whether a command is driven so.
-fn is_driven(alloc: Global, behind: &[u8], piece: usize) -> bool {
+fn is_driven(alloc: Global, behind: &[u8], piece: usize, said: &mut Said) -> bool {
     match session(alloc, 16, SLOW) {
-        Some(mut session) => is_driven_over(&mut session, behind, piece),
+        Some(mut session) => is_driven_over(&mut session, behind, piece, said),
         None => false,
     }
 }
@@ -546,9 +553,9 @@ pub const BEHIND: &[Behind] = &[
 
 impl Row for Behind {
     /// Whether the command is driven in pieces of each size.
-    fn agrees(&self, alloc: Global) -> bool {
+    fn agrees(&self, said: &mut Said) -> bool {
         for piece in 1..24 {
-            if !is_driven(alloc, self.0, piece) {
+            if !is_driven(said.alloc, self.0, piece, said) {
                 return false;
             }
         }

@@ -1,9 +1,9 @@
 //! Objects that are set, over an end in memory.
 use super::{DEVICE, NO_LIMIT};
-use crate::tests::Row;
 use crate::tests::coming::Coming::{self, Datagram};
 use crate::tests::coming::end;
 use crate::tests::fakes::ShortWriter;
+use crate::tests::{Row, Said};
 use oca_control::Link;
 use oca_net::MemoryEnd;
 use oca_panel::Panel;
@@ -230,6 +230,7 @@ fn sets_over(
     panel: &mut Panel<MemoryEnd>,
     pairs: &[Pair],
     setting: &Setting,
+    said: &mut Said,
 ) -> bool {
     let Some(ahead) = Span::new(setting.ahead) else {
         return false;
@@ -239,19 +240,19 @@ fn sets_over(
         Ok(status) => Ok(status),
         Err(failure) => Err(failure.fault),
     };
-    ended == setting.ended
-        && to.sink().taken.as_slice() == setting.output
-        && panel.end().taken().len() == setting.sent
+    said.same(ended, setting.ended)
+        && said.same_text(to.sink().taken.as_slice(), setting.output)
+        && said.same(panel.end().taken().len(), setting.sent)
 }
 
 impl Row for Setting {
     /// Whether the setting ends so.
-    fn agrees(&self, alloc: Global) -> bool {
+    fn agrees(&self, said: &mut Said) -> bool {
         let Some(pairs) = pairs() else {
             return false;
         };
-        match panel(alloc, self) {
-            Some(mut panel) => sets_over(alloc, &mut panel, &pairs, self),
+        match panel(said.alloc, self) {
+            Some(mut panel) => sets_over(said.alloc, &mut panel, &pairs, self, said),
             None => false,
         }
     }

@@ -1,11 +1,10 @@
 //! Whether a device answers the commands of a port.
 use super::DEVICE;
-use crate::tests::Row;
 use crate::tests::coming::Coming::{self, Datagram};
 use crate::tests::coming::end;
+use crate::tests::{Row, Said};
 use oca_panel::{Probed, Watched, probe};
 use oca_types::{Handle, Peer};
-use std::alloc::Global;
 
 const STRANGER: Peer = Peer {
     ip: 0x7f00_0001,
@@ -41,8 +40,8 @@ pub const FOUND: &[Finds] = &[
 
 impl Row for Finds {
     /// Whether this is found of a device, by what comes from it.
-    fn agrees(&self, alloc: Global) -> bool {
-        match end(alloc, self.0, 64, None) {
+    fn agrees(&self, said: &mut Said) -> bool {
+        match end(said.alloc, self.0, 64, None) {
             Some(end) => probe(&mut Watched::new(end, DEVICE), DEVICE, Handle(7)) == self.1,
             None => false,
         }

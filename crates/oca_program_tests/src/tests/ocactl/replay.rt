@@ -1,12 +1,11 @@
 //! A replay whose reader and writer give and take a little at a time, or fail.
 use super::{DEVICE, NO_LIMIT};
 use crate::tests::fakes::{PieceReader, ShortWriter, lines_in};
-use crate::tests::{AtPlace, Row};
+use crate::tests::{AtPlace, Row, Said};
 use oca_control::Link;
 use oca_script::{LineFault, Printer, ReplayFault};
 use oca_types::{Handle, MethodId, Ono, Span};
 use ocactl_replay::replay::replay;
-use std::alloc::Global;
 
 /// A command, what is due, an answer from a stranger and from the device, and twice a take.
 pub const EXCHANGE: &[u8] = b"0 submit 4097 4 1 0 -
@@ -117,22 +116,22 @@ pub const FAULTS: &[Pieces] = &[
 
 impl Row for Pieces {
     /// Whether the script ends so.
-    fn agrees(&self, _alloc: Global) -> bool {
+    fn agrees(&self, said: &mut Said) -> bool {
         if self.piece == 0 {
             return false;
         }
         let mut from = PieceReader::new(self.script, self.piece, self.given);
         let mut to = Printer::new(ShortWriter::new(self.most, self.room));
         let ended = replay(&mut link(), &mut from, &mut to);
-        ended == self.ended && to.sink().taken.as_slice() == self.output
+        said.same(ended, self.ended) && said.same_text(to.sink().taken.as_slice(), self.output)
     }
 }
 
 /// Whether the next handle of the link is this, and the answer to 1 is held or not.
-fn stands(link: &mut Link, next: u32, held: bool) -> bool {
+fn stands(link: &mut Link, next: u32, held: bool, said: &mut Said) -> bool {
     let mute = MethodId { level: 4, index: 1 };
     let submitted = link.submit(Ono(4097), mute, 0, &[], 20);
-    submitted == Ok(Handle(next)) && link.take(Handle(1)).is_some() == held
+    said.same(submitted, Ok(Handle(next))) && said.same(link.take(Handle(1)).is_some(), held)
 }
 
 // How many bytes the first lines of the exchange print.
@@ -144,7 +143,7 @@ pub struct Reads;
 impl AtPlace for Reads {
     /// Whether a reader that fails behind so many bytes of the exchange leaves what the whole lines before print, and
     /// the link as after them: each but the first has the handle 1 submitted, and the fifth alone its answer held.
-    fn holds(&self, _alloc: Global, place: usize) -> bool {
+    fn holds(&self, place: usize, said: &mut Said) -> bool {
         let mut link = link();
         let mut from = PieceReader::new(EXCHANGE, 50, place);
         let mut to = Printer::new(ShortWriter::new(1000, NO_LIMIT));
@@ -154,9 +153,9 @@ impl AtPlace for Reads {
         };
         let lines = lines_in(front);
         let text = PRINTED[lines.min(6)];
-        ended == Err(ReplayFault::Read)
-            && to.sink().taken.as_slice() == &EXCHANGED[..text]
-            && stands(&mut link, if lines == 0 { 1 } else { 2 }, lines == 5)
+        said.same(ended, Err(ReplayFault::Read))
+            && said.same_text(to.sink().taken.as_slice(), &EXCHANGED[..text])
+            && stands(&mut link, if lines == 0 { 1 } else { 2 }, lines == 5, said)
     }
 }
 
@@ -166,15 +165,15 @@ pub struct Writes;
 impl AtPlace for Writes {
     /// The same of a writer. In pieces of 43 bytes the lines come in groups: the first three, the fourth, the fifth,
     /// and the last two.
-    fn holds(&self, _alloc: Global, place: usize) -> bool {
+    fn holds(&self, place: usize, said: &mut Said) -> bool {
         let mut link = link();
         let mut from = PieceReader::new(EXCHANGE, 43, NO_LIMIT);
         let mut to = Printer::new(ShortWriter::new(7, place));
         let ended = replay(&mut link, &mut from, &mut to);
         let text = to.sink().taken.as_slice();
-        ended == Err(ReplayFault::Write)
-            && text.len() == place
+        said.same(ended, Err(ReplayFault::Write))
+            && said.same(text.len(), place)
             && EXCHANGED.starts_with(text)
-            && stands(&mut link, 2, place >= 86 && place < 97)
+            && stands(&mut link, 2, place >= 86 && place < 97, said)
     }
 }

@@ -1,13 +1,12 @@
 //! Ends that cut what they give and take, or fail.
-use super::{Cuts, Trial, UNMUTED, UNMUTES, WHOLE, on_bench};
+use super::{Cuts, Trial, UNMUTED, UNMUTES, WHOLE, goes_on_bench};
 use crate::tests::fakes::{PieceReader, ShortWriter, lines_in};
-use crate::tests::{AtPlace, wrong_unless};
+use crate::tests::{AtPlace, Said};
 use oca_device::{Device, Outbox};
 use oca_script::{Printer, ReplayFault};
 use oca_tree::Setting;
 use oca_types::Ono;
 use ocadev_replay::replay::replay;
-use std::alloc::Global;
 
 /// How a replay of the script on the bench device ends: what it returns, what is printed, and the state of 4097 behind
 /// it. Muted is 1 and Unmuted is 2.
@@ -32,21 +31,19 @@ struct Replayed<'a> {
 
 impl Trial for Replayed<'_> {
     /// Whether a device replays the script so.
-    fn first_wrong(&mut self, device: &mut Device, outbox: &mut Outbox) -> Option<usize> {
+    fn goes(&mut self, device: &mut Device, outbox: &mut Outbox, said: &mut Said) -> bool {
         let mut from = PieceReader::new(UNMUTES, self.ends.piece.max(1), self.ends.given);
         let mut printer = Printer::new(ShortWriter::new(self.ends.most, self.ends.taken));
         let ended = replay(device, outbox, &mut from, &mut printer);
-        wrong_unless(
-            ended == self.wanted.end
-                && printer.sink().taken.as_slice() == self.wanted.text
-                && state_of(device) == Some(Setting::State(self.wanted.state)),
-        )
+        said.same(ended, self.wanted.end)
+            && said.same_text(printer.sink().taken.as_slice(), self.wanted.text)
+            && said.same(state_of(device), Some(Setting::State(self.wanted.state)))
     }
 }
 
 /// Whether the bench device replays it so.
-fn replays(alloc: Global, ends: Cuts, wanted: Ended<'_>) -> bool {
-    on_bench(alloc, &mut Replayed { ends, wanted }).is_none()
+fn replays(ends: Cuts, wanted: Ended<'_>, said: &mut Said) -> bool {
+    goes_on_bench(&mut Replayed { ends, wanted }, said)
 }
 
 /// The script is replayed to its end through pieces of each size.
@@ -54,7 +51,7 @@ pub struct Pieces;
 
 impl AtPlace for Pieces {
     /// Whether it is through pieces of this size.
-    fn holds(&self, alloc: Global, piece: usize) -> bool {
+    fn holds(&self, piece: usize, said: &mut Said) -> bool {
         let ends = Cuts {
             piece,
             most: piece,
@@ -65,7 +62,7 @@ impl AtPlace for Pieces {
             text: UNMUTED,
             state: 2,
         };
-        replays(alloc, ends, wanted)
+        replays(ends, wanted, said)
     }
 }
 
@@ -87,7 +84,7 @@ pub struct Reads;
 
 impl AtPlace for Reads {
     /// Whether it does where the reader fails at this place.
-    fn holds(&self, alloc: Global, place: usize) -> bool {
+    fn holds(&self, place: usize, said: &mut Said) -> bool {
         let ends = Cuts {
             piece: 50,
             given: place,
@@ -95,7 +92,7 @@ impl AtPlace for Reads {
             ..WHOLE
         };
         match ended_behind(UNMUTES.get(..place).unwrap_or_default()) {
-            Some(wanted) => replays(alloc, ends, wanted),
+            Some(wanted) => replays(ends, wanted, said),
             None => false,
         }
     }
@@ -106,7 +103,7 @@ pub struct Writes;
 
 impl AtPlace for Writes {
     /// Whether it does where the writer fails at this place.
-    fn holds(&self, alloc: Global, place: usize) -> bool {
+    fn holds(&self, place: usize, said: &mut Said) -> bool {
         let ends = Cuts {
             piece: 30,
             most: 7,
@@ -118,6 +115,6 @@ impl AtPlace for Writes {
             text: UNMUTED.get(..place).unwrap_or_default(),
             state: if place < 58 { 1 } else { 2 },
         };
-        replays(alloc, ends, wanted)
+        replays(ends, wanted, said)
     }
 }

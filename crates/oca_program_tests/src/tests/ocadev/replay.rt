@@ -1,5 +1,6 @@
 //! Scripts that one device replays, one after the other.
 use super::Trial;
+use crate::tests::Said;
 use crate::tests::fakes::{PieceReader, ShortWriter};
 use oca_device::{Device, Outbox};
 use oca_script::Printer;
@@ -32,11 +33,11 @@ const KEEP_ALIVES: &[Gives] = &[
 ];
 
 /// Whether the device gives that for the script.
-fn does_give(device: &mut Device, outbox: &mut Outbox, script: &Gives) -> bool {
+fn does_give(device: &mut Device, outbox: &mut Outbox, script: &Gives, said: &mut Said) -> bool {
     let mut from = PieceReader::new(script.0, 1000, usize::MAX);
     let mut to = Printer::new(ShortWriter::new(1000, usize::MAX));
     let ended = replay(device, outbox, &mut from, &mut to);
-    ended == Ok(()) && to.sink().taken.as_slice() == script.1
+    said.same(ended, Ok(())) && said.same_text(to.sink().taken.as_slice(), script.1)
 }
 
 /// All of them.
@@ -44,13 +45,13 @@ fn does_give(device: &mut Device, outbox: &mut Outbox, script: &Gives) -> bool {
 pub struct KeepAlives;
 
 impl Trial for KeepAlives {
-    /// The first script for which the device gives something else.
-    fn first_wrong(&mut self, device: &mut Device, outbox: &mut Outbox) -> Option<usize> {
-        for (at, script) in KEEP_ALIVES.iter().enumerate() {
-            if !does_give(device, outbox, script) {
-                return Some(at);
+    /// Whether the device gives that for each script.
+    fn goes(&mut self, device: &mut Device, outbox: &mut Outbox, said: &mut Said) -> bool {
+        for script in KEEP_ALIVES {
+            if !does_give(device, outbox, script, said) {
+                return false;
             }
         }
-        None
+        true
     }
 }

@@ -1,13 +1,12 @@
 //! The device at a socket.
 use super::Trial;
-use crate::tests::Row;
 use crate::tests::fakes::ShortWriter;
+use crate::tests::{Row, Said};
 use oca_device::{Device, Outbox, Report, serve};
 use oca_net::{End, Heard, UdpEnd};
 use oca_script::Printer;
 use oca_types::{LOOPBACK, Packet, Peer};
 use ocadev_cli::report::print_report;
-use std::alloc::Global;
 use std::net::Net;
 use std::rt::Clock;
 
@@ -37,9 +36,10 @@ pub const REPORTS: &[Reported] = &[Reported(REPORT, REPORTED)];
 
 impl Row for Reported {
     /// Whether the report is printed so.
-    fn agrees(&self, _alloc: Global) -> bool {
+    fn agrees(&self, said: &mut Said) -> bool {
         let mut to = Printer::new(ShortWriter::new(1000, usize::MAX));
-        print_report(&self.0, &mut to) == Ok(()) && to.sink().taken.as_slice() == self.1
+        said.same(print_report(&self.0, &mut to), Ok(()))
+            && said.same_text(to.sink().taken.as_slice(), self.1)
     }
 }
 
@@ -70,80 +70,86 @@ fn asks<E: End>(asker: &mut E, to: Peer, handle: u8) -> bool {
 }
 
 /// Hears an answer under a handle.
-fn hears<E: End>(asker: &mut E, handle: u8) -> bool {
+fn hears<E: End>(asker: &mut E, handle: u8, said: &mut Said) -> bool {
     let mut packet = Packet::new();
     let heard = asker.receive(&mut packet);
     matches!(heard, Heard::Datagram { .. })
-        && packet.len() == 21
-        && packet.as_slice().get(17).copied() == Some(handle)
+        && said.same(packet.len(), 21)
+        && said.same(packet.as_slice().get(17).copied(), Some(handle))
 }
 
 /// Whether a step of the device goes so at its end.
-fn serves<E: End>(device: &mut Device, outbox: &mut Outbox, end: &mut E, step: Step) -> bool {
+fn serves<E: End>(
+    device: &mut Device,
+    outbox: &mut Outbox,
+    end: &mut E,
+    step: Step,
+    said: &mut Said,
+) -> bool {
     match step {
-        Executes(turns, count) => serve(device, end, outbox, turns).executed == count,
-        IsQuiet(turns, count) => serve(device, end, outbox, turns).quiet == count,
+        Executes(turns, count) => said.same(serve(device, end, outbox, turns).executed, count),
+        IsQuiet(turns, count) => said.same(serve(device, end, outbox, turns).quiet, count),
         Asks(_) | Hears(_) => false,
     }
 }
 
 /// Whether a step of the asker goes so.
-fn asks_or_hears<E: End>(asker: &mut E, at: Peer, step: Step) -> bool {
+fn asks_or_hears<E: End>(asker: &mut E, at: Peer, step: Step, said: &mut Said) -> bool {
     match step {
         Asks(handle) => asks(asker, at, handle),
-        Hears(handle) => hears(asker, handle),
+        Hears(handle) => hears(asker, handle, said),
         Executes(..) | IsQuiet(..) => false,
     }
 }
 
-/// The first step between a device's end, which is at this peer, and an asker's that goes otherwise.
-fn first_other<E: End, F: End>(
+/// Whether each step goes so between a device's end, which is at this peer, and an asker's.
+fn go_so<E: End, F: End>(
     device: &mut Device,
     outbox: &mut Outbox,
     end: &mut E,
     asker: &mut F,
     at: Peer,
-) -> Option<usize> {
-    for (turn, step) in TURNS.iter().enumerate() {
-        if !asks_or_hears(asker, at, *step) && !serves(device, outbox, end, *step) {
-            return Some(turn);
+    said: &mut Said,
+) -> bool {
+    for step in TURNS {
+        if !asks_or_hears(asker, at, *step, said) && !serves(device, outbox, end, *step, said) {
+            return false;
         }
     }
-    None
+    true
 }
 
 /// The same for an asker at a socket of its own.
-fn first_other_at<N: Net + Clock, E: End>(
-    alloc: Global,
+fn go_so_at<N: Net + Clock, E: End>(
     system: &N,
     device: &mut Device,
     outbox: &mut Outbox,
     end: &mut E,
     at: Peer,
-) -> Option<usize> {
-    match UdpEnd::bind(alloc, system, LOOPBACK, 0) {
-        Ok(mut asker) => first_other(device, outbox, end, &mut asker, at),
-        Err(_) => Some(usize::MAX),
+    said: &mut Said,
+) -> bool {
+    match UdpEnd::bind(said.alloc, system, LOOPBACK, 0) {
+        Ok(mut asker) => go_so(device, outbox, end, &mut asker, at, said),
+        Err(_) => false,
     }
 }
 
 /// A device and an asker, each at a socket.
 #[derive(Drop)]
 pub struct AtSockets<'a, N: Net + Clock> {
-    pub alloc: Global,
     pub system: &'a N,
 }
 
 impl<N: Net + Clock> Trial for AtSockets<'_, N> {
-    /// The first step between two sockets that goes otherwise; the last number where there are none.
-    fn first_wrong(&mut self, device: &mut Device, outbox: &mut Outbox) -> Option<usize> {
+    /// Whether each step goes so between two sockets.
+    fn goes(&mut self, device: &mut Device, outbox: &mut Outbox, said: &mut Said) -> bool {
         let system = self.system;
-        match UdpEnd::bind(self.alloc, system, LOOPBACK, 0) {
+        match UdpEnd::bind(said.alloc, system, LOOPBACK, 0) {
             Ok(mut end) => {
                 let at = end.local();
-                first_other_at(self.alloc, system, device, outbox, &mut end, at)
+                go_so_at(system, device, outbox, &mut end, at, said)
             }
-            Err(_) => Some(usize::MAX),
+            Err(_) => false,
         }
     }
 }

@@ -1,4 +1,5 @@
 //! A device that is served until its end is closed, and what is printed of each datagram; and a store that fails.
+use crate::tests::Said;
 use crate::tests::coming::Coming::{self, Datagram, Failed, Quiet};
 use crate::tests::coming::end;
 use crate::tests::fakes::ShortWriter;
@@ -103,21 +104,23 @@ oversize
 ";
 
 /// Whether the bench device serves the script so, its end takes so many packets, and this is logged.
-pub fn serves(alloc: Global, verbose: bool, logged: &[u8]) -> bool {
-    let Ok(tree) = bench(alloc) else {
+pub fn serves(verbose: bool, logged: &[u8], said: &mut Said) -> bool {
+    let Ok(tree) = bench(said.alloc) else {
         return false;
     };
-    let Ok(mut served) = Served::new(alloc, tree, Sizes::default()) else {
+    let Ok(mut served) = Served::new(said.alloc, tree, Sizes::default()) else {
         return false;
     };
-    let Some(mut end) = end_of_script(alloc) else {
+    let Some(mut end) = end_of_script(said.alloc) else {
         return false;
     };
     let mut faults = Printer::new(ShortWriter::new(7, usize::MAX));
-    let mut log = Log::new(alloc, verbose, None, &mut faults);
+    let mut log = Log::new(said.alloc, verbose, None, &mut faults);
     let unkept: Option<Kept<'_, Full>> = None;
     let report = serve(&mut served, &mut end, unkept, &mut log, u64::MAX);
-    report == REPORT && end.taken().len() == 6 && faults.sink().taken.as_slice() == logged
+    said.same(report, REPORT)
+        && said.same(end.taken().len(), 6)
+        && said.same_text(faults.sink().taken.as_slice(), logged)
 }
 
 /// What is logged of 39 receives that fail, of 50 ms each, where the counts are told each second.
@@ -126,21 +129,21 @@ const COUNTS: &[u8] =
     failed-sends 0 sessions 0 locks 0\n";
 
 /// Whether the counts so far are told while each receive fails.
-pub fn counts_while_receives_fail(alloc: Global) -> bool {
-    let Ok(tree) = bench(alloc) else {
+pub fn counts_while_receives_fail(said: &mut Said) -> bool {
+    let Ok(tree) = bench(said.alloc) else {
         return false;
     };
-    let Ok(mut served) = Served::new(alloc, tree, Sizes::default()) else {
+    let Ok(mut served) = Served::new(said.alloc, tree, Sizes::default()) else {
         return false;
     };
-    let Some(mut end) = end(alloc, &[Failed; 39], 0, None) else {
+    let Some(mut end) = end(said.alloc, &[Failed; 39], 0, None) else {
         return false;
     };
     let mut faults = Printer::new(ShortWriter::new(7, usize::MAX));
-    let mut log = Log::new(alloc, false, Some(1), &mut faults);
+    let mut log = Log::new(said.alloc, false, Some(1), &mut faults);
     let unkept: Option<Kept<'_, Full>> = None;
     let report = serve(&mut served, &mut end, unkept, &mut log, u64::MAX);
-    report.failed_receives == 39 && faults.sink().taken.as_slice() == COUNTS
+    said.same(report.failed_receives, 39) && said.same_text(faults.sink().taken.as_slice(), COUNTS)
 }
 
 /// A disk that refuses each step.
@@ -182,15 +185,15 @@ note: the state is not kept for 120 s: state: it is full
 ";
 
 /// Whether a store that fails is logged at once, and again each minute.
-pub fn reminds_each_minute(alloc: Global) -> bool {
-    let Ok(tree) = bench(alloc) else {
+pub fn reminds_each_minute(said: &mut Said) -> bool {
+    let Ok(tree) = bench(said.alloc) else {
         return false;
     };
-    let Ok(served) = Served::new(alloc, tree, Sizes::default()) else {
+    let Ok(served) = Served::new(said.alloc, tree, Sizes::default()) else {
         return false;
     };
     let mut faults = Printer::new(ShortWriter::new(7, usize::MAX));
-    let mut log = Log::new(alloc, false, None, &mut faults);
+    let mut log = Log::new(said.alloc, false, None, &mut faults);
     let mut disk = Full;
     let mut store = FileStore::new("state", &mut disk, &mut log);
     let is_stored = store.store(served.device.tree());
@@ -204,5 +207,5 @@ pub fn reminds_each_minute(alloc: Global) -> bool {
             &served.device,
         );
     }
-    !is_stored && faults.sink().taken.as_slice() == REMINDERS
+    !is_stored && said.same_text(faults.sink().taken.as_slice(), REMINDERS)
 }

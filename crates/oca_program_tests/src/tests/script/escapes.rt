@@ -1,20 +1,19 @@
 //! Texts as they are printed.
-use crate::tests::Row;
+use crate::tests::{Row, Said};
 use oca_script::Escaped;
 use oca_script::escape::has_hidden;
 use oca_types::Text;
-use std::alloc::Global;
 
 /// A text, what is printed of it, and whether a character of it is hidden.
 pub struct Printed(&'static str, &'static str, bool);
 
 impl Row for Printed {
     /// Whether the text is printed so.
-    fn agrees(&self, _alloc: Global) -> bool {
+    fn agrees(&self, said: &mut Said) -> bool {
         match Text::new(self.0) {
             Some(text) => {
-                Escaped::of(text.as_str()).as_bytes() == self.1.as_bytes()
-                    && has_hidden(text.as_str()) == self.2
+                said.same_text(Escaped::of(text.as_str()).as_bytes(), self.1.as_bytes())
+                    && said.same(has_hidden(text.as_str()), self.2)
             }
             None => false,
         }

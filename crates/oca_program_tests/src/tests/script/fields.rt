@@ -1,10 +1,9 @@
 //! The fields of a line.
-use crate::tests::Row;
+use crate::tests::{Row, Said};
 use oca_script::field::{
     address, first_field, hex_bytes, moment, number, number_before, peer, peer_before,
 };
 use oca_types::Peer;
-use std::alloc::Global;
 
 const LOCAL: Peer = Peer {
     ip: 0x7f00_0001,
@@ -21,8 +20,8 @@ pub struct Number(&'static [u8], usize, u64, Option<u64>);
 
 impl Row for Number {
     /// Whether it gives this.
-    fn agrees(&self, _alloc: Global) -> bool {
-        number(self.0, self.1, self.2) == self.3
+    fn agrees(&self, said: &mut Said) -> bool {
+        said.same(number(self.0, self.1, self.2), self.3)
     }
 }
 
@@ -31,8 +30,8 @@ pub struct Moment(&'static [u8], Option<u64>);
 
 impl Row for Moment {
     /// Whether it gives this.
-    fn agrees(&self, _alloc: Global) -> bool {
-        moment(self.0) == self.1
+    fn agrees(&self, said: &mut Said) -> bool {
+        said.same(moment(self.0), self.1)
     }
 }
 
@@ -41,8 +40,8 @@ pub struct OfPeer(&'static [u8], Option<Peer>);
 
 impl Row for OfPeer {
     /// Whether it gives this.
-    fn agrees(&self, _alloc: Global) -> bool {
-        peer(self.0) == self.1
+    fn agrees(&self, said: &mut Said) -> bool {
+        said.same(peer(self.0), self.1)
     }
 }
 
@@ -51,8 +50,8 @@ pub struct Address(&'static [u8], Option<u32>);
 
 impl Row for Address {
     /// Whether it gives this.
-    fn agrees(&self, _alloc: Global) -> bool {
-        address(self.0) == self.1
+    fn agrees(&self, said: &mut Said) -> bool {
+        said.same(address(self.0), self.1)
     }
 }
 
@@ -62,12 +61,12 @@ pub struct NumberBefore(&'static [u8], u8, usize, u64, Option<(u64, &'static [u8
 
 impl Row for NumberBefore {
     /// Whether such a number stands before the byte.
-    fn agrees(&self, _alloc: Global) -> bool {
+    fn agrees(&self, said: &mut Said) -> bool {
         let end = self.1;
         if end >= b'0' && end <= b'9' {
             return false;
         }
-        number_before(self.0, end, self.2, self.3) == self.4
+        said.same(number_before(self.0, end, self.2, self.3), self.4)
     }
 }
 
@@ -76,8 +75,8 @@ pub struct PeerBefore(&'static [u8], Option<(Peer, &'static [u8])>);
 
 impl Row for PeerBefore {
     /// Whether such a peer stands before the space.
-    fn agrees(&self, _alloc: Global) -> bool {
-        peer_before(self.0) == self.1
+    fn agrees(&self, said: &mut Said) -> bool {
+        said.same(peer_before(self.0), self.1)
     }
 }
 
@@ -86,13 +85,13 @@ pub struct Hex(&'static [u8], Option<&'static [u8]>);
 
 impl Row for Hex {
     /// Whether the text stands for these bytes, or for none.
-    fn agrees(&self, _alloc: Global) -> bool {
+    fn agrees(&self, said: &mut Said) -> bool {
         let mut room = [0u8; 2048];
         if self.0.len() > 4096 {
             return false;
         }
         match (hex_bytes(self.0, &mut room), self.1) {
-            (Some(bytes), Some(wanted)) => *bytes == *wanted,
+            (Some(bytes), Some(wanted)) => said.same_text(bytes, wanted),
             (None, None) => true,
             _ => false,
         }
@@ -104,14 +103,14 @@ pub struct Fields(&'static [u8], &'static [&'static [u8]]);
 
 impl Row for Fields {
     /// Whether these are the fields of the line.
-    fn agrees(&self, _alloc: Global) -> bool {
+    fn agrees(&self, said: &mut Said) -> bool {
         let mut rest = Some(self.0);
         for field in self.1 {
             let Some(text) = rest else {
                 return false;
             };
             let (first, behind) = first_field(text);
-            if *first != **field {
+            if !said.same_text(first, field) {
                 return false;
             }
             rest = behind;

@@ -1,21 +1,23 @@
 //! What is printed: lines, faults, and more than is held.
 use crate::tests::fakes::ShortWriter;
-use crate::tests::{Row, Words, displays};
+use crate::tests::{Row, Said, Words};
 use oca_script::{LineFault, Printer, ReadFailed, ReplayFault, Stop, WriteFailed};
-use std::alloc::Global;
 
 /// Whether the parts of a line are taken once they are handed on.
-pub fn prints_a_line() -> bool {
+pub fn prints_a_line(said: &mut Said) -> bool {
     let mut line = Printer::new(ShortWriter::new(1000, usize::MAX));
     line.put(b"> ");
     line.put_hex(b"\x3b\xfA");
-    if line.make_room(21) != Ok(()) {
+    if !said.same(line.make_room(21), Ok(())) {
         return false;
     }
     line.put_hex(b"");
     line.put_number(u64::MAX);
-    line.flush() == Ok(())
-        && line.sink().taken.as_slice() == b"> 3bfa-18446744073709551615".as_slice()
+    said.same(line.flush(), Ok(()))
+        && said.same_text(
+            line.sink().taken.as_slice(),
+            b"> 3bfa-18446744073709551615".as_slice(),
+        )
 }
 
 /// A call of a printer, and what it must answer.
@@ -40,11 +42,11 @@ fn make_room(to: &mut Printer<ShortWriter>, room: usize) -> Option<Result<(), Wr
 }
 
 /// Whether the call is answered so.
-fn is_answered(to: &mut Printer<ShortWriter>, step: Step) -> bool {
+fn is_answered(to: &mut Printer<ShortWriter>, step: Step, said: &mut Said) -> bool {
     match step {
-        Prints(bytes, answer) => to.print(bytes) == answer,
-        MakesRoom(room, answer) => make_room(to, room) == Some(answer),
-        Taken(count) => to.sink().taken.len() == count,
+        Prints(bytes, answer) => said.same(to.print(bytes), answer),
+        MakesRoom(room, answer) => said.same(make_room(to, room), Some(answer)),
+        Taken(count) => said.same(to.sink().taken.len(), count),
     }
 }
 
@@ -53,10 +55,10 @@ pub struct Calls(usize, &'static [Step]);
 
 impl Row for Calls {
     /// Whether each call is answered so.
-    fn agrees(&self, _alloc: Global) -> bool {
+    fn agrees(&self, said: &mut Said) -> bool {
         let mut to = Printer::new(ShortWriter::new(self.0, usize::MAX));
         for step in self.1 {
-            if !is_answered(&mut to, *step) {
+            if !is_answered(&mut to, *step, said) {
                 return false;
             }
         }
@@ -83,8 +85,8 @@ pub struct OfLine(LineFault);
 
 impl Row for OfLine {
     /// Whether it displays its word.
-    fn agrees(&self, alloc: Global) -> bool {
-        displays(alloc, &self.0, self.0.word())
+    fn agrees(&self, said: &mut Said) -> bool {
+        said.displays(&self.0, self.0.word())
     }
 }
 
@@ -93,8 +95,8 @@ pub struct HasWord(LineFault, &'static str);
 
 impl Row for HasWord {
     /// Whether this is its word.
-    fn agrees(&self, _alloc: Global) -> bool {
-        self.0.word() == self.1
+    fn agrees(&self, said: &mut Said) -> bool {
+        said.same(self.0.word(), self.1)
     }
 }
 
@@ -103,8 +105,8 @@ pub struct OfReplay(ReplayFault, &'static str, u8);
 
 impl Row for OfReplay {
     /// Whether it has this text and this number.
-    fn agrees(&self, alloc: Global) -> bool {
-        displays(alloc, &self.0, self.1) && self.0.number() == self.2
+    fn agrees(&self, said: &mut Said) -> bool {
+        said.displays(&self.0, self.1) && said.same(self.0.number(), self.2)
     }
 }
 

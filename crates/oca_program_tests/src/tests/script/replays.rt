@@ -2,13 +2,12 @@
 ghost use Rattle.std.specs.Prelude.{Ok};
 
 use crate::tests::fakes::{Discard, PatternReader, PieceReader, ShortWriter};
-use crate::tests::{AtPlace, Row};
+use crate::tests::{AtPlace, Row, Said};
 use oca_script::lines::serve_lines;
 use oca_script::{
     FromReader, Language, LineFault, Printer, ReplayFault, Sink, Source, Stop, ToWriter,
     WriteFailed,
 };
-use std::alloc::Global;
 
 /// Prints each line as it is, with no line feed, and counts the lines.
 struct Echo;
@@ -109,7 +108,7 @@ pub struct Pieces;
 
 impl AtPlace for Pieces {
     /// Whether it is in pieces of this size.
-    fn holds(&self, _alloc: Global, piece: usize) -> bool {
+    fn holds(&self, piece: usize, said: &mut Said) -> bool {
         let ends = Ends {
             piece,
             before_fault: usize::MAX,
@@ -118,10 +117,10 @@ impl AtPlace for Pieces {
         };
         match replay(ends) {
             Some(outcome) => {
-                outcome.ended == Ok(())
-                    && outcome.lines == 3
-                    && outcome.taken == TEXT.len()
-                    && outcome.unread == 0
+                said.same(outcome.ended, Ok(()))
+                    && said.same(outcome.lines, 3)
+                    && said.same(outcome.taken, TEXT.len())
+                    && said.same(outcome.unread, 0)
             }
             None => false,
         }
@@ -144,7 +143,7 @@ pub struct Reads;
 
 impl AtPlace for Reads {
     /// Whether it does behind so many bytes, with the lines served and the bytes taken that it must.
-    fn holds(&self, _alloc: Global, place: usize) -> bool {
+    fn holds(&self, place: usize, said: &mut Said) -> bool {
         let ends = Ends {
             piece: 7,
             before_fault: place,
@@ -153,8 +152,8 @@ impl AtPlace for Reads {
         };
         match replay(ends) {
             Some(outcome) => {
-                outcome.ended == Err(ReplayFault::Read)
-                    && (outcome.lines, outcome.taken) == served_before(place)
+                said.same(outcome.ended, Err(ReplayFault::Read))
+                    && said.same((outcome.lines, outcome.taken), served_before(place))
             }
             None => false,
         }
@@ -166,7 +165,7 @@ pub struct Writes;
 
 impl AtPlace for Writes {
     /// Whether it does behind so many bytes, with those taken.
-    fn holds(&self, _alloc: Global, place: usize) -> bool {
+    fn holds(&self, place: usize, said: &mut Said) -> bool {
         let ends = Ends {
             piece: 1000,
             before_fault: usize::MAX,
@@ -174,7 +173,8 @@ impl AtPlace for Writes {
             room: place,
         };
         match replay(ends) {
-            Some(outcome) => outcome.ended == Err(ReplayFault::Write) && outcome.taken == place,
+            Some(outcome) => said.same(outcome.ended, Err(ReplayFault::Write))
+                && said.same(outcome.taken, place),
             None => false,
         }
     }
@@ -206,7 +206,7 @@ pub const FULL: ThroughWriter = ThroughWriter {
 
 impl AtPlace for ThroughWriter {
     /// Whether it ends as it must where there is room for so many bytes, and takes as many.
-    fn holds(&self, _alloc: Global, place: usize) -> bool {
+    fn holds(&self, place: usize, said: &mut Said) -> bool {
         let mut short = ShortWriter::new(3, place);
         short.takes_nothing = self.takes_nothing;
         let ended = if place == TEXT.len() {
@@ -214,19 +214,19 @@ impl AtPlace for ThroughWriter {
         } else {
             Err(ReplayFault::Write)
         };
-        replay_into(&mut short) == ended && front_taken(&short) == Some(place)
+        said.same(replay_into(&mut short), ended) && said.same(front_taken(&short), Some(place))
     }
 }
 
 /// Whether a replay through a reader that fails behind eight bytes ends with a failed read.
-pub fn ends_through_reader() -> bool {
+pub fn ends_through_reader(said: &mut Said) -> bool {
     let mut lines = 0;
     let mut from = FromReader::new(PieceReader::new(SCRIPT, 5, 8));
     let mut to = Printer::new(Discard);
     let ended = serve_lines::<Echo, FromReader<PieceReader>, Discard>(
         &mut lines, &mut 0, &mut from, &mut to,
     );
-    ended == Err(ReplayFault::Read)
+    said.same(ended, Err(ReplayFault::Read))
 }
 
 /// A replay in pieces of four in which nothing can be written.
@@ -238,10 +238,11 @@ const WITHOUT_ROOM: Ends = Ends {
 };
 
 /// Whether the second read does not come where the first line's text can't be written.
-pub fn is_written_before_a_read() -> bool {
+pub fn is_written_before_a_read(said: &mut Said) -> bool {
     match replay(WITHOUT_ROOM) {
         Some(outcome) => {
-            outcome.ended == Err(ReplayFault::Write) && outcome.unread == SCRIPT.len() - 4
+            said.same(outcome.ended, Err(ReplayFault::Write))
+                && said.same(outcome.unread, SCRIPT.len() - 4)
         }
         None => false,
     }
@@ -263,8 +264,8 @@ pub struct Served(&'static [u8], u64, Ended);
 
 impl Row for Served {
     /// Whether so many are served, and it ends so.
-    fn agrees(&self, _alloc: Global) -> bool {
-        replayed(self.0) == (self.1, self.2)
+    fn agrees(&self, said: &mut Said) -> bool {
+        said.same(replayed(self.0), (self.1, self.2))
     }
 }
 
@@ -296,11 +297,11 @@ pub struct After(u8, u64, Ended);
 
 impl Row for After {
     /// Whether so many are served, and it ends so.
-    fn agrees(&self, _alloc: Global) -> bool {
+    fn agrees(&self, said: &mut Said) -> bool {
         let mut lines = [b'a'; 4098];
         lines[4096] = b'\n';
         lines[0] = self.0;
-        replayed(&lines) == (self.1, self.2)
+        said.same(replayed(&lines), (self.1, self.2))
     }
 }
 
@@ -328,12 +329,12 @@ pub struct Lines(usize, u64, Ended);
 
 impl Row for Lines {
     /// Whether so many are served, and it ends so.
-    fn agrees(&self, _alloc: Global) -> bool {
+    fn agrees(&self, said: &mut Said) -> bool {
         let mut lines = [b'a'; 4000];
         for i in 0..40usize {
             lines[100 * i + 99] = b'\n';
         }
-        replayed_pattern(&lines, self.0) == (self.1, self.2)
+        said.same(replayed_pattern(&lines, self.0), (self.1, self.2))
     }
 }
 
@@ -350,7 +351,7 @@ pub const PATTERNS: &[Pattern] = &[Pattern(b"#", 99_999_999, 0, TOO_LONG)];
 
 impl Row for Pattern {
     /// Whether so many are served, and it ends so.
-    fn agrees(&self, _alloc: Global) -> bool {
-        replayed_pattern(self.0, self.1) == (self.2, self.3)
+    fn agrees(&self, said: &mut Said) -> bool {
+        said.same(replayed_pattern(self.0, self.1), (self.2, self.3))
     }
 }

@@ -117,7 +117,7 @@ const WAITS: &[Row] = &[
 ];
 
 #[test]
-fn waits_for_two_descriptors(rt: HostRuntime) {
+fn two_descriptors_are_waited_for(rt: HostRuntime) {
     assert_eq!(rt; first_wrong(&rt, WAITS), None);
 }
 

@@ -1,6 +1,6 @@
 //! Trees that are set or made, written as texts and read back.
-use crate::tests::Row;
 use crate::tests::fakes::ShortWriter;
+use crate::tests::{Row, Said};
 use oca_script::Printer;
 use oca_textree::{print_tree, tree_from_text};
 use oca_tree::{MuteState, PolarityState, Tree, Value, bench_with_channels};
@@ -11,9 +11,11 @@ use std::alloc::Global;
 const NO_LIMIT: usize = 100_000;
 
 /// Whether a tree is written as this text.
-fn is_written_as(tree: &Tree, text: &[u8]) -> bool {
+fn is_written_as(tree: &Tree, text: &[u8], said: &mut Said) -> bool {
     let mut to = Printer::new(ShortWriter::new(100, NO_LIMIT));
-    print_tree(tree, &mut to).is_ok() && to.flush().is_ok() && to.sink().taken.as_slice() == text
+    print_tree(tree, &mut to).is_ok()
+        && to.flush().is_ok()
+        && said.same_text(to.sink().taken.as_slice(), text)
 }
 
 /// Whether a text is read as this tree.
@@ -37,16 +39,16 @@ fn is_read_back(alloc: Global, tree: &Tree) -> bool {
 pub struct Set(&'static [u8], Value, &'static [u8]);
 
 /// Whether a tree is written as the row says, and read back from that, once the object 4097 is set.
-fn is_set(alloc: Global, tree: &mut Tree, row: &Set) -> bool {
+fn is_set(alloc: Global, tree: &mut Tree, row: &Set, said: &mut Said) -> bool {
     let _ = tree.set(Ono(4097), row.1);
-    is_written_as(tree, row.2) && is_read_as(alloc, row.2, tree)
+    is_written_as(tree, row.2, said) && is_read_as(alloc, row.2, tree)
 }
 
 impl Row for Set {
     /// Whether the tree of the text is written so once its object is set, and read back.
-    fn agrees(&self, alloc: Global) -> bool {
-        match tree_from_text(alloc, self.0) {
-            Ok(mut tree) => is_set(alloc, &mut tree, self),
+    fn agrees(&self, said: &mut Said) -> bool {
+        match tree_from_text(said.alloc, self.0) {
+            Ok(mut tree) => is_set(said.alloc, &mut tree, self, said),
             Err(_) => false,
         }
     }
@@ -116,9 +118,9 @@ pub const BENCHES: &[Bench] = &[Bench(10)];
 
 impl Row for Bench {
     /// Whether its tree is read back.
-    fn agrees(&self, alloc: Global) -> bool {
-        match bench_with_channels(alloc, self.0) {
-            Ok(tree) => is_read_back(alloc, &tree),
+    fn agrees(&self, said: &mut Said) -> bool {
+        match bench_with_channels(said.alloc, self.0) {
+            Ok(tree) => is_read_back(said.alloc, &tree),
             Err(_) => false,
         }
     }
