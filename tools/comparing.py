@@ -46,10 +46,10 @@ def broken(walk, *given):
     return None
 
 
-def runs_of(program, kind, head, texts):
-    """The lines that `trials KIND` prints for each of these texts, from the line on with which it begins each."""
+def runs_of(program, head, texts):
+    """The lines that `trials lines` prints for each of these texts, from the line on with which it begins each."""
     given = "".join(f"{line}\n" for lines in texts for line in lines)
-    done = subprocess.run([program, kind], input=given.encode(), capture_output=True, timeout=300)
+    done = subprocess.run([program, "lines"], input=given.encode(), capture_output=True, timeout=300)
     lines = done.stdout.decode().splitlines()
     begins = [at for at, line in enumerate(lines) if line == head] + [len(lines)]
     if done.returncode != 0 or done.stderr or begins[0] or len(begins) != len(texts) + 1:
@@ -58,8 +58,8 @@ def runs_of(program, kind, head, texts):
 
 
 def events_of(program, texts):
-    """The lines that `trials events` prints of each event of these texts: the last two are the number of sessions and the objects."""
-    for lines in runs_of(program, "events", "history", texts):
+    """The lines that `trials lines` prints of each event of these texts: the last two are the number of sessions and the objects."""
+    for lines in runs_of(program, "history", texts):
         ends = [at + 1 for at, line in enumerate(lines) if line.startswith("objects")]
         yield [its for first, end in zip([1, *ends], [*ends, len(lines)]) if (its := lines[first:end])]
 

@@ -4,7 +4,7 @@
 Usage: damaged.py BIN     BIN is the folder with `trials`
 
 Each byte of 16 messages is replaced by each other value, each message is cut off at each place and followed by each.
-`trials events` says what the checks find, and which bytes the writer writes for one command or keep-alive: as the
+`trials lines` says what the checks find, and which bytes the writer writes for one command or keep-alive: as the
 second implementation (oca_profile.py) says. A refused datagram comes from a peer with a session and from one without;
 then another peer reads what no line of objects shows, and the first repeats its commands. A second device hears all but
 the damaged ones, and answers alike."""
@@ -38,7 +38,7 @@ def damaged(message):
 
 
 def events_of_one(folder, events):
-    """What `trials events` says of each event of a history: its lines but the last two, and those."""
+    """What `trials lines` says of each event of a history: its lines but the last two, and those."""
     (said,) = events_of(f"{folder}/trials", [["history 32 16 0", *events]])
     if len(said) != len(events):
         raise RuntimeError(f"{len(said)} of {len(events)} events")

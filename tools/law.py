@@ -3,7 +3,7 @@
 
 Usage: law.py BIN [HISTORIES] [SEED]     BIN is the folder with `trials`
 
- law      directed and random histories, run by `trials events`: verdicts, packets, writes, objects and sessions are the law's
+ law      directed and random histories, run by `trials lines`: verdicts, packets, writes, objects and sessions are the law's
  wrong    the law refuses a history of each wrong device (tools/rows/wrong_devices.toml), by the sentence that it breaks
  altered  a transcript with one line altered is refused at that event, by the sentence that the line belongs to
 The last line is 'N passed, M failed'."""

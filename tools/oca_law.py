@@ -244,7 +244,7 @@ def objects_line(tree):
 
 
 def walk(history, tale):
-    """Holds the law of a device against the lines that `trials events` prints of each event: the verdict, or whether a change at the
+    """Holds the law of a device against the lines that `trials lines` prints of each event: the verdict, or whether a change at the
     front was made, the packets, what a datagram wrote to, the number of sessions, and the objects. A Break has the sentence that is
     broken first."""
     law, H = Law(history.window, history.peers, tuple(oca.bench(history.channels))), None

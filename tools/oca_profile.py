@@ -1,5 +1,5 @@
 """A second, plain implementation of the profile in docs/PROTOCOL.md: a device, a controller, both over a network, and the texts of `ocadev replay`,
-`ocactl replay` and `trials world`. It is written from the rules of the profile and not from the programs' code, to compare them with it. It favours
+`ocactl replay` and `trials lines`. It is written from the rules of the profile and not from the programs' code, to compare them with it. It favours
 plain lists over speed. Python 3, standard library only."""
 
 import contextlib
@@ -670,8 +670,9 @@ def step_line(step):
     kind, *rest = step
     if kind == "set":
         return front_line(*rest)
+    kind = {"tick": ["quiet"], "other": []}.get(kind, [kind])
     now, *rest = [peer_text(it) if isinstance(it, tuple) else hex_text(it) if isinstance(it, bytes) else str(it) for it in rest]
-    return " ".join([kind, now, *rest] if kind == "take" else [now, kind, *rest])
+    return " ".join([*kind, now, *rest] if kind == ["take"] else [now, *kind, *rest])
 
 
 # ---- scripts

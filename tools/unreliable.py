@@ -6,7 +6,7 @@ Usage: unreliable.py BIN     BIN is the folder with `ocadev`, `ocactl` and `tria
 - Memory: each request of a run is refused in turn. The run says `no memory` with status 1 and prints nothing, or it prints what
   it prints with memory. The calls of `trials calls` answer NoMemory, but a tree that gives back room keeps it.
 - After building, and over sockets: a run asks for no more requests than an empty one, and ends well with later ones refused.
-- Ends in memory, by `trials events`: with a failed receive or send, a device or a link does what it does without that, and its
+- Ends in memory, by `trials lines`: with a failed receive or send, a device or a link does what it does without that, and its
   report counts the failure and nothing else.
 - Ends: each read and each write fails in turn, in pieces of 100 bytes and of one. The run says `read failed` or `write failed`
   with status 1, and printed a front of what it prints otherwise. Pieces of 1, 7 and 100 bytes change nothing."""
@@ -110,7 +110,7 @@ class Runs(Checks):
         receives = len(entries)
         failures = [(receives, NO_SEND)] + [(k, NO_SEND) for k in range(receives)] + [(receives, k) for k in range(sends)]
         lines = [line for failed, send in failures for line in in_memory(entries, failed, f"{drives} {send}", again)]
-        out, err, status, _ = self.run(["trials", "events"], "".join(f"{line}\n" for line in lines).encode())
+        out, err, status, _ = self.run(["trials", "lines"], "".join(f"{line}\n" for line in lines).encode())
         told = [part.partition("report")[2].partition("\n") for part in out.decode().split("history\n")[1:]]
         self.same(f"{name} in memory", (err, status, len(told)), (b"", 0, len(failures)))
         reports, rests = [[int(n) for n in line.split()] for line, _, _ in told], [rest for _, _, rest in told]

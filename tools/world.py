@@ -1,5 +1,5 @@
 #!/usr/bin/env python3
-"""Schedules for a device and links over a network (schedules.py), run by `trials world`: each transcript is held
+"""Schedules for a device and links over a network (schedules.py), run by `trials lines`: each transcript is held
 against the laws of networks and against the second implementation (oca_profile.py).
 
 Usage: world.py BIN COUNT [SEED]     COUNT schedules over every pair of sizes that fits; BIN is the folder with `trials`
@@ -380,7 +380,7 @@ class Laws:
 
 # ---- runs
 def transcripts(program, texts):
-    return runs_of(program, "world", "schedule", texts)
+    return runs_of(program, "schedule", texts)
 
 
 def fits(window, span, left=0):
@@ -488,10 +488,10 @@ def sizes(program, seed):
 
 def lines_refused(folder):
     """How many bad lines are refused with their number and their word, and status 2, and how many there are; the first one stands alone."""
-    checks, bad = Checks(folder), [("0 tick", "form"), *((line, word) for word, lines in DATA.bad_lines.items() for line in lines)]
+    checks, bad = Checks(folder), [("0 quiet", "form"), *((line, word) for word, lines in DATA.bad_lines.items() for line in lines)]
     for line, word in bad:
-        before = [] if line == "0 tick" else ["# a comment", "", "schedule 1 1 127.0.0.1:1/1"]
-        _, *said = checks.ran("trials", "world", given="\n".join([*before, line]).encode(), text=False)
+        before = [] if line == "0 quiet" else ["# a comment", "", "schedule 1 1 127.0.0.1:1/1"]
+        _, *said = checks.ran("trials", "lines", given="\n".join([*before, line]).encode(), text=False)
         checks.same(repr(line), said, [f"line {len(before) + 1}: {word}\n".encode(), 2])
     return checks.passed, len(bad)
 

@@ -1,4 +1,4 @@
-//! The fields of the lines of schedules and of histories.
+//! The fields of the lines of histories and schedules.
 ghost use Rattle.std.specs.Prelude.{◌≤◌};
 
 use oca_script::field::{first_field, moment, number, peer};
@@ -36,6 +36,21 @@ impl LineFault {
             LineFault::Hex => "hex",
         }
     }
+}
+
+/// A change at the local front panel: of the object of this number.
+#[derive(Clone, Copy)]
+pub enum Front<'a> {
+    /// It is set.
+    Set(Ono, Value),
+    /// It gets a label of these bytes.
+    Label(Ono, &'a [u8]),
+    /// It is enabled or disabled.
+    Enabled(Ono, bool),
+    /// The lock is taken off it.
+    Unlocked(Ono),
+    /// Whether its hardware refuses to be changed.
+    Failing(Ono, bool),
 }
 
 /// The largest number of 32 bits.
@@ -208,14 +223,24 @@ impl<'a> Fields<'a> {
         }
     }
 
+    /// The change at the local front panel that begins with this word, where one does.
+    pub fn front(&mut self, word: &str) -> Option<Front<'a>> {
+        match word {
+            "set" => Some(self.local()),
+            "label" => Some(Front::Label(Ono(self.number()), self.hex())),
+            "enabled" => Some(Front::Enabled(Ono(self.number()), self.truth())),
+            "unlock" => Some(Front::Unlocked(Ono(self.number()))),
+            "failing" => Some(Front::Failing(Ono(self.number()), self.truth())),
+            _ => None,
+        }
+    }
+
     /// What is set at the local front panel, and to what: `ONO CLASS VALUE`.
-    pub fn local(&mut self) -> (Ono, Value) {
+    fn local(&mut self) -> Front<'a> {
         let ono = Ono(self.number());
         let word = self.next();
         let class = self.class(word);
-        let value = self.value(class);
-        self.end();
-        (ono, value)
+        Front::Set(ono, self.value(class))
     }
 
     /// The class with this word.

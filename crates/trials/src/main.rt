@@ -1,9 +1,8 @@
 //! Trials over the built code that would be too long for proved tests.
 //!
-//! `trials calls`: the names of the calls that take memory, and `trials call NAME`: one of them. `trials world`: the
-//! schedules on standard input, run by `run_pair`, each with what its steps led to (`schedule` tells their lines).
-//! `trials events`: the histories of devices on standard input, with what each device is after each event (`history`
-//! tells their lines).
+//! `trials calls`: the names of the calls that take memory, and `trials call NAME`: one of them. `trials lines`: the
+//! histories of devices on standard input, with what each device is after each event, and the schedules, run by
+//! `run_pair`, with what their steps led to (`line` tells their lines).
 #![tactic(auto)]
 
 mod again;
@@ -11,18 +10,18 @@ mod calls;
 mod ends;
 mod fields;
 mod history;
+mod line;
 mod lines;
-mod schedule;
+mod run;
 mod world;
 
 use calls::{Answered, NAMES, call};
-use history::histories;
 use lines::RunFault;
+use run::run_lines;
 use std::net::Net;
 use std::process::ExitCode;
 use std::rt::Runtime;
 use std::{env, io};
-use world::worlds;
 
 /// Runs the trial that the words name, with its status.
 fn main(rt: HostRuntime) -> ExitCode {
@@ -52,8 +51,7 @@ fn of_words<R: Runtime + AllocGlobal + Net>(rt: &R, words: &[String]) -> ExitCod
 fn of_one_word<R: Runtime + AllocGlobal>(rt: &R, verb: &str) -> ExitCode {
     match verb {
         "calls" => exit_with(rt, NAMES, 0),
-        "world" => of_lines(rt, true),
-        "events" => of_lines(rt, false),
+        "lines" => of_lines(rt),
         _ => exit_with(rt, "bad words", 2),
     }
 }
@@ -68,15 +66,11 @@ fn exit_with<R: Runtime>(rt: &R, text: &str, status: u8) -> ExitCode {
     ExitCode::from(status)
 }
 
-/// The schedules on standard input, or the histories.
-fn of_lines<R: Runtime + AllocGlobal>(rt: &R, are_schedules: bool) -> ExitCode {
+/// The histories and schedules on standard input.
+fn of_lines<R: Runtime + AllocGlobal>(rt: &R) -> ExitCode {
     match io::read_to_string(rt.alloc(), rt.reader()) {
         Ok(text) => {
-            let run = if are_schedules {
-                worlds(rt, text.as_str())
-            } else {
-                histories(rt, text.as_str())
-            };
+            let run = run_lines(rt, text.as_str());
             drop(text);
             ended(rt, run)
         }

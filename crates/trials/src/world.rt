@@ -1,7 +1,10 @@
-//! Schedules over a device and links, read as lines and run one after another.
-use crate::fields::{Fields, LineFault, bytes_of, text_of};
-use crate::lines::{RunFault, Told};
-use crate::schedule::{Line, read_line};
+//! Schedules over a device and links, with what their steps led to.
+//!
+//! What is printed: `schedule`, a line for each step, the datagrams that were sent to the device and to links in order,
+//! and how many sessions the device has at the end; or, behind `schedule`, why it does not run.
+use crate::fields::{Front, LineFault, bytes_of, text_of};
+use crate::line::{Event, Timed};
+use crate::lines::Told;
 use oca_control::{Answer, ControlFault, Reception};
 use oca_pair::{Outcome, PairFault, Sent, Start, Step, Transcript, run_pair_with_sizes};
 use oca_tree::bench;
@@ -61,135 +64,103 @@ impl HeldStep {
     }
 }
 
-/// The schedule that began last, where one has: its sizes, its links and its steps; and the links of the next one.
+/// The step of an event, and the text of its bytes; none of one that is of a history alone.
+fn step_of<'a>(event: Event<'a>) -> Option<(Step<'static>, &'a [u8])> {
+    match event {
+        Event::Step(step, text) => Some((step, text)),
+        Event::Timed(Timed::Quiet(now)) => Some((Step::Tick { now }, b"-")),
+        Event::Timed(Timed::Datagram(from, text, now)) => {
+            let bytes = &[];
+            Some((Step::Other { from, bytes, now }, text))
+        }
+        Event::Front(front) => Some(front_step(front)),
+        Event::Again(_) | Event::Then(_) | Event::Serve(_) | Event::Drive(_) => None,
+    }
+}
+
+/// The step of a change at the local front panel, and the text of its bytes.
+fn front_step<'a>(front: Front<'a>) -> (Step<'static>, &'a [u8]) {
+    match front {
+        Front::Set(ono, value) => (Step::Local { ono, value }, b"-"),
+        Front::Label(ono, text) => (Step::Label { ono, label: "" }, text),
+        Front::Enabled(ono, enabled) => (Step::Enable { ono, enabled }, b"-"),
+        Front::Unlocked(ono) => (Step::Unlock { ono }, b"-"),
+        Front::Failing(ono, failing) => (Step::Fail { ono, failing }, b"-"),
+    }
+}
+
+/// The present schedule, where one has begun: its sizes, its links and its steps.
 #[derive(Drop)]
-struct Pending {
+pub struct Schedule {
     alloc: Global,
     begun: Option<(Sizes, Span)>,
     starts: Vec<Start>,
     steps: Vec<HeldStep>,
-    next_starts: Vec<Start>,
 }
 
-/// Runs the schedules that the text has, and prints what each led to: `schedule`, a line for each step, the datagrams
-/// that were sent to the device and to links in order, and how many sessions the device has at the end; or, behind
-/// `schedule`, why it does not run.
-pub fn worlds<R: Print + AllocGlobal>(rt: &R, text: &str) -> Result<(), RunFault> {
-    let mut pending = Pending {
-        alloc: rt.alloc(),
-        begun: None,
-        starts: Vec::new(rt.alloc()),
-        steps: Vec::new(rt.alloc()),
-        next_starts: Vec::new(rt.alloc()),
-    };
-    let run = run_lines(rt, text, &mut pending);
-    drop(pending);
-    run
-}
-
-/// Runs the lines of the text.
-fn run_lines<R: Print>(rt: &R, text: &str, pending: &mut Pending) -> Result<(), RunFault> {
-    let mut count = 0u64;
-    for line in text.lines() {
-        count = count.saturating_add(1);
-        if line.is_empty() || line.as_bytes().first() == Some(&b'#') {
-            continue;
+impl Schedule {
+    /// No schedule.
+    pub fn new(alloc: Global) -> Schedule {
+        Schedule {
+            alloc,
+            begun: None,
+            starts: Vec::new(alloc),
+            steps: Vec::new(alloc),
         }
-        run_line(rt, line.as_bytes(), count, pending)?;
     }
-    finish(rt, pending)
-}
 
-/// Runs the line of this number.
-fn run_line<R: Print>(
-    rt: &R,
-    text: &[u8],
-    number: u64,
-    pending: &mut Pending,
-) -> Result<(), RunFault> {
-    let mut fields = Fields::new(text);
-    let line = read_line(&mut fields, &mut pending.next_starts);
-    match fields.fault() {
-        Some(fault) => Err(RunFault::Line(number, fault)),
-        None => take_line(rt, line, number, pending),
+    /// Whether one has begun.
+    pub fn is_begun(&self) -> bool {
+        self.begun.is_some()
     }
-}
 
-/// Begins a schedule, once the pending one was run, or adds a step to that.
-fn take_line<R: Print>(
-    rt: &R,
-    line: Line<'_>,
-    number: u64,
-    pending: &mut Pending,
-) -> Result<(), RunFault> {
-    match line {
-        Line::Begins(sizes, span) => begin(rt, sizes, span, pending),
-        Line::Step(step, text) if pending.begun.is_some() => {
-            add_step(pending, number, step, text)
+    /// Begins a schedule of these links, of which none are left.
+    pub fn begin(&mut self, sizes: Sizes, span: Span, starts: &mut Vec<Start>) {
+        self.begun = Some((sizes, span));
+        std::mem::swap(&mut self.starts, starts);
+    }
+
+    /// Adds the step of an event.
+    pub fn add(&mut self, event: Event<'_>) -> Result<(), LineFault> {
+        let Some((step, text)) = step_of(event) else {
+            return Err(LineFault::Form);
+        };
+        let Some(bytes) = bytes_of(self.alloc, text) else {
+            return Err(LineFault::NoMemory);
+        };
+        let held = HeldStep { step, bytes };
+        if !held.has_text() {
+            return Err(LineFault::Hex);
         }
-        Line::Step(..) => Err(RunFault::Line(number, LineFault::Form)),
+        match self.steps.push(held) {
+            Ok(()) => Ok(()),
+            Err(_) => Err(LineFault::NoMemory),
+        }
+    }
+
+    /// Runs the schedule, where there is one, and notes what it led to. None has begun then.
+    pub fn finish(&mut self, out: &mut Told) {
+        if let Some((sizes, span)) = self.begun {
+            let ran = run(sizes, span, self);
+            put_run(self.alloc, out, &ran);
+            drop(ran);
+        }
+        self.begun = None;
+        self.steps.clear();
+        self.starts.clear();
     }
 }
 
-/// Adds a step whose bytes have this text, from the line of this number.
-fn add_step(
-    pending: &mut Pending,
-    number: u64,
-    step: Step<'static>,
-    text: &[u8],
-) -> Result<(), RunFault> {
-    let Some(bytes) = bytes_of(pending.alloc, text) else {
-        return Err(RunFault::NoMemory);
-    };
-    let held = HeldStep { step, bytes };
-    if !held.has_text() {
-        return Err(RunFault::Line(number, LineFault::Hex));
-    }
-    match pending.steps.push(held) {
-        Ok(()) => Ok(()),
-        Err(_) => Err(RunFault::NoMemory),
-    }
-}
-
-/// Runs the pending schedule, and begins another one.
-fn begin<R: Print>(
-    rt: &R,
-    sizes: Sizes,
-    span: Span,
-    pending: &mut Pending,
-) -> Result<(), RunFault> {
-    let finished = finish(rt, pending);
-    pending.begun = Some((sizes, span));
-    pending.steps.clear();
-    std::mem::swap(&mut pending.starts, &mut pending.next_starts);
-    pending.next_starts.clear();
-    finished
-}
-
-/// Runs the pending schedule, where there is one, and prints what it led to.
-fn finish<R: Print>(rt: &R, pending: &Pending) -> Result<(), RunFault> {
-    let Some((sizes, span)) = pending.begun else {
-        return Ok(());
-    };
-    let mut out = Told::new(pending.alloc);
-    let ran = run(sizes, span, pending);
-    put_run(pending.alloc, &mut out, &ran);
-    drop(ran);
-    let printed = out.print(rt);
-    drop(out);
-    printed
-}
-
-/// Runs the pending schedule over the bench device.
-fn run(sizes: Sizes, span: Span, pending: &Pending) -> Result<Transcript, PairFault> {
-    let mut steps = Vec::new(pending.alloc);
+/// Runs the schedule over the bench device.
+fn run(sizes: Sizes, span: Span, schedule: &Schedule) -> Result<Transcript, PairFault> {
+    let mut steps = Vec::new(schedule.alloc);
     let mut is_whole = true;
-    for held in pending.steps.as_slice() {
+    for held in schedule.steps.as_slice() {
         is_whole &= steps.push(held.step()).is_ok();
     }
-    let starts = pending.starts.as_slice();
+    let starts = schedule.starts.as_slice();
     let ran = if is_whole {
-        run_steps(pending.alloc, sizes, span, starts, steps.as_slice())
+        run_steps(schedule.alloc, sizes, span, starts, steps.as_slice())
     } else {
         Err(PairFault::NoMemory)
     };
