@@ -5,7 +5,7 @@
 #              programs, and the steps of gate/steps, with the wrong bodies that must be refused
 # make lossy   both programs over a network that loses, duplicates, delays and reorders: one command at a time, then 16 in
 #              flight with a window of 31; and a schedule that a window of 30 is too small for: COMMANDS=200 SEED=1
-# make fuzz    both programs against a second implementation of the profile, on random scripts: SECONDS=60 SEED=1
+# make fuzz    both programs against a second implementation of the profile, on random scripts: SCRIPTS=2000 SEED=1
 # make world   schedules for both ends, held against the laws and the second implementation: SCHEDULES=8000 SEED=1
 # make law     histories of events, held against the law by events, and wrong devices: HISTORIES=2000 SEED=1
 # make bench   instructions, memory by size, requests a second beside bare loops, with the goals
@@ -17,7 +17,7 @@
 # make uninstall takes away what was installed
 # make docs    lists the public API by crate in out/API.md
 COMMANDS = 200
-SECONDS = 60
+SCRIPTS = 2000
 SCHEDULES = 8000
 HISTORIES = 2000
 SEED = 1
@@ -54,7 +54,7 @@ lossy:
 
 fuzz:
 	@test -x bin/ocactl || $(MAKE) build
-	@python3 tools/fuzz.py bin $(SECONDS) $(SEED)
+	@python3 tools/fuzz.py bin $(SCRIPTS) $(SEED)
 
 world:
 	@test -x bin/trials || $(BUILD) trials

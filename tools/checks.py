@@ -101,11 +101,6 @@ def are_few():
     return 2 * min(4_000_000, int(Path("/proc/sys/net/core/wmem_max").read_text())) < 500_000
 
 
-def read_note(run):
-    """Reads that note behind where the device listens, if it is due; whether it is as it should be."""
-    return not are_few() or run.stderr.readline().startswith(NOTE)
-
-
 def next_line(run, seconds=10):
     """The next line that a run prints into a pipe; nothing if none comes in so many seconds."""
     return run.stdout.readline() if select.select([run.stdout], [], [], seconds)[0] else None
@@ -255,9 +250,8 @@ class Checks:
         """`ocadev serve` at a port that the system chooses, and this port; 0 if it does not listen."""
         run = self.start("ocadev", "serve", "--port", 0, *words, **how)
         port = port_said(run)
-        read_note(run)
-        if "--keep" in words:
-            run.stderr.readline()  # with what it began
+        for _ in range(are_few() + ("--keep" in words)):  # that note, and with what it began
+            run.stderr.readline()
         return run, port
 
     def ran(self, *words, given="", seconds=60, **how):

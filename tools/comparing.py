@@ -46,10 +46,10 @@ def broken(walk, *given):
     return None
 
 
-def runs_of(program, head, texts):
+def runs_of(folder, head, texts):
     """The lines that `trials lines` prints for each of these texts, from the line on with which it begins each."""
     given = "".join(f"{line}\n" for lines in texts for line in lines)
-    done = subprocess.run([program, "lines"], input=given.encode(), capture_output=True, timeout=300)
+    done = subprocess.run([f"{folder}/trials", "lines"], input=given.encode(), capture_output=True, timeout=300)
     lines = done.stdout.decode().splitlines()
     begins = [at for at, line in enumerate(lines) if line == head] + [len(lines)]
     if done.returncode != 0 or done.stderr or begins[0] or len(begins) != len(texts) + 1:
@@ -57,25 +57,25 @@ def runs_of(program, head, texts):
     return [lines[first:end] for first, end in zip(begins, begins[1:])]
 
 
-def events_of(program, texts):
+def events_of(folder, texts):
     """The lines that `trials lines` prints of each event of these texts: the last two are the number of sessions and the objects."""
-    for lines in runs_of(program, "history", texts):
+    for lines in runs_of(folder, "history", texts):
         ends = [at + 1 for at, line in enumerate(lines) if line.startswith("objects")]
         yield [its for first, end in zip([1, *ends], [*ends, len(lines)]) if (its := lines[first:end])]
 
 
-# How runs are held against laws: the cases of a number; what the program says of their texts; the walk of the laws along what it said of
-# one, or a Break; that as a text; what is counted of it; one that is altered, with the law that is to refuse it and, if it is to stand
+# How runs are held against laws: the cases of a number; what the programs of a folder say of them; the walk of the laws along what was said
+# of one, or a Break; that as a text; what is counted of it; one that is altered, with the law that is to refuse it and, if it is to stand
 # there, the place of the break, or None; how many of those are tried; and the laws alone.
-Comparison = collections.namedtuple("Comparison", "made told hold shown count altered times laws")
+Comparison = collections.namedtuple("Comparison", "made told hold shown count altered times laws", defaults=(None, 0, None))
 
 
 def work(how, job):
     """The counts of a range of numbers, and the text of the first break or None."""
-    program, seed, numbers = job
+    folder, seed, numbers = job
     cases, total = [case for n in numbers for case in how.made(seed, n)], collections.Counter()
     r = random.Random(f"{seed} {numbers[0]} altered")
-    for case, said in zip(cases, how.told(program, [case.text() for case in cases]), strict=True):
+    for case, said in zip(cases, how.told(folder, cases), strict=True):
         try:
             walk = how.hold(case, said)
         except Break as fault:
@@ -90,19 +90,19 @@ def work(how, job):
     return total, None
 
 
-def in_processes(how, what, batch, refuses, rules, count=300, seed=1):
-    """Holds so many runs of the program in processes side by side, as the words FOLDER [COUNT [SEED]] say, and each wrong rule of
+def in_processes(how, what, batch, refuses=None, rules="", count=300, seed=1):
+    """Holds so many runs of the programs in processes side by side, as the words FOLDER [COUNT [SEED]] say, and each wrong rule of
     the file of this name: the number, the seed, the counts, and what is found of the rules. A break is printed and ends this process."""
     folder, count, seed = [*sys.argv[1:], *("", count, seed)[len(sys.argv) - 1:]]
     count, seed, total = int(count), int(seed), collections.Counter()
-    jobs = [(f"{folder}/trials", seed, range(count)[first:first + batch]) for first in range(0, count, batch)]
+    jobs = [(folder, seed, range(count)[first:first + batch]) for first in range(0, count, batch)]
     with multiprocessing.Pool(min(4, multiprocessing.cpu_count())) as pool:
         for counts, fault in pool.imap(functools.partial(work, how), jobs):
             total += counts
             if fault:
                 print(f"{fault}\nseed {seed}: a break after {total[what]} {what} without one")
                 sys.exit(verdict({what: False}))
-        return count, seed, total, pool.map(refuses, [(seed, *rule) for rule in wrong_rules(rules)], chunksize=1)
+        return count, seed, total, pool.map(refuses, [(seed, *rule) for rule in wrong_rules(rules)], chunksize=1) if refuses else []
 
 
 def verdict(checks):

@@ -39,7 +39,7 @@ def damaged(message):
 
 def events_of_one(folder, events):
     """What `trials lines` says of each event of a history: its lines but the last two, and those."""
-    (said,) = events_of(f"{folder}/trials", [["history 32 16 0", *events]])
+    (said,) = events_of(folder, [["history 32 16 0", *events]])
     if len(said) != len(events):
         raise RuntimeError(f"{len(said)} of {len(events)} events")
     return ((its[:-2], its[-2:]) for its in said)

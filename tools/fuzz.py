@@ -2,19 +2,19 @@
 """Compares `ocadev replay` and `ocactl replay` with the second implementation of the profile (oca_profile.py) on random
 scripts.
 
-Usage: fuzz.py BIN SECONDS [SEED]     BIN is the folder with the two programs
+Usage: fuzz.py BIN [COUNT] [SEED]     COUNT scripts of each; BIN is the folder with the two programs
 
 Scripts have well-formed and damaged datagrams, duplicates, overtaking, other commands under a handle, many peers,
-moments that jump, every window and span, and bad lines. The first difference is made as small as it can be and printed;
-the status is 1."""
+moments that jump, every window and span, and bad lines. The first difference is printed; the status is 1."""
 import random
 import re
 import subprocess
 import sys
-import time
+from collections import Counter
 
 import oca_profile as oca
 from checks import verdict
+from comparing import Break, Comparison, in_processes
 from tables import table
 
 ONOS = [100, 4096, 4097, 4098, 4099, 4100, 4101, 4102, 4103, 1, 0]
@@ -169,53 +169,40 @@ def link_script(r):
     return words, finish(r, lines), lambda s: oca.link_replay(s, oca.DEVICE, first, span)
 
 
-def run(program, words, script):
-    done = subprocess.run([program] + words, input=script, capture_output=True, timeout=60)
-    return done.stdout, done.stderr.decode(errors="replace").strip() or None, done.returncode
+# ---- the programs beside the reference
+def made(seed, number):
+    r = random.Random(f"{seed} {number}")
+    return [("ocadev", *device_script(r)), ("ocactl", *link_script(r))]
 
 
-def smallest(differs, script):
-    """Takes lines away while the difference stays."""
-    lines = script.split(b"\n")
-    size = max(1, len(lines) // 2)
-    while size:
-        at = 0
-        while at < len(lines):
-            fewer = lines[:at] + lines[at + size:]
-            if fewer and differs(b"\n".join(fewer)):
-                lines = fewer
-            else:
-                at += size
-        size //= 2
-    return b"\n".join(lines)
+def told(folder, cases):
+    for name, words, script, _ in cases:
+        done = subprocess.run([f"{folder}/{name}"] + words, input=script, capture_output=True, timeout=60)
+        yield done.stdout, done.stderr.decode(errors="replace").strip() or None, done.returncode
 
 
-def compare(program, words, script, expected):
-    differs = lambda it: run(program, words, it) != expected(it)
-    if not differs(script):
-        return True
-    script = smallest(differs, script)
-    print("DIFFERENCE:", program, *words, "on the script")
-    print(script.decode(errors="replace"))
-    print("the program: ", run(program, words, script))
-    print("the profile: ", expected(script))
-    return False
+def hold(case, said):
+    *_, script, expected = case
+    if said != expected(script):
+        both = zip(said[0].splitlines(), expected(script)[0].splitlines())
+        at = next((at for at, (one, other) in enumerate(both) if one != other), len(said[0].splitlines()))
+        raise Break("reference", at, f"{said}, and the reference {expected(script)}")
+
+
+def shown(case, _, fault):
+    name, words, script, _ = case
+    return f"{name} {' '.join(words)} on the script\n{script.decode(errors='replace')}\nDIFFERENCE in line {fault.at} of what is printed: {fault.what}"
+
+
+def count_of(case, *_):
+    return Counter(scripts=1, lines=case[2].count(b"\n") + 1)
 
 
 def main():
-    folder, seconds, seed = [*sys.argv[1:], "1"][:3]
-    r, end, scripts, lines = random.Random(int(seed)), time.time() + float(seconds), [0, 0], 0
-    while time.time() < end:
-        for kind, (name, make) in enumerate((("ocadev", device_script), ("ocactl", link_script))):
-            words, script, expected = make(r)
-            if not compare(f"{folder}/{name}", words, script, expected):
-                print(f"fuzz: seed {seed}, after {sum(scripts)} scripts without a difference")
-                return verdict(sum(scripts), 1)
-            scripts[kind] += 1
-            lines += script.count(b"\n") + 1
-    print(f"fuzz: seed {seed}: {scripts[0]} device scripts and {scripts[1]} controller scripts, {lines} lines, "
-          f"no difference; room for {sorted(set(ROOMS))} peers, {sorted(set(CHANNELS))} channels")
-    return verdict(sum(scripts), 0)
+    _, seed, total, _ = in_processes(Comparison(made, told, hold, shown, count_of), "scripts", 20)
+    print(f"fuzz: seed {seed}: {total['scripts']} scripts, {total['lines']} lines, no difference; room for {sorted(set(ROOMS))} peers, "
+          f"{sorted(set(CHANNELS))} channels")
+    return verdict(total["scripts"], 0)
 
 
 if __name__ == "__main__":

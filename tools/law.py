@@ -304,6 +304,10 @@ def refuses(job):
 
 
 # ---- the whole
+def told(folder, histories):
+    return events_of(folder, [it.text() for it in histories])
+
+
 def count_of(_, tale, __):
     total = collections.Counter(histories=1, events=len(tale), packets=sum(len(packets_in(said)) for said in tale))
     for said in tale:
@@ -316,7 +320,7 @@ def count_of(_, tale, __):
 
 
 def main():
-    how = Comparison(made, events_of, walk, shown, count_of, altered, 3, walk)
+    how = Comparison(made, told, walk, shown, count_of, altered, 3, walk)
     count, seed, total, wrong = in_processes(how, "histories", 9, refuses, "wrong_devices")
     for found, _, said in wrong:
         if not found:

@@ -2,8 +2,7 @@
 """Schedules for a device and links over a network (schedules.py), run by `trials lines`: each transcript is held
 against the laws of networks and against the second implementation (oca_profile.py).
 
-Usage: world.py BIN COUNT [SEED]     COUNT schedules over every pair of sizes that fits; BIN is the folder with `trials`
-       world.py BIN broken W S       prints the directed schedule for a window of W and a span of S, with what it led to
+Usage: world.py BIN [COUNT] [SEED]     COUNT schedules over every pair of sizes that fits; BIN is the folder with `trials`
 
 The checks, by the statements of the laws (docs/DEFINITIONS.md, and crates/oca_pair/specs), on a transcript alone.
 A peer keeps its session while its admitted datagrams come at most 120,000 ms apart.
@@ -379,8 +378,8 @@ class Laws:
 
 
 # ---- runs
-def transcripts(program, texts):
-    return runs_of(program, "schedule", texts)
+def transcripts(folder, cases):
+    return runs_of(folder, "schedule", [it.text() for it in cases])
 
 
 def fits(window, span, left=0):
@@ -458,29 +457,29 @@ def refuses(job):
     return False, f"{name}: no break"
 
 
-def breaks(program, schedules):
+def breaks(folder, schedules):
     """Those of the schedules that break 'untaken' for sizes that do not fit, each with its lines and the break."""
-    for schedule, lines in zip(schedules, transcripts(program, [it.text() for it in schedules])):
+    for schedule, lines in zip(schedules, transcripts(folder, schedules)):
         fault = broken(Laws, schedule, lines, True)
         if fault and fault.law == "untaken" and lines == schedule.expected():
             yield schedule, lines, fault
 
 
-def sizes(program, seed):
+def sizes(folder, seed):
     """Whether each pair of W = 2 * S - 2 breaks 'untaken', and random schedules do at two pairs; prints what was found."""
-    found = [sum(1 for _ in breaks(program, [directed(times * span - less, span, left=(times - 2) * span) for span in spans]))
+    found = [sum(1 for _ in breaks(folder, [directed(times * span - less, span, left=(times - 2) * span) for span in spans]))
              for times, less, spans in ((2, 2, range(2, 33)), (3, 2, range(1, 22)), (3, 1, range(1, 22)))]
     print(f"windows of 2 * S - 2: {found[0]} of 31 directed schedules break 'untaken'")
     print(f"behind S commands of a link before, windows of 3 * S - 2: {found[1]} of 21 break it; of 3 * S - 1: {found[2]}")
     later = [directed(3 * span - 2, span, left=span, gap=100000) for span in range(1, 22)]
-    said = transcripts(program, [it.text() for it in later])
+    said = transcripts(folder, later)
     for moments in (99999, 100000):
         with patch.object(sys.modules[__name__], "STILL", moments):
             found.append(sum(broken(Laws, *run) is not None for run in zip(later, said)))
     print(f"of a link lost 100,000 ms before, if such commands came for 99,999 ms: {found[3]} of 21 break it; for 100,000: {found[4]}")
     for window, span in ((2, 2), (4, 3)):
         r = random.Random(f"{seed} {window}")
-        first = next(breaks(program, [wander(r, window, span) if n % 2 else directed(window, span, r) for n in range(400)]), None)
+        first = next(breaks(folder, [wander(r, window, span) if n % 2 else directed(window, span, r) for n in range(400)]), None)
         found.append(bool(first))
         print(f"window {window}, span {span}: {f'a random schedule breaks at step {first[2].at}' if first else 'none breaks'}")
     return found == [31, 21, 0, 21, 0, True, True]
@@ -497,14 +496,11 @@ def lines_refused(folder):
 
 
 def main():
-    program = f"{sys.argv[1]}/trials"
-    if sys.argv[2] == "broken":
-        return print(next((shown(*it) for it in breaks(program, [directed(*map(int, sys.argv[3:]))])), "no break"))
     how = Comparison(made, transcripts, hold, shown, count_of, altered, 1, Laws)
     count, seed, total, wrong = in_processes(how, "schedules", BATCH, refuses, "wrong_networks")
     for _, said in wrong:
         print(said)
-    good = sizes(program, seed)
+    good = sizes(sys.argv[1], seed)
     print(f"seed {seed}, {sum(name.startswith('size ') for name in total)} of {len(PAIRS)} pairs of sizes that fit")
     for head, told in DATA.told.items():
         print(head + ", ".join(f"{total[name]} {text}" for name, text in told))
