@@ -1,10 +1,11 @@
 """What the tools share that hold the programs against laws and against the second implementation. Other tools use it; it has no `main`."""
 import collections
 import functools
-import multiprocessing
+import os
 import random
 import subprocess
 import sys
+from concurrent.futures import ProcessPoolExecutor
 from pathlib import Path
 from types import ModuleType
 
@@ -96,13 +97,14 @@ def in_processes(how, what, batch, refuses=None, rules="", count=300, seed=1):
     folder, count, seed = [*sys.argv[1:], *("", count, seed)[len(sys.argv) - 1:]]
     count, seed, total = int(count), int(seed), collections.Counter()
     jobs = [(folder, seed, range(count)[first:first + batch]) for first in range(0, count, batch)]
-    with multiprocessing.Pool(min(4, multiprocessing.cpu_count())) as pool:
-        for counts, fault in pool.imap(functools.partial(work, how), jobs):
+    with ProcessPoolExecutor(min(4, os.cpu_count())) as pool:
+        for counts, fault in pool.map(functools.partial(work, how), jobs):
             total += counts
             if fault:
+                pool.shutdown(wait=False, cancel_futures=True)
                 print(f"{fault}\nseed {seed}: a break after {total[what]} {what} without one")
                 sys.exit(verdict({what: False}))
-        return count, seed, total, pool.map(refuses, [(seed, *rule) for rule in wrong_rules(rules)], chunksize=1) if refuses else []
+        return count, seed, total, [*pool.map(refuses, [(seed, *rule) for rule in wrong_rules(rules)])] if refuses else []
 
 
 def verdict(checks):
