@@ -86,6 +86,7 @@ trait Row {
 fn all_agree<A: Abort + AllocGlobal, R: Row>(rt: &A, table: &str, rows: &[R]) {
     let mut said = Said::new(rt.alloc());
     for (at, row) in rows.iter().enumerate() {
+        said.text.clear();
         if !row.agrees(&mut said) {
             fail(rt, table, at, &said);
         }
@@ -94,7 +95,12 @@ fn all_agree<A: Abort + AllocGlobal, R: Row>(rt: &A, table: &str, rows: &[R]) {
 
 /// A row of the table of this name came out otherwise.
 fn fail(rt: &impl Abort, table: &str, row: usize, said: &Said) {
-    let (script, step, text) = (said.script, said.step, said.text.as_str());
+    let (script, step) = (said.script, said.step);
+    let text = if said.text.is_empty() {
+        "something else comes of it"
+    } else {
+        said.text.as_str()
+    };
     if script.is_empty() {
         panic!(rt; "{table}: row {row}: {text}");
     }

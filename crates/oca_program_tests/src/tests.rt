@@ -57,9 +57,13 @@ impl Said {
 }
 
 impl Display for Said {
-    /// What was found in place of what.
+    /// What was found in place of what, where that was compared.
     fn fmt<W: fmt::Write>(&self, f: &mut fmt::Formatter<W>) -> fmt::Result {
-        f.write_str(self.text.as_str())
+        f.write_str(if self.text.is_empty() {
+            "something else comes of it"
+        } else {
+            self.text.as_str()
+        })
     }
 }
 
@@ -73,6 +77,7 @@ trait Row {
 fn all_agree<A: Abort + AllocGlobal, R: Row>(rt: &A, table: &str, rows: &[R]) {
     let mut said = Said::new(rt.alloc());
     for (at, row) in rows.iter().enumerate() {
+        said.text.clear();
         if !row.agrees(&mut said) {
             fail(rt, table, at, &said);
         }
@@ -100,6 +105,7 @@ fn all_hold<A: Abort + AllocGlobal, P: AtPlace>(
 ) {
     let mut said = Said::new(rt.alloc());
     for place in first..end {
+        said.text.clear();
         if !at.holds(place, &mut said) {
             fail(rt, name, place, &said);
         }

@@ -41,8 +41,7 @@ impl Row for Gets {
     fn agrees(&self, said: &mut Said) -> bool {
         match (get_request(self.0), self.1) {
             (Some(request), Some(method)) => asks(&request, method, 0, &[], said),
-            (None, None) => true,
-            _ => false,
+            (found, wanted) => said.same(found.is_some(), wanted.is_some()),
         }
     }
 }
@@ -157,8 +156,7 @@ impl Row for IsText {
     fn agrees(&self, said: &mut Said) -> bool {
         match (read_text(self.0), self.1) {
             (Some(text), Some(wanted)) => said.same(text.as_str(), wanted),
-            (None, None) => true,
-            _ => false,
+            (found, wanted) => said.same(found.is_some(), wanted.is_some()),
         }
     }
 }
@@ -171,8 +169,7 @@ impl Row for Status {
     fn agrees(&self, said: &mut Said) -> bool {
         match (status_name(self.0), self.1) {
             (Some(name), Some(wanted)) => said.same(name, wanted),
-            (None, None) => true,
-            _ => false,
+            (found, wanted) => said.same(found.is_some(), wanted.is_some()),
         }
     }
 }
@@ -185,8 +182,7 @@ impl Row for Members {
     fn agrees(&self, said: &mut Said) -> bool {
         match (read_members(self.0), self.1) {
             (Some(members), Some(wanted)) => said.same(members.as_slice(), wanted),
-            (None, None) => true,
-            _ => false,
+            (found, wanted) => said.same(found.is_some(), wanted.is_some()),
         }
     }
 }

@@ -92,8 +92,7 @@ impl Row for Hex {
         }
         match (hex_bytes(self.0, &mut room), self.1) {
             (Some(bytes), Some(wanted)) => said.same_text(bytes, wanted),
-            (None, None) => true,
-            _ => false,
+            (found, wanted) => said.same(found.is_some(), wanted.is_some()),
         }
     }
 }
