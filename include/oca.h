@@ -1006,9 +1006,9 @@ struct oca_link { void *at; bool is_open; };
  * `port`, and takes the memory for the link. Nothing is sent. `now` is the moment, in milliseconds of the caller's
  * clock. The link's first command gets the handle `first_handle`, and each later command the next one. `first_handle`
  * must be above every handle that was used from the same address and port. Handles from before a pause of more
- * than two minutes, in which nothing was sent from there, do not count. `span` (1 to 32; 16 is usual) limits the
- * commands in flight: a command is refused while its handle would not be below the lowest handle whose answer was not
- * taken yet, plus the span. Returns OCA_DONE. Otherwise the first of these that applies, and then nothing is changed.
+ * than two minutes, in which nothing was sent from there and the device did not stand still, do not count. `span`
+ * (1 to 32; 16 is usual) limits the commands in flight: a command is refused while its handle would not be below the
+ * lowest handle whose answer was not taken yet, plus the span. Returns OCA_DONE. Otherwise the first of these that applies, and then nothing is changed.
  * OCA_OPEN if the struct is open already. OCA_BAD_SIZE if the span is outside its range. OCA_NO_MEMORY if memory was
  * refused. */
 enum oca_result oca_link_open(struct oca_link *link, uint32_t ip, uint16_t port, uint32_t first_handle, uint64_t now, uint8_t span) OCA_CHECKED;
@@ -1202,8 +1202,8 @@ static inline struct oca_own_port oca_own_port(uint64_t seconds, uint32_t micros
  * `port`. `end` is the caller's socket, which is copied. The call takes the memory of a link, and sends nothing. The
  * first command gets the handle `first_handle` (oca_own_port returns one). If the device heard the socket's port
  * before, it must be above all handles that were used there. Handles from before the last pause of more than two
- * minutes, in which nothing was sent from the port, do not count. `span` (1 to 32) limits the commands in flight, as in
- * oca_link_open. A call waits for its answer for `wait_ms` milliseconds by the clock of the end, whatever else comes;
+ * minutes, in which nothing was sent from the port and the device did not stand still, do not count. `span` (1 to 32)
+ * limits the commands in flight, as in oca_link_open. A call waits for its answer for `wait_ms` milliseconds by the clock of the end, whatever else comes;
  * with 0 no call waits. 10,500 ms are longer than a link retransmits. A wait also ends if the clock shows no later
  * moment in 100,000 receives. For a panel over a small link do not call oca_panel_open: set the fields `end` and
  * `wait_ms` of a closed panel, and open its field `link` by oca_link_open_small. Returns OCA_DONE. Otherwise the first

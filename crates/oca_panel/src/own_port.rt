@@ -17,8 +17,8 @@ const HANDLES: u128 = 2_147_483_648;
 /// and the other 65002. This library chooses the ports and the handle, not AES70.
 ///
 /// A handle is safe if it is above all that were used from the same address and port since the last pause of more than
-/// two minutes in which nothing was sent from there. This one is, unless the time of day was set back. Under a handle
-/// that is not safe a command may get no answer, or the answer to an earlier command.
+/// two minutes in which nothing was sent from there and the device did not stand still. This one is, unless the time of
+/// day was set back. Under a handle that is not safe a command may get no answer, or the answer to an earlier command.
 #[derive(Clone, Copy, Debug, PartialEq, Eq)]
 pub struct OwnPort {
     /// The port to bind at this time of day: 65001 or 65002.

@@ -90,8 +90,8 @@ impl<E: End> Panel<E> {
     /// taken, and nothing is refused. The link begins at the end's present moment. The other arguments:
     /// - `first` is the handle of the first command, 0 to 4294967295. If the device has heard the end's port before,
     ///   `first` must be above all handles that were used there, or the device may leave commands unanswered. Handles
-    ///   from before a pause of more than two minutes, in which nothing was sent from the port, do not count.
-    ///   [`OwnPort`](crate::OwnPort) chooses a handle.
+    ///   from before a pause of more than two minutes, in which nothing was sent from the port and the device did not
+    ///   stand still, do not count. [`OwnPort`](crate::OwnPort) chooses a handle.
     /// - `span` is the span, 1 to 32 with the default 16. At most `span` commands are in flight: each new handle is
     ///   below the lowest handle in flight plus `span`.
     /// - `wait` is for how many milliseconds a call waits for an answer at most, 0 to 4294967295, whatever else comes
