@@ -117,21 +117,21 @@ fn write_note<F: Sink>(note: &str, faults: &mut Printer<F>) -> fmt::Result {
     if line.len() > MOST_NOTED {
         return Ok(());
     }
-    writeln!(Line(faults), "note: {line}")
+    writeln!(FmtWriter(faults), "note: {line}")
 }
 
 /// Prints this as one line, and writes all that waits in the printer. Err if a write failed; then perhaps only the
 /// beginning of the line was written.
 pub fn print_line<D: Display, W: Sink>(line: &D, printer: &mut Printer<W>) -> fmt::Result {
-    writeln!(Line(printer), "{line}")?;
+    writeln!(FmtWriter(printer), "{line}")?;
     printer.flush().map_err(|_| fmt::Error)
 }
 
-/// A printer that `write!` writes to.
+/// A printer as a `fmt::Write`, to which `write!` writes.
 #[derive(Drop)]
-pub struct Line<'p, W: Sink>(pub &'p mut Printer<W>);
+pub struct FmtWriter<'p, W: Sink>(pub &'p mut Printer<W>);
 
-impl<W: Sink> Write for Line<'_, W> {
+impl<W: Sink> Write for FmtWriter<'_, W> {
     /// Prints the text.
     fn write_str(&mut self, text: &str) -> fmt::Result {
         self.0.print(text.as_bytes()).map_err(|_| fmt::Error)

@@ -20,9 +20,9 @@ pub enum Form {
     /// The address and the port of one host as `a.b.c.d:port`: 1.0.0.0 to 223.255.255.255, and a port from 1 to 65535.
     Host,
     /// An address of this machine as `a.b.c.d`: 1.0.0.0 to 223.255.255.255, or 0.0.0.0.
-    Own,
+    LocalIp,
     /// Any address and any port as `a.b.c.d:port`.
-    AnyPeer,
+    Peer,
     /// At most 1,445 bytes, two hexadecimal digits for each, or `-` for none.
     Bytes,
     /// Any text.
@@ -59,8 +59,8 @@ impl Form {
         match self {
             Form::Number { .. } => self.number(text).is_some(),
             Form::Host => host(text).is_some(),
-            Form::Own => own(text).is_some(),
-            Form::AnyPeer => peer(text).is_some(),
+            Form::LocalIp => local_ip(text).is_some(),
+            Form::Peer => peer(text).is_some(),
             Form::Bytes => {
                 let mut room = [0u8; MOST_COMMAND_PARAMETER_BYTES];
                 text.len() <= 2 * MOST_COMMAND_PARAMETER_BYTES
@@ -104,28 +104,29 @@ impl Display for Form {
             Form::Host => f.write_str(
                 "A.B.C.D:PORT, the address of one host (1.0.0.0 to 223.255.255.255) and a port from 1 to 65535",
             ),
-            Form::Own => f.write_str(
+            Form::LocalIp => f.write_str(
                 "A.B.C.D, the address of one host (1.0.0.0 to 223.255.255.255), or 0.0.0.0",
             ),
-            Form::AnyPeer => f.write_str("A.B.C.D:PORT"),
+            Form::Peer => f.write_str("A.B.C.D:PORT"),
             Form::Bytes => f.write_str("an even number of hexadecimal digits, 2 to 2890, or -"),
             Form::Text => f.write_str("a text"),
         }
     }
 }
 
-/// Whether an address is that of one host.
-fn is_host(ip: u32) -> bool {
+/// Returns whether an IPv4 address, as a number with the first byte highest, is that of one host: from 1.0.0.0 to
+/// 223.255.255.255.
+pub fn is_host(ip: u32) -> bool {
     0x0100_0000 <= ip && ip < 0xe000_0000
 }
 
-/// Where a device is.
+/// The address and the port of one host that a text gives.
 pub(crate) fn host(text: &[u8]) -> Option<Peer> {
     peer(text).filter(|at| is_host(at.ip) && at.port != 0)
 }
 
-/// The address of a socket.
-pub(crate) fn own(text: &[u8]) -> Option<u32> {
+/// The address of this machine that a text gives: of one host, or 0.0.0.0.
+pub(crate) fn local_ip(text: &[u8]) -> Option<u32> {
     address(text).filter(|ip| *ip == 0 || is_host(*ip))
 }
 
@@ -136,7 +137,11 @@ const MOST_SHOWN: usize = 200;
 /// option. The only failure is `BadWords`, if a value does not have its form. The note of the failure names the first
 /// such option in the order of `rows`, its value if that has at most 200 bytes, and the form. There is no note if
 /// memory for it was refused.
-pub fn check(alloc: Global, words: &ArgMatches<'_>, rows: &[OptionRow]) -> Result<(), Failure> {
+pub fn check_values(
+    alloc: Global,
+    words: &ArgMatches<'_>,
+    rows: &[OptionRow],
+) -> Result<(), Failure> {
     for row in rows {
         let (name, form) = (row.name, row.form);
         if let Some(value) = row.text(words)

@@ -3,7 +3,7 @@
 //!
 //! A program's `main` takes its words by [`words_of`], and prints a [`Failure`] by [`report`]. [`table`] has the rows
 //! of a command line; [`options`] reads the values of the options that `clap` has found; [`run`] begins and ends a run;
-//! [`socket`] binds an end.
+//! [`socket`] opens the socket of a device or of a controller.
 #![tactic(auto)]
 
 pub mod fault;
@@ -14,9 +14,8 @@ pub mod socket;
 pub mod table;
 mod version;
 
-pub use fault::{Failure, Line, RunFault, print_line, print_made_note, print_note, report};
+pub use fault::{Failure, FmtWriter, RunFault, print_line, print_made_note, print_note, report};
 pub use form::Form;
-pub use run::{helped, replayed, status_of, words_of};
-pub use socket::note_other_port;
+pub use run::{exit_status, help_or_failure, words_of};
 pub use table::{CommandRow, Kind, OptionRow};
 pub use version::VERSION;

@@ -1,6 +1,6 @@
 //! The values of options.
 
-use super::form::{host, own};
+use super::form::{host, local_ip};
 use super::table::OptionRow;
 use clap::ArgMatches;
 use oca_script::field::peer;
@@ -21,8 +21,22 @@ impl OptionRow {
     /// Returns the address of this machine that the command line `words` gives for this option, as a number with the
     /// first byte highest. It is 0.0.0.0, or from 1.0.0.0 to 223.255.255.255. The result is `None` if the command line
     /// does not have the option, or the text is not such an address.
-    pub fn own(&self, words: &ArgMatches<'_>) -> Option<u32> {
-        own(self.text(words)?.as_bytes())
+    pub fn local_ip(&self, words: &ArgMatches<'_>) -> Option<u32> {
+        local_ip(self.text(words)?.as_bytes())
+    }
+
+    /// Returns the peer that the command line `words` gives for this option as `a.b.c.d:port`. The four numbers are
+    /// from 0 to 255, and the port is from 0 to 65535. The result is `None` if the command line does not have the
+    /// option, or the text does not have this form.
+    pub fn peer(&self, words: &ArgMatches<'_>) -> Option<Peer> {
+        peer(self.text(words)?.as_bytes())
+    }
+
+    /// Returns the device that the command line `words` gives for this option as `a.b.c.d:port`. The address is from
+    /// 1.0.0.0 to 223.255.255.255, and the port is from 1 to 65535. The result is `None` if the command line does not
+    /// have the option, or the text does not have this form.
+    pub fn host(&self, words: &ArgMatches<'_>) -> Option<Peer> {
+        host(self.text(words)?.as_bytes())
     }
 
     /// Returns the text that the command line `words` gives for this option, if it does. The form is not checked.
@@ -34,18 +48,4 @@ impl OptionRow {
     pub fn is_set(&self, words: &ArgMatches<'_>) -> bool {
         self.text(words) == Some("true")
     }
-}
-
-/// Returns the peer that the command line `words` gives for the option `name` as `a.b.c.d:port`. The four
-/// numbers are from 0 to 255, and the port is from 0 to 65535. The result is `None` if the command line does not have
-/// the option, or the text does not have this form.
-pub fn peer_in(words: &ArgMatches<'_>, name: &str) -> Option<Peer> {
-    peer(words.get_str(name)?.as_bytes())
-}
-
-/// Returns the device that the command line `words` gives for the option `name` as `a.b.c.d:port`. The
-/// address is from 1.0.0.0 to 223.255.255.255, and the port is from 1 to 65535. The result is `None` if the command
-/// line does not have the option, or the text does not have this form.
-pub fn host_in(words: &ArgMatches<'_>, name: &str) -> Option<Peer> {
-    host(words.get_str(name)?.as_bytes())
 }

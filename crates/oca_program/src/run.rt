@@ -3,7 +3,7 @@
 use super::fault::{Failure, RunFault, report};
 use clap::Error;
 use clap::error::ErrorKind;
-use oca_script::{Printer, ReplayFault, Sink};
+use oca_script::{Printer, Sink};
 use std::alloc::{AllocError, Global};
 use std::env::{self, Env};
 use std::io;
@@ -23,28 +23,22 @@ pub fn words_of<R: Env + AllocGlobal>(rt: &R) -> Result<Vec<String>, Failure> {
 
 /// Returns the exit status of a run: the status in `ended`, or that of the failure in it, which is then printed to
 /// `faults` ([`report`]).
-pub fn status_of<F: Sink>(ended: Result<u8, Failure>, faults: &mut Printer<F>) -> u8 {
+pub fn exit_status<F: Sink>(ended: Result<u8, Failure>, faults: &mut Printer<F>) -> u8 {
     match ended {
         Ok(status) => status,
         Err(failure) => report(&failure, faults),
     }
 }
 
-/// Returns how a run ends that only had to replay a script: the exit status 0 if the script was replayed to its end,
-/// and otherwise the failure of the same name as the fault.
-pub fn replayed(done: Result<(), ReplayFault>) -> Result<u8, Failure> {
-    done?;
-    Ok(0)
-}
-
-/// Ends a run whose command line did not match; `error` is what `clap` found. If the command line asks for
-/// `--help` or `--version`, their text is printed, and the result is the exit status 0. The call takes memory for the
-/// text. Failures, the first that applies:
+/// Ends a run whose command line `clap` did not match, for the reason `error`. If the command line asks for `--help` or
+/// `--version`, their text is printed, and the result is the exit status 0. The call takes memory for the text or the
+/// note. Failures, the first that applies:
 /// - `NoMemory` if `error` says that `clap` was refused memory, or if memory for the text was refused; nothing is
 ///   printed.
-/// - `BadWords` if the command line asks for neither text; nothing is printed.
+/// - `BadWords` if the command line asks for neither text; nothing is printed. The note is the first paragraph of
+///   `clap`'s text, if there is memory for it.
 /// - `Write` if a write failed; perhaps only the beginning of the text was written.
-pub fn helped<W: Sink>(
+pub fn help_or_failure<W: Sink>(
     alloc: Global,
     error: &Error,
     printer: &mut Printer<W>,
@@ -60,8 +54,7 @@ pub fn helped<W: Sink>(
     }
 }
 
-/// The note on words that were not matched: clap's text up to the first empty line, in one line: the options that are
-/// missing have lines of their own.
+/// `clap`'s text up to the first empty line, as one line: `clap` gives each missing option a line of its own.
 fn first_paragraph(alloc: Global, error: &Error) -> Result<String, AllocError> {
     let text = error.to_string(alloc)?;
     let mut note = String::new(alloc);

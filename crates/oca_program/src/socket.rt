@@ -2,8 +2,8 @@
 
 use super::fault::{Failure, RunFault, print_made_note};
 use oca_net::{BindError, UdpEnd};
+use oca_panel::{Reached, Unreached, Way};
 use oca_script::{Printer, Sink};
-use oca_types::Peer;
 use std::alloc::Global;
 use std::io;
 use std::net::Net;
@@ -21,13 +21,37 @@ pub fn bind<N: Net + Clock>(
     ip: u32,
     port: u16,
 ) -> Result<UdpEnd<'_, N>, Failure> {
-    UdpEnd::bind_with_reason(alloc, system, ip, port).map_err(|error| unreached(alloc, &error, 0))
+    UdpEnd::bind_with_reason(alloc, system, ip, port).map_err(|error| refused(alloc, &error, 0))
 }
 
-/// Why a run fails that got no socket at the port `port`, as `error` says: `NoMemory` if memory was refused, to the
-/// program or by the system, else `Socket`. The note has the system's reason, after the port if that is not 0, if there
-/// is a reason and memory for the note.
-pub fn unreached(alloc: Global, error: &BindError, port: u16) -> Failure {
+/// Opens a socket from which a device is reached ([`Way::reach`]). If the device answers no command from the port that
+/// was to be used, the port that is used instead is printed to `faults`. The failures are those of [`bind`]; the note
+/// of a failure begins with the port if `names_port` is true and the system was not to choose one.
+pub fn reach_device<'a, N: Net + Clock, F: Sink>(
+    alloc: Global,
+    system: &'a N,
+    way: Way,
+    names_port: bool,
+    faults: &mut Printer<F>,
+) -> Result<Reached<'a, N>, Failure> {
+    let reached = match way.reach(alloc, system) {
+        Ok(reached) => reached,
+        Err(Unreached { port, error }) => {
+            return Err(refused(alloc, &error, if names_port { port } else { 0 }));
+        }
+    };
+    if let Some(port) = reached.instead_of {
+        let (device, other) = (way.device, reached.end.end().local().port);
+        let note = format!(in alloc;
+            "{device} answers no command from port {port}: port {other} is used instead"
+        );
+        print_made_note(note, faults);
+    }
+    Ok(reached)
+}
+
+/// The failure of a run that got no socket, as `error` says. Its note names the port `port`, unless that is 0.
+fn refused(alloc: Global, error: &BindError, port: u16) -> Failure {
     let BindError::Io(reason) = error else {
         return Failure::from(RunFault::NoMemory);
     };
@@ -41,21 +65,6 @@ pub fn unreached(alloc: Global, error: &BindError, port: u16) -> Failure {
         format!(in alloc; "port {port}: {reason}")
     };
     Failure::noted_if(fault, note)
-}
-
-/// Prints to `faults` the note that this device answers no command from the port `port`, and that the port `other` is
-/// used instead ([`print_made_note`]).
-pub fn note_other_port<F: Sink>(
-    alloc: Global,
-    device: Peer,
-    port: u16,
-    other: u16,
-    faults: &mut Printer<F>,
-) {
-    let note = format!(in alloc;
-        "{device} answers no command from port {port}: port {other} is used instead"
-    );
-    print_made_note(note, faults);
 }
 
 /// Prints to `faults` the note of how many sends failed (`failed`), and why the last of them did, unless `last` is

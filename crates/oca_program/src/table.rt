@@ -59,21 +59,21 @@ pub fn program_with_commands<'a>(
     row: &CommandRow,
     commands: &[CommandRow],
 ) -> Result<Command<'a>, AllocError> {
-    let mut so_far = program(alloc, row)?.subcommand_required(true);
+    let mut program = program(alloc, row)?.subcommand_required(true);
     for row in commands {
-        so_far = so_far.subcommand(command(alloc, row)?)?;
+        program = program.subcommand(command(alloc, row)?)?;
     }
-    Ok(so_far)
+    Ok(program)
 }
 
 /// The command of a row.
 fn command<'a>(alloc: Global, row: &CommandRow) -> Result<Command<'a>, AllocError> {
-    let mut so_far = Command::new(alloc, row.name)
+    let mut command = Command::new(alloc, row.name)
         .about(row.about)
         .after_help(row.example);
     for option in row.options {
         let argument = Arg::new(alloc, option.name).help(option.help);
-        so_far = so_far.arg(match option.kind {
+        command = command.arg(match option.kind {
             Kind::Flag => argument.long(option.name).action(ArgAction::SetTrue),
             Kind::Words => argument
                 .value_name(option.value)
@@ -87,5 +87,5 @@ fn command<'a>(alloc: Global, row: &CommandRow) -> Result<Command<'a>, AllocErro
                 .required(option.kind == Kind::Required),
         })?;
     }
-    Ok(so_far)
+    Ok(command)
 }

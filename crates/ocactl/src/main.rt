@@ -4,7 +4,7 @@
 #![tactic(auto)]
 
 use oca_net::{CountsSleep, fill_standard_descriptors};
-use oca_program::{report as report_failure, words_of};
+use oca_program::{report, words_of};
 use oca_script::{FromReader, Printer, ToWriter};
 use ocactl_cli::console::Console;
 use std::io;
@@ -23,7 +23,7 @@ fn main(rt: HostRuntime) -> ExitCode {
             faults: &mut faults,
         }
         .run(words.as_slice()),
-        Err(failure) => report_failure(&failure, &mut faults),
+        Err(failure) => report(&failure, &mut faults),
     };
     ExitCode::from(status)
 }

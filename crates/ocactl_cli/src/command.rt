@@ -7,14 +7,14 @@
 use arrayvec::ArrayVec;
 use clap::{ArgMatches, Error};
 use oca_panel::{LocalPort, Way};
-use oca_program::form::{NUMBER_8, NUMBER_16, NUMBER_32, check};
-use oca_program::options::{host_in, peer_in};
+use oca_program::form::{NUMBER_8, NUMBER_16, NUMBER_32, check_values};
 use oca_program::table::program_with_commands;
 use oca_program::{CommandRow, Failure, Form, Kind, OptionRow, RunFault};
 use oca_script::field::{hex_bytes, number};
 use oca_types::{Handle, LOOPBACK, MOST_COMMAND_PARAMETER_BYTES, MethodId, Ono, Peer, Span, Text};
 use std::alloc::{AllocError, Global};
 use std::convert::AsStr;
+use std::net::Ipv4Addr;
 
 /// What a command line asks for.
 #[derive(Drop)]
@@ -41,12 +41,12 @@ pub struct Reach {
 }
 
 impl Reach {
-    /// The way to the device, from the port of the command line, else from this one.
-    pub fn way(&self, port: LocalPort) -> Way {
+    /// The way to the device, from the port of the command line if it gives one, and otherwise from this one.
+    pub fn way(&self, otherwise: LocalPort) -> Way {
         Way {
             device: self.device,
             ip: self.ip,
-            port: self.port.map_or(port, |given| LocalPort::Given(given)),
+            port: self.port.map_or(otherwise, LocalPort::Given),
             first: self.first,
         }
     }
@@ -105,7 +105,7 @@ const DEVICE: OptionRow = OptionRow {
 };
 
 const REPLAY_DEVICE: OptionRow = OptionRow {
-    form: Form::AnyPeer,
+    form: Form::Peer,
     ..DEVICE
 };
 
@@ -145,7 +145,7 @@ const IP: OptionRow = OptionRow {
     help: "The local address, from which each copy of a command leaves; 0.0.0.0 means the one from which the system \
         reaches the device [default: 127.0.0.1 for a device on this machine (127.x.x.x), otherwise 0.0.0.0]",
     kind: Kind::Optional,
-    form: Form::Own,
+    form: Form::LocalIp,
 };
 
 const AHEAD: OptionRow = OptionRow {
@@ -419,7 +419,7 @@ pub struct Given {
 impl Given {
     /// The words as they are matched, of those of the command line, the program's name first. Refusal: `AllocError`, if
     /// memory was refused.
-    pub fn of<S: AsStr>(alloc: Global, words: &[S]) -> Result<Given, AllocError> {
+    pub fn new<S: AsStr>(alloc: Global, words: &[S]) -> Result<Given, AllocError> {
         let name = match words {
             [_, name, ..] => name.as_str(),
             _ => "",
@@ -457,7 +457,7 @@ fn takes_blank(word: &str) -> bool {
     }
 }
 
-/// The word without the blank that [`Given::of`] put before it; the word itself if it begins with no blank.
+/// The word without the blank that [`Given::new`] put before it; the word itself if it begins with no blank.
 fn without_blank(word: &str) -> &str {
     word.strip_prefix(" ").unwrap_or(word)
 }
@@ -494,7 +494,7 @@ pub fn command_of(
         .iter()
         .find(|row| row.name == name)
         .ok_or(RunFault::BadWords)?;
-    check(alloc, options, row.options)?;
+    check_values(alloc, options, row.options)?;
     if name == "replay" {
         return replay_of(options);
     }
@@ -539,41 +539,42 @@ fn task_of(
 
 /// The replay that the options ask for, where each of them has its form.
 fn replay_of(options: &ArgMatches<'_>) -> Result<Command, Failure> {
-    let device = peer_in(options, REPLAY_DEVICE.name).ok_or(RunFault::BadWords)?;
+    let device = REPLAY_DEVICE.peer(options).ok_or(RunFault::BadWords)?;
     let first = Handle(OWN_FIRST_HANDLE.number(options).unwrap_or(0) as u32);
-    Ok(Command::Replay(device, first, span_in(options, &SPAN, 16)))
+    let span = span_in(options, &SPAN).unwrap_or_default();
+    Ok(Command::Replay(device, first, span))
 }
 
 /// The device that the options name, and how it is reached, where each of them has its form.
 fn reach_of(options: &ArgMatches<'_>) -> Result<Reach, Failure> {
-    let device = host_in(options, DEVICE.name).ok_or(RunFault::BadWords)?;
-    let local = if device.ip >> 24 == 127 { LOOPBACK } else { 0 };
+    let device = DEVICE.host(options).ok_or(RunFault::BadWords)?;
+    let is_local = Ipv4Addr::from(device.ip).is_loopback();
     Ok(Reach {
         device,
-        ip: IP.own(options).unwrap_or(local),
-        port: match PORT.number(options) {
-            Some(port) => Some(port as u16),
-            None => None,
-        },
-        first: match FIRST_HANDLE.number(options) {
-            Some(handle) => Some(Handle(handle as u32)),
-            None => None,
-        },
-        span: span_in(options, &SPAN, 16),
+        ip: IP
+            .local_ip(options)
+            .unwrap_or(if is_local { LOOPBACK } else { 0 }),
+        port: PORT
+            .number(options)
+            .and_then(|port| u16::try_from(port).ok()),
+        first: FIRST_HANDLE
+            .number(options)
+            .and_then(|first| u32::try_from(first).ok())
+            .map(Handle),
+        span: span_in(options, &SPAN).unwrap_or_default(),
     })
 }
 
-/// The span that an option gives, else this one.
-fn span_in(options: &ArgMatches<'_>, row: &OptionRow, otherwise: u8) -> Span {
-    let size = row
-        .number(options)
-        .map_or(otherwise, |size| size.min(32) as u8);
-    Span::new(size).unwrap_or_default()
+/// The span that an option gives.
+fn span_in(options: &ArgMatches<'_>, row: &OptionRow) -> Option<Span> {
+    Span::new(u8::try_from(row.number(options)?).ok()?)
 }
 
-/// How many commands may be in flight at once. Failure: `BadWords` if that is more than the span.
+/// How many commands may be in flight at once: 1 without `--ahead`. Failure: `BadWords` if that is more than the span.
 fn ahead_of(alloc: Global, options: &ArgMatches<'_>, span: Span) -> Result<Span, Failure> {
-    let ahead = span_in(options, &AHEAD, 1);
+    let ahead = span_in(options, &AHEAD)
+        .or(Span::new(1))
+        .unwrap_or_default();
     if ahead.get() > span.get() {
         return Err(Failure::told(alloc, RunFault::BadWords, BAD_AHEAD));
     }

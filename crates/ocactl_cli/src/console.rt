@@ -8,9 +8,9 @@ use super::reason::{DeviceEnd, note_no_answer, note_unanswered};
 use super::session::Session;
 use oca_control::Link;
 use oca_net::End;
-use oca_panel::{LocalPort, Panel, Reached, Unreached, Way};
-use oca_program::socket::unreached;
-use oca_program::{Failure, helped, note_other_port, print_made_note, replayed, status_of};
+use oca_panel::{LocalPort, Panel, Reached, Way};
+use oca_program::socket::reach_device;
+use oca_program::{Failure, exit_status, help_or_failure, print_made_note};
 use oca_script::{Printer, Sink, Source};
 use oca_types::{Handle, Ono, Peer, Request, Span};
 use ocactl_replay::replay::replay;
@@ -43,16 +43,16 @@ impl<'c, N: Net + Clock, R: Source, W: Sink, F: Sink> Console<'c, N, R, W, F> {
     /// A fault is printed on `faults` as one line, after a line that begins with `note: ` if more is known. If no
     /// answer came, such a line also says why a send failed.
     pub fn run<S: AsStr>(&mut self, words: &[S]) -> u8 {
-        let ended = self.obey(words);
-        status_of(ended, self.faults)
+        let ended = self.try_run(words);
+        exit_status(ended, self.faults)
     }
 
     /// Does what the words ask for, and returns the exit status.
-    fn obey<S: AsStr>(&mut self, words: &[S]) -> Result<u8, Failure> {
-        let given = Given::of(self.alloc, words)?;
+    fn try_run<S: AsStr>(&mut self, words: &[S]) -> Result<u8, Failure> {
+        let given = Given::new(self.alloc, words)?;
         let matches = match matches_of(self.alloc, &given) {
             Ok(matches) => matches,
-            Err(error) => return helped(self.alloc, &error, self.printer),
+            Err(error) => return help_or_failure(self.alloc, &error, self.printer),
         };
         match command_of(self.alloc, &given, &matches)? {
             Command::Replay(device, first, span) => self.replay(device, first, span),
@@ -67,7 +67,8 @@ impl<'c, N: Net + Clock, R: Source, W: Sink, F: Sink> Console<'c, N, R, W, F> {
     #[inline(never)]
     fn replay(&mut self, device: Peer, first: Handle, span: Span) -> Result<u8, Failure> {
         let mut link = Link::new(device, first, 0, span);
-        replayed(replay(&mut link, self.reader, self.printer))
+        replay(&mut link, self.reader, self.printer)?;
+        Ok(0)
     }
 
     /// Sends a command over a socket, and prints its outcome. The link, some 94 kB, lies in this function alone.
@@ -75,10 +76,7 @@ impl<'c, N: Net + Clock, R: Source, W: Sink, F: Sink> Console<'c, N, R, W, F> {
     fn send(&mut self, reach: Reach, sending: &Sending) -> Result<u8, Failure> {
         self.note_span(reach.span);
         let way = reach.way(LocalPort::Given(0));
-        let mut reached = match way.reach(self.alloc, self.system) {
-            Ok(reached) => reached,
-            Err(refused) => return Err(unreached(self.alloc, &refused.error, 0)),
-        };
+        let mut reached = reach_device(self.alloc, self.system, way, false, self.faults)?;
         let mut link = Link::new(reach.device, reached.first, 0, reach.span);
         let request = Request {
             target: sending.target,
@@ -98,7 +96,8 @@ impl<'c, N: Net + Clock, R: Source, W: Sink, F: Sink> Console<'c, N, R, W, F> {
     /// Sends the commands of the input over a socket, and prints the outcome of each.
     fn send_lines(&mut self, reach: Reach, ahead: Span) -> Result<u8, Failure> {
         self.note_span(reach.span);
-        let reached = self.reach(reach.way(LocalPort::Own))?;
+        let way = reach.way(LocalPort::Own);
+        let reached = reach_device(self.alloc, self.system, way, true, self.faults)?;
         self.send_lines_over(reached, reach, ahead)
     }
 
@@ -127,7 +126,8 @@ impl<'c, N: Net + Clock, R: Source, W: Sink, F: Sink> Console<'c, N, R, W, F> {
             Task::Tree | Task::Get(_) | Task::Set(..) => LocalPort::Own,
             Task::Lock(_) | Task::Hold(..) | Task::Unlock(_) => LocalPort::OwnAlone,
         };
-        let reached = self.reach(reach.way(own))?;
+        let way = reach.way(own);
+        let reached = reach_device(self.alloc, self.system, way, true, self.faults)?;
         self.do_over(reached, reach, turns, task)
     }
 
@@ -183,7 +183,7 @@ impl<'c, N: Net + Clock, R: Source, W: Sink, F: Sink> Console<'c, N, R, W, F> {
             first: None,
             ..reach.way(LocalPort::Own)
         };
-        let reached = self.reach(other)?;
+        let reached = reach_device(self.alloc, self.system, other, true, self.faults)?;
         let witness = Witness {
             end: reached.end,
             device: reach.device,
@@ -193,21 +193,7 @@ impl<'c, N: Net + Clock, R: Source, W: Sink, F: Sink> Console<'c, N, R, W, F> {
         keeper.hold(self.alloc, onos, hold, self.reader, self.printer)
     }
 
-    /// An end for a device, and its first handle. A port at which the device answers no command is noted.
-    fn reach(&mut self, way: Way) -> Result<Reached<'c, N>, Failure> {
-        match way.reach(self.alloc, self.system) {
-            Ok(reached) => {
-                if let Some(port) = reached.instead_of {
-                    let other = reached.end.end().local().port;
-                    note_other_port(self.alloc, way.device, port, other, self.faults);
-                }
-                Ok(reached)
-            }
-            Err(Unreached { port, error }) => Err(unreached(self.alloc, &error, port)),
-        }
-    }
-
-    /// Prints which window the device needs, where the span is above 16 and there is memory for the line.
+    /// Prints which window the device needs, if the span is above 16 and there is memory for the line.
     fn note_span(&mut self, span: Span) {
         let size = span.get();
         if size <= SPAN_OF_A_DEFAULT {

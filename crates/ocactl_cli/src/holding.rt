@@ -150,13 +150,12 @@ impl<E: End, V: End> Keeper<'_, E, V> {
     fn keep<R: Source>(
         &mut self,
         held: &[Ono],
-        sure: u64,
+        mut sure: u64,
         hold: Hold,
         reader: &mut R,
     ) -> Range<usize> {
         let all = 0..held.len();
         let begun = present(self.panel);
-        let mut sure = sure;
         let mut next = begun.saturating_add(LOOK_MS);
         let mut place = 0;
         for _turn in 0..u64::MAX {
@@ -184,6 +183,7 @@ impl<E: End, V: End> Keeper<'_, E, V> {
         }
         0..0
     }
+
     /// Whether the lock of an object is lost: another controller can read the object, or the device does not let this
     /// one lock it again. `false` where no answer comes: that is found otherwise.
     fn is_lost(&mut self, ono: Ono, sure: &mut u64) -> bool {

@@ -2,7 +2,7 @@
 
 use super::objects::Objects;
 use clap::{ArgMatches, Error};
-use oca_program::form::{NUMBER_16, NUMBER_32, check};
+use oca_program::form::{NUMBER_16, NUMBER_32, check_values};
 use oca_program::table::program_with_commands;
 use oca_program::{CommandRow, Failure, Form, Kind, OptionRow, RunFault};
 use oca_types::{LOOPBACK, Peers, Sizes, Window};
@@ -103,7 +103,7 @@ const IP: OptionRow = OptionRow {
         different address than the one that the controller sent to, and controllers drop such replies \
         [default: 127.0.0.1]",
     kind: Kind::Optional,
-    form: Form::Own,
+    form: Form::LocalIp,
 };
 
 const VERBOSE: OptionRow = OptionRow {
@@ -199,17 +199,17 @@ pub fn command_of<'a>(alloc: Global, matches: &ArgMatches<'a>) -> Result<Command
         return Err(Failure::from(RunFault::BadWords));
     };
     for command in COMMANDS.iter().filter(|command| command.name == name) {
-        check(alloc, options, command.options)?;
+        check_values(alloc, options, command.options)?;
     }
     if TREE.text(options).is_some() && CHANNELS.text(options).is_some() {
         let note = "--tree and --channels can't be combined: each says which objects there are";
         return Err(Failure::told(alloc, RunFault::BadWords, note));
     }
-    let objects = objects(options);
+    let objects = objects_of(options);
     match name {
         "replay" => Ok(Command::Replay {
             objects,
-            sizes: sizes(options),
+            sizes: sizes_of(options),
         }),
         "serve" => Ok(Command::Serve(serve_options(options, objects))),
         _ => Ok(Command::Show {
@@ -219,12 +219,12 @@ pub fn command_of<'a>(alloc: Global, matches: &ArgMatches<'a>) -> Result<Command
     }
 }
 
-/// The options of `serve`.
+/// How the options of `serve` say that a device with these objects is served.
 fn serve_options<'a>(options: &ArgMatches<'a>, objects: Objects<'a>) -> ServeOptions<'a> {
     ServeOptions {
         objects,
-        sizes: sizes(options),
-        ip: IP.own(options).unwrap_or(LOOPBACK),
+        sizes: sizes_of(options),
+        ip: IP.local_ip(options).unwrap_or(LOOPBACK),
         port: PORT.number(options).unwrap_or(0) as u16,
         turns: TURNS.number(options).unwrap_or(u64::MAX),
         keep: KEEP.text(options),
@@ -234,7 +234,7 @@ fn serve_options<'a>(options: &ArgMatches<'a>, objects: Objects<'a>) -> ServeOpt
 }
 
 /// The source of the objects: a file if the options name one, otherwise the bench device.
-fn objects<'a>(options: &ArgMatches<'a>) -> Objects<'a> {
+fn objects_of<'a>(options: &ArgMatches<'a>) -> Objects<'a> {
     match TREE.text(options) {
         Some(path) => Objects::Listed(path),
         None => Objects::Bench(CHANNELS.number(options).unwrap_or(0) as u16),
@@ -242,7 +242,7 @@ fn objects<'a>(options: &ArgMatches<'a>) -> Objects<'a> {
 }
 
 /// For how many commands of a peer the device keeps replies, and how many peers have a session.
-fn sizes(options: &ArgMatches<'_>) -> Sizes {
+fn sizes_of(options: &ArgMatches<'_>) -> Sizes {
     Sizes {
         window: match WINDOW.number(options) {
             Some(size) => Window::new(size as u8).unwrap_or_default(),

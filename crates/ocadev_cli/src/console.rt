@@ -10,7 +10,7 @@ use super::store::Kept;
 use oca_device::Report;
 use oca_net::{CountsSleep, DropsStale, UdpEnd};
 use oca_program::socket::{bind, note_failed_sends};
-use oca_program::{Failure, helped, print_line, print_made_note, print_note, replayed, status_of};
+use oca_program::{Failure, exit_status, help_or_failure, print_line, print_made_note, print_note};
 use oca_script::{Printer, Sink, Source};
 use oca_textree::print_tree;
 use oca_types::Sizes;
@@ -45,20 +45,21 @@ impl<N: Net + Clock + Files<File = File>, R: Source, W: Sink, F: Sink> Console<'
     /// else could not be done. A fault is printed on `faults` as one line, after a line that begins with `note: ` if
     /// more is known.
     pub fn run<S: AsStr>(&mut self, words: &[S]) -> u8 {
-        let ended = self.obey(words);
-        status_of(ended, self.faults)
+        let ended = self.try_run(words);
+        exit_status(ended, self.faults)
     }
 
     /// Does what the words ask for, and returns the exit status.
-    fn obey<S: AsStr>(&mut self, words: &[S]) -> Result<u8, Failure> {
+    fn try_run<S: AsStr>(&mut self, words: &[S]) -> Result<u8, Failure> {
         let matches = match matches_of(self.alloc, words) {
             Ok(matches) => matches,
-            Err(error) => return helped(self.alloc, &error, self.printer),
+            Err(error) => return help_or_failure(self.alloc, &error, self.printer),
         };
         match command_of(self.alloc, &matches)? {
             Command::Replay { objects, sizes } => {
-                let Served { device, outbox } = &mut self.start(objects, sizes)?;
-                replayed(replay(device, outbox, self.reader, self.printer))
+                let Served { device, outbox } = &mut self.new_device(objects, sizes)?;
+                replay(device, outbox, self.reader, self.printer)?;
+                Ok(0)
             }
             Command::Serve(options) => self.serve(&options),
             Command::Show { objects, as_text } => self.show(objects, as_text),
@@ -77,32 +78,30 @@ impl<N: Net + Clock + Files<File = File>, R: Source, W: Sink, F: Sink> Console<'
         Ok(0)
     }
 
-    /// Serves a device at a socket, and prints what was done. The claim to the file in which the objects are kept ends
-    /// with it.
+    /// Serves a device at a socket, and prints what was done.
     fn serve(&mut self, options: &ServeOptions<'_>) -> Result<u8, Failure> {
-        let (mut claim, mut objects) = (None, options.objects);
+        let (mut kept, mut objects) = (None, options.objects);
         if let Some(path) = options.keep {
-            claim = Some(Claim::new(self.alloc, self.system, path)?);
+            let claim = Claim::new(self.alloc, self.system, path)?;
+            kept = Some(Kept::new(self.alloc, self.system, path, claim)?);
             if fs::exists(self.system, path).unwrap_or(true) {
                 objects = Objects::Kept(path);
             }
         }
-        let mut served = self.start(objects, options.sizes)?;
-        let held = claim.as_mut().and_then(|claim| claim.file.take());
-        let kept = Kept::open(self.alloc, self.system, options.keep, held)?;
+        let mut served = self.new_device(objects, options.sizes)?;
         let report = self.serve_at_socket(options, objects, &mut served, kept)?;
         print_report(&report, self.printer)?;
         Ok(0)
     }
 
-    /// The device before any event.
-    fn start(&mut self, objects: Objects<'_>, sizes: Sizes) -> Result<Served, Failure> {
+    /// A device with these objects and sizes, before any event.
+    fn new_device(&mut self, objects: Objects<'_>, sizes: Sizes) -> Result<Served, Failure> {
         let tree = objects.load(self.alloc, self.system)?;
         Ok(Served::new(self.alloc, tree, sizes)?)
     }
 
-    /// Binds a socket and serves the device there. First its objects are stored once, if a file is named, and it is
-    /// printed where it listens; at last how many sends failed.
+    /// Binds a socket, and serves the device there until its turns are over. If it keeps its objects in a file, they are
+    /// stored there before the first turn. Prints where it listens, and at the end how many sends failed.
     fn serve_at_socket<D: Disk + Drop>(
         &mut self,
         options: &ServeOptions<'_>,
@@ -115,7 +114,10 @@ impl<N: Net + Clock + Files<File = File>, R: Source, W: Sink, F: Sink> Console<'
         if let Some(kept) = &mut kept {
             kept.try_store(self.alloc, served.device.tree())?;
         }
-        self.note_start(end.inside(), options.keep, objects);
+        self.print_listening(end.inside());
+        if let Some(path) = options.keep {
+            self.note_origin(path, objects);
+        }
         let mut log = Log::new(self.alloc, options.verbose, options.stats, self.faults);
         let report = serve(served, &mut end, kept, &mut log, options.turns);
         let last = end.inside().last_failed_send();
@@ -123,31 +125,26 @@ impl<N: Net + Clock + Files<File = File>, R: Source, W: Sink, F: Sink> Console<'
         Ok(report)
     }
 
-    /// Prints where the device listens, and with which objects it began if it keeps them in the file at the path
-    /// `keep`. A note says if it listens at every address, and another if the system grants little room for datagrams
-    /// that have not left. A failed write is ignored.
-    fn note_start<C: Clock>(
-        &mut self,
-        end: &UdpEnd<'_, C>,
-        keep: Option<&str>,
-        objects: Objects<'_>,
-    ) {
-        let (alloc, local) = (self.alloc, end.local());
+    /// Prints where the device listens. A note says if that is at every address of the machine, and another one if the
+    /// system grants little room for datagrams that have not left. A failed write is ignored.
+    fn print_listening<C: Clock>(&mut self, end: &UdpEnd<'_, C>) {
+        let (local, granted) = (end.local(), end.send_buffer());
         let _ = print_line(&format_args!("listening {local}"), self.faults);
         if local.ip == 0 {
             print_note(EVERY_ADDRESS, self.faults);
         }
-        let granted = end.send_buffer();
         if 0 < granted && granted < ENOUGH_GRANTED {
-            let note = format!(in alloc;
+            let note = format!(in self.alloc;
                 "the system grants a send buffer of {granted} bytes: datagrams to a host that does not answer may \
                 fill it, and replies to other hosts are then lost"
             );
             print_made_note(note, self.faults);
         }
-        let Some(keep) = keep else {
-            return;
-        };
+    }
+
+    /// Prints with which objects a device began that keeps them in the file at the path `keep`.
+    fn note_origin(&mut self, keep: &str, objects: Objects<'_>) {
+        let alloc = self.alloc;
         let note = match objects {
             Objects::Kept(path) => format!(in alloc; "began with the objects of {path}"),
             Objects::Listed(path) => format!(in alloc;

@@ -3,13 +3,13 @@
 ghost use Rattle.std.specs.Prelude.{◌≡◌, ◌++◌, IfOk, codes, is_ok, string_bytes};
 ghost use Rattle.ocadev_cli.specs.Storing.{DiskState, Replaces, StoresBy, SyncsFolder, SyncsNew, Tries, WritesNew};
 
-use super::objects::{EndLine, refused};
+use super::objects::{EndLine, file_failure};
 use oca_program::{Failure, RunFault, print_line};
-use oca_script::{Printer, Sink, ToWriter};
+use oca_script::{Printer, ToWriter};
 use oca_textree::print_tree;
 use oca_tree::Tree;
-use std::alloc::{AllocError, Global};
-use std::fmt;
+use oca_types::NoMemory;
+use std::alloc::Global;
 use std::fs::{self, File, Metadata, OpenOptions, Permissions, TryLockError};
 use std::io::{self, ErrorKind};
 use std::os::unix::fs::{MetadataExt, PermissionsExt, lchown};
@@ -76,35 +76,40 @@ pub struct FileDisk<'l, 'p, N> {
     /// The file at the path, locked: the one that was there at the start, or that took its place last. It stays open,
     /// so that no other file gets its number.
     held: Option<File>,
+    /// The lock that keeps other devices away from the path.
+    _lock: File,
     /// Of what file a new one gets the mode and the owner: of the plain file that was there last, at the start or when
     /// one was made, or of the new file that was made last.
     model: Option<Metadata>,
 }
 
 impl<'l, 'p, N: Files<File = File>> FileDisk<'l, 'p, N> {
-    /// The disk with the file at `path`, which is `held` if it exists. A new file beside it gets the mode and the owner
-    /// of the plain file that was last seen there. Nothing is read or written. The refusal is one of memory.
+    /// The disk with the file at `path`, to which this is the claim. A new file beside it gets the mode and the owner of
+    /// the plain file that was last seen there. Nothing is read or written. Refusal: `NoMemory`, if memory was refused.
     pub fn new(
         alloc: Global,
         system: &'l N,
         path: &'p str,
-        held: Option<File>,
-    ) -> Result<FileDisk<'l, 'p, N>, AllocError>
+        claim: Claim,
+    ) -> Result<FileDisk<'l, 'p, N>, NoMemory>
         ensures { IfOk result (λ disk. string_bytes disk.fresh ≡ disk.path.now ++ codes ".new") }
     {
-        let fresh = format!(in alloc; "{path}.new")?;
+        let Ok(fresh) = format!(in alloc; "{path}.new") else {
+            return Err(NoMemory);
+        };
         Ok(FileDisk {
             system,
             path,
             fresh,
             made: None,
-            held,
+            held: claim.file,
+            _lock: claim.lock,
             model: plain_at(system, path),
         })
     }
 
-    /// Refuses where a plain file is at the path that this device neither found at its start nor put there: another
-    /// device has the state then.
+    /// Refuses if the plain file at the path is neither the one that this device found at its start nor one that it put
+    /// there: another device has the state then.
     fn check_place(&self) -> io::Result<()> {
         let Some(found) = plain_at(self.system, self.path) else {
             return Ok(());
@@ -127,9 +132,9 @@ impl<'l, 'p, N: Files<File = File>> FileDisk<'l, 'p, N> {
         }
         let fresh = self.fresh.as_str();
         let _ = fs::remove_file(self.system, fresh);
-        let mut how = OpenOptions::new();
-        how.write(true).create_new(true);
-        let file = how.open(self.system, fresh)?;
+        let mut options = OpenOptions::new();
+        options.write(true).create_new(true);
+        let file = options.open(self.system, fresh)?;
         file.try_lock()?;
         let new = file.metadata()?;
         match &self.model {
@@ -150,13 +155,19 @@ impl<'l, 'p, N: Files<File = File>> Disk for FileDisk<'l, 'p, N> {
 
     ghost state = { λ _. silent_disk };
 
-    /// Writes the objects to the new file, which is made first; refused where another device has the state.
+    /// Writes the objects to the new file, which is made first, with a last line that says how many they are. Refused
+    /// where another device has the state.
     fn write_new(&mut self, tree: &Tree) -> io::Result<()> {
         self.check_place()?;
         let file = self.make_new()?;
         self.made = Some(file.try_clone()?);
-        let printed = print_state(tree, &mut Printer::new(ToWriter::new(file)));
-        printed.map_err(|_| io::Error::new(ErrorKind::Other, "a write failed"))
+        let printer = &mut Printer::new(ToWriter::new(file));
+        if print_tree(tree, printer).is_err()
+            || print_line(&EndLine(tree.len()), printer).is_err()
+        {
+            return Err(io::Error::new(ErrorKind::Other, "a write failed"));
+        }
+        Ok(())
     }
 
     /// Waits until the new file is on the disk; refused where none was written.
@@ -185,19 +196,13 @@ impl<'l, 'p, N: Files<File = File>> Disk for FileDisk<'l, 'p, N> {
     }
 }
 
-/// Prints the objects, and a last line that says how many they are, and writes all that the printer holds.
-fn print_state<W: Sink>(tree: &Tree, printer: &mut Printer<W>) -> fmt::Result {
-    print_tree(tree, printer).map_err(|_| fmt::Error)?;
-    print_line(&EndLine(tree.len()), printer)
-}
-
 /// The locks by which no other device keeps its objects in the same file. They last until this is dropped.
 #[derive(Drop)]
 pub struct Claim {
     /// FILE.lock.
-    _lock: File,
+    lock: File,
     /// FILE, if it exists.
-    pub file: Option<File>,
+    file: Option<File>,
 }
 
 impl Claim {
@@ -217,18 +222,18 @@ impl Claim {
         for it in [path, new.as_str(), lock.as_str()] {
             check_plain(alloc, system, it)?;
         }
-        let mut as_lock = OpenOptions::new();
-        as_lock.write(true).create(true);
-        let lock = locked(alloc, system, &as_lock, lock.as_str())?;
+        let mut options = OpenOptions::new();
+        options.write(true).create(true);
+        let lock = open_locked(alloc, system, &options, lock.as_str())?;
         let file = match fs::exists(system, path) {
             Ok(false) => None,
             _ => {
-                let mut as_it_is = OpenOptions::new();
-                as_it_is.read(true).write(true);
-                Some(locked(alloc, system, &as_it_is, path)?)
+                let mut options = OpenOptions::new();
+                options.read(true).write(true);
+                Some(open_locked(alloc, system, &options, path)?)
             }
         };
-        Ok(Claim { _lock: lock, file })
+        Ok(Claim { lock, file })
     }
 }
 
@@ -240,26 +245,26 @@ fn check_plain<N: Files>(alloc: Global, system: &N, path: &str) -> Result<(), Fa
         Ok(found) if found.is_symlink() => "a symbolic link, and no plain file",
         Ok(_) => "no plain file",
         Err(reason) if reason.kind() == ErrorKind::NotFound => return Ok(()),
-        Err(reason) => return Err(refused(alloc, RunFault::Read, path, reason)),
+        Err(reason) => return Err(file_failure(alloc, RunFault::Read, path, reason)),
     };
-    Err(refused(alloc, RunFault::Read, path, why))
+    Err(file_failure(alloc, RunFault::Read, path, why))
 }
 
-/// The file at a path, opened in this way and locked.
-fn locked<N: Files<File = File>>(
+/// The file at a path, opened with these options and locked.
+fn open_locked<N: Files<File = File>>(
     alloc: Global,
     system: &N,
-    how: &OpenOptions,
+    options: &OpenOptions,
     path: &str,
 ) -> Result<File, Failure> {
-    let file = how
+    let file = options
         .open(system, path)
-        .map_err(|reason| refused(alloc, RunFault::Read, path, reason))?;
+        .map_err(|reason| file_failure(alloc, RunFault::Read, path, reason))?;
     match file.try_lock() {
         Ok(()) => Ok(file),
         Err(TryLockError::WouldBlock) => {
-            Err(refused(alloc, RunFault::Read, path, "another device has it"))
+            Err(file_failure(alloc, RunFault::Read, path, "another device has it"))
         }
-        Err(TryLockError::Error(reason)) => Err(refused(alloc, RunFault::Read, path, reason)),
+        Err(TryLockError::Error(reason)) => Err(file_failure(alloc, RunFault::Read, path, reason)),
     }
 }

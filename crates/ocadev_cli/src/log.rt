@@ -4,7 +4,7 @@ use super::report::print_progress;
 use oca_device::{CommandOutcome, Device, Effect, Electronics, Outbox, Report};
 use oca_net::Heard;
 use oca_pdu::check;
-use oca_program::{Line, print_line, print_made_note};
+use oca_program::{FmtWriter, print_line, print_made_note};
 use oca_script::{Printer, Sink};
 use oca_tree::Tree;
 use oca_types::{Ono, Status};
@@ -100,7 +100,7 @@ fn print_heard<F: Sink>(
     device: &Device,
     faults: &mut Printer<F>,
 ) -> fmt::Result {
-    let line = &mut Line(faults);
+    let line = &mut FmtWriter(faults);
     match heard {
         Heard::Datagram { from, .. } => {
             write!(line, "{from}")?;
@@ -122,7 +122,7 @@ fn print_heard<F: Sink>(
 }
 
 /// Prints what became of the datagram of a turn, in the words of `replay`.
-fn print_outcome<F: Sink>(turn: &Report, bytes: &[u8], line: &mut Line<'_, F>) -> fmt::Result {
+fn print_outcome<F: Sink>(turn: &Report, bytes: &[u8], line: &mut FmtWriter<'_, F>) -> fmt::Result {
     if turn.no_room != 0 {
         return line.write_str(" no-room");
     }
@@ -141,7 +141,7 @@ fn print_outcome<F: Sink>(turn: &Report, bytes: &[u8], line: &mut Line<'_, F>) -
 
 /// Prints which objects the commands of a datagram locked and unlocked, and which commands were refused. Nothing is
 /// printed if any command was not executed, nor of a command that asks for no response.
-fn print_effects<F: Sink>(effects: &[Effect], line: &mut Line<'_, F>) -> fmt::Result {
+fn print_effects<F: Sink>(effects: &[Effect], line: &mut FmtWriter<'_, F>) -> fmt::Result {
     if effects.iter().any(|effect| !matches!(effect.outcome, CommandOutcome::Executed(_))) {
         return Ok(());
     }

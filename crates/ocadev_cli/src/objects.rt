@@ -58,8 +58,14 @@ impl Display for EndLine {
     }
 }
 
-/// The failure of a file at a path that can't be read or kept.
-pub fn refused<D: Display + Drop>(alloc: Global, fault: RunFault, path: &str, why: D) -> Failure {
+/// The failure of a run that can't read or write the file at a path. The note names the path and the reason `why`, if
+/// there is memory for it.
+pub fn file_failure<D: Display + Drop>(
+    alloc: Global,
+    fault: RunFault,
+    path: &str,
+    why: D,
+) -> Failure {
     Failure::noted_if(fault, format!(in alloc; "{path}: {why}"))
 }
 
@@ -88,7 +94,7 @@ fn check_end(alloc: Global, path: &str, text: &[u8], count: usize) -> Result<(),
     let fault = RunFault::Object(lines.count() as u64, ObjectFault::Form);
     let why =
         "its last line does not say how many objects it has: it is cut off, or not of this program";
-    Err(refused(alloc, fault, path, why))
+    Err(file_failure(alloc, fault, path, why))
 }
 
 /// The text of the file at a path.
@@ -98,14 +104,14 @@ fn text_of<N: Files>(alloc: Global, system: &N, path: &str) -> Result<Vec<u8>, F
         .take(LARGEST_TEXT + 1)
         .read_to_end(&mut text));
     match read {
-        Ok(_) if text.len() as u64 <= LARGEST_TEXT => Ok(text),
+        Ok(count) if count as u64 <= LARGEST_TEXT => Ok(text),
         Ok(_) => {
             let why = "it has more than 16777216 bytes";
-            Err(refused(alloc, RunFault::TooMuch, path, why))
+            Err(file_failure(alloc, RunFault::TooMuch, path, why))
         }
         Err(reason) if reason.kind() == ErrorKind::OutOfMemory => {
             Err(Failure::from(RunFault::NoMemory))
         }
-        Err(reason) => Err(refused(alloc, RunFault::Read, path, reason)),
+        Err(reason) => Err(file_failure(alloc, RunFault::Read, path, reason)),
     }
 }

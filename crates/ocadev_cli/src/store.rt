@@ -1,15 +1,15 @@
 //! A file in which a device keeps its objects.
-ghost use Rattle.std.specs.Prelude.{◌≡◌, IfOk, IfSome, false, is_some};
-ghost use Rattle.std.specs.Option.{option_copied};
+ghost use Rattle.std.specs.Prelude.{◌≡◌};
 
-use super::disk::{Disk, FileDisk, write_over};
+use super::disk::{Claim, Disk, FileDisk, write_over};
 use super::log::Log;
-use super::objects::refused;
+use super::objects::file_failure;
 use oca_device::{Device, Electronics, Keeping, Outbox, Report, Store};
 use oca_net::Heard;
 use oca_program::{Failure, RunFault};
 use oca_script::Sink;
 use oca_tree::Tree;
+use oca_types::NoMemory;
 use std::alloc::Global;
 use std::fs::File;
 use std::io;
@@ -24,27 +24,19 @@ pub struct Kept<'a, D> {
 }
 
 impl<'a, 'l, N: Files<File = File>> Kept<'a, FileDisk<'l, 'a, N>> {
-    /// The file at the path `keep`, which is `held` if it exists; none if no file is named. The call takes the memory
-    /// for the answers that will wait. Refusal: `NoMemory`, if memory was refused.
-    pub fn open(
+    /// The file at `path`, to which this is the claim, with no answer that waits. The call takes the memory for the
+    /// answers that will wait. Refusal: `NoMemory`, if memory was refused.
+    pub fn new(
         alloc: Global,
         system: &'l N,
-        keep: Option<&'a str>,
-        held: Option<File>,
-    ) -> Result<Option<Kept<'a, FileDisk<'l, 'a, N>>>, Failure>
-        ensures kept { IfOk result (λ kept. is_some kept ≡ is_some (option_copied keep.entry)) }
-        ensures behind { IfOk result (λ kept. IfSome kept (λ k. k.waiting.is_behind ≡ false)) }
-    {
-        let Some(path) = keep else {
-            return Ok(None);
-        };
-        let waiting = Keeping::new(alloc)?;
-        let disk = FileDisk::new(alloc, system, path, held)?;
-        Ok(Some(Kept {
+        path: &'a str,
+        claim: Claim,
+    ) -> Result<Kept<'a, FileDisk<'l, 'a, N>>, NoMemory> {
+        Ok(Kept {
             path,
-            disk,
-            waiting,
-        }))
+            disk: FileDisk::new(alloc, system, path, claim)?,
+            waiting: Keeping::new(alloc)?,
+        })
     }
 }
 
@@ -58,7 +50,7 @@ impl<'a, D: Disk> Kept<'a, D> {
     {
         match write_over(&mut self.disk, tree) {
             Ok(()) => Ok(()),
-            Err(reason) => Err(refused(alloc, RunFault::Write, self.path, reason)),
+            Err(reason) => Err(file_failure(alloc, RunFault::Write, self.path, reason)),
         }
     }
 }

@@ -2,7 +2,7 @@
 #![tactic(auto)]
 
 use oca_net::{CountsSleep, fill_standard_descriptors};
-use oca_program::{report as report_failure, words_of};
+use oca_program::{report, words_of};
 use oca_script::{Printer, ToWriter};
 use ocapanel_cli::console::Console;
 use std::io;
@@ -21,7 +21,7 @@ fn main(rt: HostRuntime) -> ExitCode {
             faults: &mut faults,
         }
         .run(words.as_slice()),
-        Err(failure) => report_failure(&failure, &mut faults),
+        Err(failure) => report(&failure, &mut faults),
     };
     ExitCode::from(status)
 }

@@ -21,7 +21,7 @@ const LISTENER: Token = Token(0);
 const DEVICE: Token = Token(1);
 
 /// The most connections at once.
-const MOST: usize = 128;
+const MOST_CLIENTS: usize = 128;
 
 /// The largest body of a request, in bytes.
 const MOST_BODY: usize = 16_384;
@@ -58,7 +58,7 @@ struct Client {
     is_known: bool,
 }
 
-/// A connection is over: all was said, or it failed.
+/// Why a connection is closed: all was said, or it failed.
 struct Over;
 
 /// How many bytes a read or a write moved; `None` if it would have to wait.
@@ -171,7 +171,9 @@ impl Clients {
         let mut listener = TcpListener::bind(host, address).map_err(|reason| {
             Failure::noted_if(RunFault::Socket, format!(in alloc; "{at}: {reason}"))
         })?;
-        let poll = poll_of(host, &mut listener, socket).map_err(|reason| failed(alloc, reason))?;
+        let poll = poll_of(host, &mut listener, socket).map_err(|reason| system_failure(
+            alloc, reason,
+        ))?;
         Ok(Clients {
             alloc,
             listener,
@@ -193,16 +195,16 @@ impl Clients {
         Peer { port, ..asked }
     }
 
-    /// Another socket for the device is waited for.
+    /// Makes [`wait`](Clients::wait) also wait for this socket, another one for the device.
     pub fn watch(&mut self, socket: RawFd) -> Result<(), Failure> {
-        watch(&self.poll, socket).map_err(|reason| failed(self.alloc, reason))
+        watch(&self.poll, socket).map_err(|reason| system_failure(self.alloc, reason))
     }
 
-    /// Waits until something can be read or written, at most so many milliseconds.
-    pub fn wait(&mut self, wait: u64) -> Result<(), Failure> {
+    /// Waits until something can be read or written, at most `most` milliseconds.
+    pub fn wait(&mut self, most: u64) -> Result<(), Failure> {
         self.poll
-            .poll(&mut self.events, Some(Duration::from_millis(wait)))
-            .map_err(|reason| failed(self.alloc, reason))?;
+            .poll(&mut self.events, Some(Duration::from_millis(most)))
+            .map_err(|reason| system_failure(self.alloc, reason))?;
         for event in self.events.iter() {
             let token = event.token().0;
             let found = self
@@ -254,7 +256,7 @@ impl Clients {
             let Ok(keys) = RandomState::new(host) else {
                 continue;
             };
-            if !self.has_place(now) {
+            if !self.make_room(now) {
                 continue;
             }
             self.tokens = self.tokens.saturating_add(1);
@@ -285,11 +287,12 @@ impl Clients {
         }
     }
 
-    /// Whether there is a place for a new connection. If there are 128, one of them is closed to make room. That is the
-    /// oldest one on which no request was admitted so far (admitted: with the right host and token). If there is no
-    /// such connection, it is the first on which no request is begun and nothing moved for more than 1,000 ms.
-    fn has_place(&mut self, now: u64) -> bool {
-        if self.clients.len() < MOST {
+    /// Makes room for a new connection, and returns whether there is room then. If there are 128 connections, one of
+    /// them is closed: the oldest one on which no request was admitted so far (admitted: with the right host and token).
+    /// If there is no such connection, it is the first on which no request is begun and nothing moved for more than
+    /// 1,000 ms.
+    fn make_room(&mut self, now: u64) -> bool {
+        if self.clients.len() < MOST_CLIENTS {
             return true;
         }
         let unknown = self.clients.iter().position(|client| !client.is_known);
@@ -304,7 +307,7 @@ impl Clients {
     }
 }
 
-/// What is waited for at first: the listener and the device's socket.
+/// A wait for the listener and the device's socket.
 fn poll_of<H: Net>(host: &H, listener: &mut TcpListener, socket: RawFd) -> io::Result<Poll> {
     let poll = Poll::new(host)?;
     poll.registry()
@@ -313,15 +316,15 @@ fn poll_of<H: Net>(host: &H, listener: &mut TcpListener, socket: RawFd) -> io::R
     Ok(poll)
 }
 
-/// The device's socket is waited for.
+/// Makes the wait also wait for the device's socket.
 fn watch(poll: &Poll, socket: RawFd) -> io::Result<()> {
     let mut source = SourceFd(&socket);
     poll.registry()
         .register(&mut source, DEVICE, Interest::READABLE)
 }
 
-/// A call of the system failed.
-fn failed(alloc: Global, reason: io::Error) -> Failure {
+/// The failure of a run in which a call of the system failed for this reason.
+fn system_failure(alloc: Global, reason: io::Error) -> Failure {
     if reason.kind() == io::ErrorKind::OutOfMemory {
         return Failure::from(RunFault::NoMemory);
     }

@@ -2,13 +2,13 @@
 
 use clap::{ArgMatches, Error};
 use oca_panel::{LocalPort, Way};
-use oca_program::form::{NUMBER_16, check};
-use oca_program::options::{host_in, peer_in};
+use oca_program::form::{NUMBER_16, check_values, is_host};
 use oca_program::table::program;
 use oca_program::{CommandRow, Failure, Form, Kind, OptionRow, RunFault};
 use oca_types::{LOOPBACK, Peer, Span};
 use std::alloc::Global;
 use std::convert::AsStr;
+use std::net::Ipv4Addr;
 
 /// A panel for a device, as the command line asks for it.
 #[derive(Clone, Copy)]
@@ -68,7 +68,7 @@ const LISTEN: OptionRow = OptionRow {
     help: "The address and port for browsers: one address of this machine, with --no-token one of 127.0.0.0/8; at \
         port 0 the system chooses one [default: 127.0.0.1:8080]",
     kind: Kind::Optional,
-    form: Form::AnyPeer,
+    form: Form::Peer,
 };
 
 const TOKEN: OptionRow = OptionRow {
@@ -105,7 +105,7 @@ const IP: OptionRow = OptionRow {
     help: "The local address of the socket for the device, from which each copy of a command leaves [default: \
         0.0.0.0, the one from which the system reaches the device]",
     kind: Kind::Optional,
-    form: Form::Own,
+    form: Form::LocalIp,
 };
 
 const PORT: OptionRow = OptionRow {
@@ -158,10 +158,8 @@ pub fn matches_of<'a, S: AsStr>(alloc: Global, words: &'a [S]) -> Result<ArgMatc
 /// What a command line that matched asks for. Failure: `BadWords` if an option's value is not of its form, or two
 /// options contradict each other. Its note names them, if there is memory for it.
 pub fn options_of<'a>(alloc: Global, words: &ArgMatches<'a>) -> Result<Options<'a>, Failure> {
-    check(alloc, words, PROGRAM.options)?;
-    let Some(device) = host_in(words, DEVICE.name) else {
-        return Err(Failure::from(RunFault::BadWords));
-    };
+    check_values(alloc, words, PROGRAM.options)?;
+    let device = DEVICE.host(words).ok_or(RunFault::BadWords)?;
     let access = match (NO_TOKEN.is_set(words), TOKEN.text(words)) {
         (true, Some(_)) => {
             let note = "--token and --no-token are both given";
@@ -173,7 +171,7 @@ pub fn options_of<'a>(alloc: Global, words: &ArgMatches<'a>) -> Result<Options<'
     };
     Ok(Options {
         device,
-        ip: IP.own(words).unwrap_or(0),
+        ip: IP.local_ip(words).unwrap_or(0),
         port: PORT.number(words).unwrap_or(0) as u16,
         span: match SPAN.number(words) {
             Some(size) => Span::new(size as u8).unwrap_or_default(),
@@ -189,16 +187,16 @@ pub fn options_of<'a>(alloc: Global, words: &ArgMatches<'a>) -> Result<Options<'
 
 /// Where browsers are listened to: at an address of one host, and of this machine alone where each browser is let in.
 fn listen_of(alloc: Global, words: &ArgMatches<'_>, access: Access<'_>) -> Result<Peer, Failure> {
-    let at = peer_in(words, LISTEN.name).unwrap_or(Peer {
+    let at = LISTEN.peer(words).unwrap_or(Peer {
         ip: LOOPBACK,
         port: 8080,
     });
     let note = match access {
-        Access::Open if at.ip / 16_777_216 != 127 => {
+        Access::Open if !Ipv4Addr::from(at.ip).is_loopback() => {
             "--listen is not an address of this machine alone: it must be one of 127.0.0.0/8 with --no-token, because \
             the panel does not ask who connects"
         }
-        Access::MadeToken | Access::TokenOf(_) if at.ip < 0x0100_0000 || 0xe000_0000 <= at.ip => {
+        Access::MadeToken | Access::TokenOf(_) if !is_host(at.ip) => {
             "--listen is not the address of one host: it must be one address of this machine, 1.0.0.0 to \
             223.255.255.255"
         }

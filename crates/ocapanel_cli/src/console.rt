@@ -3,12 +3,12 @@
 use crate::clients::Clients;
 use crate::command::{Access, Options, matches_of, options_of};
 use crate::ready::Ready;
-use crate::serving::Rounds;
+use crate::serving::EventLoop;
 use crate::terms::{terms_of, token_of, units_of};
 use oca_net::End;
 use oca_panel::{LocalPort, Panel, Reached};
-use oca_program::socket::unreached;
-use oca_program::{Failure, helped, note_other_port, print_line, status_of};
+use oca_program::socket::reach_device;
+use oca_program::{Failure, exit_status, help_or_failure, print_line};
 use oca_script::{Printer, Sink};
 use oca_types::Peer;
 use oca_web::{Site, Terms, View};
@@ -36,15 +36,15 @@ impl<'c, R: Net + RandomSource + Files, N: Net + Clock, W: Sink, F: Sink> Consol
     /// 0 after a help text, 2 if the words are bad, and 1 if something could not be done. A fault is printed on
     /// `faults` as one line, after a line that begins with `note: ` if more is known.
     pub fn run<S: AsStr>(&mut self, words: &[S]) -> u8 {
-        let ended = self.obey(words);
-        status_of(ended, self.faults)
+        let ended = self.try_run(words);
+        exit_status(ended, self.faults)
     }
 
     /// Does what the words ask for, and returns the exit status.
-    fn obey<S: AsStr>(&mut self, words: &[S]) -> Result<u8, Failure> {
+    fn try_run<S: AsStr>(&mut self, words: &[S]) -> Result<u8, Failure> {
         match matches_of(self.alloc, words) {
             Ok(matches) => self.serve(&options_of(self.alloc, &matches)?),
-            Err(error) => helped(self.alloc, &error, self.printer),
+            Err(error) => help_or_failure(self.alloc, &error, self.printer),
         }
     }
 
@@ -55,7 +55,14 @@ impl<'c, R: Net + RandomSource + Files, N: Net + Clock, W: Sink, F: Sink> Consol
     fn serve(&mut self, options: &Options<'_>) -> Result<u8, Failure> {
         let token = token_of(self.alloc, self.host, options.access)?;
         let units = units_of(self.alloc, self.host, options.units)?;
-        let Reached { end, first, .. } = self.reach(options, LocalPort::Checked(options.port))?;
+        let way = options.way(LocalPort::Checked(options.port));
+        let Reached { end, first, .. } = reach_device(
+            self.alloc,
+            self.system,
+            way,
+            false,
+            self.faults,
+        )?;
         let (made, socket, ip) = (end.now(), end.end().as_raw_fd(), end.end().local().ip);
         let clients = Clients::listen(self.alloc, self.host, options.listen, socket)?;
         let local = clients.local(options.listen);
@@ -63,7 +70,7 @@ impl<'c, R: Net + RandomSource + Files, N: Net + Clock, W: Sink, F: Sink> Consol
         self.print_listening(options.access, local, &terms);
         let view = View::new(self.alloc, options.device, options.span, first, made)?;
         let mut panel = Panel::open(options.device, Ready::new(end), first, options.span, 0);
-        let mut rounds = Rounds {
+        let mut events = EventLoop {
             site: Site::new(self.alloc, view, terms),
             console: self,
             options,
@@ -75,29 +82,11 @@ impl<'c, R: Net + RandomSource + Files, N: Net + Clock, W: Sink, F: Sink> Consol
             ticket: 1,
             held_until: 0,
         };
-        rounds.go_on()?;
+        events.run()?;
         Ok(0)
     }
 
-    /// A socket for the device, from this local port, and the first handle over it. A port at which the device answers
-    /// no command is noted.
-    pub(super) fn reach(
-        &mut self,
-        options: &Options<'_>,
-        port: LocalPort,
-    ) -> Result<Reached<'c, N>, Failure> {
-        let reached = options
-            .way(port)
-            .reach(self.alloc, self.system)
-            .map_err(|refused| unreached(self.alloc, &refused.error, 0))?;
-        if let Some(port) = reached.instead_of {
-            let other = reached.end.end().local().port;
-            note_other_port(self.alloc, options.device, port, other, self.faults);
-        }
-        Ok(reached)
-    }
-
-    /// Prints the address of the page, with the token where it was made for this run: one of a file is in no log.
+    /// Prints the address of the page, with the token if it was made for this run: one of a file is in no log.
     fn print_listening(&mut self, access: Access<'_>, local: Peer, terms: &Terms) {
         let _ = match (access, terms.key.as_ref()) {
             (Access::MadeToken, Some(key)) => {

@@ -5,6 +5,7 @@ use crate::console::Console;
 use crate::ready::Ready;
 use oca_net::{End, UdpEnd, is_gone};
 use oca_panel::{LocalPort, Panel, Reached, Watched};
+use oca_program::socket::reach_device;
 use oca_program::{Failure, print_made_note, print_note};
 use oca_script::Sink;
 use oca_types::NoMemory;
@@ -17,7 +18,7 @@ use std::rt::{Clock, Files};
 /// The most turns that are taken before the browsers have theirs.
 const MOST_TURNS: u32 = 256;
 
-/// Behind a receive that failed so many milliseconds are waited at least, unless a browser comes: what is due was not
+/// After a receive that failed, so many milliseconds are waited at least, unless a browser comes: what is due was not
 /// sent.
 const FAILED_WAIT_MS: u64 = 50;
 
@@ -30,9 +31,9 @@ const LONGEST_WAIT_MS: u64 = 1000;
 /// What is received from and sent to: a socket for the device.
 pub type DeviceEnd<'c, N> = Ready<Watched<UdpEnd<'c, N>>>;
 
-/// What the loop goes round with.
+/// The loop over the device's socket, the listener and the browsers' connections.
 #[derive(Drop)]
-pub struct Rounds<'r, 'c, R, N: Clock, W: Sink, F: Sink> {
+pub struct EventLoop<'r, 'c, R, N: Clock, W: Sink, F: Sink> {
     pub console: &'r mut Console<'c, R, N, W, F>,
     pub options: &'r Options<'r>,
     pub panel: &'r mut Panel<DeviceEnd<'c, N>>,
@@ -49,7 +50,7 @@ pub struct Rounds<'r, 'c, R, N: Clock, W: Sink, F: Sink> {
     pub held_until: u64,
 }
 
-impl<'c, R: Net + RandomSource + Files, N: Net + Clock, W: Sink, F: Sink> Rounds<
+impl<'c, R: Net + RandomSource + Files, N: Net + Clock, W: Sink, F: Sink> EventLoop<
     '_,
     'c,
     R,
@@ -57,52 +58,64 @@ impl<'c, R: Net + RandomSource + Files, N: Net + Clock, W: Sink, F: Sink> Rounds
     W,
     F,
 > {
-    /// Goes round: what came from the device, what is to be sent to it, the browsers, and a wait. Where another socket
-    /// for the device is wanted, it goes on over that.
-    pub fn go_on(&mut self) -> Result<(), Failure> {
+    /// Serves the device and the browsers, and waits, over and over. Goes on over another socket for the device if the
+    /// handles of this one are used up, or if the link was lost and the system reaches the device from another address.
+    pub fn run(&mut self) -> Result<(), Failure> {
         for _ in 0..u64::MAX {
-            let wait = self.go_once()?;
+            let wait = self.run_once()?;
             self.clients.wait(wait)?;
             if self.site.view().wants_end() {
-                let reached = self.console.reach(self.options, LocalPort::Given(0))?;
-                self.go_over(reached)?;
+                let (console, way) = (&mut *self.console, self.options.way(LocalPort::Given(0)));
+                let reached = reach_device(
+                    console.alloc,
+                    console.system,
+                    way,
+                    false,
+                    console.faults,
+                )?;
+                self.change_socket(reached)?;
             }
-            self.follow_address()?;
+            let losses = self.site.view().news().lost;
+            if self.losses != losses {
+                self.losses = losses;
+                self.follow_address()?;
+            }
         }
         Ok(())
     }
 
-    /// Behind each loss of the link: if the system reaches the device from another address by now, goes on from there.
-    /// What is in flight then is lost, and never sent again. Where no socket is to be had, the next loss is the next
-    /// try.
+    /// If the system reaches the device from another address by now, goes on from there. What is in flight then is
+    /// lost, and never sent again.
     fn follow_address(&mut self) -> Result<(), Failure> {
-        let losses = self.site.view().news().lost;
-        if losses == self.losses {
-            return Ok(());
-        }
-        self.losses = losses;
-        let way = self.options.way(LocalPort::Given(self.options.port));
-        let Ok(reached) = way.reach(self.console.alloc, self.console.system) else {
+        let Some(reached) = self.reach_elsewhere() else {
             return Ok(());
         };
-        let ip = reached.end.end().local().ip;
-        if ip == self.ip {
-            return Ok(());
-        }
         if self.options.verbose {
-            let (alloc, ip) = (self.console.alloc, Ipv4Addr::from(ip));
+            let (alloc, ip) = (self.console.alloc, reached.end.end().local().ip);
+            let ip = Ipv4Addr::from(ip);
             let note = format!(in alloc; "the device is reached from the address {ip} now");
             print_made_note(note, self.console.faults);
         }
         self.site.view().lose_end();
-        self.go_over(reached)
+        self.change_socket(reached)
+    }
+
+    /// A socket for the device at another address of this machine. `None` if the system reaches the device from the
+    /// same address as before, or gives no socket.
+    fn reach_elsewhere(&self) -> Option<Reached<'c, N>> {
+        let way = self.options.way(LocalPort::Given(self.options.port));
+        let reached = way.reach(self.console.alloc, self.console.system).ok()?;
+        if reached.end.end().local().ip == self.ip {
+            return None;
+        }
+        Some(reached)
     }
 
     /// Goes on over another socket for the device, with a new link, which lies in this function's frame alone, some 94
     /// kB. The time until now is counted by the clock of the socket before. The new one's moment is taken first: so a
     /// stop between the two is counted, if need be twice.
     #[inline(never)]
-    fn go_over(&mut self, reached: Reached<'c, N>) -> Result<(), Failure> {
+    fn change_socket(&mut self, reached: Reached<'c, N>) -> Result<(), Failure> {
         let Reached { end, first, .. } = reached;
         let (moment, socket) = (end.now(), end.end().as_raw_fd());
         self.ip = end.end().local().ip;
@@ -115,14 +128,14 @@ impl<'c, R: Net + RandomSource + Files, N: Net + Clock, W: Sink, F: Sink> Rounds
         self.clients.watch(socket)
     }
 
-    /// Does what is to be done, for the device and for the browsers. Returns how long may be waited then, in
+    /// Serves the device and the browsers as far as is possible without a wait. Returns how long may be waited then, in
     /// milliseconds.
-    fn go_once(&mut self) -> Result<u64, NoMemory> {
-        let drained = self.turn()?;
-        self.note_link();
-        self.look_at_clock();
+    fn run_once(&mut self) -> Result<u64, NoMemory> {
+        let drained = self.drain()?;
+        self.print_link_change();
+        self.note_moment();
         let now = self.site.view().moment();
-        if !self.holds(now) {
+        if !self.awaits_answer(now) {
             self.clients.serve(self.console.host, &mut self.site, now);
             let ticket = self.site.view().next_ticket();
             if self.ticket != ticket {
@@ -131,13 +144,14 @@ impl<'c, R: Net + RandomSource + Files, N: Net + Clock, W: Sink, F: Sink> Rounds
             }
         }
         self.site.view().go_on(self.panel)?;
-        Ok(if drained { self.wait_for(now) } else { 0 })
+        Ok(if drained { self.wait_time(now) } else { 0 })
     }
 
-    /// Takes in what came from the device, and sends what is to be sent. Returns whether nothing more is there.
-    fn turn(&mut self) -> Result<bool, NoMemory> {
+    /// Receives what came from the device, and sends what is due, in at most 256 turns. Returns whether nothing more is
+    /// there.
+    fn drain(&mut self) -> Result<bool, NoMemory> {
         for _ in 0..MOST_TURNS {
-            self.look_at_clock();
+            self.note_moment();
             self.site.view().take_turn(self.panel)?;
             self.site.view().go_on(self.panel)?;
             if self.panel.end().is_quiet {
@@ -147,18 +161,18 @@ impl<'c, R: Net + RandomSource + Files, N: Net + Clock, W: Sink, F: Sink> Rounds
         Ok(false)
     }
 
-    /// Reads the clock. Where the program was suspended, what waits for it is as old as nobody knows.
-    fn look_at_clock(&mut self) {
+    /// Notes the present moment. If the program was suspended, requests that wait have an unknown age.
+    fn note_moment(&mut self) {
         let end = self.panel.end();
         if self.site.view().note(end.end().now(), end.sent) {
             self.clients.doubts = true;
         }
     }
 
-    /// How long may be waited, in milliseconds.
-    fn wait_for(&mut self, now: u64) -> u64 {
+    /// How long may be waited for the device or a browser, in milliseconds.
+    fn wait_time(&mut self, now: u64) -> u64 {
         let mut moment = now.saturating_add(LONGEST_WAIT_MS);
-        if self.holds(now) {
+        if self.awaits_answer(now) {
             moment = self.held_until;
         } else if self.clients.has_more {
             return 0;
@@ -176,15 +190,15 @@ impl<'c, R: Net + RandomSource + Files, N: Net + Clock, W: Sink, F: Sink> Rounds
         moment.saturating_sub(now)
     }
 
-    /// Whether the browsers wait for the answer to an order that was taken just now: so that who asks right behind it
-    /// is shown how it ended.
-    fn holds(&mut self, now: u64) -> bool {
+    /// Whether the browsers wait for the answer to an order that was taken just now, so that a browser that asks right
+    /// behind it is shown how it ended.
+    fn awaits_answer(&mut self, now: u64) -> bool {
         now < self.held_until && self.site.view().has_orders()
     }
 
-    /// Prints when the device is lost, with the local address if the machine has lost that, and when it is heard again,
-    /// where that is asked for.
-    fn note_link(&mut self) {
+    /// If `--verbose` is given, prints when the device is lost, with the local address if the machine has lost that, and
+    /// when it is heard again.
+    fn print_link_change(&mut self) {
         let news = self.site.view().news();
         let is_lost = news.lost_since.is_some();
         if !self.options.verbose || is_lost == self.was_lost {

@@ -74,7 +74,7 @@ fn names_of(alloc: Global, local: Peer) -> Result<Vec<Name>, AllocError> {
     Ok(names)
 }
 
-/// Adds a name, and the origin of its pages.
+/// Adds a name, and the origin of the pages under it.
 fn put_name(alloc: Global, names: &mut Vec<Name>, host: String) -> Result<(), AllocError> {
     let origin = format!(in alloc; "http://{host}")?;
     names.push(Name { host, origin })?;
@@ -105,7 +105,7 @@ pub fn token_of<R: RandomSource + Files>(
     }
 }
 
-/// The token that the first line says, or why it says none.
+/// The token in the first line of a file, or why that is none.
 fn token_in(bytes: &[u8]) -> Result<&str, &'static str> {
     let line = match split_at_byte(bytes, b'\n') {
         Some((line, _)) => line,
@@ -206,7 +206,7 @@ fn unit_of(alloc: Global, kind: &str, which: &str) -> Result<UnitOf, &'static st
     }
 }
 
-/// A text of its own, where there is memory for it.
+/// A copy of a text, if there is memory for it.
 fn copied(alloc: Global, text: &str) -> Result<String, &'static str> {
     String::from_str(alloc, text).map_err(|_| NO_MEMORY)
 }

@@ -21,7 +21,7 @@ struct Holds(&'static str, Option<u64>);
 impl Row for Holds {
     /// Whether it says this time.
     fn agrees(&self, said: &mut Said) -> bool {
-        match Given::of(said.alloc, &["ocactl", "lock", "--hold", self.0, "4097"]) {
+        match Given::new(said.alloc, &["ocactl", "lock", "--hold", self.0, "4097"]) {
             Ok(given) => said.same(given.hold_ms, self.1),
             Err(_) => false,
         }

@@ -1,7 +1,7 @@
 //! What the clauses leave open: printed texts, and faults where memory or the writer refuses.
 use crate::tests::fakes::ShortWriter;
 use crate::tests::{AtPlace, Row, Said, all_agree, all_hold};
-use oca_program::{Failure, Form, RunFault, replayed, report, status_of};
+use oca_program::{Failure, Form, RunFault, exit_status, report};
 use oca_script::{LineFault, Printer, ReplayFault, WriteFailed};
 use oca_textree::ObjectFault;
 use oca_types::NoMemory;
@@ -116,12 +116,12 @@ const FORMS: &[IsOf] = &[
     IsOf(Form::Host, "255.255.255.255:1", false),
     IsOf(Form::Host, "127.0.0.1:0", false),
     IsOf(Form::Host, "127.0.0.1", false),
-    IsOf(Form::Own, "0.0.0.0", true),
-    IsOf(Form::Own, "192.0.2.1", true),
-    IsOf(Form::Own, "0.0.0.1", false),
-    IsOf(Form::Own, "239.0.0.1", false),
-    IsOf(Form::AnyPeer, "0.0.0.0:0", true),
-    IsOf(Form::AnyPeer, "0.0.0.0", false),
+    IsOf(Form::LocalIp, "0.0.0.0", true),
+    IsOf(Form::LocalIp, "192.0.2.1", true),
+    IsOf(Form::LocalIp, "0.0.0.1", false),
+    IsOf(Form::LocalIp, "239.0.0.1", false),
+    IsOf(Form::Peer, "0.0.0.0:0", true),
+    IsOf(Form::Peer, "0.0.0.0", false),
     IsOf(Form::Bytes, "-", true),
     IsOf(Form::Bytes, "00fF", true),
     IsOf(Form::Bytes, "", false),
@@ -147,7 +147,7 @@ const LINES: &[Reported] = &[
 /// Whether a run that ended so has this exit status.
 fn ends_with(ended: Result<u8, Failure>, status: u8, said: &mut Said) -> bool {
     let mut faults = Printer::new(ShortWriter::new(9, usize::MAX));
-    said.same(status_of(ended, &mut faults), status)
+    said.same(exit_status(ended, &mut faults), status)
 }
 
 /// A fault with a note of these bytes; the status with which it ends a run, how what is printed begins, and of how many
@@ -221,13 +221,5 @@ fn faults_have_their_status_and_words(rt: HostRuntime) {
     assert!(rt;
         ends_with(Err(Failure::from(RunFault::BadWords)), 2, &mut said),
         "a failure has its status: {said}"
-    );
-    assert!(rt;
-        ends_with(replayed(Ok(())), 0, &mut said),
-        "a whole replay has the status 0: {said}"
-    );
-    assert!(rt;
-        ends_with(replayed(Err(ReplayFault::Read)), 1, &mut said),
-        "a failed read has the status 1: {said}"
     );
 }
