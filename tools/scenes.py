@@ -82,7 +82,9 @@ def verbs_of_files(at):
         "remove": lambda name: at(name).unlink(),
         "remove folder": lambda name: shutil.rmtree(at(name)),
         "mode": lambda name, mode: at(name).chmod(int(mode, 8)),
-        "give to another": lambda name: os.chown(at(name), os.geteuid() or 65534, -1)}  # where it may: root
+        # where it may: root
+        "give to another": lambda name: os.chown(at(name), os.geteuid() or 65534, -1),
+        "give to another group": lambda name: os.chown(at(name), -1, os.getegid() or 65534)}
 
 
 class Scene:
