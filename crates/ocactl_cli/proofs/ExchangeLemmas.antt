@@ -50,8 +50,10 @@ goes_flushed w v z a b c text h k = subst (PrintsUnlessFailed w z a c) (append-n
 -- ---- commands in flight on a panel
 
 -- the session that a panel and the commands in flight on it are
-abbrev pub session_of : PanelState → List (ℕ × Unit {0}) → ℕ → Bool → Option ℤ → Bool → Option ℕ → SessionState
-session_of p queue ahead refused socket is_open at_hand = record {
+abbrev pub session_of : PanelState → List (ℕ × Unit {0}) → Peer → ℕ → ℕ → Bool → Option ℤ → Bool → Option ℕ → SessionState
+session_of p queue device span ahead refused socket is_open at_hand = record {
+  device = device;
+  span = span;
   link = p.link;
   end_state = p.end_state;
   in_flight = map (λ c. c.0) queue;
@@ -80,56 +82,56 @@ same-panel old new l e t u =
     ∙ ap (λ (x : ℕ). record new { link = old.link; end_state = old.end_state; wait = x }) t
     ∙ ap (λ (x : Bool). record old { unanswered = x }) u
 
-pub submits : (request : RequestFields) (returned : Result Handle ControlFault) (h : Handle) (queue more : List (ℕ × Unit {0})) (old new : PanelState) (ahead : ℕ) (refused : Bool) (socket : Option ℤ) (is_open : Bool) (at_hand : Option ℕ) (before : SessionState) (now : ℕ)
-    → session_of old queue ahead refused socket is_open at_hand ≡ before → returned ≡ Ok h → length before.in_flight < 32 → BeginsBehind request tt returned queue more old new
+pub submits : (request : RequestFields) (returned : Result Handle ControlFault) (h : Handle) (queue more : List (ℕ × Unit {0})) (old new : PanelState) (device : Peer) (span : ℕ) (ahead : ℕ) (refused : Bool) (socket : Option ℤ) (is_open : Bool) (at_hand : Option ℕ) (before : SessionState) (now : ℕ)
+    → session_of old queue device span ahead refused socket is_open at_hand ≡ before → returned ≡ Ok h → length before.in_flight < 32 → BeginsBehind request tt returned queue more old new
     → IsPresent now old.end_state → now ≤ since at_hand now + longest_life
-    → Submitted request (Ok h) before (session_of new more ahead refused socket true (Some now))
-submits request returned h queue more old new ahead refused socket is_open at_hand before now e is few begun present in_time =
+    → Submitted request (Ok h) before (session_of new more device span ahead refused socket true (Some now))
+submits request returned h queue more old new device span ahead refused socket is_open at_hand before now e is few begun present in_time =
     let b : BeginsIn request returned old new = begun-behind request returned queue more old new (few-of queue before.in_flight (ap (λ (x : SessionState). x.in_flight) e) few) begun in
     let behind : more ≡ put_behind queue tt (Ok h) = begun.behind ∙ ap (put_behind queue tt) is in
-    subst (λ (x : SessionState). SubmitsCommand request h x (session_of new more ahead refused socket true (Some now))) e
+    subst (λ (x : SessionState). SubmitsCommand request h x (session_of new more device span ahead refused socket true (Some now))) e
     (record {
       begins = subst (λ (z : Result Handle ControlFault). Begins request z old.link new.link old.end_state new.end_state) is b.begins;
       now = now;
       present = present;
       in_time = in_time;
       in_flight = ap (map (λ (c : ℕ × Unit {0}). c.0)) behind ∙ map-append (λ (c : ℕ × Unit {0}). c.0) queue ((h.0, tt) ∷ []);
-      same = ap (λ (x : Bool). record (session_of new more ahead refused socket true (Some now)) { unanswered = refused || x }) b.unanswered;
+      same = ap (λ (x : Bool). record (session_of new more device span ahead refused socket true (Some now)) { unanswered = refused || x }) b.unanswered;
     })
 
 -- what is refused changes nothing
-pub refuses : (request : RequestFields) (returned : Result Handle ControlFault) (f : ControlFault) (queue more : List (ℕ × Unit {0})) (old new : PanelState) (ahead : ℕ) (refused : Bool) (socket : Option ℤ) (is_open : Bool) (at_hand : Option ℕ) (before : SessionState)
-    → session_of old queue ahead refused socket is_open at_hand ≡ before → returned ≡ Err f → length before.in_flight < 32 → BeginsBehind request tt returned queue more old new
-    → Submitted request (Err f) before (session_of new more ahead refused socket is_open at_hand)
-refuses request returned f queue more old new ahead refused socket is_open at_hand before e is few begun =
+pub refuses : (request : RequestFields) (returned : Result Handle ControlFault) (f : ControlFault) (queue more : List (ℕ × Unit {0})) (old new : PanelState) (device : Peer) (span : ℕ) (ahead : ℕ) (refused : Bool) (socket : Option ℤ) (is_open : Bool) (at_hand : Option ℕ) (before : SessionState)
+    → session_of old queue device span ahead refused socket is_open at_hand ≡ before → returned ≡ Err f → length before.in_flight < 32 → BeginsBehind request tt returned queue more old new
+    → Submitted request (Err f) before (session_of new more device span ahead refused socket is_open at_hand)
+refuses request returned f queue more old new device span ahead refused socket is_open at_hand before e is few begun =
     let b : BeginsIn request returned old new = begun-behind request returned queue more old new (few-of queue before.in_flight (ap (λ (x : SessionState). x.in_flight) e) few) begun in
     let kept : more ≡ queue = begun.behind ∙ ap (put_behind queue tt) is in
     let begins : Begins request (Err f) old.link new.link old.end_state new.end_state =
     subst (λ (z : Result Handle ControlFault). Begins request z old.link new.link old.end_state new.end_state) is b.begins in
     let same : new ≡ old = same-panel old new begins.gives.0 begins.gives.1 b.wait b.unanswered in
-    let there : Refuses request f (session_of old queue ahead refused socket is_open at_hand) = inr (subst (λ (p : PanelState). Begins request (Err f) old.link p.link old.end_state p.end_state) same begins) in
-    let all : session_of new more ahead refused socket is_open at_hand ≡ session_of old queue ahead refused socket is_open at_hand =
-    ap (λ (p : PanelState). session_of p more ahead refused socket is_open at_hand) same ∙ ap (λ (q : List (ℕ × Unit {0})). session_of old q ahead refused socket is_open at_hand) kept in
-    subst (λ (x : SessionState). (session_of new more ahead refused socket is_open at_hand ≡ x) × Refuses request f x) e (all, there)
+    let there : Refuses request f (session_of old queue device span ahead refused socket is_open at_hand) = inr (subst (λ (p : PanelState). Begins request (Err f) old.link p.link old.end_state p.end_state) same begins) in
+    let all : session_of new more device span ahead refused socket is_open at_hand ≡ session_of old queue device span ahead refused socket is_open at_hand =
+    ap (λ (p : PanelState). session_of p more device span ahead refused socket is_open at_hand) same ∙ ap (λ (q : List (ℕ × Unit {0})). session_of old q device span ahead refused socket is_open at_hand) kept in
+    subst (λ (x : SessionState). (session_of new more device span ahead refused socket is_open at_hand ≡ x) × Refuses request f x) e (all, there)
 
 -- the present moment, by what the end says of itself
 pub present_of : (d e : EndState) (now : ℕ) → d ≡ e → IsPresent now d → IsPresent now e
 present_of d e now is h = subst (IsPresent now) is h
 
 -- a line was taken up, and the link went on or is a new one
-pub took-up : (queue : List (ℕ × Unit {0})) (p q : PanelState) (ahead : ℕ) (refused : Bool) (socket : Option ℤ) (is_open : Bool) (at_hand : Option ℕ) (before : SessionState) (now from : ℕ)
-    → session_of p queue ahead refused socket is_open at_hand ≡ before → IsPresent now p.end_state → from ≡ since at_hand now
-    → q ≡ record p { link = q.link } → MayRenewLink (session_of p queue ahead refused socket is_open at_hand) q.link
-    → TakesUp before (session_of q queue ahead refused socket is_open (Some from))
-took-up queue p q ahead refused socket is_open at_hand before now from e present is same renews =
-    subst (λ (x : SessionState). TakesUp x (session_of q queue ahead refused socket is_open (Some from))) e
+pub took-up : (queue : List (ℕ × Unit {0})) (p q : PanelState) (device : Peer) (span : ℕ) (ahead : ℕ) (refused : Bool) (socket : Option ℤ) (is_open : Bool) (at_hand : Option ℕ) (before : SessionState) (now from : ℕ)
+    → session_of p queue device span ahead refused socket is_open at_hand ≡ before → IsPresent now p.end_state → from ≡ since at_hand now
+    → q ≡ record p { link = q.link } → MayRenewLink (session_of p queue device span ahead refused socket is_open at_hand) q.link
+    → TakesUp before (session_of q queue device span ahead refused socket is_open (Some from))
+took-up queue p q device span ahead refused socket is_open at_hand before now from e present is same renews =
+    subst (λ (x : SessionState). TakesUp x (session_of q queue device span ahead refused socket is_open (Some from))) e
     (record {
       now = now;
       present = present;
       link = q.link;
       renews = renews;
-      at_hand = ap (λ (x : PanelState). session_of x queue ahead refused socket is_open (Some from)) same
-          ∙ ap (λ (n : ℕ). session_of (record p { link = q.link }) queue ahead refused socket is_open (Some n)) is;
+      at_hand = ap (λ (x : PanelState). session_of x queue device span ahead refused socket is_open (Some from)) same
+          ∙ ap (λ (n : ℕ). session_of (record p { link = q.link }) queue device span ahead refused socket is_open (Some n)) is;
     })
 
 none-of : (queue : List (ℕ × Unit {0})) → queue ≡ [] → length (map (λ (c : ℕ × Unit {0}). c.0) queue) ≤ 0
@@ -139,21 +141,19 @@ renewed-same : (p q : PanelState) (device : Peer) (first span : ℕ) → IsRenew
 renewed-same p q device first span h = h.panel ∙ ap (λ (l : LinkState). record p { link = l }) (sym (ap (λ (x : PanelState). x.link) h.panel))
 
 -- the same where no command was in flight, and the link may be a new one that goes on behind the handles of the old one
-pub took-up-anew : (queue : List (ℕ × Unit {0})) (p q : PanelState) (ahead : ℕ) (refused : Bool) (socket : Option ℤ) (is_open : Bool) (at_hand : Option ℕ) (before : SessionState) (now from : ℕ) (device : Peer) (span : ℕ)
-    → session_of p queue ahead refused socket is_open at_hand ≡ before → IsPresent now p.end_state → from ≡ since at_hand now
+pub took-up-anew : (queue : List (ℕ × Unit {0})) (p q : PanelState) (device : Peer) (span : ℕ) (ahead : ℕ) (refused : Bool) (socket : Option ℤ) (is_open : Bool) (at_hand : Option ℕ) (before : SessionState) (now from : ℕ)
+    → session_of p queue device span ahead refused socket is_open at_hand ≡ before → IsPresent now p.end_state → from ≡ since at_hand now
     → queue ≡ [] → RenewsPanel device span p q
-    → TakesUp before (session_of q queue ahead refused socket is_open (Some from))
-took-up-anew queue p q ahead refused socket is_open at_hand before now from device span e present is none (inl same) =
-    took-up queue p q ahead refused socket is_open at_hand before now from e present is
+    → TakesUp before (session_of q queue device span ahead refused socket is_open (Some from))
+took-up-anew queue p q device span ahead refused socket is_open at_hand before now from e present is none (inl same) =
+    took-up queue p q device span ahead refused socket is_open at_hand before now from e present is
     (subst (λ (x : PanelState). x ≡ record p { link = x.link }) (sym same) refl)
     (inl (ap (λ (x : PanelState). x.link) same))
-took-up-anew queue p q ahead refused socket is_open at_hand before now from device span e present is none (inr h) =
-    took-up queue p q ahead refused socket is_open at_hand before now from e present is
+took-up-anew queue p q device span ahead refused socket is_open at_hand before now from e present is none (inr h) =
+    took-up queue p q device span ahead refused socket is_open at_hand before now from e present is
     (renewed-same p q device h.0 span h.3)
     (inr (record {
-      device = device;
       first = h.0;
-      span = span;
       now = h.3.now;
       present = h.3.present;
       none = none-of queue none;
@@ -171,17 +171,17 @@ none-when (c ∷ queue) is =
 pub behind-of : (result : Option Handle) (next : Handle) (l : Option ℕ) → option_map (λ h. h.0) result ≡ l → result ≡ Some next → l ≡ Some next.0
 behind-of result next l e is = sym e ∙ ap (option_map (λ h. h.0)) is
 
-pub took-up-same : (queue : List (ℕ × Unit {0})) (p : PanelState) (ahead : ℕ) (refused : Bool) (socket : Option ℤ) (is_open : Bool) (at_hand : Option ℕ) (before : SessionState) (now from : ℕ)
-    → session_of p queue ahead refused socket is_open at_hand ≡ before → IsPresent now p.end_state → from ≡ since at_hand now
-    → TakesUp before (session_of p queue ahead refused socket is_open (Some from))
-took-up-same queue p ahead refused socket is_open at_hand before now from e present is =
-    took-up queue p p ahead refused socket is_open at_hand before now from e present is refl (inl refl)
+pub took-up-same : (queue : List (ℕ × Unit {0})) (p : PanelState) (device : Peer) (span : ℕ) (ahead : ℕ) (refused : Bool) (socket : Option ℤ) (is_open : Bool) (at_hand : Option ℕ) (before : SessionState) (now from : ℕ)
+    → session_of p queue device span ahead refused socket is_open at_hand ≡ before → IsPresent now p.end_state → from ≡ since at_hand now
+    → TakesUp before (session_of p queue device span ahead refused socket is_open (Some from))
+took-up-same queue p device span ahead refused socket is_open at_hand before now from e present is =
+    took-up queue p p device span ahead refused socket is_open at_hand before now from e present is refl (inl refl)
 
 -- what comes late changes nothing
-pub came-late : (request : RequestFields) (f : ControlFault) (queue : List (ℕ × Unit {0})) (p : PanelState) (ahead : ℕ) (refused : Bool) (socket : Option ℤ) (is_open : Bool) (at_hand : Option ℕ) (before : SessionState) (now : ℕ)
-    → session_of p queue ahead refused socket is_open at_hand ≡ before → IsPresent now p.end_state → since at_hand now + longest_life < now → f ≡ Lost
+pub came-late : (request : RequestFields) (f : ControlFault) (queue : List (ℕ × Unit {0})) (p : PanelState) (device : Peer) (span : ℕ) (ahead : ℕ) (refused : Bool) (socket : Option ℤ) (is_open : Bool) (at_hand : Option ℕ) (before : SessionState) (now : ℕ)
+    → session_of p queue device span ahead refused socket is_open at_hand ≡ before → IsPresent now p.end_state → since at_hand now + longest_life < now → f ≡ Lost
     → Refuses request f before
-came-late request f queue p ahead refused socket is_open at_hand before now e present late counts =
+came-late request f queue p device span ahead refused socket is_open at_hand before now e present late counts =
     subst (Refuses request f) e
     (inl (record { now = now; present = present; late = late; counts = counts }))
 
@@ -199,11 +199,11 @@ none-so-far : (refused was now lost : Bool) → now ≡ (was || lost) → (refus
 none-so-far true was now lost e = refl
 none-so-far false was now lost e = e
 
-awaited-one : (h : ℕ) (o : Outcome) (queue rest : List (ℕ × Unit {0})) (old new : PanelState) (ahead : ℕ) (refused : Bool) (socket : Option ℤ) (is_open : Bool) (at_hand : Option ℕ)
+awaited-one : (h : ℕ) (o : Outcome) (queue rest : List (ℕ × Unit {0})) (old new : PanelState) (device : Peer) (span : ℕ) (ahead : ℕ) (refused : Bool) (socket : Option ℤ) (is_open : Bool) (at_hand : Option ℕ)
     → queue ≡ (h, tt) ∷ rest → WaitsWhile h line_wait old.link o new.link old.end_state new.end_state ⊎ Waits h 0 old.link o new.link old.end_state new.end_state
     → ReceivesInAWait old.end_state.receives new.end_state.receives → new.unanswered ≡ (old.unanswered || is_lost_or_unanswered o)
-    → AwaitsFirst (session_of old queue ahead refused socket is_open at_hand) (session_of new rest ahead refused socket is_open at_hand) o
-awaited-one h o queue rest old new ahead refused socket is_open at_hand first waits asks unanswered = record {
+    → AwaitsFirst (session_of old queue device span ahead refused socket is_open at_hand) (session_of new rest device span ahead refused socket is_open at_hand) o
+awaited-one h o queue rest old new device span ahead refused socket is_open at_hand first waits asks unanswered = record {
   handle = h;
   first = ap (map (λ (c : ℕ × Unit {0}). c.0)) first;
   waits = waits;
@@ -212,32 +212,32 @@ awaited-one h o queue rest old new ahead refused socket is_open at_hand first wa
   same = refl;
 }
 
-pub first-awaited : (came : Unit {0} × Outcome) (queue rest : List (ℕ × Unit {0})) (old new : PanelState) (ahead : ℕ) (refused : Bool) (socket : Option ℤ) (is_open : Bool) (at_hand : Option ℕ) (before : SessionState)
-    → session_of old queue ahead refused socket is_open at_hand ≡ before → old.wait ≡ line_wait → FinishesFirst (Some came) queue rest old new
-    → AwaitsFirst before (session_of new rest ahead refused socket is_open at_hand) came.1
-first-awaited came queue rest old new ahead refused socket is_open at_hand before e time h =
+pub first-awaited : (came : Unit {0} × Outcome) (queue rest : List (ℕ × Unit {0})) (old new : PanelState) (device : Peer) (span : ℕ) (ahead : ℕ) (refused : Bool) (socket : Option ℤ) (is_open : Bool) (at_hand : Option ℕ) (before : SessionState)
+    → session_of old queue device span ahead refused socket is_open at_hand ≡ before → old.wait ≡ line_wait → FinishesFirst (Some came) queue rest old new
+    → AwaitsFirst before (session_of new rest device span ahead refused socket is_open at_hand) came.1
+first-awaited came queue rest old new device span ahead refused socket is_open at_hand before e time h =
     let waits : WaitsWhile h.0 line_wait old.link came.1 new.link old.end_state new.end_state =
     subst (λ (n : ℕ). WaitsWhile h.0 n old.link came.1 new.link old.end_state new.end_state) time h.2.waits in
-    subst (λ (x : SessionState). AwaitsFirst x (session_of new rest ahead refused socket is_open at_hand) came.1) e
-    (awaited-one h.0 came.1 queue rest old new ahead refused socket is_open at_hand h.1 (inl waits)
+    subst (λ (x : SessionState). AwaitsFirst x (session_of new rest device span ahead refused socket is_open at_hand) came.1) e
+    (awaited-one h.0 came.1 queue rest old new device span ahead refused socket is_open at_hand h.1 (inl waits)
     (received_in_wait h.0 _ old.link new.link old.end_state new.end_state came.1 waits.waits) h.2.unanswered)
 
-pub first-settled : (came : Unit {0} × Outcome) (queue rest : List (ℕ × Unit {0})) (old new : PanelState) (ahead : ℕ) (refused : Bool) (socket : Option ℤ) (is_open : Bool) (at_hand : Option ℕ) (before : SessionState)
-    → session_of old queue ahead refused socket is_open at_hand ≡ before → SettlesFirst (Some came) queue rest old new
-    → AwaitsFirst before (session_of new rest ahead refused socket is_open at_hand) came.1
-first-settled came queue rest old new ahead refused socket is_open at_hand before e h =
-    subst (λ (x : SessionState). AwaitsFirst x (session_of new rest ahead refused socket is_open at_hand) came.1) e
-    (awaited-one h.0 came.1 queue rest old new ahead refused socket is_open at_hand h.1 (inr h.2.waits)
+pub first-settled : (came : Unit {0} × Outcome) (queue rest : List (ℕ × Unit {0})) (old new : PanelState) (device : Peer) (span : ℕ) (ahead : ℕ) (refused : Bool) (socket : Option ℤ) (is_open : Bool) (at_hand : Option ℕ) (before : SessionState)
+    → session_of old queue device span ahead refused socket is_open at_hand ≡ before → SettlesFirst (Some came) queue rest old new
+    → AwaitsFirst before (session_of new rest device span ahead refused socket is_open at_hand) came.1
+first-settled came queue rest old new device span ahead refused socket is_open at_hand before e h =
+    subst (λ (x : SessionState). AwaitsFirst x (session_of new rest device span ahead refused socket is_open at_hand) came.1) e
+    (awaited-one h.0 came.1 queue rest old new device span ahead refused socket is_open at_hand h.1 (inr h.2.waits)
     (asks-none h.0 came.1 old.link new.link old.end_state new.end_state h.2.waits) h.2.unanswered)
 
 -- it is not known how the first came out
-pub first-unknown : (queue rest : List (ℕ × Unit {0})) (old new : PanelState) (ahead : ℕ) (refused : Bool) (socket : Option ℤ) (is_open : Bool) (at_hand : Option ℕ) (before : SessionState)
-    → session_of old queue ahead refused socket is_open at_hand ≡ before → SettlesFirst None queue rest old new
-    → TakesFirst None before (session_of new rest ahead refused socket is_open at_hand)
-first-unknown queue rest old new ahead refused socket is_open at_hand before e h =
-    let all : session_of new rest ahead refused socket is_open at_hand ≡ session_of old queue ahead refused socket is_open at_hand =
-    ap (λ (p : PanelState). session_of p rest ahead refused socket is_open at_hand) h.1 ∙ ap (λ (q : List (ℕ × Unit {0})). session_of old q ahead refused socket is_open at_hand) h.0 in
-    subst (λ (x : SessionState). (session_of new rest ahead refused socket is_open at_hand ≡ x) × FirstIsOpen x.link x.in_flight) e (all, open-as queue old.link h.2)
+pub first-unknown : (queue rest : List (ℕ × Unit {0})) (old new : PanelState) (device : Peer) (span : ℕ) (ahead : ℕ) (refused : Bool) (socket : Option ℤ) (is_open : Bool) (at_hand : Option ℕ) (before : SessionState)
+    → session_of old queue device span ahead refused socket is_open at_hand ≡ before → SettlesFirst None queue rest old new
+    → TakesFirst None before (session_of new rest device span ahead refused socket is_open at_hand)
+first-unknown queue rest old new device span ahead refused socket is_open at_hand before e h =
+    let all : session_of new rest device span ahead refused socket is_open at_hand ≡ session_of old queue device span ahead refused socket is_open at_hand =
+    ap (λ (p : PanelState). session_of p rest device span ahead refused socket is_open at_hand) h.1 ∙ ap (λ (q : List (ℕ × Unit {0})). session_of old q device span ahead refused socket is_open at_hand) h.0 in
+    subst (λ (x : SessionState). (session_of new rest device span ahead refused socket is_open at_hand ≡ x) × FirstIsOpen x.link x.in_flight) e (all, open-as queue old.link h.2)
   where
     open-as : (q : List (ℕ × Unit {0})) (l : LinkState) → FirstIsUnknown q l → FirstIsOpen l (map (λ c. c.0) q)
     open-as [] l u = tt

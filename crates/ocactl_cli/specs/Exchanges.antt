@@ -42,11 +42,13 @@ outcome_line outcomes.Unanswered = codes "no answer\n"
 abbrev pub line_wait : ℕ
 line_wait = 4294967295
 
--- A link, what the end that it is driven over says of itself, the handles of the commands in flight in the order of
--- their lines, how many may be, and whether a command got no answer so far; the end's descriptor, where it has one that
--- is awaited beside input; whether a command was submitted; and, where the next line was read, since when it is at
--- hand.
+-- The device and the span of each link; the present link, what the end that it is driven over says of itself, the
+-- handles of the commands in flight in the order of their lines, how many may be, and whether a command got no answer
+-- so far; the end's descriptor, where it has one that is awaited beside input; whether a command was submitted; and,
+-- where the next line was read, since when it is at hand.
 pub record SessionState : Type 0 where
+  pub device : Peer
+  pub span : ℕ
   pub link : LinkState
   pub end_state : EndState
   pub in_flight : List ℕ
@@ -134,19 +136,18 @@ abbrev pub RenewsPanel : (device : Peer) (span : ℕ) → PanelState → PanelSt
 RenewsPanel device span old new =
     (new ≡ old) ⊎ ((first : ℕ) × IsFoundLost old true × (old.link.next ≡ Some first) × IsRenewed device first span old new)
 
--- The link is as it was. Or it was lost or late and no command was in flight, and a new one takes its place, whose
--- handles go on behind those of the old one.
+-- The link was lost or late and no command was in flight, and a new one of the session's device and span takes its
+-- place, whose handles go on behind those of the old one.
 pub record RenewsLink (old : SessionState) (link : LinkState) : Type 0 where
-  pub device : Peer
   pub first : ℕ
-  pub span : ℕ
   pub now : ℕ
   pub present : IsPresent now old.end_state
   pub none : NoneInFlight old
   pub lost : IsFoundLostNow old true
   pub behind : old.link.next ≡ Some first
-  pub new : link ≡ new_link device first now span
+  pub new : link ≡ new_link old.device first now old.span
 
+-- The link is as it was, or a new one takes its place.
 abbrev pub MayRenewLink : SessionState → LinkState → Type 0
 MayRenewLink old link = (link ≡ old.link) ⊎ RenewsLink old link
 

@@ -26,29 +26,35 @@ const WAIT_MS: u32 = u32::MAX;
 /// The longest wait for input, in milliseconds: an hour.
 const LONGEST_WAIT_MS: u64 = 3_600_000;
 
-/// A panel, the commands in flight on it in the order of their lines, how many may be, and whether one was refused so
-/// far. Besides the end's descriptor, where it has one, whether a command was submitted, and since when the next
-/// line is at hand, where it was read.
+/// A panel, and the commands in flight on it, in the order of their lines.
 #[derive(Drop)]
 pub struct Session<E: End> {
     panel: Panel<E>,
     device: Peer,
     span: Span,
     in_flight: InFlight<()>,
+    /// How many commands may be in flight.
     ahead: usize,
+    /// Whether a command was refused so far.
     refused: bool,
+    /// The end's descriptor, if it has one.
     socket: Option<RawFd>,
+    /// Whether a command was submitted so far.
     is_open: bool,
+    /// Since when the next line is at hand, if it was read.
     at_hand: Option<u64>,
 }
 
 impl<E: End> Model for Session<E> {
     ghost use Rattle.std.specs.Prelude.{◌≡◌, ◌≤◌, ◌||◌, map};
+    ghost use Rattle.oca_types.specs.Sizes.{span_size};
     ghost use Rattle.ocactl_cli.specs.Exchanges.{SessionState, line_wait};
 
     ghost Value = { SessionState };
 
     ghost view = { λ s. record {
+      device = s.device;
+      span = span_size s.span;
       link = s.panel.link;
       end_state = s.panel.end_state;
       in_flight = map (λ c. c.0) s.in_flight;
@@ -76,7 +82,9 @@ impl<E: End> Session<E> {
         span: Span,
         ahead: Span,
         socket: Option<RawFd>,
-    ) -> Session<E> {
+    ) -> Session<E>
+        ensures { (result.device ≡ device) × (result.span ≡ span_size span) }
+    {
         Session {
             panel: Panel::open(device, end, first, span, WAIT_MS),
             device,
@@ -247,9 +255,8 @@ fn renew<E: End>(panel: &mut Panel<E>, device: Peer, span: Span)
     if !panel.is_lost() {
         return;
     }
-    match panel.next_handle() {
-        Some(next) => panel.renew(device, next, span),
-        None => {}
+    if let Some(next) = panel.next_handle() {
+        panel.renew(device, next, span);
     }
 }
 
