@@ -29,8 +29,8 @@ pub struct ServeOptions<'a> {
     pub ip: u32,
     /// The port; at 0 the system chooses one.
     pub port: u16,
-    /// For how many turns at most.
-    pub turns: u64,
+    /// For how many turns at most, if there is a limit.
+    pub turns: Option<u64>,
     /// The path of the file in which the objects are kept.
     pub keep: Option<&'a str>,
     /// Whether a line is printed for each datagram.
@@ -226,7 +226,7 @@ fn serve_options<'a>(options: &ArgMatches<'a>, objects: Objects<'a>) -> ServeOpt
         sizes: sizes_of(options),
         ip: IP.local_ip(options).unwrap_or(LOOPBACK),
         port: PORT.number(options).unwrap_or(0) as u16,
-        turns: TURNS.number(options).unwrap_or(u64::MAX),
+        turns: TURNS.number(options),
         keep: KEEP.text(options),
         verbose: VERBOSE.is_set(options),
         stats: STATS.number(options),

@@ -1,7 +1,8 @@
 //! A device that is served at an end until this is closed.
-ghost use Rattle.std.specs.Prelude.{◌≤◌, ◌<◌, [], IfOk, IsTrue};
+ghost use Rattle.std.specs.Prelude.{◌≤◌, ◌<◌, [], IfOk, IsTrue, unwrap_or};
 ghost use Rattle.std.specs.Option.{option_map};
 ghost use Rattle.oca_types.specs.Sizes.{sizes_of};
+ghost use Rattle.oca_net.specs.Ends.{last_u64};
 ghost use Rattle.oca_device.specs.Devices.{Represents};
 ghost use Rattle.ocadev_cli.specs.Serving.{ServesFrom};
 ghost use Rattle.ocadev_cli.specs.Storing.{store_of};
@@ -36,21 +37,22 @@ impl Served {
     }
 }
 
-/// Serves a device for `turns` turns, or until its end is closed, and returns how often each thing was done. If `kept`
-/// is given, the objects are stored in its file.
+/// Serves a device until its end is closed, but for at most `turns` turns if these are given, and returns how often each
+/// thing was done. If `kept` is given, the objects are stored in its file.
 pub fn serve<E: End, D: Disk + Drop, F: Sink>(
     served: &mut Served,
     end: &mut E,
     kept: Option<Kept<'_, D>>,
     log: &mut Log<'_, F>,
-    turns: u64,
+    turns: Option<u64>,
 ) -> Report
     ensures served { ServesFrom (option_map
         (λ k. record { is_behind = k.waiting.is_behind; store = store_of (D.state k.disk) }) kept.entry) served.old.device
         served.new.device (E.state end.old) (E.state end.new) result }
-    ensures turns { result.turns ≤ turns }
-    ensures closed { result.turns < turns → IsTrue (E.state end.new).closed }
+    ensures turns { result.turns ≤ unwrap_or turns last_u64 }
+    ensures closed { result.turns < unwrap_or turns last_u64 → IsTrue (E.state end.new).closed }
 {
+    let turns = turns.unwrap_or(u64::MAX);
     let Served { device, outbox } = served;
     match kept {
         Some(kept) => {

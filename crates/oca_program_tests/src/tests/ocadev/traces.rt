@@ -117,7 +117,7 @@ pub fn serves(verbose: bool, logged: &[u8], said: &mut Said) -> bool {
     let mut faults = Printer::new(ShortWriter::new(7, usize::MAX));
     let mut log = Log::new(said.alloc, verbose, None, &mut faults);
     let unkept: Option<Kept<'_, Full>> = None;
-    let report = serve(&mut served, &mut end, unkept, &mut log, u64::MAX);
+    let report = serve(&mut served, &mut end, unkept, &mut log, None);
     said.same(report, REPORT)
         && said.same(end.taken().len(), 6)
         && said.same_text(faults.sink().taken.as_slice(), logged)
@@ -142,7 +142,7 @@ pub fn counts_while_receives_fail(said: &mut Said) -> bool {
     let mut faults = Printer::new(ShortWriter::new(7, usize::MAX));
     let mut log = Log::new(said.alloc, false, Some(1), &mut faults);
     let unkept: Option<Kept<'_, Full>> = None;
-    let report = serve(&mut served, &mut end, unkept, &mut log, u64::MAX);
+    let report = serve(&mut served, &mut end, unkept, &mut log, None);
     said.same(report.failed_receives, 39) && said.same_text(faults.sink().taken.as_slice(), COUNTS)
 }
 
