@@ -5,6 +5,7 @@ ghost use Rattle.std.specs.Prelude.{◌≡◌};
 ghost use Rattle.oca_web.specs.Known.{is_old};
 
 use crate::admission::{Terms, Unit, UnitOf};
+use crate::ask::Ask;
 use crate::object::{Object, class_name, limits_of};
 use crate::order::{NotDone, OrderResult};
 use crate::view::View;
@@ -239,6 +240,20 @@ fn put_old(out: &mut Writer, now: u64, objects: &[Object], ranges: &[Range]) -> 
     out.end_array()
 }
 
+/// A value that was not confirmed for so many milliseconds counts as unread: twice the time after which what no page
+/// shows is read again.
+const UNREAD_MS: u64 = 10_000;
+
+/// How many objects have a value that was not confirmed within the last 10 s.
+fn count_unread(now: u64, objects: &[Object]) -> usize {
+    let is_unread = |object: &Object| {
+        let shown = &object.shown;
+        Ask::Value.is_for(object.class)
+            && (shown.reading.is_none() || UNREAD_MS < now.saturating_sub(shown.confirmed))
+    };
+    objects.iter().filter(|object| is_unread(object)).count()
+}
+
 /// What the answer to a request of `/values` contains, besides the view.
 #[derive(Clone, Copy)]
 pub struct Told<'a> {
@@ -277,6 +292,7 @@ fn put_update(alloc: Global, out: &mut Writer, view: &View, told: &Told<'_>) -> 
     }
     out.end_array()?;
     put_old(out, now, objects, told.ranges)?;
+    put_number(out, "unread", count_unread(now, objects) as u64)?;
     put_link(out, view)
 }
 

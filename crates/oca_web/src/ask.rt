@@ -48,6 +48,16 @@ impl Ask {
         }
     }
 
+    /// Whether an object of this class is asked this question.
+    pub(crate) fn is_for(self, class: Option<Class>) -> bool {
+        match self {
+            Ask::Role | Ask::Label | Ask::Lockable | Ask::Enabled => true,
+            Ask::Members => class == Some(Class::Block),
+            Ask::Names | Ask::Flags => class == Some(Class::Switch),
+            Ask::Value => !matches!(class, None | Some(Class::Block)),
+        }
+    }
+
     /// Returns the method whose answer this question gets (AES70-2). For the value it is `GetSetting` for each class,
     /// since the answers of all get methods of a value are read in the same way.
     pub fn method(self) -> Method {
@@ -72,35 +82,11 @@ pub fn class_for(class: Option<Class>) -> Class
     class.unwrap_or(Class::Block)
 }
 
-/// What is asked of an object of this class to know it.
-pub(crate) fn asks_of(class: Option<Class>) -> &'static [Ask] {
-    match class {
-        Some(Class::Block) => &[
-            Ask::Members,
-            Ask::Role,
-            Ask::Label,
-            Ask::Lockable,
-            Ask::Enabled,
-        ],
-        Some(Class::Switch) => &[
-            Ask::Role,
-            Ask::Label,
-            Ask::Lockable,
-            Ask::Enabled,
-            Ask::Names,
-            Ask::Flags,
-            Ask::Value,
-        ],
-        Some(_) => &[
-            Ask::Role,
-            Ask::Label,
-            Ask::Lockable,
-            Ask::Enabled,
-            Ask::Value,
-        ],
-        None => &[Ask::Role, Ask::Label, Ask::Lockable, Ask::Enabled],
-    }
-}
+/// What a walk asks of each object: what it is.
+pub(crate) const WHAT: [Ask; 4] = [Ask::Members, Ask::Role, Ask::Lockable, Ask::Names];
+
+/// What is asked of each object once the walk is over: how it is.
+pub(crate) const HOW: [Ask; 4] = [Ask::Label, Ask::Value, Ask::Enabled, Ask::Flags];
 
 /// A question about one object of the list of objects.
 #[derive(Clone, Copy, PartialEq, Eq, Default)]
@@ -324,7 +310,7 @@ impl Poll {
                 };
                 if is_open && now.saturating_sub(object.asked) >= pause {
                     self.go_on(objects.len());
-                    return Some((place, ask_of(class, object.readings)));
+                    return Some((place, ask_of(class, object)));
                 }
                 // The hidden object that was read longest ago is not due: the others are not due either.
                 if self.at >= self.front && !is_shown {
@@ -364,18 +350,22 @@ impl Poll {
     }
 }
 
-/// What is read of an object of this class that was read so often: of a block its role every other time, of the others
-/// every eighth time, and of a switch the names of its positions too.
-fn ask_of(class: Class, readings: u32) -> Ask {
-    match (class, readings % 32) {
-        (Class::Block, 0 | 4 | 8 | 12 | 16 | 20 | 24 | 28) => Ask::Members,
-        (Class::Block, 2 | 10 | 18 | 26) => Ask::Label,
-        (Class::Block, 6 | 14 | 22 | 30) => Ask::Enabled,
-        (Class::Block, _) | (_, 4 | 12 | 20 | 28) => Ask::Role,
-        (Class::Switch, 6 | 14 | 22 | 30) => Ask::Names,
-        (_, 8) => Ask::Enabled,
-        (_, 16) => Ask::Label,
-        (Class::Switch, 24) => Ask::Flags,
+/// What is read next of an object of this class: its role where the device may be another one. Else it goes by how
+/// often the object was read: of a block its role every other time, of the others every eighth time, and of a switch
+/// the names of its positions too.
+fn ask_of(class: Class, object: &Object) -> Ask {
+    let at = object.readings % 32;
+    match class {
+        _ if object.doubted => Ask::Role,
+        Class::Block if at % 4 == 0 => Ask::Members,
+        Class::Block if at % 8 == 2 => Ask::Label,
+        Class::Block if at % 8 == 6 => Ask::Enabled,
+        Class::Block => Ask::Role,
+        _ if at % 8 == 4 => Ask::Role,
+        Class::Switch if at % 8 == 6 => Ask::Names,
+        Class::Switch if at == 24 => Ask::Flags,
+        _ if at == 8 => Ask::Enabled,
+        _ if at == 16 => Ask::Label,
         _ => Ask::Value,
     }
 }

@@ -1,5 +1,5 @@
 //! What is known of a device, and which questions about it wait or are in flight.
-use crate::ask::{Ask, Asked, Poll, Question, asks_of, class_for};
+use crate::ask::{Ask, Asked, HOW, Poll, Question, WHAT, class_for};
 use crate::object::{Object, Objects, counts, names_it, refused_behind};
 use crate::order::{Action, NotDone, Order};
 use crate::orders::Settled;
@@ -27,10 +27,10 @@ const LONGEST_SILENCE_MS: u64 = 500;
 /// What is known of a device, and which questions are asked of it.
 ///
 /// A *walk* finds the objects: it begins at the root, asks each block for its members, and asks of each object what
-/// does not change. A walk ends once all its questions were answered, and stays ended until another walk begins. After
-/// a walk, values are read again in *rounds* while a page is open. The *place* of an object is its index in the list of
-/// objects, counted from 0. A page is *open* for 2,500 ms after it asked for values. Moments are in milliseconds of the
-/// *program's clock*, which never goes back.
+/// does not change. A walk ends once all its questions were answered, and stays ended until another walk begins. Then
+/// all that changes is asked once, and values are read again in *rounds* while a page is open. The *place* of an object
+/// is its index in the list of objects, counted from 0. A page is *open* for 2,500 ms after it asked for values. Moments
+/// are in milliseconds of the *program's clock*, which never goes back.
 #[derive(Drop)]
 pub struct Inventory {
     alloc: Global,
@@ -43,6 +43,8 @@ pub struct Inventory {
     epoch: u64,
     walked: bool,
     is_stale: bool,
+    /// Whether the link was lost since questions were submitted last.
+    is_lost: bool,
     /// What was asked before this moment may have been answered by another device.
     doubted: u64,
     /// Whether all roles, labels and names of positions are to be read again.
@@ -70,6 +72,7 @@ impl Inventory {
             epoch: 0,
             walked: false,
             is_stale: false,
+            is_lost: false,
             doubted: 0,
             is_doubted: false,
             was_read: false,
@@ -88,6 +91,7 @@ impl Inventory {
         self.poll.end_round();
         self.walked = false;
         self.is_stale = true;
+        self.is_lost = false;
         self.epoch = self.epoch.saturating_add(1);
         self.walk = Walk::new(self.alloc)?;
         self.add_next(Some(Class::Block))?;
@@ -102,17 +106,32 @@ impl Inventory {
         };
         let place = self.objects.as_slice().len();
         self.objects.add(Object::new(at.ono, at.container, class))?;
-        for ask in asks_of(class) {
-            self.ask_later(place, *ask)?;
+        for ask in WHAT {
+            self.ask_later(place, class, ask)?;
         }
         Ok(())
     }
 
-    /// A question that is asked behind all that wait.
-    fn ask_later(&mut self, place: usize, ask: Ask) -> Result<(), NoMemory> {
+    /// A question that is asked behind all that wait, where it is one for this class.
+    fn ask_later(&mut self, place: usize, class: Option<Class>, ask: Ask) -> Result<(), NoMemory> {
+        if !ask.is_for(class) {
+            return Ok(());
+        }
         let epoch = self.epoch;
         let question = Question { place, ask, epoch };
         self.waiting.push_back(question).map_err(|_| NoMemory)
+    }
+
+    /// These questions are asked of all objects, behind all that wait.
+    fn ask_of_all(&mut self, asks: &[Ask]) -> Result<(), NoMemory> {
+        for ask in asks {
+            for place in 0..self.objects.as_slice().len() {
+                if let Some((_, class)) = self.target_of(place) {
+                    self.ask_later(place, class, *ask)?;
+                }
+            }
+        }
+        Ok(())
     }
 
     /// Returns the objects that were found so far, in the order in which they were found, a block before its members.
@@ -134,21 +153,44 @@ impl Inventory {
     }
 
     /// Returns whether an answer showed that the device is another one, or has other objects, than in the walk, so that
-    /// another walk must begin: a block lists other members, an object has another role or other names of positions, or
-    /// the device answers a question about a known object with BadONo, with BadMethod or with an answer of another
-    /// class.
+    /// another walk must begin: a block lists other members, an object has another role or other names of positions, it
+    /// can be locked now or no longer, or the device answers a question about a known object with BadONo, with
+    /// BadMethod or with an answer of another class.
     pub fn is_stale(&self) -> bool
         ensures { result ≡ self.now.is_stale }
     {
         self.is_stale
     }
 
-    /// Another walk is to begin.
-    pub(crate) fn note_stale(&mut self)
-        ensures stale { self.new.is_stale ≡ true }
+    /// The link was lost, and the device may be another one: no question is in flight any longer, and all is to be
+    /// asked again.
+    pub(crate) fn note_lost(&mut self)
+        ensures lost { self.new.is_lost ≡ true }
         ensures objects { self.new.objects ≡ self.old.objects }
     {
-        self.is_stale = true;
+        self.asked.clear();
+        self.is_lost = true;
+    }
+
+    /// Whether questions wait of which each is asked once: those of a walk, and those about all objects behind it.
+    pub(crate) fn reads_all(&self) -> bool {
+        !self.waiting.is_empty() || !self.walked
+    }
+
+    /// Begins another walk if the device is another one, or the link was lost in a walk. If it was lost behind one,
+    /// what is known stays, but for this panel's locks, and counts as confirmed once the device said it again.
+    pub(crate) fn begin_again(&mut self) -> Result<(), NoMemory> {
+        if self.is_stale || (self.is_lost && !self.walked) {
+            return self.begin_anew();
+        }
+        if self.is_lost {
+            self.is_lost = false;
+            self.objects.note_lost();
+            self.waiting.clear();
+            self.ask_of_all(&WHAT)?;
+            self.ask_of_all(&HOW)?;
+        }
+        Ok(())
     }
 
     /// Whether a question that was submitted at this moment can still confirm a role or names of positions.
@@ -199,13 +241,6 @@ impl Inventory {
         });
     }
 
-    /// No question is in flight: the link is another one.
-    pub(crate) fn forget_asked(&mut self)
-        ensures { self.new.objects ≡ self.old.objects }
-    {
-        self.asked.clear();
-    }
-
     /// The lowest handle of a question in flight, or `next` where it is lower.
     pub(crate) fn lowest_handle(&self, next: u32) -> u32 {
         let mut lowest = next;
@@ -240,8 +275,9 @@ impl Inventory {
                 at = at.saturating_add(1);
             }
         }
-        if self.waiting.is_empty() && self.asked.is_empty() {
+        if !self.walked && self.waiting.is_empty() && self.asked.is_empty() {
             self.walked = true;
+            self.ask_of_all(&HOW)?;
         }
         Ok(())
     }
@@ -280,24 +316,12 @@ impl Inventory {
         }
         if self.waiting.is_empty() && self.walked && self.is_doubted {
             self.is_doubted = false;
-            let _ = self.ask_names();
+            let _ = self.ask_of_all(&[Ask::Role, Ask::Label, Ask::Names]);
         }
         match self.waiting.pop_front() {
             None if self.walked => self.read_again(now),
             question => question,
         }
-    }
-
-    /// The roles, the labels and the names of the positions of all objects are to be asked.
-    fn ask_names(&mut self) -> Result<(), NoMemory> {
-        for place in 0..self.objects.as_slice().len() {
-            self.ask_later(place, Ask::Role)?;
-            self.ask_later(place, Ask::Label)?;
-            if let Some((_, Some(Class::Switch))) = self.target_of(place) {
-                self.ask_later(place, Ask::Names)?;
-            }
-        }
-        Ok(())
     }
 
     /// Returns the question to ask at `now` so that the values stay up to date. Its object then counts as read again at
@@ -455,7 +479,7 @@ impl Inventory {
                 }
             }
             let epoch = self.epoch;
-            if asks_of(class).contains(&ask) {
+            if ask.is_for(class) {
                 self.ask_again(Question { place, ask, epoch })?;
             }
         }

@@ -144,6 +144,8 @@ pub struct Object {
     pub names: Names,
     /// A moment after which the device had these names, as `role_read` is one.
     pub names_read: Option<u64>,
+    /// Whether the link was lost since the device said the role, or refused to: it may be another device.
+    pub doubted: bool,
     /// Why the role or these names were last refused, and the moment when that question was submitted.
     pub refused: Option<(Trouble, u64)>,
     /// For each position of a switch, whether the position is enabled.
@@ -176,6 +178,7 @@ impl Object {
             lockable: false,
             names: Names::new(),
             names_read: None,
+            doubted: false,
             refused: None,
             flags: Flags::new(),
             shown: Shown {
@@ -234,6 +237,7 @@ impl Object {
         match (ask, answer) {
             (Ask::Role, Answer::Text(role)) => {
                 let is_same = self.role.as_str() == role.as_str();
+                self.doubted = false;
                 self.confirm_role(role, read);
                 !is_same
             }
@@ -257,16 +261,25 @@ impl Object {
                 true
             }
             (Ask::Enabled, Answer::Truth(enabled)) => self.show(Shown { enabled, ..shown }),
-            (Ask::Value, Answer::Reading(reading)) => self.show(shown.read(reading, moment)),
+            (Ask::Value, Answer::Reading(reading)) => {
+                let confirmed = if self.doubted {
+                    shown.confirmed
+                } else {
+                    moment
+                };
+                self.show(shown.read(reading, confirmed))
+            }
             _ => false,
         }
     }
 
-    /// Whether an answer gives the object another role, or other names of positions, than it had.
+    /// Whether an answer gives the object another role, or other names of positions, than it had, or it can be locked
+    /// now or no longer.
     pub(crate) fn is_other_by(&self, ask: Ask, answer: &Answer) -> bool {
         match (ask, answer) {
             (Ask::Role, Answer::Text(role)) => self.role.as_str() != role.as_str(),
             (Ask::Names, Answer::Names(names)) => !are_same(&self.names, names),
+            (Ask::Lockable, Answer::Truth(lockable)) => self.lockable != *lockable,
             _ => false,
         }
     }
@@ -348,6 +361,7 @@ impl Objects {
     /// this moment.
     pub(crate) fn note_refused(&mut self, place: usize, trouble: Trouble, moment: u64) {
         if place < self.list.len() {
+            self.list[place].doubted = false;
             self.list[place].refused = Some((trouble, moment));
         }
     }
@@ -357,6 +371,23 @@ impl Objects {
         for object in self.list.as_mut_slice() {
             object.role_read = None;
             object.names_read = None;
+        }
+    }
+
+    /// The link was lost. The device may be another one by now, or have forgotten the locks of this panel: no role and
+    /// no name of a position is confirmed any longer, a value counts as confirmed only behind its object's role, and no
+    /// lock of this panel is known.
+    pub(crate) fn note_lost(&mut self) {
+        self.doubt();
+        for object in self.list.as_mut_slice() {
+            object.doubted = true;
+        }
+        for place in 0..self.list.len() {
+            if let Some(shown) = self.shown(place)
+                && shown.lock == Lock::Own
+            {
+                self.show(place, shown.locked(Lock::Free));
+            }
         }
     }
 

@@ -121,9 +121,7 @@ impl Orders {
     pub fn ready(&self) -> Option<Order>
         ensures { result ≡ ready_of self.now.waiting self.now.in_flight }
     {
-        let Some(order) = self.waiting.as_slice().first().copied() else {
-            return None;
-        };
+        let order = self.waiting.as_slice().first().copied()?;
         if self.is_in_flight(order.ono) || self.in_flight.is_full() {
             return None;
         }

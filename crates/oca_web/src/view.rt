@@ -207,15 +207,14 @@ impl View {
     }
 
     /// Notes that nothing more comes or goes over the present end. The orders in flight end as lost (they may have been
-    /// carried out), and the orders that wait as not sent; soon another walk begins. The caller then opens another end
+    /// carried out), and the orders that wait as not sent; soon all is asked again. The caller then opens another end
     /// and calls [`View::take_end`].
     pub fn lose_end(&mut self)
         ensures orders { self.new.orders ≡ lost_orders self.old.orders }
         ensures over { self.new.over ≡ self.old.over }
     {
         self.orders.lose();
-        self.inventory.forget_asked();
-        self.inventory.note_stale();
+        self.inventory.note_lost();
     }
 
     /// Returns by how many milliseconds the program's clock is ahead of the clock of the present end.
@@ -268,10 +267,7 @@ impl View {
         ensures { IfOk result (IsForWord word.now) }
     {
         match self.inventory.class_of(ono) {
-            Some(Some(class)) => match value_from_word(class, word) {
-                Some(value) => Ok(value),
-                None => Err(NoOrder::NoValue),
-            },
+            Some(Some(class)) => value_from_word(class, word).ok_or(NoOrder::NoValue),
             Some(None) => Err(NoOrder::NoValue),
             None => Err(NoOrder::NoObject),
         }
@@ -329,8 +325,8 @@ impl View {
     }
 
     /// Does what must be done after a turn, and sends commands at once. If the link is lost or late, the orders in
-    /// flight end as lost and the waiting orders as not sent, and a new link and a new walk begin. Orders whose last
-    /// moment has passed, or whose object is not the one that their page showed, end as not sent; the other waiting
+    /// flight end as lost and the waiting orders as not sent, a new link begins, and all is asked again. Orders whose
+    /// last moment has passed, or whose object is not the one that their page showed, end as not sent; the other waiting
     /// orders are submitted, each as soon as the device, asked behind the order, confirmed what its page showed. Then
     /// questions are submitted, as far as there is room: first those on which orders wait. Nothing is submitted once
     /// half of the handles are used. The only refusal is `NoMemory`: facts about the device may then be missing.
@@ -346,9 +342,9 @@ impl View {
         self.ask_all(panel)
     }
 
-    /// Where the link is lost or late, all orders are noted as lost, and another link begins, and soon another walk:
-    /// its first handle is the view's next one, but no lower than the one that the next command of the old link would
-    /// get.
+    /// Where the link is lost or late, all orders are noted as lost, and another link begins, over which all is asked
+    /// again: its first handle is the view's next one, but no lower than the one that the next command of the old link
+    /// would get.
     fn renew_lost<E: End>(&mut self, panel: &mut Panel<E>)
         ensures orders { RenewsLost self.old.reach self.old.next_handle self.old.orders panel.old self.new.orders
             panel.new }
@@ -366,8 +362,7 @@ impl View {
         panel.renew(self.reach.device, Handle(first), self.reach.span);
         self.news.lost = self.news.lost.saturating_add(1);
         self.news.lost_since = self.news.lost_since.or(Some(self.news.now));
-        self.inventory.forget_asked();
-        self.inventory.note_stale();
+        self.inventory.note_lost();
     }
 
     /// Ends the orders that are never to be sent: it is too late for them, their object is not the one that their page
@@ -405,26 +400,19 @@ impl View {
         self.next_handle = self.next_handle.max(self.orders.next_handle());
     }
 
-    /// Asks what is to be asked: what orders wait for, and then the rest, as far as half of the span is left for
-    /// orders.
+    /// Asks what is to be asked: what orders wait for, and then the rest, as far as handles may be taken for that.
     #[tactic(auto, using(crate::proofs::StepLemmas::question_rules))]
     fn ask_all<E: End>(&mut self, panel: &mut Panel<E>) -> Result<(), NoMemory>
         ensures panel { AsksQuestions panel.old panel.new }
         ensures orders { self.new.orders ≡ self.old.orders }
         ensures over { self.new.over ≡ self.old.over }
     {
-        if self.inventory.is_stale() {
-            self.inventory.begin_anew()?;
-        }
+        self.inventory.begin_again()?;
         self.ask_for_orders(panel);
+        let most = self.most_for_questions();
         for _ in 0..32u32 {
-            let next = self.next_handle;
-            let asked = self.inventory.lowest_handle(next);
-            let in_use = next.saturating_sub(self.orders.lowest_handle(asked));
-            if self.inventory.in_flight() >= 32
-                || self.is_spent()
-                || 2 * u64::from(in_use) >= u64::from(self.reach.span.get())
-            {
+            let is_full = self.inventory.in_flight() >= 32 || self.handles_in_use() >= most;
+            if is_full || self.is_spent() {
                 return Ok(());
             }
             let Some(question) = self.inventory.next_question(self.news.now) else {
@@ -435,6 +423,27 @@ impl View {
             }
         }
         Ok(())
+    }
+
+    /// How many handles in a row are in use, from the lowest one in flight on.
+    fn handles_in_use(&self) -> u32 {
+        let next = self.next_handle;
+        let lowest = self
+            .inventory
+            .lowest_handle(next)
+            .min(self.orders.lowest_handle(next));
+        next.saturating_sub(lowest)
+    }
+
+    /// How many handles in a row questions may take: the whole span while all objects are read and nothing is ordered,
+    /// and else half of it.
+    fn most_for_questions(&self) -> u32 {
+        let span = u32::from(self.reach.span.get());
+        if self.inventory.reads_all() && !self.has_orders() {
+            span
+        } else {
+            span.div_ceil(2)
+        }
     }
 
     /// Asks what the first orders that wait are to be submitted for: what their pages showed, as far as the device did
