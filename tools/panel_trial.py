@@ -260,8 +260,12 @@ class Trial(Bench):
         self.browser, self.other, self.program, self.one, self.two = browser, None, None, None, None
         sends = lambda number: lambda whom: getattr(self, whom).process.send_signal(number)
         in_one = lambda verb: lambda *given: getattr(self.one, verb)(*given)
+        # a person acts once the page takes it, which it does not while a busy machine lets its link wait
+        acts = lambda verb: lambda *given: self.one.wait("isOpen()") and getattr(self.one, verb)(*given)
         features = lambda what, value: [{"name": f"prefers-{what}", "value": value}]
-        super().__init__({verb: in_one(verb) for verb in ("run", "wait", "holds", "click", "wheel", "key", "drag", "choose", "size")} | {
+        super().__init__({verb: in_one(verb) for verb in ("run", "wait", "holds", "size")} | {
+            **{verb: acts(verb) for verb in ("click", "wheel", "key", "drag", "choose")},
+            "press": in_one("click"),
             "type": lambda text: self.one.call("Input.insertText", text=text),
             "prefers": lambda what, value: self.one.call("Emulation.setEmulatedMedia", features=features(what, value)),
             "swap": self.swap,

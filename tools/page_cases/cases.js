@@ -114,6 +114,17 @@ const DOES = {
   "heard": heard, "draw link": drawLink, "draw ages": drawAges, "filter": filter, "wake up": wakeUp, "guard": setGuard,
   "type": typeIn, "fake": more => Object.assign(fake, more), "link": more => Object.assign(fake.link, more),
   "skip": ms => skipped += ms, "unread": ono => says(ono, { value: null }), "unseen": ono => inView.delete(rows.get(ono).strip),
+  "goes out of view": ono => {
+    inView.delete(rows.get(ono).strip);
+    document.activeElement.blur && document.activeElement.blur();
+    empty(rows.get(ono).strip);
+  },
+  "comes into view": ono => {
+    inView.add(rows.get(ono).strip);
+    drawAges();
+    drawLink();
+  },
+  "levels": count => startedWith([fakeObjects[0], { ...fakeObjects[2], ono: 1999 }, ...Array.from({ length: count }, (_, at) => ({ ...fakeOne(2000 + at, "int16", "level " + at), in: 1999 }))], ""),
   "changed": ago => changes.at(-1).at = now() - ago, "mutes": (count, value) => startedWith(manyMutes(count), value),
   "answers": (status, body = {}) => fake.answer = () => [status, body],
   "answers but for": (ono, status) => fake.answer = orders => {
@@ -177,12 +188,13 @@ const READS = {
   "words": words, "sent": sent, "last sent": () => sent().at(-1), "sent to": () => sent().map(one => one.ono),
   "came": count => fake.bodies.length >= count, "bodies": () => fake.bodies.length,
   "paths": () => fake.bodies.map(body => body.path), "body sent": at => plain(fake.bodies[at].orders), "read as": () => fake.bodies.flatMap(body => body.orders),
-  "sizes": () => fake.bodies.map(body => body.orders.length), "how many sent": () => sent().length, "times": () => times.length,
+  "sizes": () => fake.bodies.map(body => body.orders.length), "how many sent": () => sent().length, "ended": () => fake.tickets - awaited.size - outPosted,
   "are bodies": (most, size) => fake.bodies.length <= most && fake.bodies.every(body => body.orders.length <= size),
   "lives for": ms => Math.abs(fake.bodies[0].before - fake.bodies[0].posted - 700000 - ms) < 200,
   "tabs": () => strips.filter(strip => strip.select.tabIndex === 0).map(strip => strip.rows[0].ono),
   "tab of a new strip": () => newStrip(null, [rows.get(11)], "").select.tabIndex,
   "focused": () => strips.find(strip => strip.select === document.activeElement).rows[0].ono,
+  "columns": ono => Number(/--u: ?(\d+)/.exec(rows.get(ono).strip.element.style.cssText)[1]),
   "class of strip": ono => rows.get(ono).strip.element.className,
   "waits for": ono => isOut(rows.get(ono), "set"), "unit": ono => rows.get(ono).unit.name,
   "children": what => the(what).children.length, "is short": (what, name) => the(what).getAttribute(name).length < 300,

@@ -20,7 +20,7 @@ const fakeLimits = { 13: ["-600", "600"], 14: ["0", "2"], 22: ["0", "18446744073
 const fakeLink = { heard: 20, lost_for: null, in_flight: 0, commands: 9, again: 0, lost: 0 };
 const fake = {
   run: "71", epoch: 1, walked: true, device: "192.0.2.7:65000", name: "Stage box", read_only: false, objects: fakeObjects, units: [], link: { ...fakeLink },
-  tickets: 0, old: [], told: [], bodies: [], paths: [], answer: null, silent: false, refuses: 0, change: 1, changed: {},
+  tickets: 0, old: [], unread: 0, told: [], bodies: [], paths: [], answer: null, silent: false, refuses: 0, change: 1, changed: {},
 };
 
 // What the device says of an object from now on.
@@ -47,7 +47,7 @@ function fakeAnswer(path, how) {
   const since = Number(/since=(\d+)/.exec(path)[1]), told = Number(/told=(\d+)/.exec(path)[1]);
   return given(200, {
     ...of, now: Math.round(performance.now()) + 700000, change: fake.change, link: fake.link, name: fake.name, read_only: fake.read_only, found: fake.objects.length,
-    objects: fake.objects.map(fakeShown).filter(one => one.change > since), old: fake.old, told: fake.told.filter(one => one.ticket >= told),
+    objects: fake.objects.map(fakeShown).filter(one => one.change > since), old: fake.old, unread: fake.unread, told: fake.told.filter(one => one.ticket >= told),
   });
 }
 

@@ -110,18 +110,27 @@ function drawToggle(button, row) {
   aria(button, "pressed", row.value === on);
 }
 
+// A press orders the other one of what the control shows, and a control shows what the device has. So while an order is not answered
+// another press orders nothing, and that is said: it would be for what nobody sees yet.
+const otherOf = row => OTHER[row.value] || WORDS[row.kind].on;
+
+function press(row) {
+  if (isOut(row, "set")) note(row.ono, "hint", "not sent: an order is out");
+  else change(row, otherOf(row));
+}
+
 function toggle(row) {
   const button = make("button");
-  button.onclick = () => change(row, OTHER[goal(row)] || WORDS[row.kind].on);
+  button.onclick = () => press(row);
   return { parts: [button], main: button, draw: () => drawToggle(button, row) };
 }
 
 // Phantom power and the like: held for 0.8 s, so that no touch in passing switches it.
 function heldToggle(row) {
-  const button = make("button"), to = () => OTHER[goal(row)] || "on";
-  onHold(button, () => change(row, to()), {
-    early: () => can(row) && note(row.ono, "hint", "hold for 1 s to switch " + to()),
-    title: () => "Switch " + fullName(row) + " " + to(),
+  const button = make("button");
+  onHold(button, () => press(row), {
+    early: () => can(row) && note(row.ono, "hint", "hold for 1 s to switch " + otherOf(row)),
+    title: () => "Switch " + fullName(row) + " " + otherOf(row),
   });
   return { parts: [button], main: button, draw: () => drawToggle(button, row) };
 }

@@ -60,7 +60,7 @@ function faderParts() {
 // Moves a fader to a number within the limits.
 function moveTo(row, number) {
   const [least, greatest] = limitsOf(row);
-  change(row, String(Math.round(Math.min(greatest, Math.max(least, number)))));
+  change(row, String(round(min(greatest, max(least, number)))));
 }
 
 function moveToZero(row) {
@@ -72,7 +72,7 @@ function moveToZero(row) {
 
 // One step: a whole unit where there is one, else a hundredth of the range; a fine one is the least that there is.
 function step(row, count, isFine) {
-  const [least, greatest] = limitsOf(row), whole = row.unit ? Math.max(1, Math.round(10 ** row.unit.places / Number(row.unit.times))) : Math.max(1, Math.round((greatest - least) / 100));
+  const [least, greatest] = limitsOf(row), whole = row.unit ? max(1, round(10 ** row.unit.places / Number(row.unit.times))) : max(1, round((greatest - least) / 100));
   if (row.value !== null && can(row)) moveTo(row, Number(goal(row)) + count * (isFine ? 1 : whole));
 }
 
@@ -87,7 +87,7 @@ function onDrag(row, fader, cap) {
     }
     const place = fader.getBoundingClientRect(), isUpright = place.height > place.width;
     fader.setPointerCapture(event.pointerId);
-    drag = { isUpright, long: Math.max(1, (isUpright ? place.height : place.width) - CAP), at: Number(goal(row)), x: event.clientX, y: event.clientY, x0: event.clientX, y0: event.clientY, moved: false };
+    drag = { isUpright, long: max(1, (isUpright ? place.height : place.width) - CAP), at: Number(goal(row)), x: event.clientX, y: event.clientY, x0: event.clientX, y0: event.clientY, moved: false };
     row.held = {};
     row.want = goal(row);
     show(row);
@@ -100,7 +100,7 @@ function onDrag(row, fader, cap) {
     fader.classList.toggle("fine", isFine);
     if (!by) return;
     drag.moved = true;
-    drag.at = Math.min(greatest, Math.max(least, drag.at + by / drag.long * (greatest - least) * (isFine ? 0.1 : 1)));
+    drag.at = min(greatest, max(least, drag.at + by / drag.long * (greatest - least) * (isFine ? 0.1 : 1)));
     moveTo(row, drag.at);
   };
   fader.onpointerup = fader.onpointercancel = fader.onlostpointercapture = () => {
@@ -144,7 +144,7 @@ function drawFader(row, { fader, zero, high, low, mark }) {
   aria(fader, "valuemax", greatest);
   aria(fader, "valuenow", word ?? least);
   aria(fader, "valuetext", shown(row, word) + unitName(row));
-  aria(fader, "orientation", row.strip.wide || narrow.matches ? "horizontal" : "vertical");
+  aria(fader, "orientation", narrow.matches ? "horizontal" : "vertical");
   put(high, shown(row, String(greatest)));
   put(low, shown(row, String(least)));
 }

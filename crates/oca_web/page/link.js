@@ -7,7 +7,7 @@ const STATES = {
 };
 const program = {
   run: null, epoch: null, since: NOTHING_SINCE, ahead: 0, heardAt: null, waitsSince: now(), heardClock: "", device: "", name: "", found: 0, told: 0,
-  news: null, opensAt: 0, unsure: 0, readOnly: false, shut: false, state: "read",
+  news: null, opensAt: 0, unsure: 0, unread: 0, readOnly: false, shut: false, state: "read",
 };
 let rows = new Map();
 
@@ -83,7 +83,7 @@ function drawLink() {
 function drawName(sign, word) {
   const name = clean(program.name) || program.device || "OCA panel", address = program.device && program.device !== name ? program.device : "";
   put($("device"), name);
-  put($("about"), (address ? address + " · " : "") + strips.length + " strips, " + rows.size + " objects" + (program.unsure ? " · " + program.unsure + " not yet confirmed" : ""));
+  put($("about"), (address ? address + " · " : "") + strips.length + " strips, " + rows.size + " objects" + (program.unsure ? " · " + program.unsure + " not yet confirmed" : "") + (program.unread ? " · " + program.unread + " not read for 10 s" : ""));
   const title = sign + " " + name + (address ? " · " + address : "") + word;
   if (document.title !== title) document.title = title;
 }
@@ -97,7 +97,7 @@ async function get(path, most = FETCH_MS) {
 }
 
 // Results come in any order: those from the earliest on that is awaited.
-const toldFrom = () => awaited.size ? Math.min(...awaited.keys()) : program.told;
+const toldFrom = () => awaited.size ? min(...awaited.keys()) : program.told;
 const valuesPath = ranges => "/values?since=" + program.since + (program.run === null ? "" : "&run=" + program.run) + "&told=" + toldFrom() + "&shown=" + ranges.map(([first, count]) => first + "-" + count).join();
 
 // Another run of the program: its tickets, its changes and perhaps its device are others. Nothing of the old one stays.
@@ -110,7 +110,7 @@ function beginRun(values) {
 }
 
 function takeLink(values) {
-  Object.assign(program, { news: values.link, ahead: values.now - now(), device: clean(values.device), name: values.name, found: values.found || 0, heardAt: now(), heardClock: wallClock() });
+  Object.assign(program, { news: values.link, ahead: values.now - now(), device: clean(values.device), name: values.name, found: values.found || 0, unread: values.unread, heardAt: now(), heardClock: wallClock() });
   if (program.readOnly !== !!values.read_only) beginRun(values);
   document.body.classList.toggle("watching", program.readOnly);
   $("watch").hidden = !program.readOnly;
@@ -148,27 +148,26 @@ function learn(objects) {
 function noteAges(old, ranges, askedAt) {
   const ages = new Map(old.map(({ ono, age }) => [ono, age]));
   for (const [first, count] of ranges) {
-    for (const row of places.slice(first, first + count)) row.sureAt = Math.max(row.sureAt, askedAt - (ages.get(row.ono) ?? UNTOLD_MS));
+    for (const row of places.slice(first, first + count)) row.sureAt = max(row.sureAt, askedAt - (ages.get(row.ono) ?? UNTOLD_MS));
   }
   drawAges();
 }
 
-const isSure = row => row.value === null || now() - row.sureAt <= SURE_MS;
+const isSure = row => row.value === null ? !!row.trouble || row.kind === "unknown" : now() - row.sureAt <= SURE_MS;
 
-// Marks what is no longer confirmed, and takes the mark off again. What came into view within the last second is not counted yet.
+// Marks what is no longer confirmed, and takes the mark off again.
 function drawAges() {
   program.unsure = 0;
   for (const strip of inView) {
     for (const row of strip.rows) {
       if (row.view && row.unsure === isSure(row)) show(row);
-      if (!(now() - strip.seenAt < UNTOLD_MS)) program.unsure += row.unsure;
+      program.unsure += !isSure(row);
     }
   }
 }
 
 // What was said of an object before its state is known again stays.
 function stateChanged(row, key) {
-  sumsAreOld = true;
   const note = notes.get(row.ono);
   if (note && note.how === "lost") note.read = true;
   else if (row.key) notes.delete(row.ono);
@@ -208,7 +207,7 @@ async function poll() {
   asking = false;
   drawLink();
   const isOrderOut = awaited.size + posting > 0;
-  if (!document.hidden || isOrderOut) pollTimer = setTimeout(poll, again ? 0 : isOrderOut ? pace = Math.min(40, 1.5 * pace) : 100);
+  if (!document.hidden || isOrderOut) pollTimer = setTimeout(poll, again ? 0 : isOrderOut ? pace = min(40, 1.5 * pace) : 100);
 }
 
 // A window that was hidden asked for nothing: what it shows counts as old until an answer comes.

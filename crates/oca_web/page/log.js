@@ -64,7 +64,7 @@ const changeOf = one => one.kind === "set" ? "" : one.kind === "label" ? "name â
 // Each order's end stands in the log: by itself, or in the line of the change of many that it belongs to. Where the strip of an order
 // that was not done is out of sight, the result banner names it.
 function tellEnd(one, how, words) {
-  const row = rows.get(one.ono), ms = Math.round(now() - one.at);
+  const row = rows.get(one.ono), ms = round(now() - one.at);
   keepEnd(one, how);
   if (one.gang) return tellGang(one, how, words);
   if (how === "displaced" || how === "done" && row && (row.held || isOut(row, controlOf(one)))) return;
@@ -95,7 +95,7 @@ function tellGang(one, how, words) {
   if (gang.left) return;
   const bad = gang.bad.length, fewer = gang.displaced ? ", " + gang.displaced + " displaced by a later order" : "";
   const count = bad + " of " + gang.all + " not done", all = bad ? count + ": " + gang.bad.map(pair => pair.join(": ")).slice(0, 12).join("; ") + (bad > 12 ? " â€¦" : "")
-    : (gang.displaced ? gang.all - gang.displaced + " of " : "all ") + gang.all + " done, " + Math.round(now() - gang.begun) + " ms";
+    : (gang.displaced ? gang.all - gang.displaced + " of " : "all ") + gang.all + " done, " + round(now() - gang.begun) + " ms";
   log(gang.what, all + fewer, bad > 0);
   if (bad) tellUndone(gang.what + ": " + count, gang.bad);
 }

@@ -4,7 +4,6 @@ const desks = new Map();     // by ONo: the order in flight, and those that wait
 const awaited = new Map();   // by ticket: orders that were taken, whose result was not told yet
 const early = new Map();     // by ticket: results that were told while the answer with the tickets was on its way
 const urgent = new Set(), patient = new Set();   // objects with an order that can be sent; those of many at once are patient
-const times = [];            // how long the last orders took, in milliseconds
 let posting = 0, bodyMost = MOST_IN_BODY, retryTimer = 0;
 
 const controlOf = order => order.kind === "unlock" ? "lock" : order.kind;
@@ -60,7 +59,7 @@ function takeBatch() {
   const batch = [];
   for (const lane of [urgent, patient]) {
     for (const ono of lane) {
-      if (batch.length >= Math.min(bodyMost, MOST_OUT - awaited.size - outPosted)) break;
+      if (batch.length >= min(bodyMost, MOST_OUT - awaited.size - outPosted)) break;
       lane.delete(ono);
       const desk = desks.get(ono);
       if (!desk || desk.flying || !desk.waits.length) continue;
@@ -84,9 +83,9 @@ function sendReady() {
 }
 
 function bodyOf(batch) {
-  const before = Math.floor(Math.min(...batch.map(lastMoment)) + program.ahead);
+  const before = floor(min(...batch.map(lastMoment)) + program.ahead);
   const orders = batch.map(one => ({ ono: one.ono, ...one.read, [one.kind]: one.word ?? true }));
-  return JSON.stringify({ run: program.run, before: Math.max(0, before), orders });
+  return JSON.stringify({ run: program.run, before: max(0, before), orders });
 }
 
 async function post(batch) {
@@ -115,7 +114,7 @@ async function taken(batch, answer) {
   switch (answer.status) {
     case 202: {
       const { tickets } = await answer.json();
-      bodyMost = Math.min(MOST_IN_BODY, bodyMost * 2);
+      bodyMost = min(MOST_IN_BODY, bodyMost * 2);
       batch.forEach((one, at) => expect(one, tickets[at]));
       return;
     }
@@ -157,7 +156,7 @@ function putBack(batch) {
 
 // The program has no room for all of a body: it is sent again in smaller ones, until its orders are too old.
 function againLater(batch) {
-  bodyMost = Math.max(1, Math.floor(batch.length / 2));
+  bodyMost = max(1, floor(batch.length / 2));
   putBack(batch);
   clearTimeout(retryTimer);
   retryTimer = setTimeout(() => {
@@ -182,7 +181,7 @@ async function oneIsWrong(batch, answer) {
 // The results that the program tells, each once.
 function hearResults(results) {
   for (const { ticket, trouble } of results) {
-    program.told = Math.max(program.told, ticket + 1);
+    program.told = max(program.told, ticket + 1);
     const one = awaited.get(ticket);
     if (one) told(one, trouble);
     else if (posting) early.set(ticket, trouble);
@@ -213,15 +212,9 @@ function end(one, how, why) {
   if (desk.flying === one) desk.flying = null;
   if (row && !isOut(row, "set") && !row.held) row.want = null;
   if (words && !desk.waits.some(other => controlOf(other) === controlOf(one))) note(one.ono, how, words);
-  if (how !== "displaced") keepTime(one);
   tellEnd(one, how, words);
   ready(one.ono);
   if (row) show(row);
-}
-
-function keepTime(one) {
-  times.push(Math.round(10 * (now() - one.at)) / 10);
-  if (times.length > 1000) times.shift();
 }
 
 // Nothing that waits is sent any more; what is in flight is told as it ends.

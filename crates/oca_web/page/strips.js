@@ -1,6 +1,6 @@
 // Strips: a name that selects, and controls, which are there only near what is seen.
 const RANK = { switch: 1, boolean: 2, polarity: 3, mute: 4 };
-const BANK = 8;
+const BANK = 8, MOST_COLUMNS = 5;
 const rowsOf = strip => strip.block ? [strip.block, ...strip.rows] : strip.rows;
 const isChosen = strip => !!strip.on;
 
@@ -42,13 +42,15 @@ function drawHead(strip) {
   strip.title = title;
   if (isNew) for (const row of strip.rows) if (row.view) drawControl(row, strip);
   put(strip.name, strip.title);
-  strip.select.style.fontSize = Math.max(13, Math.min(22, Math.floor(160 / Math.max(...strip.title.split(/[ -]/).map(word => word.length))))) + "px";
+  strip.select.style.fontSize = max(13, min(22, floor(160 / max(...strip.title.split(/[ -]/).map(word => word.length))))) + "px";
   strip.select.title = strip.title;
   put(strip.role, strip.block && isOut(strip.block, "label") ? "another name: not yet" : strip.block && clean(strip.block.label) ? clean(strip.block.role) : "");
   aria(strip.select, "pressed", isChosen(strip));
   aria(strip.select, "label", "Select " + strip.title);
   strip.element.toggleAttribute("data-on", isChosen(strip));
-  strip.element.classList.toggle("closed", strip.rows.some(row => row.value === "muted" && !row.unsure));
+  const muted = strip.rows.filter(row => row.value === "muted");
+  strip.element.classList.toggle("closed", muted.length > 0);
+  strip.element.classList.toggle("doubt", muted.length > 0 && !muted.some(isSure));
   if (strip.menu) drawMenu(strip);
 }
 
@@ -67,8 +69,9 @@ const isLockOut = row => isOut(row, "lock");
 function newStrip(block, members, title) {
   const count = test => members.filter(test).length;
   const strip = { block, rows: members, title, path: "", on: false, message: null, menu: null };
-  strip.wide = members.length > 6 || count(row => row.kind === "mute") > 1 || count(isLevel) > 1 || count(row => row.long) > 0;
-  strip.element = make("section", "strip " + (strip.wide ? "wide" : "slim"));
+  const high = count(isLevel) + count(row => row.long), columns = min(MOST_COLUMNS, max(high, count(row => row.kind === "mute"), ceil(members.length / 6)));
+  strip.element = make("section", "strip " + (columns > 1 ? "many" : "slim"));
+  strip.element.style.cssText = "--u:" + columns + ";--v:" + ceil((members.length - high + !count(row => row.kind === "polarity")) / columns) + ";--w:" + (ceil(high / columns) || 1);
   strip.select = make("button", "select");
   strip.select.tabIndex = -1;
   strip.name = make("span");
@@ -91,9 +94,8 @@ function newStrip(block, members, title) {
 
 // A strip lies in a narrow window; one whose controls are not there yet is as high as it will be.
 function layOut(strip) {
-  const isFlat = narrow.matches, many = Math.ceil(strip.rows.length / Math.max(1, Math.floor(innerWidth / 150)));
-  strip.element.classList.toggle("flat", !strip.wide && isFlat);
-  strip.element.style.minHeight = strip.message || !isFlat ? "" : strip.wide ? 120 + 70 * many + "px" : strip.rows.some(isLevel) ? "218px" : "110px";
+  strip.element.classList.toggle("flat", narrow.matches);
+  strip.element.style.minHeight = strip.message || !narrow.matches ? "" : 74 + 36 * strip.rows.length + "px";
 }
 
 function fill(strip) {
@@ -104,7 +106,7 @@ function fill(strip) {
   let menu = program.readOnly ? null : newMenu(strip);
   for (const row of [...strip.rows].sort((a, b) => (RANK[a.kind] || 5) - (RANK[b.kind] || 5))) {
     const cell = newCell(row), isBeside = row.kind === "polarity";
-    if (menu && !strip.wide && (isBeside || RANK[row.kind] !== RANK.switch && RANK[row.kind] !== RANK.boolean)) {
+    if (menu && (isBeside || RANK[row.kind] !== RANK.switch && RANK[row.kind] !== RANK.boolean)) {
       (isBeside ? cell : strip.element).append(menu);
       menu = null;
     }
@@ -136,7 +138,7 @@ function goByKey(event, strip) {
   const all = strips.filter(one => !isAway(one)), by = { ArrowRight: 1, ArrowLeft: -1, PageDown: BANK, PageUp: -BANK, Home: -1e9, End: 1e9 }[event.key];
   if (!by) return;
   event.preventDefault();
-  all[Math.max(0, Math.min(all.length - 1, all.indexOf(strip) + by))].select.focus();
+  all[max(0, min(all.length - 1, all.indexOf(strip) + by))].select.focus();
 }
 
 function newCell(row) {

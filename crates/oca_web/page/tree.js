@@ -1,6 +1,6 @@
 // The tree: a group for a block that holds blocks, a strip for each other one; what is found, filtered and summed up.
 const MOST_RANGES = 8, OPEN_BELOW = 400, MOST_JUMPS = 100;
-let strips = [], groups = [], places = [], root = { strips: [], groups: [] }, sumsAreOld = false;
+let strips = [], groups = [], places = [], root = { strips: [], groups: [] };
 let near = null, seen = null;
 const inView = new Set();
 const wasOpen = new Map();      // by ONo of a group's block: whether a person opened or closed it
@@ -53,7 +53,6 @@ function build(tree) {
   scrollTo(0, height);
   watchStrips();
   listJumps();
-  sumsAreOld = true;
   filter();
   drawSums();
 }
@@ -126,10 +125,10 @@ function watchStrips() {
     for (const one of all) (one.isIntersecting ? fill : empty)(one.target.strip);
   }, { rootMargin: "80% 0px", scrollMargin: "0px 80%" });
   seen = new IntersectionObserver(all => {
-    for (const one of all) {
-      inView[one.isIntersecting ? "add" : "delete"](one.target.strip);
-      one.target.strip.seenAt = now();
-    }
+    for (const one of all) inView[one.isIntersecting ? "add" : "delete"](one.target.strip);
+    drawAges();
+    drawLink();
+    poll();
   });
   for (const strip of strips) {
     near.observe(strip.element);
@@ -181,7 +180,7 @@ function jumpTo(choice) {
 // By a bank: as many strips as are seen whole, in the row of the strip that the keys are at.
 function goByBank(by) {
   const row = current && current.element.parentNode;
-  if (row) row.scrollBy({ left: by * Math.floor(row.clientWidth / 124) * 124, behavior: "smooth" });
+  if (row) row.scrollBy({ left: by * floor(row.clientWidth / 124) * 124, behavior: "smooth" });
 }
 
 // A filtered list does not change under the hand: "Update list" takes in what changed.
@@ -226,16 +225,17 @@ function filterIn(group, path, test) {
 function sumOf(group) {
   const sum = [group.strips.length, group.strips.filter(isMuted).length, group.strips.filter(isLocked).length];
   for (const inner of group.groups) sumOf(inner).forEach((count, at) => sum[at] += count);
-  if (group.sum) put(group.sum, sum[0] + (sum[0] === 1 ? " strip" : " strips") + (sum[1] ? " · " + sum[1] + " muted" : "") + (sum[2] ? " · " + sum[2] + " locked" : ""));
+  if (group.sum) put(group.sum, sum[0] + (sum[0] === 1 ? " strip" : " strips") + (sum[1] ? " · " + sum[1] + " muted" : "") + (sum[2] ? " · " + sum[2] + " locked" : "") + (areCountsOld() ? " · not all confirmed" : ""));
   return sum;
 }
 
+// What is out of view is read less often, and so these counts are marked where some of it was not read for long.
+const areCountsOld = () => program.unread > 0 || !isOpen();
+
 function drawSums() {
-  if (!sumsAreOld) return;
-  sumsAreOld = false;
-  const [, muted, locked] = sumOf(root);
-  put($("only-muted").lastElementChild, String(muted));
-  put($("only-locked").lastElementChild, String(locked));
+  const [, muted, locked] = sumOf(root), mark = areCountsOld() ? "?" : "";
+  put($("only-muted").lastElementChild, muted + mark);
+  put($("only-locked").lastElementChild, locked + mark);
   if (isPressed("only-muted") || isPressed("only-locked")) $("renew").hidden = !strips.some(strip => isHit(strip) !== strip.hit);
 }
 

@@ -1,4 +1,5 @@
 // Elements and texts. What comes from the device goes in as text and as attributes alone, never as HTML.
+const { ceil, floor, max, min, round } = Math;
 const $ = id => document.getElementById(id);
 const popUp = $("dialog");
 const now = () => performance.now();
@@ -89,4 +90,4 @@ function timesOf(typedUnit, own) {
   return /^k/i.test(typedUnit) && /^(Hz|V|W|Ω|Pa|m)$/.test(own) && (typedUnit.length === 1 || isOwn(typedUnit.slice(1))) ? 1000n : 0n;
 }
 
-const seconds = ms => ms < 9950 ? (ms / 1000).toFixed(1) + " s" : ms < 60000 ? Math.round(ms / 1000) + " s" : Math.floor(ms / 60000) + " min";
+const seconds = ms => ms < 9950 ? (ms / 1000).toFixed(1) + " s" : ms < 60000 ? round(ms / 1000) + " s" : floor(ms / 60000) + " min";
