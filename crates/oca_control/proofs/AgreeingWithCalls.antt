@@ -1,16 +1,9 @@
 -- The state of a link by its calls.
-use Rattle.std.proofs.Common.{◌≡◌, ℕ, ◌<◌, ◌≤◌, Bool, true, false, cond, ◌&&◌, ◌||◌, max, List, [], ◌∷◌, Option, Some, None, Result, Ok, Err, is_some, refl, sym, ap, ◌∙◌, arith, subst}
-use Rattle.std.specs.List.{AllByRecursion}
-use Rattle.std.proofs.Math.Dec.{eqb}
-use Rattle.oca_types.specs.declared.words.Peer.{Peer}
-use Rattle.oca_types.specs.declared.words.Handle.{Handle}
-use Rattle.oca_types.specs.Peers.{RequestFields, same_peer}
-use Rattle.oca_control.specs.declared.fault.ControlFault.{ControlFault}
-use Rattle.oca_control.specs.Answers.{AnswerFields}
-use Rattle.oca_control.specs.Untaken.{Untaken, first_answered, holds}
-use Rattle.oca_control.specs.Links.{LinkState, submission, after_submission, Decision, GivesCommand, GivesKeepAlive, GivesNothing, IsLost, decision, present_moment, after_due}
-use Rattle.oca_control.specs.Histories.{Call, Submits, SendsDue, Receives, TakesAnswer, IsHistory, clock_of_calls, answers_to, first_of, is_untaken, last_heard, IsFirstAnswered, AgreesWithCalls}
-use Rattle.oca_control.proofs.Following.{equal_self, both_true, each_map, each_both, AreAnswered}
+use Rattle.oca_control.proofs.Words.{◌≡◌, ℕ, ◌<◌, ◌≤◌, Bool, true, false, cond, ◌&&◌, ◌||◌, max, List, [], ◌∷◌, Option, Some, None, Result, Ok, Err, is_some, refl, sym, ap, ◌∙◌, arith, subst}
+use Rattle.oca_control.proofs.Words.{AllByRecursion, eqb, or-true, and_from, and_parts, Peer, Handle, RequestFields, same_peer, ControlFault, AnswerFields, Untaken, first_answered, holds, LinkState}
+use Rattle.oca_control.proofs.Words.{submission, after_submission, Decision, GivesCommand, GivesKeepAlive, GivesNothing, IsLost, decision, present_moment, after_due, Call, Submits, SendsDue, Receives}
+use Rattle.oca_control.proofs.Words.{TakesAnswer, IsHistory, clock_of_calls, answers_to, first_of, is_untaken, last_heard, IsFirstAnswered, AgreesWithCalls, on_bool}
+use Rattle.oca_control.proofs.Following.{equal_self, each_map, each_both, AreAnswered}
 use Rattle.oca_control.proofs.Dues.{Rises, each_held}
 use Rattle.oca_control.proofs.Histories.{holds_after}
 
@@ -45,12 +38,10 @@ heard_is device first opened s (TakesAnswer x a ∷ before) after some h =
 
 none_answered : (us : List Untaken) → first_answered us ≡ None → AllByRecursion (λ v. is_some v.answer ≡ false) us
 none_answered [] e = tt
-none_answered (u ∷ us) e = by_test (is_some u.answer) refl e (none_answered us)
-  where
-    by_test : (b : Bool) → is_some u.answer ≡ b → cond b (Some u.command.handle) (first_answered us) ≡ None →
-        (first_answered us ≡ None → AllByRecursion (λ w. is_some w.answer ≡ false) us) → (is_some u.answer ≡ false) × AllByRecursion (λ w. is_some w.answer ≡ false) us
-    by_test true q e rest = cc
-    by_test false q e rest = (q, rest e)
+none_answered (u ∷ us) e =
+    on_bool (is_some u.answer) (λ b. is_some u.answer ≡ b → cond b (Some u.command.handle) (first_answered us) ≡ None → (first_answered us ≡ None → AllByRecursion (λ w. is_some w.answer ≡ false) us) →
+    (is_some u.answer ≡ false) × AllByRecursion (λ w. is_some w.answer ≡ false) us)
+    (λ q e rest. cc) (λ q e rest. (q, rest e)) refl e (none_answered us)
 
 -- of the first that has its answer
 record IsLowest (came : ℕ → List AnswerFields) (h : ℕ) (us : List Untaken) : Type 0 where
@@ -62,10 +53,6 @@ first_lowest : (came : ℕ → List AnswerFields) (h : ℕ) (us : List Untaken) 
 first_lowest came h [] p r e = cc
 first_lowest came h (u ∷ us) p r e = by_test (is_some u.answer) refl e (first_lowest came h us p.1 r.1)
   where
-    or_true : (b : Bool) → (b || true) ≡ true
-    or_true true = refl
-    or_true false = refl
-
     differs : false ≡ true → ⊥
     differs e = cc
 
@@ -86,7 +73,7 @@ first_lowest came h (u ∷ us) p r e = by_test (is_some u.answer) refl e (first_
     by_test false q e rest =
         let t = rest e in
         record {
-          held = ap (λ b. eqb u.command.handle h || b) t.held ∙ or_true (eqb u.command.handle h);
+          held = ap (λ b. eqb u.command.handle h || b) t.held ∙ or-true (eqb u.command.handle h);
           came_is = t.came_is;
           lowest = ((λ some. absurd (differs (sym q ∙ some))), t.lowest);
         }
@@ -101,14 +88,11 @@ first_answered_is device calls us held p r None e = λ x. by_open x (is_untaken 
     by_open x false q = refl
 first_answered_is device calls us held p r (Some h) e =
     let first = first_lowest (λ x. answers_to device x calls) h us p r e in (
-      both_are (is_untaken h calls) (is_some (first_of (answers_to device h calls))) (sym (held h) ∙ first.held) first.came_is,
-      λ x q. let b = both_true (is_untaken x calls) (is_some (first_of (answers_to device x calls))) q in
+      and_from (is_untaken h calls) (is_some (first_of (answers_to device h calls))) (sym (held h) ∙ first.held) first.came_is,
+      λ x q. let b = and_parts (is_untaken x calls) (is_some (first_of (answers_to device x calls))) q in
           each_held (λ y. is_some (first_of (answers_to device y calls)) ≡ true → h ≤ y) x us (lowest_came first) (held x ∙ b.0) b.1,
     )
   where
-    both_are : (a b : Bool) → a ≡ true → b ≡ true → (a && b) ≡ true
-    both_are a b p q = cc
-
     lowest_came : IsLowest (λ x. answers_to device x calls) h us → AllByRecursion (λ v. is_some (first_of (answers_to device v.command.handle calls)) ≡ true → h ≤ v.command.handle) us
     lowest_came first = each_both {R = λ (v : Untaken). is_some (first_of (answers_to device v.command.handle calls)) ≡ true → h ≤ v.command.handle}
         (λ v (a : v.answer ≡ first_of (answers_to device v.command.handle calls)) (b : is_some v.answer ≡ true → h ≤ v.command.handle) c. b (ap is_some a ∙ c)) us p first.lowest

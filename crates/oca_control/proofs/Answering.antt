@@ -1,31 +1,14 @@
 -- What was answered stays so, and what is due is sent.
-use Rattle.std.proofs.Common.{◌≡◌, ◌⊎◌, ℕ, suc, ◌+◌, ◌-◌, ◌<◌, ◌≤◌, Bool, true, false, cond, not, ◌&&◌, ◌||◌, max, List, [], ◌∷◌, ◌++◌, length, Some, None, Ok, Err, is_none, is_some, refl, sym, ap, ◌∙◌, arith, subst, inl, inr}
-use Rattle.std.specs.Prelude.{nat_eq, nat_le, filter}
-use Rattle.std.specs.List.{AllByRecursion, list_any}
-use Rattle.std.proofs.Math.Dec.{eqb}
-use Rattle.std.proofs.lemmas.Bool.Decides.{nat_tests}
-use Rattle.oca_types.specs.declared.words.Peer.{Peer}
-use Rattle.oca_types.specs.Peers.{same_peer}
-use Rattle.oca_pdu.specs.Messages.{Msg}
-use Rattle.oca_control.specs.declared.due.Due.{Due}
+use Rattle.oca_control.proofs.Words.{◌≡◌, ◌⊎◌, ℕ, suc, ◌+◌, ◌-◌, ◌<◌, ◌≤◌, Bool, true, false, cond, not, ◌&&◌, ◌||◌, max, List, [], ◌∷◌, ◌++◌, length, Some, None, Ok, Err, is_none, is_some, refl, sym}
+use Rattle.oca_control.proofs.Words.{ap, ◌∙◌, arith, subst, inl, inr, nat_eq, nat_le, filter, AllByRecursion, list_any, nat_tests, or-true, and_from, eqb-true, and_parts, Peer, same_peer, Msg, Due}
+use Rattle.oca_control.proofs.Words.{Reception, AnswerFields, answer_under, LinkState, Call, Submits, SendsDue, Receives, TakesAnswer, IsHistory, clock_of_calls, commands, Sending, sendings}
+use Rattle.oca_control.proofs.Words.{answers_among, answers_of, answers_to, first_of, is_untaken, is_answered, may_be_sent, is_due_at, is_lost_answer, is_lost, IsDueAnswer, GivesWhatIsDue}
+use Rattle.oca_control.proofs.Words.{has_response, TakesNothingOf, CallsDueAt, is_given_in, is_among, on_bool}
 use Rattle.oca_control.specs.declared.due.Due.TheVariants as dues
-use Rattle.oca_control.specs.declared.reception.Reception.{Reception}
-use Rattle.oca_control.specs.Answers.{AnswerFields}
-use Rattle.oca_control.specs.Untaken.{answer_under}
-use Rattle.oca_control.specs.Links.{LinkState}
-use Rattle.oca_control.specs.Histories.{Call, Submits, SendsDue, Receives, TakesAnswer, IsHistory, clock_of_calls, commands, Sending, sendings, answers_among, answers_of, answers_to, first_of, is_untaken, is_answered, may_be_sent, is_due_at, is_lost_answer, is_lost, IsDueAnswer, GivesWhatIsDue}
-use Rattle.oca_control.specs.Answering.{has_response, TakesNothingOf, CallsDueAt, is_given_in, is_among}
-use Rattle.oca_control.proofs.Following.{equal_is, both_true, each_map}
+use Rattle.oca_control.proofs.Following.{each_map}
 use Rattle.oca_control.proofs.Calls.{answer_is}
 use Rattle.oca_control.proofs.Dues.{each_held}
 use Rattle.oca_control.proofs.Histories.{holds_after}
-
-or_true : (b : Bool) → (b || true) ≡ true
-or_true true = refl
-or_true false = refl
-
-both_are : (a b : Bool) → a ≡ true → b ≡ true → (a && b) ≡ true
-both_are a b p q = cc
 
 differs : false ≡ true → ⊥
 differs e = cc
@@ -50,10 +33,10 @@ not_next device first opened s h calls l some p open_now =
 answered_still : (device : Peer) (first opened s h : ℕ) (call : Call) (calls : List Call) (after : LinkState) → 0 < s → IsHistory device first opened s (call ∷ calls) after →
     TakesNothingOf h call → is_answered device h calls ≡ true → is_answered device h (call ∷ calls) ≡ true
 answered_still device first opened s h (Submits r now (Ok x)) calls after some p none so =
-    let b = both_true (is_untaken h calls) (is_some (first_of (answers_to device h calls))) so in
+    let b = and_parts (is_untaken h calls) (is_some (first_of (answers_to device h calls))) so in
     let below = not_next device first opened s h calls p.0 some p.1 b.0 in
     let number : x.0 ≡ first + length (commands calls) = (holds_after device first opened s (Submits r now (Ok x) ∷ calls) after some p).now.handles.0 in
-    both_are (is_untaken h calls || nat_eq x.0 h) (is_some (first_of (cond (nat_eq h x.0) [] (answers_to device h calls))))
+    and_from (is_untaken h calls || nat_eq x.0 h) (is_some (first_of (cond (nat_eq h x.0) [] (answers_to device h calls))))
     (ap (λ c. c || nat_eq x.0 h) b.0)
     (ap (λ c. is_some (first_of (cond c [] (answers_to device h calls)))) (unequal h x.0 (omega arith)) ∙ b.1)
   where
@@ -62,26 +45,26 @@ answered_still device first opened s h (Submits r now (Ok x)) calls after some p
 answered_still device first opened s h (Submits r now (Err fault)) calls after some p none so = so
 answered_still device first opened s h (SendsDue now a bytes) calls after some p none so = so
 answered_still device first opened s h (Receives from bytes content now a) calls after some p none so =
-    let b = both_true (is_untaken h calls) (is_some (first_of (answers_to device h calls))) so in
-    both_are (is_untaken h calls) (is_some (first_of (answers_to device h calls ++ cond (same_peer from device) (answers_of h content) []))) b.0
+    let b = and_parts (is_untaken h calls) (is_some (first_of (answers_to device h calls))) so in
+    and_from (is_untaken h calls) (is_some (first_of (answers_to device h calls ++ cond (same_peer from device) (answers_of h content) []))) b.0
     (some_more (answers_to device h calls) (cond (same_peer from device) (answers_of h content) []) b.1)
 answered_still device first opened s h (TakesAnswer x (Some a)) calls after some p none so =
-    let b = both_true (is_untaken h calls) (is_some (first_of (answers_to device h calls))) so in
-    both_are (not (nat_eq x h) && is_untaken h calls) (is_some (first_of (answers_to device h calls)))
+    let b = and_parts (is_untaken h calls) (is_some (first_of (answers_to device h calls))) so in
+    and_from (not (nat_eq x h) && is_untaken h calls) (is_some (first_of (answers_to device h calls)))
     (ap (λ c. not c && is_untaken h calls) (unequal x h none) ∙ b.0) b.1
   where
     unequal : (a b : ℕ) → (a ≡ b → ⊥) → nat_eq a b ≡ false
     unequal a b p = by_test (nat_eq a b) refl
       where
         by_test : (c : Bool) → nat_eq a b ≡ c → c ≡ false
-        by_test true q = absurd (p (equal_is a b q))
+        by_test true q = absurd (p (eqb-true a b q))
         by_test false q = refl
 answered_still device first opened s h (TakesAnswer x None) calls after some p none so = so
 
 answered_first : (device : Peer) (h : ℕ) (before : List Call) (from : Peer) (bytes : List ℕ) (messages : List Msg) (now : ℕ) (a : Reception) → same_peer from device ≡ true →
     is_untaken h before ≡ true → has_response h messages ≡ true → is_answered device h (Receives from bytes (Some messages) now a ∷ before) ≡ true
 answered_first device h before from bytes messages now a same open_now has =
-    both_are (is_untaken h before) (is_some (first_of (answers_to device h before ++ cond (same_peer from device) (answers_among h messages) []))) open_now
+    and_from (is_untaken h before) (is_some (first_of (answers_to device h before ++ cond (same_peer from device) (answers_among h messages) []))) open_now
     (ap (λ b. is_some (first_of (answers_to device h before ++ cond b (answers_among h messages) []))) same ∙ some_behind (answers_to device h before) (answers_among h messages) has)
 
 answered_later : (device : Peer) (first opened s h : ℕ) (later calls : List Call) (after : LinkState) → 0 < s → IsHistory device first opened s (later ++ calls) after →
@@ -100,7 +83,7 @@ answer_kept device first opened span before later after h from bytes messages no
     let g = (holds_after device first opened span calls after some p).now in
     let so = answered_later device first opened span h later (Receives from bytes (Some messages) now a ∷ before) after some p none
     (answered_first device h before from bytes messages now a same open_now has) in
-    let b = both_true (is_untaken h calls) (is_some (first_of (answers_to device h calls))) so in
+    let b = and_parts (is_untaken h calls) (is_some (first_of (answers_to device h calls))) so in
     ap is_some (answer_is h (λ x. answers_to device x calls) after.untaken g.are_answered ∙ ap (λ c. cond c (first_of (answers_to device h calls)) None) (g.held h ∙ b.0)) ∙ b.1
 
 -- ---- what is due is sent
@@ -171,8 +154,8 @@ module _ (device : Peer) (opened now t h most : ℕ) (calls : List Call) (made :
   -- what was just sent is not due
   not_again : (y : ℕ) (bytes : List ℕ) → (is_untaken y calls && (is_none (first_of (answers_to device y calls)) && may_be_sent t (sent_now bytes ∷ sendings opened y calls))) ≡ true → ⊥
   not_again y bytes e =
-      let b = both_true (is_untaken y calls) (is_none (first_of (answers_to device y calls)) && may_be_sent t (sent_now bytes ∷ sendings opened y calls)) e in
-      let c = both_true (is_none (first_of (answers_to device y calls))) (may_be_sent t (sent_now bytes ∷ sendings opened y calls)) b.1 in
+      let b = and_parts (is_untaken y calls) (is_none (first_of (answers_to device y calls)) && may_be_sent t (sent_now bytes ∷ sendings opened y calls)) e in
+      let c = and_parts (is_none (first_of (answers_to device y calls))) (may_be_sent t (sent_now bytes ∷ sendings opened y calls)) b.1 in
       differs (sym (young (max (clock_of_calls opened calls) now) t_is) ∙ c.1)
     where
       young : (m : ℕ) → m ≡ t → nat_le 250 (t - m) ≡ false
@@ -180,7 +163,16 @@ module _ (device : Peer) (opened now t h most : ℕ) (calls : List Call) (made :
 
   one_call : (a : Due) (bytes : List ℕ) → IsDueAnswer device opened t bytes calls a → StillDue device opened t h most calls made →
       (is_lost (SendsDue now a bytes ∷ calls) ≡ true) ⊎ ((is_given_in h (SendsDue now a bytes) ≡ true) ⊎ StillDue device opened t h most (SendsDue now a bytes ∷ calls) (suc made))
-  one_call (dues.Send x) bytes q s = by_same (nat_eq x.0 h) refl
+  one_call (dues.Send x) bytes q s =
+      on_bool (nat_eq x.0 h) (λ b. nat_eq x.0 h ≡ b → (is_lost (SendsDue now (dues.Send x) bytes ∷ calls) ≡ true) ⊎ ((is_given_in h (SendsDue now
+      (dues.Send x) bytes) ≡ true) ⊎ StillDue device opened t h most (SendsDue now (dues.Send x) bytes ∷ calls) (suc made)))
+      (λ p. inr (inl p))
+      (λ p. inr (inr (record {
+        left = without x.0 s.left;
+        covers = λ y e. covered y (nat_eq y x.0) refl e;
+        due = other h (turned x.0 h p) ∙ s.due;
+        count = fewer (length (without x.0 s.left)) (length s.left) (shorter x.0 s.left (s.covers x.0 q.1.due)) s.count;
+      }))) refl
     where
       other : (y : ℕ) → nat_eq y x.0 ≡ false → is_due_at device opened t y (SendsDue now (dues.Send x) bytes ∷ calls) ≡ is_due_at device opened t y calls
       other y p = ap (λ b. is_untaken y calls && (is_none (first_of (answers_to device y calls)) && may_be_sent t (cond b (sent_now bytes ∷ sendings opened y calls) (sendings opened y calls)))) p
@@ -196,16 +188,6 @@ module _ (device : Peer) (opened now t h most : ℕ) (calls : List Call) (made :
 
       fewer : (a b : ℕ) → a < b → b + made ≤ most → a + suc made ≤ most
       fewer a b p q = omega arith
-
-      by_same : (b : Bool) → nat_eq x.0 h ≡ b →
-          (is_lost (SendsDue now (dues.Send x) bytes ∷ calls) ≡ true) ⊎ ((is_given_in h (SendsDue now (dues.Send x) bytes) ≡ true) ⊎ StillDue device opened t h most (SendsDue now (dues.Send x) bytes ∷ calls) (suc made))
-      by_same true p = inr (inl p)
-      by_same false p = inr (inr (record {
-        left = without x.0 s.left;
-        covers = λ y e. covered y (nat_eq y x.0) refl e;
-        due = other h (turned x.0 h p) ∙ s.due;
-        count = fewer (length (without x.0 s.left)) (length s.left) (shorter x.0 s.left (s.covers x.0 q.1.due)) s.count;
-      }))
   one_call dues.KeepAlive bytes q s = absurd (differs (sym (q.1 h) ∙ s.due))
   one_call dues.Nothing bytes q s = absurd (differs (sym (q.1 h) ∙ s.due))
   one_call dues.Lost bytes q s = inl refl
@@ -244,8 +226,8 @@ goes_on_until device opened now h before (SendsDue n a bytes ∷ calls) due g e 
 
     by : (is_lost (calls ++ before) ≡ true) ⊎ ((list_any (is_given_in h) calls ≡ true) ⊎ StillDue device opened (max (clock_of_calls opened before) now) h (length due) (calls ++ before) (length calls)) →
         (is_lost (SendsDue n a bytes ∷ (calls ++ before)) ≡ true) ⊎ ((list_any (is_given_in h) (SendsDue n a bytes ∷ calls) ≡ true) ⊎ StillDue device opened (max (clock_of_calls opened before) now) h (length due) (SendsDue n a bytes ∷ (calls ++ before)) (suc (length calls)))
-    by (inl lost) = inl (ap (λ b. is_lost_answer a || b) lost ∙ or_true (is_lost_answer a))
-    by (inr (inl given)) = inr (inl (ap (λ b. is_given_in h (SendsDue n a bytes) || b) given ∙ or_true (is_given_in h (SendsDue n a bytes))))
+    by (inl lost) = inl (ap (λ b. is_lost_answer a || b) lost ∙ or-true (is_lost_answer a))
+    by (inr (inl given)) = inr (inl (ap (λ b. is_given_in h (SendsDue n a bytes) || b) given ∙ or-true (is_given_in h (SendsDue n a bytes))))
     by (inr (inr s)) = by_call (one_call device opened n (max (clock_of_calls opened before) now) h (length due) (calls ++ before) (length calls) same_now a bytes
         (subst (λ (m : ℕ). IsDueAnswer device opened m bytes (calls ++ before) a) same_now g.0) s)
 goes_on_until device opened now h before (Submits r n a ∷ calls) due g e d covers = absurd e.0

@@ -1,30 +1,20 @@
 -- A link that runs is asked in time.
-use Rattle.std.proofs.Common.{◌≡◌, ℕ, zero, suc, ◌+◌, ◌-◌, ◌*◌, ◌<◌, ◌≤◌, Bool, true, false, cond, not, max, List, [], ◌∷◌, ◌++◌, length, map, Option, Some, None, Ok, Err, is_some, refl, sym, ap, ◌∙◌, arith, subst, append_assoc, append-nil}
-use Rattle.std.specs.Prelude.{nat_le}
-use Rattle.std.specs.List.{AllByRecursion}
-use Rattle.std.proofs.Math.Dec.{eqb}
-use Rattle.std.proofs.lemmas.Bool.Decides.{nat_tests}
-use Rattle.oca_types.specs.declared.words.Peer.{Peer}
-use Rattle.oca_types.specs.declared.words.Handle.{Handle}
-use Rattle.oca_types.specs.Peers.{CommandFields, RequestFields, same_peer}
-use Rattle.oca_net.specs.Deliveries.{Delivery, Datagram, Quiet, Failed}
+use Rattle.oca_control.proofs.Words.{◌≡◌, ℕ, zero, suc, ◌+◌, ◌-◌, ◌*◌, ◌<◌, ◌≤◌, Bool, true, false, cond, not, max, List, [], ◌∷◌, ◌++◌, length, map, Option, Some, None, Ok, Err, is_some, refl, sym}
+use Rattle.oca_control.proofs.Words.{ap, ◌∙◌, arith, subst, append_assoc, append-nil, nat_le, AllByRecursion, eqb, leb-true, leb-false, le_refl, Peer, Handle, CommandFields, RequestFields, same_peer}
+use Rattle.oca_control.proofs.Words.{Delivery, Datagram, Quiet, Failed, AnswerFields, Untaken, is_due, first_due, marked_sent, answer_under, without_handle, LinkState, present_moment, late_at}
+use Rattle.oca_control.proofs.Words.{submission, submitted, after_submission, Decision, GivesCommand, GivesKeepAlive, GivesNothing, IsLost, decision, due_answer, due_bytes, after_due, taken, Call}
+use Rattle.oca_control.proofs.Words.{Submits, SendsDue, Receives, TakesAnswer, IsCall, IsHistory, clock_of_calls, commands, sendings, last_asked, IsAskedEvery, IsWaiting, IsSentInTime, goes_on}
+use Rattle.oca_control.proofs.Words.{HearsDelivery, DrivesTurn, TurnsInTime, beginning, NothingIsLeft, HasTimeLeft, HaveTimeLeft, HasTimeAt, delivered_at, AreWithin, IsRun, NothingDone, DroveATurn}
+use Rattle.oca_control.proofs.Words.{TookATurn, SentAllDue, SentAllInTime, Began, Took, BecomesBy, IsAsked, CommandIsInTime, on_bool}
 use Rattle.oca_control.specs.declared.fault.ControlFault.TheVariants as faults
-use Rattle.oca_control.specs.Answers.{AnswerFields}
-use Rattle.oca_control.specs.Untaken.{Untaken, is_due, first_due, marked_sent, answer_under, without_handle}
-use Rattle.oca_control.specs.Links.{LinkState, present_moment, late_at, submission, submitted, after_submission, Decision, GivesCommand, GivesKeepAlive, GivesNothing, IsLost, decision, due_answer, due_bytes, after_due, taken}
-use Rattle.oca_control.specs.Histories.{Call, Submits, SendsDue, Receives, TakesAnswer, IsCall, IsHistory, clock_of_calls, commands, sendings}
-use Rattle.oca_control.specs.Answering.{last_asked, IsAskedEvery, IsWaiting, IsSentInTime}
-use Rattle.oca_control.specs.Driving.{goes_on, link_from, HearsDelivery, DrivesTurn}
-use Rattle.oca_control.specs.Turning.{TurnsInTime}
-use Rattle.oca_control.specs.Asking.{beginning}
-use Rattle.oca_control.specs.Running.{NothingIsLeft, HasTimeLeft, HaveTimeLeft, HasTimeAt, delivered_at, AreWithin, IsRun, NothingDone, DroveATurn, TookATurn, SentAllDue, SentAllInTime, Began, Took, BecomesBy, IsAsked, CommandIsInTime}
-use Rattle.oca_control.proofs.Following.{is_at_most, each_map}
+use Rattle.oca_control.specs.Driving.{link_from}
+use Rattle.oca_control.proofs.Following.{each_map}
 use Rattle.oca_control.proofs.Calls.{is_given, each_without}
 use Rattle.oca_control.proofs.Dues.{Rises}
 use Rattle.oca_control.proofs.Histories.{holds_after}
 use Rattle.oca_control.proofs.InTime.{in_time}
 use Rattle.oca_control.proofs.Lifetimes.{few_sendings, Fits, fits_soon, fits_received, fits_from, fits_submitted, fits_at, calm_fits, time_of}
-use Rattle.oca_control.proofs.Settling.{due_count, count_length, none_counted, fewer_given, decided_nothing, is_quiet, again, left_from, not_lost_before, moment_from}
+use Rattle.oca_control.proofs.Settling.{due_count, count_length, none_counted, fewer_given, decided_nothing, is_quiet, again, some_more, left_from, not_lost_before, moment_from}
 
 -- ---- moments
 
@@ -76,6 +66,13 @@ few_untaken device first opened s calls l some p =
 
     within : (n k : ℕ) → l.span ≡ s → k ≤ n - (n - s) → k ≤ l.span
     within n k e p = omega arith
+
+-- fewer commands are due than the span has handles, and one
+few_due : (device : Peer) (first opened s now : ℕ) (calls : List Call) (l : LinkState) → 0 < s → IsHistory device first opened s calls l → due_count (present_moment now l) l.untaken < l.span + 1
+few_due device first opened s now calls l some p = few (due_count (present_moment now l) l.untaken) (length l.untaken) (count_length (present_moment now l) l.untaken) (few_untaken device first opened s calls l some p)
+  where
+    few : (a b : ℕ) → a ≤ b → b ≤ l.span → a < l.span + 1
+    few a b p q = omega arith
 
 -- ---- what is due is sent
 
@@ -197,60 +194,44 @@ left_taken h l left =
 
 -- what is heard keeps the moment, and changes nothing of being lost
 lost_heard : (d : Delivery) (l between : LinkState) (n : ℕ) → HearsDelivery d l between n → between.lost ≡ l.lost
-lost_heard (Datagram from bytes now) l between n x = by (nat_le (length bytes) 1472) refl
-  where
-    over : (k : ℕ) → nat_le k 1472 ≡ false → 1472 < k
-    over k p = grind (arith, nat_tests)
-
-    by : (b : Bool) → nat_le (length bytes) 1472 ≡ b → between.lost ≡ l.lost
-    by true q = ap (λ (k : LinkState). k.lost) (x.short (is_at_most (length bytes) 1472 q)).1.link_is
-    by false q = ap (λ (k : LinkState). k.lost) (x.long (over (length bytes) q)).0
+lost_heard (Datagram from bytes now) l between n x = on_bool (nat_le (length bytes) 1472) (λ b. nat_le (length bytes) 1472 ≡ b → between.lost ≡ l.lost)
+    (λ q. ap (λ (k : LinkState). k.lost) (x.short (leb-true (length bytes) 1472 q)).1.link_is) (λ q. ap (λ (k : LinkState). k.lost) (x.long (leb-false (length bytes) 1472 q)).0) refl
 lost_heard (Quiet now) l between n x = ap (λ (k : LinkState). k.lost) x.0
 lost_heard Failed l between n x = ap (λ (k : LinkState). k.lost) x.0
 
 moment_heard : (d : Delivery) (l between : LinkState) (n : ℕ) → HearsDelivery d l between n → l.moment ≤ between.moment
-moment_heard (Datagram from bytes now) l between n x = by (nat_le (length bytes) 1472) refl
-  where
-    over : (k : ℕ) → nat_le k 1472 ≡ false → 1472 < k
-    over k p = grind (arith, nat_tests)
-
-    by : (b : Bool) → nat_le (length bytes) 1472 ≡ b → l.moment ≤ between.moment
-    by true q = let e : between.moment ≡ max l.moment now = ap (λ (k : LinkState). k.moment) (x.short (is_at_most (length bytes) 1472 q)).1.link_is in omega arith
-    by false q = let e : between.moment ≡ l.moment = ap (λ (k : LinkState). k.moment) (x.long (over (length bytes) q)).0 in omega arith
+moment_heard (Datagram from bytes now) l between n x = on_bool (nat_le (length bytes) 1472) (λ b. nat_le (length bytes) 1472 ≡ b → l.moment ≤ between.moment)
+    (λ q. let e : between.moment ≡ max l.moment now = ap (λ (k : LinkState). k.moment) (x.short (leb-true (length bytes) 1472 q)).1.link_is in omega arith)
+    (λ q. let e : between.moment ≡ l.moment = ap (λ (k : LinkState). k.moment) (x.long (leb-false (length bytes) 1472 q)).0 in omega arith) refl
 moment_heard (Quiet now) l between n x = let e : between.moment ≡ l.moment = ap (λ (k : LinkState). k.moment) x.0 in omega arith
 moment_heard Failed l between n x = let e : between.moment ≡ l.moment = ap (λ (k : LinkState). k.moment) x.0 in omega arith
 
+lost_in_time : (now : ℕ) (l : LinkState) (b : Bool) → (cond b l (link_from now (l.span + 1) l)).lost ≡ false → l.lost ≡ false
+lost_in_time now l true e = e
+lost_in_time now l false e = not_lost_before (l.span + 1) now l e
+
 -- each command fits after what was heard, as soon
 fits_between : (ms now : ℕ) (l between : LinkState) (d : Delivery) (n : ℕ) → delivered_at d ≡ now ∷ [] → HearsDelivery d l between n → AllByRecursion (Fits ms (present_moment now l)) l.untaken → AllByRecursion (Fits ms (present_moment now between)) between.untaken
-fits_between ms now l between (Datagram from bytes t) n same x fits = by (nat_le (length bytes) 1472) refl
+fits_between ms now l between (Datagram from bytes t) n same x fits =
+    on_bool (nat_le (length bytes) 1472) (λ b. nat_le (length bytes) 1472 ≡ b → AllByRecursion (Fits ms (present_moment now between)) between.untaken)
+    (λ q.
+    let link = (x.short (leb-true (length bytes) 1472 q)).1.link_is in
+    let content = (x.short (leb-true (length bytes) 1472 q)).1.content in
+    subst (λ (k : ℕ). AllByRecursion (Fits ms k) between.untaken) (at_now moment between.moment (ap (λ (k : LinkState). k.moment) link)) (subst (λ (us : List Untaken). AllByRecursion (Fits ms
+    (present_moment now l)) us) (sym (ap (λ (k : LinkState). k.untaken) link)) (fits_received ms (present_moment now l) (same_peer from l.device) content l.untaken fits)))
+    (λ q. subst (λ (k : LinkState). AllByRecursion (Fits ms (present_moment now k)) k.untaken) (sym (x.long (leb-false (length bytes) 1472 q)).0) fits) refl
   where
-    over : (k : ℕ) → nat_le k 1472 ≡ false → 1472 < k
-    over k p = grind (arith, nat_tests)
-
     moment : t ≡ now
     moment = cc
 
     at_now : t ≡ now → (m : ℕ) → m ≡ max l.moment t → max l.moment now ≡ max m now
     at_now r m e = omega arith
-
-    by : (b : Bool) → nat_le (length bytes) 1472 ≡ b → AllByRecursion (Fits ms (present_moment now between)) between.untaken
-    by true q =
-        let link = (x.short (is_at_most (length bytes) 1472 q)).1.link_is in
-        let content = (x.short (is_at_most (length bytes) 1472 q)).1.content in
-        subst (λ (k : ℕ). AllByRecursion (Fits ms k) between.untaken) (at_now moment between.moment (ap (λ (k : LinkState). k.moment) link))
-        (subst (λ (us : List Untaken). AllByRecursion (Fits ms (present_moment now l)) us) (sym (ap (λ (k : LinkState). k.untaken) link))
-        (fits_received ms (present_moment now l) (same_peer from l.device) content l.untaken fits))
-    by false q = subst (λ (k : LinkState). AllByRecursion (Fits ms (present_moment now k)) k.untaken) (sym (x.long (over (length bytes) q)).0) fits
 fits_between ms now l between (Quiet t) n same x fits = subst (λ (k : LinkState). AllByRecursion (Fits ms (present_moment now k)) k.untaken) (sym x.0) fits
 fits_between ms now l between Failed n same x fits = cc
 
 -- a command that was begun
 accepted_now : (request : RequestFields) (now : ℕ) (l : LinkState) (h : Handle) → beginning request now l ≡ Ok h → submission request l ≡ Ok h
-accepted_now request now l h e = by (late_at now l) e
-  where
-    by : (b : Bool) → cond b (Err faults.Lost) (submission request l) ≡ Ok h → submission request l ≡ Ok h
-    by true e = cc
-    by false e = e
+accepted_now request now l h e = on_bool (late_at now l) (λ b. cond b (Err faults.Lost) (submission request l) ≡ Ok h → submission request l ≡ Ok h) (λ e. cc) (λ e. e) e
 
 moment_submitted : (request : RequestFields) (now : ℕ) (l : LinkState) (h : Handle) → submission request l ≡ Ok h → (submitted request now l).moment ≡ max l.moment now
 moment_submitted request now l h e = ap (λ a. (after_submission a request now l).moment) e
@@ -261,11 +242,8 @@ lost_submitted request now l h e = ap (λ a. (after_submission a request now l).
 module _ (device : Peer) (first opened s : ℕ) (some : 0 < s) (ms : ℕ) (short : 20 * (250 + ms) ≤ 15000) (before : List Call) (base : LinkState) (p : IsHistory device first opened s before base) (since : ℕ) where
   fits_then : (l : LinkState) (now : ℕ) → AllByRecursion (Fits ms (present_moment now l)) l.untaken → AllByRecursion (Fits ms (link_from now (l.span + 1) l).moment) (link_from now (l.span + 1) l).untaken
   fits_then l now fits =
-      subst (λ (k : ℕ). AllByRecursion (Fits ms k) (link_from now (l.span + 1) l).untaken) (sym (moment_from (l.span + 1) now l (above l.span)))
+      subst (λ (k : ℕ). AllByRecursion (Fits ms k) (link_from now (l.span + 1) l).untaken) (sym (moment_from (l.span + 1) now l (some_more l.span)))
       (fits_from ms now (l.span + 1) l fits)
-    where
-      above : (n : ℕ) → 0 < n + 1
-      above n = omega arith
 
   -- of a link that is asked, soon after
   fits_on : (l : LinkState) (now : ℕ) → IsAsked ms since base l → now ≤ l.moment + ms → AllByRecursion (Fits ms (present_moment now l)) l.untaken
@@ -274,8 +252,7 @@ module _ (device : Peer) (first opened s : ℕ) (some : 0 < s) (ms : ℕ) (short
   give_step : (calls : List Call) (l : LinkState) (now : ℕ) → BecomesBy base calls l → IsAskedEvery ms since calls → clock_of_calls since calls ≡ l.moment → present_moment now l ≤ last_asked since calls + ms →
       AllByRecursion (Fits ms (present_moment now l)) l.untaken → (link_from now (l.span + 1) l).lost ≡ false → IsAsked ms since base (link_from now (l.span + 1) l)
   give_step calls l now made every at soon fits going =
-      let small = few (due_count (present_moment now l) l.untaken) (length l.untaken) (count_length (present_moment now l) l.untaken)
-      (few_untaken device first opened s (calls ++ before) l some (history_more device first opened s before base l calls p made)) in
+      let small = few_due device first opened s now (calls ++ before) l some (history_more device first opened s before base l calls p made) in
       let r = gave_from ms since (l.span + 1) now calls l small at soon every in
       record {
         calls = r.more ++ calls;
@@ -286,9 +263,6 @@ module _ (device : Peer) (first opened s : ℕ) (some : 0 < s) (ms : ℕ) (short
         left = left_from (l.span + 1) now l small going;
         time = time_of ms (link_from now (l.span + 1) l) (left_from (l.span + 1) now l small going) (fits_then l now fits);
       }
-    where
-      few : (a b : ℕ) → a ≤ b → b ≤ l.span → a < l.span + 1
-      few a b p q = omega arith
 
   at_once : (now : ℕ) (l : LinkState) (asked : ℕ) → asked ≡ l.moment → now ≤ l.moment + ms → present_moment now l ≤ asked + ms
   at_once now l asked e soon = omega arith
@@ -300,11 +274,19 @@ module _ (device : Peer) (first opened s : ℕ) (some : 0 < s) (ms : ℕ) (short
   -- a datagram, or silence, and what is due after it
   hear_on : (d : Delivery) (now : ℕ) (l between new : LinkState) (n : ℕ) → delivered_at d ≡ now ∷ [] → HearsDelivery d l between n → IsAsked ms since base l → now ≤ l.moment + ms →
       new ≡ link_from now (between.span + 1) between → new.lost ≡ false → IsAsked ms since base new
-  hear_on (Datagram from bytes t) now l between new n same x g soon is going = by (nat_le (length bytes) 1472) refl
+  hear_on (Datagram from bytes t) now l between new n same x g soon is going = on_bool (nat_le (length bytes) 1472) (λ b. nat_le (length bytes) 1472 ≡ b → IsAsked ms since base new)
+      (λ q.
+      let h = x.short (leb-true (length bytes) 1472 q) in
+      let at : between.moment ≡ max l.moment t = ap (λ (k : LinkState). k.moment) h.1.link_is in
+      let calls : List Call = Receives from bytes h.1.content t h.0 ∷ g.calls in
+      subst (IsAsked ms since base) (sym is) (give_step calls between now (l, g.made, (h.1.holds, h.1.answer_is, h.1.link_is)) (
+        behind moment (clock_of_calls since g.calls)
+            (last_asked since g.calls) g.clock_is g.asked_is,
+        g.every,
+      ) (ap (λ k. max k t) g.clock_is ∙ sym at) (after moment between.moment at (last_asked since g.calls) g.asked_is)
+      (fits_between ms now l between (Datagram from bytes t) n same x (fits_on l now g soon)) (sym (ap (λ (k : LinkState). k.lost) is) ∙ going)))
+      (λ q. let same_link : between ≡ l = (x.long (leb-false (length bytes) 1472 q)).0 in quiet_on l new now g soon (is ∙ ap (λ (k : LinkState). link_from now (k.span + 1) k) same_link) going) refl
     where
-      over : (k : ℕ) → nat_le k 1472 ≡ false → 1472 < k
-      over k p = grind (arith, nat_tests)
-
       moment : t ≡ now
       moment = cc
 
@@ -313,18 +295,6 @@ module _ (device : Peer) (first opened s : ℕ) (some : 0 < s) (ms : ℕ) (short
 
       after : t ≡ now → (m : ℕ) → m ≡ max l.moment t → (b : ℕ) → b ≡ l.moment → max m now ≤ b + ms
       after r m e b q = omega arith
-
-      by : (b : Bool) → nat_le (length bytes) 1472 ≡ b → IsAsked ms since base new
-      by true q =
-          let h = x.short (is_at_most (length bytes) 1472 q) in
-          let at : between.moment ≡ max l.moment t = ap (λ (k : LinkState). k.moment) h.1.link_is in
-          let calls : List Call = Receives from bytes h.1.content t h.0 ∷ g.calls in
-          subst (IsAsked ms since base) (sym is)
-          (give_step calls between now (l, g.made, (h.1.holds, h.1.answer_is, h.1.link_is)) (behind moment (clock_of_calls since g.calls) (last_asked since g.calls) g.clock_is g.asked_is, g.every)
-          (ap (λ k. max k t) g.clock_is ∙ sym at) (after moment between.moment at (last_asked since g.calls) g.asked_is) (fits_between ms now l between (Datagram from bytes t) n same x (fits_on l now g soon)) (sym (ap (λ (k : LinkState). k.lost) is) ∙ going))
-      by false q =
-          let same_link : between ≡ l = (x.long (over (length bytes) q)).0 in
-          quiet_on l new now g soon (is ∙ ap (λ (k : LinkState). link_from now (k.span + 1) k) same_link) going
   hear_on (Quiet t) now l between new n same x g soon is going = quiet_on l new now g soon (is ∙ ap (λ (k : LinkState). link_from now (k.span + 1) k) x.0) going
   hear_on Failed now l between new n same x g soon is going = cc
 
@@ -389,13 +359,10 @@ module _ (device : Peer) (first opened s : ℕ) (some : 0 < s) (ms : ℕ) (short
   turn_at old l between new ts d now n same hears made rest within going =
       let w = within_more ms old.moment ts now (subst (λ (us : List ℕ). AreWithin ms old.moment (ts ++ us)) same within) in
       let g = rest w.0 (sym (lost_heard d l between n hears) ∙ not_lost_before (between.span + 1) now between (sym (ap (λ (k : LinkState). k.lost) made) ∙ going)) in
-      let at : new.moment ≡ max between.moment now = ap (λ (k : LinkState). k.moment) made ∙ moment_from (between.span + 1) now between (above between.span) in
+      let at : new.moment ≡ max between.moment now = ap (λ (k : LinkState). k.moment) made ∙ moment_from (between.span + 1) now between (some_more between.span) in
       let heard : l.moment ≤ between.moment = moment_heard d l between n hears in
       subst (λ (us : List ℕ). Goes old new (ts ++ us)) (sym same)
       (one_moment old l new ts now g (hear_on d now l between new n same hears g.asked (soon_after ts old l now g w.1) made going) (omega arith) (omega arith))
-    where
-      above : (n : ℕ) → 0 < n + 1
-      above n = omega arith
 
   failed_at : (old l new : LinkState) (ts : List ℕ) → new ≡ l → (AreWithin ms old.moment ts → l.lost ≡ false → Goes old l ts) → AreWithin ms old.moment (ts ++ []) → new.lost ≡ false → Goes old new (ts ++ [])
   failed_at old l new ts same rest within going =
@@ -416,14 +383,10 @@ module _ (device : Peer) (first opened s : ℕ) (some : 0 < s) (ms : ℕ) (short
   took_at d now old l between new ts n same hears made rest within going =
       turn_at old l between new ts d now n same hears (made ∙ ap (λ b. cond b between (link_from now (between.span + 1) between)) calm) rest within going
     where
-      lost_of : (b : Bool) → (cond b between (link_from now (between.span + 1) between)).lost ≡ false → between.lost ≡ false
-      lost_of true e = e
-      lost_of false e = not_lost_before (between.span + 1) now between e
-
       calm : late_at now between ≡ false
       calm =
           let w = within_more ms old.moment ts now (subst (λ (us : List ℕ). AreWithin ms old.moment (ts ++ us)) same within) in
-          let g = rest w.0 (sym (lost_heard d l between n hears) ∙ lost_of (late_at now between) (sym (ap (λ (k : LinkState). k.lost) made) ∙ going)) in
+          let g = rest w.0 (sym (lost_heard d l between n hears) ∙ lost_in_time now between (late_at now between) (sym (ap (λ (k : LinkState). k.lost) made) ∙ going)) in
           calm_fits ms now between (fits_between ms now l between d n same hears (fits_on l now g.asked (soon_after ts old l now g w.1)))
 
   took_on : (d : Delivery) (old l new : LinkState) (ts : List ℕ) (ds : List Decision) (n : ℕ) → TurnsInTime d l new ds n → (AreWithin ms old.moment ts → l.lost ≡ false → Goes old l ts) →
@@ -440,17 +403,11 @@ module _ (device : Peer) (first opened s : ℕ) (some : 0 < s) (ms : ℕ) (short
       let w = within_more ms old.moment ts now within in
       let g = rest w.0 (sym (lost_submitted request now l h accepted) ∙ not_lost_before (x.span + 1) now x (sym (ap (λ (k : LinkState). k.lost) made) ∙ going)) in
       let submitted_at : x.moment ≡ max l.moment now = moment_submitted request now l h accepted in
-      let at : new.moment ≡ max x.moment now = ap (λ (k : LinkState). k.moment) made ∙ moment_from (x.span + 1) now x (above x.span) in
+      let at : new.moment ≡ max x.moment now = ap (λ (k : LinkState). k.moment) made ∙ moment_from (x.span + 1) now x (some_more x.span) in
       one_moment old l new ts now g (begin_on l new request now h g.asked (soon_after ts old l now g w.1) is made going) (omega arith) (omega arith)
-    where
-      above : (n : ℕ) → 0 < n + 1
-      above n = omega arith
 
   run_on : {ts : List ℕ} {old new : LinkState} → IsRun ts old new → IsAsked ms since base old → AreWithin ms old.moment ts → new.lost ≡ false → Goes old new ts
-  run_on (NothingDone {l = l}) g within going = record { asked = g; latest_is = same l.moment }
-    where
-      same : (n : ℕ) → n ≤ n
-      same n = omega arith
+  run_on (NothingDone {l = l}) g within going = record { asked = g; latest_is = le_refl l.moment }
   run_on (DroveATurn {ts = ts} {old = old} {l = l} {new = new} {decisions = ds} {n = n} d run turn) g within going = drove_on d old l new ts ds n turn (run_on run g) within going
   run_on (TookATurn {ts = ts} {old = old} {l = l} {new = new} {decisions = ds} {n = n} d run turn) g within going = took_on d old l new ts ds n turn (run_on run g) within going
   run_on (SentAllDue {ts = ts} {old = old} {l = l} {new = new} now run made) g within going = turn_at old l l new ts (Quiet now) now 0 refl (refl, refl) made (run_on run g) within going
@@ -484,22 +441,14 @@ lost_before_run (DroveATurn {l = l} {new = new} {n = n} d run turn) going = lost
 lost_before_run (TookATurn {l = l} {new = new} {n = n} d run turn) going = lost_before_run run (by d turn going)
   where
     given : (e : Delivery) (now k : ℕ) (between : LinkState) → HearsDelivery e l between k → new ≡ cond (late_at now between) between (link_from now (between.span + 1) between) → new.lost ≡ false → l.lost ≡ false
-    given e now k between hears made going = sym (lost_heard e l between k hears) ∙ lost_of (late_at now between) (sym (ap (λ (k : LinkState). k.lost) made) ∙ going)
-      where
-        lost_of : (b : Bool) → (cond b between (link_from now (between.span + 1) between)).lost ≡ false → between.lost ≡ false
-        lost_of true e = e
-        lost_of false e = not_lost_before (between.span + 1) now between e
+    given e now k between hears made going = sym (lost_heard e l between k hears) ∙ lost_in_time now between (late_at now between) (sym (ap (λ (k : LinkState). k.lost) made) ∙ going)
 
     by : {ds : List Decision} (e : Delivery) → TurnsInTime e l new ds n → new.lost ≡ false → l.lost ≡ false
     by (Datagram from bytes now) x going = given (Datagram from bytes now) now n x.between x.hears x.gives.1 going
     by (Quiet now) x going = given (Quiet now) now n x.between x.hears x.gives.1 going
     by Failed x going = sym (ap (λ (k : LinkState). k.lost) (x.gives.1 ∙ x.hears.0)) ∙ going
 lost_before_run (SentAllDue {l = l} now run made) going = lost_before_run run (not_lost_before (l.span + 1) now l (sym (ap (λ (k : LinkState). k.lost) made) ∙ going))
-lost_before_run (SentAllInTime {l = l} now run made) going = lost_before_run run (lost_of (late_at now l) (sym (ap (λ (k : LinkState). k.lost) made) ∙ going))
-  where
-    lost_of : (b : Bool) → (cond b l (link_from now (l.span + 1) l)).lost ≡ false → l.lost ≡ false
-    lost_of true e = e
-    lost_of false e = not_lost_before (l.span + 1) now l e
+lost_before_run (SentAllInTime {l = l} now run made) going = lost_before_run run (lost_in_time now l (late_at now l) (sym (ap (λ (k : LinkState). k.lost) made) ∙ going))
 lost_before_run (Began {l = l} request now h run is made) going =
     lost_before_run run (sym (lost_submitted request now l h (accepted_now request now l h is))
     ∙ not_lost_before ((submitted request now l).span + 1) now (submitted request now l) (sym (ap (λ (k : LinkState). k.lost) made) ∙ going))
@@ -525,9 +474,6 @@ begun_in_time device first opened span ms before old link new request now h mome
     at : x.moment ≡ max old.moment now
     at = moment_submitted request now old h accepted
 
-    same : (n : ℕ) → n ≤ n + ms
-    same n = omega arith
-
     no_later : (m : ℕ) → m ≡ max old.moment now → max m now ≡ m
     no_later m e = omega arith
 
@@ -538,10 +484,7 @@ begun_in_time device first opened span ms before old link new request now h mome
     soon k e = omega arith
 
     small : due_count (present_moment now x) x.untaken < x.span + 1
-    small = few (due_count (present_moment now x) x.untaken) (length x.untaken) (count_length (present_moment now x) x.untaken) (few_untaken device first opened span (Submits request now (Ok h) ∷ before) x some base)
-      where
-        few : (a b : ℕ) → a ≤ b → b ≤ x.span → a < x.span + 1
-        few a b p q = omega arith
+    small = few_due device first opened span now (Submits request now (Ok h) ∷ before) x some base
 
     gave : Gave ms x.moment [] x (link_from now (x.span + 1) x)
     gave = gave_from ms x.moment (x.span + 1) now [] x small refl (soon x.moment at) tt
@@ -563,14 +506,11 @@ begun_in_time device first opened span ms before old link new request now h mome
     history : IsHistory device first opened span (r.asked.calls ++ Submits request now (Ok h) ∷ before) new
     history = history_more device first opened span (Submits request now (Ok h) ∷ before) x new r.asked.calls base r.asked.made
 
-    above : (n : ℕ) → 0 < n + 1
-    above n = omega arith
-
     since : max (clock_of_calls opened before) now ≡ x.moment
     since = ap (λ k. max k now) (sym (holds_after device first opened span before old some p).now.moment_is) ∙ sym at
 
     since_link : x.moment ≡ link.moment
-    since_link = sym (ap (λ (k : LinkState). k.moment) made ∙ moment_from (x.span + 1) now x (above x.span) ∙ no_later x.moment at)
+    since_link = sym (ap (λ (k : LinkState). k.moment) made ∙ moment_from (x.span + 1) now x (some_more x.span) ∙ no_later x.moment at)
 
     by : IsWaiting device h.0 (r.asked.calls ++ Submits request now (Ok h) ∷ before) → IsSentInTime ms link.moment new.moment (sendings opened h.0 (r.asked.calls ++ Submits request now (Ok h) ∷ before))
     by w =
@@ -586,7 +526,7 @@ pub begun_time : (device : Peer) (first opened span ms : ℕ) (before : List Cal
     link ≡ link_from now ((submitted request now old).span + 1) (submitted request now old) → link.lost ≡ false → HaveTimeLeft ms link
 begun_time device first opened span ms before old link request now h some short p time is made going =
     subst (HaveTimeLeft ms) (sym made) (time_of ms (link_from now (x.span + 1) x) (left_from (x.span + 1) now x small (sym (ap (λ (k : LinkState). k.lost) made) ∙ going))
-    (subst (λ (k : ℕ). AllByRecursion (Fits ms k) (link_from now (x.span + 1) x).untaken) (sym (moment_from (x.span + 1) now x (above x.span)))
+    (subst (λ (k : ℕ). AllByRecursion (Fits ms k) (link_from now (x.span + 1) x).untaken) (sym (moment_from (x.span + 1) now x (some_more x.span)))
     (fits_from ms now (x.span + 1) x (fits_submitted ms request now old h accepted short fits))))
   where
     x : LinkState
@@ -599,11 +539,4 @@ begun_time device first opened span ms before old link request now h some short 
     fits = fits_at ms (present_moment now old) old.untaken time
 
     small : due_count (present_moment now x) x.untaken < x.span + 1
-    small = few (due_count (present_moment now x) x.untaken) (length x.untaken) (count_length (present_moment now x) x.untaken)
-        (few_untaken device first opened span (Submits request now (Ok h) ∷ before) x some (old, p, (sym accepted, refl)))
-      where
-        few : (a b : ℕ) → a ≤ b → b ≤ x.span → a < x.span + 1
-        few a b p q = omega arith
-
-    above : (n : ℕ) → 0 < n + 1
-    above n = omega arith
+    small = few_due device first opened span now (Submits request now (Ok h) ∷ before) x some (old, p, (sym accepted, refl))

@@ -1,42 +1,25 @@
 -- A command is waited for.
-use Rattle.std.proofs.Common.{◌≡◌, ℕ, ◌+◌, ◌<◌, ◌≤◌, Bool, true, false, ◌||◌, Some, None, Ok, Err, refl, sym, ap, ◌∙◌, subst, arith}
-use Rattle.oca_net.specs.Ends.{last_u64}
-use Rattle.oca_net.specs.EndStates.{EndState}
-use Rattle.oca_types.specs.declared.words.Handle.{Handle}
-use Rattle.oca_types.specs.Peers.{RequestFields}
-use Rattle.oca_control.specs.declared.fault.ControlFault.{ControlFault}
+use Rattle.oca_control.proofs.Words.{◌≡◌, ℕ, ◌+◌, ◌<◌, ◌≤◌, Bool, ◌||◌, Some, None, Ok, Err, refl, sym, ap, ◌∙◌, subst, arith, or_parts, add-zero, last_u64, EndState, Handle, RequestFields}
+use Rattle.oca_control.proofs.Words.{ControlFault, Outcome, answer_under, LinkState, TakesATurn, TakesTurns, NoneTaken, OneTaken, Waits, ReceivesSoOften, Begins, Asks, refused_by, Settles}
 use Rattle.oca_control.specs.declared.fault.ControlFault.TheVariants as faults
-use Rattle.oca_control.specs.declared.outcome.Outcome.{Outcome}
 use Rattle.oca_control.specs.declared.outcome.Outcome.TheVariants as outcomes
-use Rattle.oca_control.specs.Untaken.{answer_under}
-use Rattle.oca_control.specs.Links.{LinkState}
-use Rattle.oca_control.specs.Asking.{TakesATurn, TakesTurns, NoneTaken, OneTaken, Waits, ReceivesSoOften, Begins, Asks, refused_by}
-use Rattle.oca_control.specs.PrivateAsking.{Settles}
 use Rattle.oca_control.proofs.InTurn.{asked_once}
 
+pub one_further : (a b c n : ℕ) → (b < last_u64 → b ≡ a + n) → (c < last_u64 → c ≡ b + 1) → c < last_u64 → c ≡ a + (n + 1)
+one_further a b c n f g below =
+    let last = g below in
+    let less : b < last_u64 = omega arith in
+    omega (arith, f less, last)
+
 pub turns_asked : {h n : ℕ} {late : Bool} {old new : LinkState} {e f : EndState} → TakesTurns h n late old new e f → f.receives < last_u64 → f.receives ≡ e.receives + n
-turns_asked (NoneTaken {e = e}) below = plus_none e.receives
-  where
-    plus_none : (n : ℕ) → n ≡ n + 0
-    plus_none n = omega arith
+turns_asked (NoneTaken {e = e}) below = sym (add-zero e.receives)
 turns_asked (OneTaken {n = n} {d = d} {e = e} {f = f} before none going turn) below =
     one_further d.receives e.receives f.receives n (turns_asked before) (asked_once turn.turns) below
-  where
-    one_further : (a b c n : ℕ) → (b < last_u64 → b ≡ a + n) → (c < last_u64 → c ≡ b + 1) → c < last_u64 → c ≡ a + (n + 1)
-    one_further a b c n f g below =
-        let last = g below in
-        let less : b < last_u64 = omega arith in
-        omega (arith, f less, last)
 
--- neither is so
-pub neither : (a b : Bool) → (a || b) ≡ false → (a ≡ false) × (b ≡ false)
-neither true b e = cc
-neither false b e = (refl, e)
-
--- Turns that left the command unanswered, and the link neither late nor lost, and one more turn are one turn more.
+-- Turns that left the command unanswered, and the link or_parts late nor lost, and one more turn are one turn more.
 pub one_more_turn : {h n : ℕ} {late more : Bool} {old l m new : LinkState} {d e f : EndState} → TakesTurns h n late old l d e → Settles h late l None m → TakesATurn more m new e f → TakesTurns h (n + 1) more old new d f
 one_more_turn {h} {n} {late} {more} {old} {l} {m} {new} {d} {e} {f} before s turn =
-    let going = neither late l.lost s.1 in
+    let going = or_parts late l.lost s.1 in
     OneTaken (subst (λ (b : Bool). TakesTurns h n b old l d e) going.0 before) s.0 going.1 (subst (λ (k : LinkState). TakesATurn more k new e f) s.2 turn)
 
 -- Where the link shows the answer, or that it is lost or late, after at most so many turns, that is what waiting
@@ -54,10 +37,10 @@ waits_settled {h} {n} {late = late} {old = old} {l = l} new {d = d} {e = e} outc
 )
 waits_settled new outcomes.Unanswered t le s = absurd s
 
--- Where it shows neither after just so many turns, waiting returns that there was no answer.
+-- Where it shows or_parts after just so many turns, waiting returns that there was no answer.
 pub waits_unsettled : {h turns : ℕ} {late : Bool} {old l new : LinkState} {d e : EndState} (n : ℕ) → TakesTurns h n late old l d e → n ≡ turns → Settles h late l None new → Waits h turns old outcomes.Unanswered new d e
 waits_unsettled {h} {turns} {late} {old} {l} {new} {d} {e} n t all s =
-    let going = neither late l.lost s.1 in (
+    let going = or_parts late l.lost s.1 in (
       subst (λ (b : Bool). TakesTurns h turns b old new d e) going.0 (subst (λ (k : ℕ). TakesTurns h k late old new d e) all (subst (λ (k : LinkState). TakesTurns h n late old k d e) (sym s.2) t)),
       ap (λ (k : LinkState). answer_under h k.untaken) s.2 ∙ s.0,
       ap (λ (k : LinkState). k.lost) s.2 ∙ going.1,

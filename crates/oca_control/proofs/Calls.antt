@@ -1,29 +1,19 @@
 -- What is true of a link stays true over each call.
-use Rattle.std.proofs.Common.{◌≡◌, ℕ, ◌+◌, ◌-◌, ◌<◌, ◌≤◌, Bool, true, false, cond, not, ◌&&◌, ◌||◌, max, List, [], ◌∷◌, ◌++◌, length, map, Option, Some, None, Ok, Err, is_none, refl, sym, ap, ◌∙◌, arith, subst, suc, append_assoc, append-nil}
-use Rattle.std.specs.Prelude.{nat_eq, nat_lt, nat_le}
-use Rattle.std.specs.List.{AllByRecursion}
-use Rattle.std.proofs.Math.Dec.{eqb}
-use Rattle.std.proofs.lemmas.List.Folds.{list_any-append}
-use Rattle.std.proofs.lemmas.Bool.Decides.{nat_tests}
-use Rattle.oca_types.specs.declared.words.Peer.{Peer}
-use Rattle.oca_types.specs.declared.words.Handle.{Handle}
-use Rattle.oca_types.specs.Peers.{CommandFields, same_peer}
-use Rattle.oca_types.specs.Sizes.{most_command_parameter_bytes}
-use Rattle.oca_pdu.specs.Messages.{Msg, Command, Response, KeepAlive, Commands}
-use Rattle.oca_pdu.specs.Encoding.{pdu_encoding}
+use Rattle.oca_control.proofs.Words.{◌≡◌, ℕ, ◌+◌, ◌-◌, ◌<◌, ◌≤◌, Bool, true, false, cond, not, ◌&&◌, ◌||◌, max, List, [], ◌∷◌, ◌++◌, length, map, Option, Some, None, Ok, Err, is_none, refl, sym, ap}
+use Rattle.oca_control.proofs.Words.{◌∙◌, arith, subst, suc, append_assoc, append-nil, nat_eq, nat_lt, nat_le, AllByRecursion, eqb, list_any-append, nat_tests, eqb-true, ltb-true, and_parts, or-false}
+use Rattle.oca_control.proofs.Words.{Peer, Handle, CommandFields, same_peer, most_command_parameter_bytes, Msg, Command, Response, KeepAlive, Commands, pdu_encoding, AnswerFields, answer_of_response}
+use Rattle.oca_control.proofs.Words.{Untaken, new_untaken, span_has_room, is_due, first_due, marked_sent, answered, hears_all, answer_under, without_handle, holds, LinkState, Request, present_moment}
+use Rattle.oca_control.proofs.Words.{command_under, submission, submission_under, handle_after, GivesCommand, GivesKeepAlive, GivesNothing, IsLost, decision_among, hears_content, received}
+use Rattle.oca_control.proofs.Words.{command_accepted, Sending, answers_among, answers_of, first_of, IsCopy, AreSendingsApart, on_bool}
 use Rattle.oca_control.specs.declared.fault.ControlFault.TheVariants as faults
-use Rattle.oca_control.specs.Answers.{AnswerFields, answer_of_response}
-use Rattle.oca_control.specs.Untaken.{Untaken, new_untaken, span_has_room, is_due, first_due, marked_sent, answered, hears_all, answer_under, without_handle, holds}
-use Rattle.oca_control.specs.Links.{LinkState, Request, present_moment, command_under, submission, submission_under, handle_after, GivesCommand, GivesKeepAlive, GivesNothing, IsLost, decision_among, hears_content, received}
-use Rattle.oca_control.specs.Histories.{command_accepted, Sending, answers_among, answers_of, first_of, IsCopy, AreSendingsApart}
-use Rattle.oca_control.proofs.Following.{equal_is, equal_self, unequal, is_below, both_true, or_false, each_map, each_both, each_append, end_of, end_after, IsLast, IsSent, AreSent, AreAnswered, Follows}
+use Rattle.oca_control.proofs.Following.{equal_self, unequal, each_map, each_both, each_append, end_of, end_after, IsLast, IsSent, AreSent, AreAnswered, Follows}
 
 -- ---- a command is submitted
 
 -- Where there is room for a handle, it lies below each untaken one plus the span.
 pub room_each : (s h : ℕ) (us : List Untaken) → span_has_room s h us ≡ true → AllByRecursion (λ u. h < u.command.handle + s) us
 room_each s h [] e = tt
-room_each s h (u ∷ us) e = let p = both_true (nat_lt h (u.command.handle + s)) (span_has_room s h us) e in (is_below h (u.command.handle + s) p.0, room_each s h us p.1)
+room_each s h (u ∷ us) e = let p = and_parts (nat_lt h (u.command.handle + s)) (span_has_room s h us) e in (ltb-true h (u.command.handle + s) p.0, room_each s h us p.1)
 
 -- what is answered where a command is accepted
 pub record IsAccepted (r : Request) (h : Handle) (l : LinkState) : Type 0 where
@@ -32,7 +22,7 @@ pub record IsAccepted (r : Request) (h : Handle) (l : LinkState) : Type 0 where
 
 -- Where a submit returns a handle, that is the next one, and there is room for it.
 pub is_accepted : (r : Request) (h : Handle) (l : LinkState) → submission r l ≡ Ok h → IsAccepted r h l
-is_accepted r h l e = by_lost l.lost e
+is_accepted r h l e = on_bool l.lost (λ b. cond b (Err faults.Lost) (submission_under most_command_parameter_bytes r l.next l) ≡ Ok h → IsAccepted r h l) (λ e. cc) (λ e. by_next l.next refl e) e
   where
     by_length : (n : ℕ) → (b : Bool) → l.next ≡ Some n → span_has_room l.span n l.untaken ≡ true → cond b (Err faults.TooLong) (Ok (let k : Handle = record { 0 = n } in k)) ≡ Ok h → IsAccepted r h l
     by_length n true q room e = cc
@@ -50,10 +40,6 @@ is_accepted r h l e = by_lost l.lost e
     by_next None q e = cc
     by_next (Some n) q e = by_room n (span_has_room l.span n l.untaken) q refl e
 
-    by_lost : (b : Bool) → cond b (Err faults.Lost) (submission_under most_command_parameter_bytes r l.next l) ≡ Ok h → IsAccepted r h l
-    by_lost true e = cc
-    by_lost false e = by_next l.next refl e
-
 abbrev pub with_submit : ℕ → Request → ℕ → LinkState → LinkState
 with_submit h r now l = record l { moment = present_moment now l; next = handle_after h; untaken = l.untaken ++ new_untaken (present_moment now l) (command_under h r) ∷ [] }
 
@@ -66,7 +52,7 @@ submits device first s t now accepted sent came open_at l h r some a g = record 
   moment_is = ap (λ m. max m now) g.moment_is;
   span_is = g.span_is;
   next_is = let e : end_of (handle_after h.0) ≡ h.0 + 1 = end_after h.0 in one_more (length accepted) e number;
-  held = λ x. list_any-append (λ (u : Untaken). eqb u.command.handle x) l.untaken (new_untaken (present_moment now l) (command_under h.0 r) ∷ []) ∙ ap (λ b. b || (eqb h.0 x || false)) (g.held x) ∙ ap (λ b. open_at x || b) (or_false (eqb h.0 x));
+  held = λ x. list_any-append (λ (u : Untaken). eqb u.command.handle x) l.untaken (new_untaken (present_moment now l) (command_under h.0 r) ∷ []) ∙ ap (λ b. b || (eqb h.0 x || false)) (g.held x) ∙ ap (λ b. open_at x || b) (or-false (eqb h.0 x));
   are_sent = each_append _ l.untaken (new_untaken (present_moment now l) (command_under h.0 r) ∷ [])
       (each_both (λ u p (q : h.0 < u.command.handle + l.span). still u.command u.times u.last p q) l.untaken g.are_sent (room_each l.span h.0 l.untaken a.room))
       (its, tt);
@@ -130,7 +116,7 @@ submits device first s t now accepted sent came open_at l h r some a g = record 
     }
 
     by_copy : (x : ℕ) (b : Bool) → eqb x h.0 ≡ b → AllByRecursion (λ y. IsCopy x (command_under h.0 r ∷ accepted) y.bytes) (sent x)
-    by_copy x true q = subst (λ xs. AllByRecursion (λ y. IsCopy x (command_under h.0 r ∷ accepted) y.bytes) xs) (sym (g.fresh x (let e : x ≡ h.0 = equal_is x h.0 q in let n : h.0 ≡ first + length accepted = number in omega arith))) tt
+    by_copy x true q = subst (λ xs. AllByRecursion (λ y. IsCopy x (command_under h.0 r ∷ accepted) y.bytes) xs) (sym (g.fresh x (let e : x ≡ h.0 = eqb-true x h.0 q in let n : h.0 ≡ first + length accepted = number in omega arith))) tt
     by_copy x false q = each_map (λ y p. copy_still x y p q) (sent x) (g.copies x)
       where
         copy_still : (x : ℕ) (y : Sending) → IsCopy x accepted y.bytes → eqb x h.0 ≡ false → IsCopy x (command_under h.0 r ∷ accepted) y.bytes
@@ -155,7 +141,7 @@ is_given t sent true c us e = cc
 is_given t sent false c us e = by_first (first_due t us) refl e
   where
     by_times : (u : Untaken) → first_due t us ≡ Some u → (b : Bool) → nat_lt u.times 20 ≡ b → cond b (GivesCommand u.command) IsLost ≡ GivesCommand c → IsGiven t c us
-    by_times u q true p e = record { given = u; first_is = q; command_is = cc; few = is_below u.times 20 p }
+    by_times u q true p e = record { given = u; first_is = q; command_is = cc; few = ltb-true u.times 20 p }
     by_times u q false p e = cc
 
     by_silence : (b : Bool) → cond b GivesKeepAlive GivesNothing ≡ GivesCommand c → IsGiven t c us
@@ -169,13 +155,11 @@ is_given t sent false c us e = by_first (first_due t us) refl e
 -- what holds of all untaken commands holds of the first due one
 pub each_first : (P : Untaken → Type 0) (t : ℕ) (us : List Untaken) (u : Untaken) → AllByRecursion P us → first_due t us ≡ Some u → P u × (is_due t u ≡ true)
 each_first P t [] u a e = cc
-each_first P t (v ∷ us) u a e = by_test (is_due t v) refl e (each_first P t us u a.1)
-  where
-    by_test : (b : Bool) → is_due t v ≡ b → cond b (Some v) (first_due t us) ≡ Some u → (first_due t us ≡ Some u → P u × (is_due t u ≡ true)) → P u × (is_due t u ≡ true)
-    by_test true q e rest = let same : v ≡ u = cc in (subst P same a.0, ap (is_due t) (sym same) ∙ q)
-    by_test false q e rest = rest e
+each_first P t (v ∷ us) u a e =
+    on_bool (is_due t v) (λ b. is_due t v ≡ b → cond b (Some v) (first_due t us) ≡ Some u → (first_due t us ≡ Some u → P u × (is_due t u ≡ true)) → P u × (is_due t u ≡ true))
+    (λ q e rest. let same : v ≡ u = cc in (subst P same a.0, ap (is_due t) (sym same) ∙ q)) (λ q e rest. rest e) refl e (each_first P t us u a.1)
 
-holds_marked_sent : (t h x : ℕ) (us : List Untaken) → holds x (map (marked_sent t h) us) ≡ holds x us
+pub holds_marked_sent : (t h x : ℕ) (us : List Untaken) → holds x (map (marked_sent t h) us) ≡ holds x us
 holds_marked_sent t h x [] = refl
 holds_marked_sent t h x (u ∷ us) = ap (λ b. eqb u.command.handle x || b) (holds_marked_sent t h x us)
 
@@ -253,7 +237,7 @@ gives device first s t now accepted sent came open_at l c i g = record {
     its_copy = record { command = c; accepted_under = own.command; bytes_are = refl }
 
     by_copy : (x : ℕ) (b : Bool) → eqb x c.handle ≡ b → AllByRecursion (λ y. IsCopy x accepted y.bytes) (cond b ((copy_at (max t now) c) ∷ sent x) (sent x))
-    by_copy x true q = (subst (λ y. IsCopy y accepted (copy_at (max t now) c).bytes) (sym (equal_is x c.handle q)) its_copy, g.copies x)
+    by_copy x true q = (subst (λ y. IsCopy y accepted (copy_at (max t now) c).bytes) (sym (eqb-true x c.handle q)) its_copy, g.copies x)
     by_copy x false q = g.copies x
 
     number : length ((copy_at (max t now) c) ∷ sent c.handle) ≤ 20
@@ -263,7 +247,7 @@ gives device first s t now accepted sent came open_at l c i g = record {
         at_most k p q = omega arith
 
     by_number : (x : ℕ) (b : Bool) → eqb x c.handle ≡ b → length (cond b ((copy_at (max t now) c) ∷ sent x) (sent x)) ≤ 20
-    by_number x true q = subst (λ y. length ((copy_at (max t now) c) ∷ sent y) ≤ 20) (sym (equal_is x c.handle q)) number
+    by_number x true q = subst (λ y. length ((copy_at (max t now) c) ∷ sent y) ≤ 20) (sym (eqb-true x c.handle q)) number
     by_number x false q = g.at_most_20 x
 
     far : (times last k : ℕ) → times ≡ suc k → (nat_eq times 0 || nat_le 250 (present_moment now l - last)) ≡ true → last + 250 ≤ present_moment now l
@@ -272,7 +256,7 @@ gives device first s t now accepted sent came open_at l c i g = record {
     apart_more : (xs : List Sending) → i.given.times ≡ length xs → IsLast i.given.last xs → AreSendingsApart xs → AreSendingsApart ((copy_at (max t now) c) ∷ xs)
     apart_more [] e p a = tt
     apart_more (x ∷ xs) e p a = (
-      let d = both_true (is_none i.given.answer) (nat_eq i.given.times 0 || nat_le 250 (present_moment now l - i.given.last)) both.1 in
+      let d = and_parts (is_none i.given.answer) (nat_eq i.given.times 0 || nat_le 250 (present_moment now l - i.given.last)) both.1 in
           at_least x.at (present_moment now l) i.given.last (max t now) p (far i.given.times i.given.last (length xs) e d.1) now_is,
       a,
     )
@@ -281,7 +265,7 @@ gives device first s t now accepted sent came open_at l c i g = record {
         at_least a p last m e f q = omega arith
 
     by_apart : (x : ℕ) (b : Bool) → eqb x c.handle ≡ b → AreSendingsApart (cond b ((copy_at (max t now) c) ∷ sent x) (sent x))
-    by_apart x true q = subst (λ y. AreSendingsApart ((copy_at (max t now) c) ∷ sent y)) (sym (equal_is x c.handle q)) (apart_more (sent c.handle) own.count own.last_is (g.apart c.handle))
+    by_apart x true q = subst (λ y. AreSendingsApart ((copy_at (max t now) c) ∷ sent y)) (sym (eqb-true x c.handle q)) (apart_more (sent c.handle) own.count own.last_is (g.apart c.handle))
     by_apart x false q = g.apart x
 
 -- nothing of a command is sent
@@ -318,7 +302,7 @@ kept_heard (Response r ∷ ms) P us p = kept_heard ms P (map (answered r.handle 
 kept_heard (KeepAlive form ∷ ms) P us p = kept_heard ms P us p
 kept_heard (Command respond c ∷ ms) P us p = kept_heard ms P us p
 
-holds_answered : (h x : ℕ) (a : AnswerFields) (us : List Untaken) → holds x (map (answered h a) us) ≡ holds x us
+pub holds_answered : (h x : ℕ) (a : AnswerFields) (us : List Untaken) → holds x (map (answered h a) us) ≡ holds x us
 holds_answered h x a [] = refl
 holds_answered h x a (u ∷ us) = ap (λ b. eqb u.command.handle x || b) (holds_answered h x a us)
 
@@ -361,7 +345,7 @@ kept_received true None P us p = p
 kept_received true (Some ms) P us p = kept_heard ms P us p
 kept_received false content P us p = p
 
-holds_received : (b : Bool) (content : Option (List Msg)) (x : ℕ) (us : List Untaken) → holds x (cond b (hears_content content us) us) ≡ holds x us
+pub holds_received : (b : Bool) (content : Option (List Msg)) (x : ℕ) (us : List Untaken) → holds x (cond b (hears_content content us) us) ≡ holds x us
 holds_received true None x us = refl
 holds_received true (Some ms) x us = holds_heard ms x us
 holds_received false content x us = refl
@@ -399,21 +383,15 @@ receives device first s t now accepted sent came open_at l from content g = reco
 -- just that answer; else there is none.
 pub answer_is : (h : ℕ) (came : ℕ → List AnswerFields) (us : List Untaken) → AreAnswered came us → answer_under h us ≡ cond (holds h us) (first_of (came h)) None
 answer_is h came [] p = refl
-answer_is h came (u ∷ us) p = by_test (eqb u.command.handle h) refl (answer_is h came us p.1)
-  where
-    by_test : (b : Bool) → eqb u.command.handle h ≡ b → answer_under h us ≡ cond (holds h us) (first_of (came h)) None →
-        cond b u.answer (answer_under h us) ≡ cond (b || holds h us) (first_of (came h)) None
-    by_test true q rest = p.0 ∙ ap (λ x. first_of (came x)) (equal_is u.command.handle h q)
-    by_test false q rest = rest
+answer_is h came (u ∷ us) p =
+    on_bool (eqb u.command.handle h) (λ b. eqb u.command.handle h ≡ b → answer_under h us ≡ cond (holds h us) (first_of (came h)) None → cond b u.answer (answer_under h us) ≡ cond (b || holds h us) (first_of (came h)) None)
+    (λ q rest. p.0 ∙ ap (λ x. first_of (came x)) (eqb-true u.command.handle h q)) (λ q rest. rest) refl (answer_is h came us p.1)
 
 -- What holds of each untaken command holds of each but those of a handle.
 pub each_without : (h : ℕ) (P : Untaken → Type 0) (us : List Untaken) → AllByRecursion P us → AllByRecursion P (without_handle h us)
 each_without h P [] p = tt
-each_without h P (u ∷ us) p = by_test (eqb u.command.handle h) (each_without h P us p.1)
-  where
-    by_test : (b : Bool) → AllByRecursion P (without_handle h us) → AllByRecursion P (cond (not b) (u ∷ without_handle h us) (without_handle h us))
-    by_test true rest = rest
-    by_test false rest = (p.0, rest)
+each_without h P (u ∷ us) p = on_bool (eqb u.command.handle h) (λ b. AllByRecursion P (without_handle h us) → AllByRecursion P (cond (not b) (u ∷ without_handle h us) (without_handle h us)))
+    (λ rest. rest) (λ rest. (p.0, rest)) (each_without h P us p.1)
 
 holds_without : (h x : ℕ) (us : List Untaken) → holds x (without_handle h us) ≡ (not (eqb h x) && holds x us)
 holds_without h x [] = sym (nothing (eqb h x))

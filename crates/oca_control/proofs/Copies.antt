@@ -1,48 +1,28 @@
 -- No copy of a command is sent too late.
-use Rattle.std.proofs.Common.{◌≡◌, ℕ, zero, suc, ◌+◌, ◌-◌, ◌<◌, ◌≤◌, Bool, true, false, cond, ◌&&◌, ◌||◌, max, List, [], ◌∷◌, ◌++◌, length, map, Option, Some, None, Result, Ok, Err, is_none, is_some, refl, sym, ap, ◌∙◌, arith, subst, inl, inr, append_assoc, append-nil}
-use Rattle.std.specs.Prelude.{◌==◌, nat_eq, nat_lt, nat_le}
-use Rattle.std.specs.List.{AllByRecursion, list_any, flat_map}
-use Rattle.std.proofs.Math.Dec.{eqb}
-use Rattle.std.proofs.lemmas.Bool.Decides.{nat_tests}
-use Rattle.std.proofs.lemmas.List.Folds.{list_any-append}
-use Rattle.std.proofs.lemmas.Grind.{flat_map-append}
-use Rattle.oca_types.specs.declared.words.Peer.{Peer}
-use Rattle.oca_types.specs.declared.words.Handle.{Handle}
-use Rattle.oca_types.specs.Peers.{RequestFields, CommandFields, same_peer}
-use Rattle.oca_net.specs.Deliveries.{Delivery, Datagram, Quiet, Failed, Sent}
-use Rattle.oca_net.specs.EndStates.{EndState, SendsAllBut, DeliversAndTakes}
+use Rattle.oca_control.proofs.Words.{◌≡◌, ℕ, zero, suc, ◌+◌, ◌-◌, ◌<◌, ◌≤◌, Bool, true, false, cond, ◌&&◌, ◌||◌, max, List, [], ◌∷◌, ◌++◌, length, map, Option, Some, None, Result, Ok, Err, is_none}
+use Rattle.oca_control.proofs.Words.{is_some, refl, sym, ap, ◌∙◌, arith, subst, inl, inr, append_assoc, append-nil, ◌==◌, nat_eq, nat_lt, nat_le, AllByRecursion, list_any, flat_map, eqb, nat_tests}
+use Rattle.oca_control.proofs.Words.{list_any-append, flat_map-append, or_parts, or_right, or_from, eqb-true, leb-true, and_parts, leb-false, le_refl, Peer, Handle, RequestFields, CommandFields}
+use Rattle.oca_control.proofs.Words.{same_peer, Delivery, Datagram, Quiet, Failed, Sent, EndState, SendsAllBut, DeliversAndTakes, Due, ControlFault, Outcome, DriveReport, Msg, Command, Response}
+use Rattle.oca_control.proofs.Words.{KeepAlive, AnswerFields, answer_of_response, Untaken, is_late, marked_sent, new_untaken, answered, hears_all, answer_under, without_handle, LinkState, new_link}
+use Rattle.oca_control.proofs.Words.{late_at, present_moment, command_under, submission, submitted, after_submission, Decision, GivesCommand, GivesKeepAlive, GivesNothing, IsLost, decision}
+use Rattle.oca_control.proofs.Words.{due_answer, due_bytes, after_due, gone_on, hears_content, taken, Call, Submits, SendsDue, Receives, TakesAnswer, IsCall, IsHistory, clock_of_calls, commands}
+use Rattle.oca_control.proofs.Words.{Sending, sending_of, sendings, is_among, goes_on, given_to, all_given_to, HearsDelivery, delivered_at, moments_delivered, GivesIf, SendsInTime, GivesAllInTime}
+use Rattle.oca_control.proofs.Words.{GivesAfter, Turns, TakesTurns, NoneTaken, OneTaken, Waits, Begins, Asks, HasOutcome, TakesTurnsBefore, WaitsUntil, on_bool}
 use Rattle.oca_net.proofs.Running.{runs_none, runs_more, runs_closed}
-use Rattle.oca_control.specs.declared.due.Due.{Due}
-use Rattle.oca_control.specs.declared.fault.ControlFault.{ControlFault}
 use Rattle.oca_control.specs.declared.fault.ControlFault.TheVariants as faults
-use Rattle.oca_control.specs.declared.outcome.Outcome.{Outcome}
 use Rattle.oca_control.specs.declared.outcome.Outcome.TheVariants as outcomes
-use Rattle.oca_control.specs.declared.report.DriveReport.{DriveReport}
-use Rattle.oca_pdu.specs.Messages.{Msg, Command, Response, KeepAlive}
-use Rattle.oca_control.specs.Answers.{AnswerFields, answer_of_response}
-use Rattle.oca_control.specs.Untaken.{Untaken, is_late, marked_sent, new_untaken, answered, hears_all, answer_under, without_handle}
-use Rattle.oca_control.specs.Links.{LinkState, new_link, late_at, present_moment, command_under, submission, submitted, after_submission, Decision, GivesCommand, GivesKeepAlive, GivesNothing, IsLost, decision, due_answer, due_bytes, after_due, gone_on, hears_content, taken}
-use Rattle.oca_control.specs.Histories.{Call, Submits, SendsDue, Receives, TakesAnswer, IsCall, IsHistory, clock_of_calls, commands, Sending, sending_of, sendings}
-use Rattle.oca_control.specs.Answering.{is_among}
-use Rattle.oca_control.specs.Driving.{goes_on, decisions_from, link_from, given_to, all_given_to, HearsDelivery}
-use Rattle.oca_control.specs.Running.{delivered_at, moments_delivered}
-use Rattle.oca_control.specs.Turning.{GivesIf, SendsInTime, GivesAllInTime, GivesAfter, Turns}
-use Rattle.oca_control.specs.Asking.{TakesTurns, NoneTaken, OneTaken, Waits, Begins, Asks, HasOutcome}
-use Rattle.oca_control.specs.Waiting.{TakesTurnsBefore, WaitsUntil}
+use Rattle.oca_control.specs.Driving.{decisions_from, link_from}
 use Rattle.oca_control.specs.Waiting as waiting
 use Rattle.oca_control.specs.Copies.{submitted_at, LeavesInTime, MakesInTime, EveryCallInTimeGoesOn, is_sent_out, datagrams_sent, datagrams_heard, short_datagram, IsAskedAt, IsMadeInTime, EveryStepIsInTime}
-use Rattle.oca_control.proofs.Following.{equal_is, equal_self, unequal, is_at_most, both_true, each_map, each_both, each_append, end_of, IsSent}
+use Rattle.oca_control.proofs.Following.{equal_self, unequal, each_map, each_both, each_append, end_of, IsSent}
 use Rattle.oca_control.proofs.Calls.{is_accepted, is_given, each_first, each_without}
 use Rattle.oca_control.proofs.Histories.{Now, holds_after}
 use Rattle.oca_control.proofs.Turns.{device_stays}
-
-neither : (a b : Bool) → (a || b) ≡ false → (a ≡ false) × (b ≡ false)
-neither true b e = cc
-neither false b e = (refl, e)
+use Rattle.oca_control.proofs.Settling.{again}
 
 none_of : (p : Untaken → Bool) (us : List Untaken) → list_any p us ≡ false → AllByRecursion (λ u. p u ≡ false) us
 none_of p [] e = tt
-none_of p (u ∷ us) e = let b = neither (p u) (list_any p us) e in (b.0, none_of p us b.1)
+none_of p (u ∷ us) e = let b = or_parts (p u) (list_any p us) e in (b.0, none_of p us b.1)
 
 -- ---- when commands were submitted
 
@@ -110,7 +90,7 @@ dated device first opened s (Submits r now (Ok x) ∷ before) l some p =
     (λ u (q : IsSent s (first + length (commands before)) (commands before) (λ h. sendings opened h before) u.command u.times u.last) (a : (submitted_at opened u.command.handle before ≡ Some u.submitted) × (u.submitted ≤ max old.moment now) × (u.last ≤ max old.moment now)).
     (ap (λ b. cond b (Some (max (clock_of_calls opened before) now)) (submitted_at opened u.command.handle before)) (older u.command u.times u.last q) ∙ a.0, a.1, a.2))
     old.untaken g.are_sent (dated_later old.moment now (λ h. submitted_at opened h before) old.untaken (dated device first opened s before old some p.1)))
-    ((its, at_most (max old.moment now), none (max old.moment now)), tt))
+    ((its, le_refl (max old.moment now), none (max old.moment now)), tt))
   where
     old : LinkState
     old = p.0
@@ -130,9 +110,6 @@ dated device first opened s (Submits r now (Ok x) ∷ before) l some p =
 
     its : at x.0 ≡ Some (present_moment now old)
     its = ap (λ b. cond b (Some (max (clock_of_calls opened before) now)) (submitted_at opened x.0 before)) (equal_self x.0) ∙ ap (λ m. Some (max m now)) (sym g.moment_is)
-
-    at_most : (k : ℕ) → k ≤ k
-    at_most k = omega arith
 
     none : (k : ℕ) → 0 ≤ k
     none k = omega arith
@@ -160,7 +137,7 @@ dated device first opened s (TakesAnswer h answer ∷ before) l some p =
 young : (t submitted : ℕ) (answer : Option AnswerFields) (times last : ℕ) →
     (is_none answer && (nat_eq times 0 || nat_le 250 (t - last))) ≡ true → (is_none answer && nat_lt 15000 (t - submitted)) ≡ false → t ≤ submitted + 15000
 young t submitted answer times last due calm =
-    close (sym (ap (λ b. b && nat_lt 15000 (t - submitted)) (both_true (is_none answer) (nat_eq times 0 || nat_le 250 (t - last)) due).0) ∙ calm)
+    close (sym (ap (λ b. b && nat_lt 15000 (t - submitted)) (and_parts (is_none answer) (nat_eq times 0 || nat_le 250 (t - last)) due).0) ∙ calm)
   where
     close : nat_lt 15000 (t - submitted) ≡ false → t ≤ submitted + 15000
     close p = grind (arith, nat_tests)
@@ -171,7 +148,9 @@ leaves_now : (device : Peer) (first opened s : ℕ) (before : List Call) (l : Li
 leaves_now device first opened s before l now h bytes GivesKeepAlive some p calm e all = all
 leaves_now device first opened s before l now h bytes GivesNothing some p calm e all = all
 leaves_now device first opened s before l now h bytes IsLost some p calm e all = all
-leaves_now device first opened s before l now h bytes (GivesCommand c) some p calm e all = by_test (eqb h c.handle) refl
+leaves_now device first opened s before l now h bytes (GivesCommand c) some p calm e all =
+    on_bool (eqb h c.handle) (λ b. eqb h c.handle ≡ b → AllByRecursion (LeavesInTime (submitted_at opened h before)) (cond b (it ∷ sendings opened h before) (sendings opened h before)))
+    (λ q. (here (eqb-true h c.handle q), all)) (λ q. all) refl
   where
     at_now : present_moment now l ≡ max (clock_of_calls opened before) now
     at_now = ap (λ m. max m now) (holds_after device first opened s before l some p).now.moment_is
@@ -195,17 +174,17 @@ leaves_now device first opened s before l now h bytes (GivesCommand c) some p ca
             further : (k : ℕ) → k ≤ l.moment → k ≤ max l.moment now
             further k q = omega arith
 
-    by_test : (b : Bool) → eqb h c.handle ≡ b → AllByRecursion (LeavesInTime (submitted_at opened h before)) (cond b (it ∷ sendings opened h before) (sendings opened h before))
-    by_test true q = (here (equal_is h c.handle q), all)
-    by_test false q = all
-
 -- By calls in time of a new link whose span is not 0, each copy of a command leaves not before its submit, and at most
 -- 15,000 ms after.
 pub copies_in_time : (device : Peer) (first opened s : ℕ) (calls : List Call) (after : LinkState) → 0 < s → MakesInTime (new_link device first opened s) calls after →
     (h : ℕ) → AllByRecursion (LeavesInTime (submitted_at opened h calls)) (sendings opened h calls)
 copies_in_time device first opened s [] after some m h = tt
 copies_in_time device first opened s (Submits r now (Err fault) ∷ before) after some m h = copies_in_time device first opened s before m.0 some m.1 h
-copies_in_time device first opened s (Submits r now (Ok x) ∷ before) after some m h = by_test (eqb h x.0) refl (copies_in_time device first opened s before m.0 some m.1 h)
+copies_in_time device first opened s (Submits r now (Ok x) ∷ before) after some m h =
+    on_bool (eqb h x.0) (λ b. eqb h x.0 ≡ b → AllByRecursion (LeavesInTime (submitted_at opened h before)) (sendings opened h before) → AllByRecursion (LeavesInTime (cond b (Some (max
+    (clock_of_calls opened before) now)) (submitted_at opened h before))) (sendings opened h before))
+    (λ q rest. subst (AllByRecursion (LeavesInTime (Some (max (clock_of_calls opened before) now)))) (sym (fresh (eqb-true h x.0 q))) tt)
+    (λ q rest. rest) refl (copies_in_time device first opened s before m.0 some m.1 h)
   where
     p : IsHistory device first opened s before m.0
     p = is_history device first opened s before m.0 m.1
@@ -218,11 +197,6 @@ copies_in_time device first opened s (Submits r now (Ok x) ∷ before) after som
         let n : end_of m.0.next ≡ x.0 = ap end_of (is_accepted r x m.0 (sym m.2.0)).next in
         let k : end_of m.0.next ≡ first + length (commands before) = g.next_is in
         g.fresh h (omega arith)
-
-    by_test : (b : Bool) → eqb h x.0 ≡ b → AllByRecursion (LeavesInTime (submitted_at opened h before)) (sendings opened h before) →
-        AllByRecursion (LeavesInTime (cond b (Some (max (clock_of_calls opened before) now)) (submitted_at opened h before))) (sendings opened h before)
-    by_test true q rest = subst (AllByRecursion (LeavesInTime (Some (max (clock_of_calls opened before) now)))) (sym (fresh (equal_is h x.0 q))) tt
-    by_test false q rest = rest
 copies_in_time device first opened s (Receives from bytes content now a ∷ before) after some m h = copies_in_time device first opened s before m.0 some m.1 h
 copies_in_time device first opened s (TakesAnswer x a ∷ before) after some m h = copies_in_time device first opened s before m.0 some m.1 h
 copies_in_time device first opened s (SendsDue now a bytes ∷ before) after some m h =
@@ -284,11 +258,7 @@ among_first : (x : ℕ) (ms ns : List ℕ) → is_among x ms ≡ true → is_amo
 among_first x ms ns k = list_any-append (λ y. y == x) ms ns ∙ ap (λ b. b || is_among x ns) k
 
 among_last : (x : ℕ) (ms ns : List ℕ) → is_among x ns ≡ true → is_among x (ms ++ ns) ≡ true
-among_last x ms ns k = list_any-append (λ y. y == x) ms ns ∙ either (is_among x ms) (is_among x ns) k
-  where
-    either : (a b : Bool) → b ≡ true → (a || b) ≡ true
-    either true b q = refl
-    either false b q = q
+among_last x ms ns k = list_any-append (λ y. y == x) ms ns ∙ or_right (is_among x ms) (is_among x ns) k
 
 -- one step, and then another that is at no other moments
 then_made : {others : List ℕ} {a b c : LinkState} {d e f : EndState} → IsMadeInTime others a b d e → IsMadeInTime [] b c e f → IsMadeInTime others a c d f
@@ -332,17 +302,11 @@ then_taken {l = l} h m made = record {
   asked = (tt, m.asked);
 }
 
-again : (m now : ℕ) → max (max m now) now ≡ max m now
-again m now = omega arith
-
 none_marked_sent : (t h : ℕ) (us : List Untaken) → list_any (is_late t) us ≡ false → list_any (is_late t) (map (marked_sent t h) us) ≡ false
 none_marked_sent t h [] e = refl
 none_marked_sent t h (u ∷ us) e =
-    let b = neither (is_late t u) (list_any (is_late t) us) e in
-    both (is_late t u) (list_any (is_late t) (map (marked_sent t h) us)) b.0 (none_marked_sent t h us b.1)
-  where
-    both : (a b : Bool) → a ≡ false → b ≡ false → (a || b) ≡ false
-    both a b p q = cc
+    let b = or_parts (is_late t u) (list_any (is_late t) us) e in
+    or_from (is_late t u) (list_any (is_late t) (map (marked_sent t h) us)) b.0 (none_marked_sent t h us b.1)
 
 pub calm_after : (now : ℕ) (l : LinkState) → late_at now l ≡ false → late_at now (gone_on now l) ≡ false
 calm_after now l calm = by (decision now l)
@@ -424,21 +388,15 @@ step_of {old = old} {e = e} {f = f} failed x s = record {
 }
 
 gives_made : (now : ℕ) (old new : LinkState) (e f : EndState) (r : DriveReport) → SendsInTime now old new e f r → IsMadeInTime (now ∷ []) old new e f
-gives_made now old new e f r k = by (late_at now old) refl k
-  where
-    by : (b : Bool) → late_at now old ≡ b → GivesIf b now old new e f r → IsMadeInTime (now ∷ []) old new e f
-    by true q x = unchanged (now ∷ []) x.0 x.1
-    by false q x =
-        step_of r.failed_sends (subst (λ (l : LinkState). SentBy (now ∷ []) old l (decisions_from now (old.span + 1) old)) (sym x.link) (made_from (old.span + 1) now old q)) x.sends
+gives_made now old new e f r k = on_bool (late_at now old) (λ b. late_at now old ≡ b → GivesIf b now old new e f r → IsMadeInTime (now ∷ []) old new e f)
+    (λ q x. unchanged (now ∷ []) x.0 x.1)
+    (λ q x. step_of r.failed_sends (subst (λ (l : LinkState). SentBy (now ∷ []) old l (decisions_from now (old.span + 1) old)) (sym x.link) (made_from (old.span + 1) now old q)) x.sends) refl k
 
 all_made : (now : ℕ) (old new : LinkState) (ds : List Decision) → GivesAllInTime now old new ds → SentBy (now ∷ []) old new ds
-all_made now old new ds (is, link) = by (late_at now old) refl is link
-  where
-    by : (b : Bool) → late_at now old ≡ b → ds ≡ cond b (IsLost ∷ []) (decisions_from now (old.span + 1) old) → new ≡ cond b old (link_from now (old.span + 1) old) → SentBy (now ∷ []) old new ds
-    by true q is link = sent_nothing (now ∷ []) link (λ p. ap (all_given_to p) (sym is))
-    by false q is link =
-        subst (λ (xs : List Decision). SentBy (now ∷ []) old new xs) (sym is)
-        (subst (λ (l : LinkState). SentBy (now ∷ []) old l (decisions_from now (old.span + 1) old)) (sym link) (made_from (old.span + 1) now old q))
+all_made now old new ds (is, link) =
+    on_bool (late_at now old) (λ b. late_at now old ≡ b → ds ≡ cond b (IsLost ∷ []) (decisions_from now (old.span + 1) old) → new ≡ cond b old (link_from now (old.span + 1) old) → SentBy (now ∷ []) old new ds)
+    (λ q is link. sent_nothing (now ∷ []) link (λ p. ap (all_given_to p) (sym is)))
+    (λ q is link. subst (λ (xs : List Decision). SentBy (now ∷ []) old new xs) (sym is) (subst (λ (l : LinkState). SentBy (now ∷ []) old l (decisions_from now (old.span + 1) old)) (sym link) (made_from (old.span + 1) now old q))) refl is link
 
 -- what is heard of a delivery, by calls in time
 record HeardBy (d : Delivery) (old new : LinkState) : Type 0 where
@@ -454,12 +412,9 @@ heard_nothing same none = record { calls = []; made = same; sent = λ p. refl; h
 heard_made : (d : Delivery) (old new : LinkState) (n : ℕ) → HearsDelivery d old new n → HeardBy d old new
 heard_made (Datagram from bytes now) old new n x = by (nat_le (length bytes) 1472) refl
   where
-    over : (k : ℕ) → nat_le k 1472 ≡ false → 1472 < k
-    over k p = grind (arith, nat_tests)
-
     by : (b : Bool) → nat_le (length bytes) 1472 ≡ b → HeardBy (Datagram from bytes now) old new
     by true q =
-        let s = x.short (is_at_most (length bytes) 1472 q) in
+        let s = x.short (leb-true (length bytes) 1472 q) in
         record {
           calls = Receives from bytes s.1.content now s.0 ∷ [];
           made = (old, refl, (s.1.holds, s.1.answer_is, s.1.link_is), tt);
@@ -467,7 +422,7 @@ heard_made (Datagram from bytes now) old new n x = by (nat_le (length bytes) 147
           heard = ap (λ b. cond b (Datagram from bytes now ∷ []) []) (sym q);
           asked = λ ms. (tt, tt);
         }
-    by false q = heard_nothing (x.long (over (length bytes) q)).0 (ap (λ b. cond b (Datagram from bytes now ∷ []) []) (sym q))
+    by false q = heard_nothing (x.long (leb-false (length bytes) 1472 q)).0 (ap (λ b. cond b (Datagram from bytes now ∷ []) []) (sym q))
 heard_made (Quiet now) old new n x = heard_nothing x.0 refl
 heard_made Failed old new n x = heard_nothing x.0 refl
 
@@ -572,11 +527,7 @@ stays_late now later l le late = by l.untaken late
 
     either : (a b x y : Bool) → (a ≡ true → x ≡ true) → (b ≡ true → y ≡ true) → (a || b) ≡ true → (x || y) ≡ true
     either true b x y f g p = ap (λ z. z || y) (f refl)
-    either false b x y f g p = second x y (g p)
-      where
-        second : (x y : Bool) → y ≡ true → (x || y) ≡ true
-        second true y q = refl
-        second false y q = q
+    either false b x y f g p = or_right x y (g p)
 
     by : (us : List Untaken) → list_any (is_late (present_moment now l)) us ≡ true → list_any (is_late (present_moment later l)) us ≡ true
     by [] p = cc

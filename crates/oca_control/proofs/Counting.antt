@@ -1,20 +1,11 @@
 -- How many commands a datagram answers.
-use Rattle.std.proofs.Common.{◌≡◌, ℕ, suc, ◌+◌, ◌<◌, Bool, true, false, cond, ◌&&◌, ◌||◌, List, [], ◌∷◌, length, map, Option, Some, None, is_none, is_some, refl, sym, ap, ◌∙◌, arith, subst}
-use Rattle.std.specs.Prelude.{nat_eq, filter}
-use Rattle.std.specs.List.{AllByRecursion, list_any}
-use Rattle.std.proofs.Math.Dec.{eqb}
-use Rattle.std.proofs.lemmas.Bool.Decides.{nat_tests}
-use Rattle.oca_types.specs.declared.words.Peer.{Peer}
-use Rattle.oca_types.specs.Peers.{same_peer}
-use Rattle.oca_pdu.specs.Messages.{Msg, Command, Response, KeepAlive}
-use Rattle.oca_control.specs.declared.reception.Reception.{Reception}
+use Rattle.oca_control.proofs.Words.{◌≡◌, ℕ, suc, ◌+◌, ◌<◌, Bool, true, false, cond, ◌&&◌, ◌||◌, List, [], ◌∷◌, length, map, Option, Some, None, is_none, is_some, refl, sym, ap, ◌∙◌, arith, subst}
+use Rattle.oca_control.proofs.Words.{nat_eq, filter, AllByRecursion, list_any, nat_tests, and-false, and-true, eqb-true, Peer, same_peer, Msg, Command, Response, KeepAlive, Reception, AnswerFields}
+use Rattle.oca_control.proofs.Words.{answer_of_response, Untaken, waits, answered, answers_by_all, holds, LinkState, reception, reception_of, reception_counted, Call, Submits, SendsDue, Receives}
+use Rattle.oca_control.proofs.Words.{TakesAnswer, IsHistory, answers_among, answers_to, first_of, is_untaken, on_bool}
 use Rattle.oca_control.specs.declared.reception.Reception.TheVariants as receptions
-use Rattle.oca_control.specs.Answers.{AnswerFields, answer_of_response}
-use Rattle.oca_control.specs.Untaken.{Untaken, waits, answered, answers_by_all, holds}
-use Rattle.oca_control.specs.Links.{LinkState, reception, reception_of, reception_counted}
-use Rattle.oca_control.specs.Histories.{Call, Submits, SendsDue, Receives, TakesAnswer, IsHistory, answers_among, answers_to, first_of, is_untaken}
 use Rattle.oca_control.specs.Receptions.{AreRising, AnswersSoMany, AnswersOfDevice, IsReception, AnswersDatagrams}
-use Rattle.oca_control.proofs.Following.{equal_is, each_map, AreAnswered}
+use Rattle.oca_control.proofs.Following.{each_map, AreAnswered}
 use Rattle.oca_control.proofs.Dues.{Rises, rises_answered}
 use Rattle.oca_control.proofs.Histories.{holds_after}
 
@@ -22,13 +13,9 @@ use Rattle.oca_control.proofs.Histories.{holds_after}
 abbrev fresh : List Msg → Untaken → Bool
 fresh ms u = is_none u.answer && is_some (first_of (answers_among u.command.handle ms))
 
-and_false : (b : Bool) → (b && false) ≡ false
-and_false true = refl
-and_false false = refl
-
 none_fresh : (us : List Untaken) → length (filter (fresh []) us) ≡ 0
 none_fresh [] = refl
-none_fresh (u ∷ us) = ap (λ b. length (cond b (u ∷ filter (fresh []) us) (filter (fresh []) us))) (and_false (is_none u.answer)) ∙ none_fresh us
+none_fresh (u ∷ us) = ap (λ b. length (cond b (u ∷ filter (fresh []) us) (filter (fresh []) us))) (and-false (is_none u.answer)) ∙ none_fresh us
 
 -- no other waits behind
 none_waits : (h k : ℕ) (us : List Untaken) → h ≡ k → AllByRecursion (λ v. k < v.command.handle) us → list_any (waits h) us ≡ false
@@ -69,7 +56,7 @@ one_answered h a ms f (u ∷ us) r same other = by_handle (nat_eq u.command.hand
     by_handle true q rest =
         ap (λ b. cond ((b && is_none u.answer) || list_any (waits h) us) 1 0
         + length (cond (is_none (cond (b && is_none u.answer) (Some a) u.answer) && is_some (first_of (answers_among u.command.handle ms))) (answered h a u ∷ filter (fresh ms) (map (answered h a) us)) (filter (fresh ms) (map (answered h a) us)))) q
-        ∙ by_answer u.answer (none_waits h u.command.handle us (sym (equal_is u.command.handle h q)) r.0) rest
+        ∙ by_answer u.answer (none_waits h u.command.handle us (sym (eqb-true u.command.handle h q)) r.0) rest
         ∙ sym (ap (λ b. length (cond b (u ∷ filter f us) (filter f us))) (same u q))
     by_handle false q rest =
         ap (λ b. cond ((b && is_none u.answer) || list_any (waits h) us) 1 0
@@ -90,12 +77,8 @@ counted (Command respond c ∷ ms) us r = from_zero (answers_by_all ms us) ∙ c
 counted (Response x ∷ ms) us r =
     ap (λ n. cond (list_any (waits x.handle) us) 1 0 + n) (counted ms (map (answered x.handle (answer_of_response x)) us) (rises_answered x.handle (answer_of_response x) us r))
     ∙ one_answered x.handle (answer_of_response x) ms (fresh (Response x ∷ ms)) us r
-    (λ u q. ap (λ b. is_none u.answer && is_some (first_of (cond b (answer_of_response x ∷ answers_among u.command.handle ms) (answers_among u.command.handle ms)))) q ∙ and_true (is_none u.answer))
+    (λ u q. ap (λ b. is_none u.answer && is_some (first_of (cond b (answer_of_response x ∷ answers_among u.command.handle ms) (answers_among u.command.handle ms)))) q ∙ and-true (is_none u.answer))
     (λ u q. ap (λ b. is_none u.answer && is_some (first_of (cond b (answer_of_response x ∷ answers_among u.command.handle ms) (answers_among u.command.handle ms)))) q)
-  where
-    and_true : (b : Bool) → (b && true) ≡ b
-    and_true true = refl
-    and_true false = refl
 
 -- ---- their handles
 
@@ -104,19 +87,13 @@ handles_of us = map (λ u. u.command.handle) us
 
 above_kept : (k : ℕ) (p : Untaken → Bool) (us : List Untaken) → AllByRecursion (λ v. k < v.command.handle) us → AllByRecursion (λ y. k < y) (handles_of (filter p us))
 above_kept k p [] a = tt
-above_kept k p (u ∷ us) a = by_test (p u) (above_kept k p us a.1)
-  where
-    by_test : (b : Bool) → AllByRecursion (λ y. k < y) (handles_of (filter p us)) → AllByRecursion (λ y. k < y) (handles_of (cond b (u ∷ filter p us) (filter p us)))
-    by_test true rest = (a.0, rest)
-    by_test false rest = rest
+above_kept k p (u ∷ us) a = on_bool (p u) (λ b. AllByRecursion (λ y. k < y) (handles_of (filter p us)) → AllByRecursion (λ y. k < y) (handles_of (cond b (u ∷ filter p us) (filter p us))))
+    (λ rest. (a.0, rest)) (λ rest. rest) (above_kept k p us a.1)
 
 rising_kept : (p : Untaken → Bool) (us : List Untaken) → Rises us → AreRising (handles_of (filter p us))
 rising_kept p [] r = tt
-rising_kept p (u ∷ us) r = by_test (p u) (rising_kept p us r.1)
-  where
-    by_test : (b : Bool) → AreRising (handles_of (filter p us)) → AreRising (handles_of (cond b (u ∷ filter p us) (filter p us)))
-    by_test true rest = (above_kept u.command.handle p us r.0, rest)
-    by_test false rest = rest
+rising_kept p (u ∷ us) r = on_bool (p u) (λ b. AreRising (handles_of (filter p us)) → AreRising (handles_of (cond b (u ∷ filter p us) (filter p us))))
+    (λ rest. (above_kept u.command.handle p us r.0, rest)) (λ rest. rest) (rising_kept p us r.1)
 
 among_kept : (h : ℕ) (p : Untaken → Bool) (q : ℕ → Bool) (us : List Untaken) → AllByRecursion (λ u. p u ≡ q u.command.handle) us →
     list_any (λ x. nat_eq x h) (handles_of (filter p us)) ≡ (holds h us && q h)
@@ -124,13 +101,13 @@ among_kept h p q [] a = refl
 among_kept h p q (u ∷ us) a = by_tests (p u) refl (nat_eq u.command.handle h) refl (among_kept h p q us a.1)
   where
     here : (b : Bool) → p u ≡ b → nat_eq u.command.handle h ≡ true → q h ≡ b
-    here b e f = ap q (sym (equal_is u.command.handle h f)) ∙ sym a.0 ∙ e
+    here b e f = ap q (sym (eqb-true u.command.handle h f)) ∙ sym a.0 ∙ e
 
     by_tests : (b : Bool) → p u ≡ b → (c : Bool) → nat_eq u.command.handle h ≡ c → list_any (λ x. nat_eq x h) (handles_of (filter p us)) ≡ (holds h us && q h) →
         list_any (λ x. nat_eq x h) (handles_of (cond b (u ∷ filter p us) (filter p us))) ≡ ((c || holds h us) && q h)
     by_tests true e true f rest = ap (λ c. c || list_any (λ x. nat_eq x h) (handles_of (filter p us))) f ∙ sym (here true e f)
     by_tests true e false f rest = ap (λ c. c || list_any (λ x. nat_eq x h) (handles_of (filter p us))) f ∙ rest
-    by_tests false e true f rest = rest ∙ ap (λ c. holds h us && c) (here false e f) ∙ and_false (holds h us) ∙ sym (here false e f)
+    by_tests false e true f rest = rest ∙ ap (λ c. holds h us && c) (here false e f) ∙ and-false (holds h us) ∙ sym (here false e f)
     by_tests false e false f rest = rest
 
 as_many : (us : List Untaken) → length (handles_of us) ≡ length us
@@ -154,17 +131,14 @@ reception_right : (device from : Peer) (content : Option (List Msg)) (before : L
 reception_right device from content before l a same held are r e = subst (IsReception device from content before) (sym (e ∙ ap (λ d. cond (same_peer from d) (reception_of content l.untaken) receptions.Stranger) same)) (by_sender (same_peer from device) refl)
   where
     by_number : (ms : List Msg) → same_peer from device ≡ true → content ≡ Some ms → (n : ℕ) → answers_by_all ms l.untaken ≡ n → IsReception device from content before (reception_counted n)
-    by_number ms q c n p = by_zero (nat_eq n 0) refl
+    by_number ms q c n p = on_bool (nat_eq n 0) (λ b. nat_eq n 0 ≡ b → IsReception device from content before (cond b receptions.NothingNew (receptions.Answered n)))
+        (λ p. subst (AnswersOfDevice device from content before) (eqb-true n 0 p) its) (λ p. (its, positive p)) refl
       where
         its : AnswersOfDevice device from content before n
         its = record { sender = q; messages = ms; content_is = c; answers = subst (AnswersSoMany device ms before) p (so_many device ms before l.untaken held are r) }
 
         positive : nat_eq n 0 ≡ false → 0 < n
         positive p = grind (arith, nat_tests)
-
-        by_zero : (b : Bool) → nat_eq n 0 ≡ b → IsReception device from content before (cond b receptions.NothingNew (receptions.Answered n))
-        by_zero true p = subst (AnswersOfDevice device from content before) (equal_is n 0 p) its
-        by_zero false p = (its, positive p)
 
     by_content : (o : Option (List Msg)) → same_peer from device ≡ true → content ≡ o → IsReception device from content before (reception_of o l.untaken)
     by_content None q c = (q, c)

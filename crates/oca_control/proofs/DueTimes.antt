@@ -1,13 +1,10 @@
 -- From which moment on something is due, and which answer is there first.
-use Rattle.std.proofs.Common.{◌≡◌, ℕ, ◌+◌, ◌-◌, ◌^◌, ◌<◌, ◌≤◌, Bool, true, false, cond, ◌||◌, max, List, [], ◌∷◌, ◌++◌, Option, Some, None, refl, sym, ap, ◌∙◌, subst, arith, append-nil}
-use Rattle.std.specs.Prelude.{nat_lt, nat_le, is_some}
-use Rattle.std.specs.List.{list_any}
-use Rattle.std.proofs.lemmas.Bool.{le-leb, lt-leb}
-use Rattle.oca_types.specs.Moments.{HoldsFrom}
+use Rattle.oca_control.proofs.Words.{◌≡◌, ℕ, ◌+◌, ◌-◌, ◌^◌, ◌<◌, ◌≤◌, Bool, true, false, cond, ◌||◌, max, List, [], ◌∷◌, ◌++◌, Option, Some, None, refl, sym, ap, ◌∙◌, subst, arith, append-nil, nat_lt}
+use Rattle.oca_control.proofs.Words.{nat_le, list_any, le-leb, lt-leb, HoldsFrom, Untaken, is_due, is_late, first_due, first_answered, LinkState, command_under, GivesCommand, GivesKeepAlive}
+use Rattle.oca_control.proofs.Words.{GivesNothing, IsLost, decision_among, decision, IsNextDue, NeverIsDue, Held, held_at, held_is_due, held_is_late, held_answer, untaken_at, some_due, on_bool}
+use Rattle.std.specs.Prelude.{is_some}
 use Rattle.oca_types.proofs.MomentTests.{same_test}
-use Rattle.oca_control.specs.Untaken.{Untaken, is_due, is_late, first_due, first_answered}
-use Rattle.oca_control.specs.Links.{LinkState, command_under, GivesCommand, GivesKeepAlive, GivesNothing, IsLost, decision_among, decision, IsNextDue, NeverIsDue}
-use Rattle.oca_control.specs.PrivateSlots.{Held, held_at, held_is_due, held_is_late, held_answer, untaken_at, untaken_from, some_due}
+use Rattle.oca_control.specs.PrivateSlots.{untaken_from}
 use Rattle.oca_control.proofs.Places.{split, step, done}
 
 -- ---- a walk through the handles
@@ -26,12 +23,9 @@ grown lo h slots above = by (h - lo) (omega arith) (omega arith)
 
 due_more : (s : ℕ) (us vs : List Untaken) → some_due (us ++ vs) s ≡ (some_due us s || some_due vs s)
 due_more s [] vs = refl
-due_more s (u ∷ us) vs = by_test (is_due s u) (due_more s us vs)
-  where
-    by_test : (b : Bool) → is_some (first_due s (us ++ vs)) ≡ (is_some (first_due s us) || is_some (first_due s vs)) →
-        is_some (cond b (Some u) (first_due s (us ++ vs))) ≡ (is_some (cond b (Some u) (first_due s us)) || is_some (first_due s vs))
-    by_test true rest = refl
-    by_test false rest = rest
+due_more s (u ∷ us) vs =
+    on_bool (is_due s u) (λ b. is_some (first_due s (us ++ vs)) ≡ (is_some (first_due s us) || is_some (first_due s vs)) → is_some (cond b (Some u) (first_due s (us ++ vs))) ≡ (is_some (cond b (Some u) (first_due s us)) || is_some (first_due s vs)))
+    (λ rest. refl) (λ rest. rest) (due_more s us vs)
 
 one_due : (h s : ℕ) (o : Option Held) → some_due (untaken_at h o) s ≡ held_is_due s o
 one_due h s None = refl
@@ -145,14 +139,3 @@ module _ (l : LinkState) (going : l.lost ≡ false) where
 
   pub next_none : (o : Option ℕ) → HoldsFrom (λ s. some_due l.untaken s || nat_le 2500 (s - l.sent)) o → o ≡ None → NeverIsDue l
   next_none o p is = record { never = λ s own fits. quiet s own (subst (HoldsFrom (λ s. some_due l.untaken s || nat_le 2500 (s - l.sent))) is p s fits) }
-
--- a lost link is due at once, since `due` returns that
-pub next_lost : (l : LinkState) → l.lost ≡ true → IsNextDue l l.moment
-next_lost l lost = record {
-  own = omega arith;
-  due = λ e. differs (sym (ap (λ b. cond b IsLost (decision_among (max l.moment l.moment) l.sent (first_due (max l.moment l.moment) l.untaken))) lost) ∙ e);
-  earlier = λ s own below. absurd (omega arith);
-}
-  where
-    differs : IsLost ≡ GivesNothing → ⊥
-    differs e = cc

@@ -1,16 +1,8 @@
 -- Which command is due, by what was sent and what came.
-use Rattle.std.proofs.Common.{◌≡◌, ℕ, ◌-◌, ◌<◌, ◌≤◌, Bool, true, false, cond, not, ◌&&◌, ◌||◌, List, [], ◌∷◌, ◌++◌, length, map, Option, Some, None, is_none, refl, sym, ap, ◌∙◌, arith, subst, suc}
-use Rattle.std.specs.Prelude.{nat_eq, nat_le}
-use Rattle.std.specs.List.{AllByRecursion}
-use Rattle.std.proofs.Math.Dec.{eqb}
-use Rattle.std.proofs.lemmas.Bool.Decides.{nat_tests}
-use Rattle.oca_types.specs.Peers.{CommandFields}
-use Rattle.oca_pdu.specs.Messages.{Msg, Command, Response, KeepAlive}
-use Rattle.oca_control.specs.Answers.{AnswerFields, answer_of_response}
-use Rattle.oca_control.specs.Untaken.{Untaken, is_due, first_due, marked_sent, answered, hears_all, without_handle, holds}
-use Rattle.oca_control.specs.Links.{LinkState, hears_content}
-use Rattle.oca_control.specs.Histories.{Sending, first_of, may_be_sent}
-use Rattle.oca_control.proofs.Following.{equal_is, equal_self, each_map, each_both, each_append, IsLast, IsSent, AreSent, AreAnswered}
+use Rattle.oca_control.proofs.Words.{◌≡◌, ℕ, ◌-◌, ◌<◌, ◌≤◌, Bool, true, false, cond, not, ◌&&◌, ◌||◌, List, [], ◌∷◌, ◌++◌, length, map, Option, Some, None, is_none, refl, sym, ap, ◌∙◌, arith, subst}
+use Rattle.oca_control.proofs.Words.{suc, nat_eq, nat_le, AllByRecursion, eqb, nat_tests, or-true, eqb-true, CommandFields, Msg, Command, Response, KeepAlive, AnswerFields, answer_of_response}
+use Rattle.oca_control.proofs.Words.{Untaken, is_due, first_due, marked_sent, answered, hears_all, without_handle, holds, LinkState, hears_content, Sending, first_of, may_be_sent, on_bool}
+use Rattle.oca_control.proofs.Following.{equal_self, each_map, each_both, each_append, IsLast, IsSent, AreSent, AreAnswered}
 use Rattle.oca_control.proofs.Calls.{held_answered, each_without}
 
 -- The handles of the untaken commands rise: each is below those behind it.
@@ -58,20 +50,14 @@ rises_received false content us r = r
 -- Handles rise still where the commands of one are taken out.
 pub rises_without : (h : ℕ) (us : List Untaken) → Rises us → Rises (without_handle h us)
 rises_without h [] r = tt
-rises_without h (u ∷ us) r = by_test (eqb u.command.handle h) (rises_without h us r.1)
-  where
-    by_test : (b : Bool) → Rises (without_handle h us) → Rises (cond (not b) (u ∷ without_handle h us) (without_handle h us))
-    by_test true rest = rest
-    by_test false rest = (each_without h (λ v. u.command.handle < v.command.handle) us r.0, rest)
+rises_without h (u ∷ us) r = on_bool (eqb u.command.handle h) (λ b. Rises (without_handle h us) → Rises (cond (not b) (u ∷ without_handle h us) (without_handle h us)))
+    (λ rest. rest) (λ rest. (each_without h (λ v. u.command.handle < v.command.handle) us r.0, rest)) (rises_without h us r.1)
 
 -- what holds of all that are held holds of each handle that is
 pub each_held : (Q : ℕ → Type 0) (x : ℕ) (us : List Untaken) → AllByRecursion (λ v. Q v.command.handle) us → holds x us ≡ true → Q x
 each_held Q x [] a e = cc
-each_held Q x (u ∷ us) a e = by_test (eqb u.command.handle x) refl e (each_held Q x us a.1)
-  where
-    by_test : (b : Bool) → eqb u.command.handle x ≡ b → (b || holds x us) ≡ true → (holds x us ≡ true → Q x) → Q x
-    by_test true q e rest = subst Q (equal_is u.command.handle x q) a.0
-    by_test false q e rest = rest e
+each_held Q x (u ∷ us) a e = on_bool (eqb u.command.handle x) (λ b. eqb u.command.handle x ≡ b → (b || holds x us) ≡ true → (holds x us ≡ true → Q x) → Q x)
+    (λ q e rest. subst Q (eqb-true u.command.handle x q) a.0) (λ q e rest. rest e) refl e (each_held Q x us a.1)
 
 -- due, by what came and what was sent
 abbrev pub due_by : ℕ → (ℕ → List Sending) → (ℕ → List AnswerFields) → ℕ → Bool
@@ -99,14 +85,10 @@ pub first_held : (t : ℕ) (us : List Untaken) (u : Untaken) → first_due t us 
 first_held t [] u e = cc
 first_held t (v ∷ us) u e = by_test (is_due t v) e (first_held t us u)
   where
-    or_true : (b : Bool) → (b || true) ≡ true
-    or_true true = refl
-    or_true false = refl
-
     by_test : (b : Bool) → cond b (Some v) (first_due t us) ≡ Some u → (first_due t us ≡ Some u → holds u.command.handle us ≡ true) → (eqb v.command.handle u.command.handle || holds u.command.handle us) ≡ true
     by_test true e rest = let same : v ≡ u = cc in
         ap (λ b. b || holds u.command.handle us) (ap (λ (w : Untaken). eqb w.command.handle u.command.handle) same ∙ equal_self u.command.handle)
-    by_test false e rest = ap (λ b. eqb v.command.handle u.command.handle || b) (rest e) ∙ or_true (eqb v.command.handle u.command.handle)
+    by_test false e rest = ap (λ b. eqb v.command.handle u.command.handle || b) (rest e) ∙ or-true (eqb v.command.handle u.command.handle)
 
 -- Where handles rise, the first due command has the lowest handle of those that are due.
 pub first_lowest : (t : ℕ) (us : List Untaken) (u : Untaken) → Rises us → first_due t us ≡ Some u → AllByRecursion (λ v. is_due t v ≡ true → u.command.handle ≤ v.command.handle) us
@@ -135,9 +117,6 @@ first_lowest t (v ∷ us) u r e = by_test (is_due t v) refl e (first_lowest t us
 -- Where there is no first due command, none is due.
 pub none_first : (t : ℕ) (us : List Untaken) → first_due t us ≡ None → AllByRecursion (λ v. is_due t v ≡ false) us
 none_first t [] e = tt
-none_first t (v ∷ us) e = by_test (is_due t v) refl e (none_first t us)
-  where
-    by_test : (b : Bool) → is_due t v ≡ b → cond b (Some v) (first_due t us) ≡ None → (first_due t us ≡ None → AllByRecursion (λ w. is_due t w ≡ false) us) →
-        (is_due t v ≡ false) × AllByRecursion (λ w. is_due t w ≡ false) us
-    by_test true q e rest = cc
-    by_test false q e rest = (q, rest e)
+none_first t (v ∷ us) e =
+    on_bool (is_due t v) (λ b. is_due t v ≡ b → cond b (Some v) (first_due t us) ≡ None → (first_due t us ≡ None → AllByRecursion (λ w. is_due t w ≡ false) us) → (is_due t v ≡ false) × AllByRecursion (λ w. is_due t w ≡ false) us)
+    (λ q e rest. cc) (λ q e rest. (q, rest e)) refl e (none_first t us)

@@ -1,20 +1,8 @@
 -- What is true of a link after a history: its state by the calls alone.
-use Rattle.std.proofs.Common.{◌≡◌, ℕ, ◌+◌, ◌<◌, ◌≤◌, Bool, true, false, cond, ◌&&◌, ◌||◌, List, [], ◌∷◌, ◌++◌, length, Option, Some, None, refl, arith}
-use Rattle.std.specs.Prelude.{nat_eq, nat_lt, nat_le}
-use Rattle.std.specs.List.{AllByRecursion}
-use Rattle.std.proofs.lemmas.Bool.Decides.{nat_tests}
-use Rattle.oca_types.specs.declared.words.Peer.{Peer}
-use Rattle.oca_types.specs.Peers.{CommandFields}
-use Rattle.oca_control.specs.Answers.{AnswerFields}
-use Rattle.oca_control.specs.Untaken.{Untaken, holds}
-use Rattle.oca_control.specs.Links.{LinkState, new_link, handle_after}
-use Rattle.oca_control.specs.Histories.{command_accepted, Sending, first_of, RiseFrom, IsCopy, AreSendingsApart}
+use Rattle.oca_control.proofs.Words.{◌≡◌, ℕ, ◌+◌, ◌<◌, ◌≤◌, Bool, true, false, cond, List, [], ◌∷◌, ◌++◌, length, Option, Some, None, refl, arith, nat_eq, AllByRecursion, nat_tests, eqb-true, Peer}
+use Rattle.oca_control.proofs.Words.{CommandFields, AnswerFields, Untaken, holds, LinkState, new_link, handle_after, command_accepted, Sending, first_of, RiseFrom, IsCopy, AreSendingsApart, on_bool}
 
 -- ---- numbers, tests and lists
-
--- Numbers that the test finds equal are equal.
-pub equal_is : (a b : ℕ) → nat_eq a b ≡ true → a ≡ b
-equal_is a b h = grind (arith, nat_tests)
 
 -- The test finds a number equal to itself.
 pub equal_self : (a : ℕ) → nat_eq a a ≡ true
@@ -23,24 +11,6 @@ equal_self a = grind (arith, nat_tests)
 -- The test finds a number unequal to a greater one.
 pub unequal : (a b : ℕ) → a < b → nat_eq a b ≡ false
 unequal a b h = grind (arith, nat_tests)
-
--- A number that the test finds below another is below it.
-pub is_below : (a b : ℕ) → nat_lt a b ≡ true → a < b
-is_below a b p = grind (arith, nat_tests)
-
--- A number that the test finds at most another is at most that.
-pub is_at_most : (a b : ℕ) → nat_le a b ≡ true → a ≤ b
-is_at_most a b p = grind (arith, nat_tests)
-
--- Where two tests hold together, each holds.
-pub both_true : (a b : Bool) → (a && b) ≡ true → (a ≡ true) × (b ≡ true)
-both_true true b q = (refl, q)
-both_true false b q = cc
-
--- A test or false is the test.
-pub or_false : (b : Bool) → (b || false) ≡ b
-or_false true = refl
-or_false false = refl
 
 -- What follows from what holds of each member holds of each.
 pub each_map : {X : Type 0} {P Q : X → Type 0} → ((x : X) → P x → Q x) → (xs : List X) → AllByRecursion P xs → AllByRecursion Q xs
@@ -66,11 +36,8 @@ end_of (Some n) = n
 
 -- The next handle after h is h + 1, or none is left after 4294967295, which counts as 4294967296.
 pub end_after : (h : ℕ) → end_of (handle_after h) ≡ h + 1
-end_after h = by_test (nat_eq h 4294967295) refl
-  where
-    by_test : (b : Bool) → nat_eq h 4294967295 ≡ b → end_of (cond b None (Some (h + 1))) ≡ h + 1
-    by_test true q = let e : h ≡ 4294967295 = equal_is h 4294967295 q in omega arith
-    by_test false q = refl
+end_after h = on_bool (nat_eq h 4294967295) (λ b. nat_eq h 4294967295 ≡ b → end_of (cond b None (Some (h + 1))) ≡ h + 1)
+    (λ q. let e : h ≡ 4294967295 = eqb-true h 4294967295 q in omega arith) (λ q. refl) refl
 
 -- The latest sending, where there is one, was at this moment.
 abbrev pub IsLast : ℕ → List Sending → Type 0

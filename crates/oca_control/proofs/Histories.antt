@@ -1,23 +1,14 @@
 -- What a link's history says of the link.
-use Rattle.std.proofs.Common.{◌≡◌, ℕ, ◌+◌, ◌-◌, ◌<◌, ◌≤◌, Bool, true, false, cond, ◌&&◌, ◌||◌, max, List, [], ◌∷◌, length, Option, Some, None, Result, Ok, Err, is_some, refl, sym, ap, ◌∙◌, arith, subst, inl, inr}
-use Rattle.std.specs.Prelude.{nat_eq, nat_lt, nat_le}
-use Rattle.std.specs.List.{AllByRecursion}
-use Rattle.std.proofs.Math.Dec.{eqb}
-use Rattle.std.proofs.lemmas.Bool.Decides.{nat_tests}
-use Rattle.oca_types.specs.declared.words.Peer.{Peer}
-use Rattle.oca_types.specs.declared.words.Handle.{Handle}
-use Rattle.oca_types.specs.Peers.{CommandFields, same_peer}
-use Rattle.oca_types.specs.Sizes.{most_command_parameter_bytes}
-use Rattle.oca_pdu.specs.Messages.{Msg}
+use Rattle.oca_control.proofs.Words.{◌≡◌, ℕ, ◌+◌, ◌-◌, ◌<◌, ◌≤◌, Bool, true, false, cond, ◌&&◌, ◌||◌, max, List, [], ◌∷◌, length, Option, Some, None, Result, Ok, Err, is_some, refl, sym, ap, ◌∙◌}
+use Rattle.oca_control.proofs.Words.{arith, subst, inl, inr, nat_eq, nat_lt, nat_le, AllByRecursion, eqb, nat_tests, and_from, eqb-true, ltb-true, leb-true, and_parts, or-true, Peer, Handle}
+use Rattle.oca_control.proofs.Words.{CommandFields, same_peer, most_command_parameter_bytes, Msg, ControlFault, AnswerFields, IsContent, Untaken, new_untaken, span_has_room, is_due, first_due}
+use Rattle.oca_control.proofs.Words.{answer_under, without_handle, holds, LinkState, Request, new_link, present_moment, command_under, submission, submission_under, submitted, after_submission}
+use Rattle.oca_control.proofs.Words.{handle_after, Decision, GivesCommand, GivesKeepAlive, GivesNothing, IsLost, decision, decision_among, due_answer, due_bytes, after_due, gone_on, received, taken}
+use Rattle.oca_control.proofs.Words.{Call, Submits, SendsDue, Receives, TakesAnswer, IsCall, IsHistory, clock_of_calls, commands, Sending, sendings, answers_to, first_of, is_untaken, last_given}
+use Rattle.oca_control.proofs.Words.{is_lost, TakesTheFirst, IsLowestDue, NoneIsDue, HasSpanRoom, IsFull, IsSubmitAnswer, AnswersSubmits, IsDueAnswer, GivesWhatIsDue, IsLawful, on_bool}
 use Rattle.oca_pdu.specs.Laws.{OneListOfMessages}
-use Rattle.oca_control.specs.declared.fault.ControlFault.{ControlFault}
 use Rattle.oca_control.specs.declared.fault.ControlFault.TheVariants as faults
-use Rattle.oca_control.specs.Answers.{AnswerFields}
-use Rattle.oca_control.specs.Contents.{IsContent}
-use Rattle.oca_control.specs.Untaken.{Untaken, new_untaken, span_has_room, is_due, first_due, answer_under, without_handle, holds}
-use Rattle.oca_control.specs.Links.{LinkState, Request, new_link, present_moment, command_under, submission, submission_under, submitted, after_submission, handle_after, Decision, GivesCommand, GivesKeepAlive, GivesNothing, IsLost, decision, decision_among, due_answer, due_bytes, after_due, gone_on, received, taken}
-use Rattle.oca_control.specs.Histories.{Call, Submits, SendsDue, Receives, TakesAnswer, IsCall, IsHistory, clock_of_calls, commands, Sending, sendings, answers_to, first_of, is_untaken, last_given, is_lost, TakesTheFirst, IsLowestDue, NoneIsDue, HasSpanRoom, IsFull, IsSubmitAnswer, AnswersSubmits, IsDueAnswer, GivesWhatIsDue, IsLawful}
-use Rattle.oca_control.proofs.Following.{equal_is, equal_self, is_below, is_at_most, both_true, each_map, each_both, end_of, IsSent, AreSent, Follows, opens}
+use Rattle.oca_control.proofs.Following.{equal_self, each_map, each_both, end_of, IsSent, AreSent, Follows, opens}
 use Rattle.oca_control.proofs.Calls.{room_each, is_accepted, submits, is_given, each_first, gives, passes, receives, answer_is, takes}
 use Rattle.oca_control.proofs.Dues.{Rises, OtherFieldsAre, rises_more, rises_marked_sent, rises_received, rises_without, each_held, due_by, due_same, first_held, first_lowest, none_first}
 
@@ -55,7 +46,9 @@ take_step device first opened s before l after h (Some a) e f g =
 due_right : (device : Peer) (first opened s t : ℕ) (before : List Call) (l : LinkState) (d : Decision) → Now device first opened s before l → Rises l.untaken →
     cond (is_lost before) IsLost (decision_among t (last_given opened before) (first_due t l.untaken)) ≡ d →
     IsDueAnswer device opened t (due_bytes d) before (due_answer d)
-due_right device first opened s t before l d g r e = by_lost (is_lost before) refl e
+due_right device first opened s t before l d g r e =
+    on_bool (is_lost before) (λ b. is_lost before ≡ b → cond b IsLost (decision_among t (last_given opened before) (first_due t l.untaken)) ≡ d → IsDueAnswer device opened t (due_bytes d) before (due_answer d))
+    (λ q e. subst (λ x. IsDueAnswer device opened t (due_bytes x) before (due_answer x)) e (inl q, refl)) (λ q e. by_first q (first_due t l.untaken) refl e) refl e
   where
     same : AllByRecursion (λ u. is_due t u ≡ due_by t (λ x. sendings opened x before) (λ x. answers_to device x before) u.command.handle) l.untaken
     same = due_same t s (first + length (commands before)) (commands before) (λ x. sendings opened x before) (λ x. answers_to device x before) l.untaken g.are_sent g.are_answered
@@ -75,16 +68,13 @@ due_right device first opened s t before l d g r e = by_lost (is_lost before) re
 
     lowest_due : (u : Untaken) → first_due t l.untaken ≡ Some u → IsLowestDue device opened t u.command.handle before
     lowest_due u q = record {
-      due = both_are (is_untaken u.command.handle before) (due_by t (λ x. sendings opened x before) (λ x. answers_to device x before) u.command.handle)
+      due = and_from (is_untaken u.command.handle before) (due_by t (λ x. sendings opened x before) (λ x. answers_to device x before) u.command.handle)
           (sym (g.held u.command.handle) ∙ first_held t l.untaken u q)
           (let f = each_first (λ v. is_due t v ≡ due_by t (λ x. sendings opened x before) (λ x. answers_to device x before) v.command.handle) t l.untaken u same q in sym f.0 ∙ f.1);
-      lowest = λ x p. let b = both_true (is_untaken x before) (due_by t (λ x. sendings opened x before) (λ x. answers_to device x before) x) p in
+      lowest = λ x p. let b = and_parts (is_untaken x before) (due_by t (λ x. sendings opened x before) (λ x. answers_to device x before) x) p in
           each_held (λ y. due_by t (λ x. sendings opened x before) (λ x. answers_to device x before) y ≡ true → u.command.handle ≤ y) x l.untaken (all_lowest u q)
           (g.held x ∙ b.0) b.1;
     }
-      where
-        both_are : (a b : Bool) → a ≡ true → b ≡ true → (a && b) ≡ true
-        both_are a b p q = cc
 
     count : (u : Untaken) → first_due t l.untaken ≡ Some u → u.times ≡ length (sendings opened u.command.handle before)
     count u q = (each_first (λ v. IsSent s (first + length (commands before)) (commands before) (λ x. sendings opened x before) v.command v.times v.last) t l.untaken u g.are_sent q).0.count
@@ -92,7 +82,7 @@ due_right device first opened s t before l d g r e = by_lost (is_lost before) re
     by_times : (u : Untaken) → is_lost before ≡ false → first_due t l.untaken ≡ Some u → (b : Bool) → nat_lt u.times 20 ≡ b → cond b (GivesCommand u.command) IsLost ≡ d →
         IsDueAnswer device opened t (due_bytes d) before (due_answer d)
     by_times u lost q true p e = subst (λ x. IsDueAnswer device opened t (due_bytes x) before (due_answer x)) e
-        (lost, lowest_due u q, fewer u.times (length (sendings opened u.command.handle before)) (count u q) (is_below u.times 20 p))
+        (lost, lowest_due u q, fewer u.times (length (sendings opened u.command.handle before)) (count u q) (ltb-true u.times 20 p))
       where
         fewer : (a b : ℕ) → a ≡ b → a < 20 → b < 20
         fewer a b e p = omega arith
@@ -107,7 +97,7 @@ due_right device first opened s t before l d g r e = by_lost (is_lost before) re
     by_silence lost q true p e = subst (λ x. IsDueAnswer device opened t (due_bytes x) before (due_answer x)) e (lost, none_due q, long (last_given opened before) p, refl)
       where
         long : (k : ℕ) → nat_le 2500 (t - k) ≡ true → k + 2500 ≤ t
-        long k p = let q : 2500 ≤ t - k = is_at_most 2500 (t - k) p in omega arith
+        long k p = let q : 2500 ≤ t - k = leb-true 2500 (t - k) p in omega arith
     by_silence lost q false p e = subst (λ x. IsDueAnswer device opened t (due_bytes x) before (due_answer x)) e (lost, none_due q, short (last_given opened before) p, refl)
       where
         short : (k : ℕ) → nat_le 2500 (t - k) ≡ false → t < k + 2500
@@ -116,10 +106,6 @@ due_right device first opened s t before l d g r e = by_lost (is_lost before) re
     by_first : is_lost before ≡ false → (o : Option Untaken) → first_due t l.untaken ≡ o → decision_among t (last_given opened before) o ≡ d → IsDueAnswer device opened t (due_bytes d) before (due_answer d)
     by_first lost None q e = by_silence lost q (nat_le 2500 (t - last_given opened before)) refl e
     by_first lost (Some u) q e = by_times u lost q (nat_lt u.times 20) refl e
-
-    by_lost : (b : Bool) → is_lost before ≡ b → cond b IsLost (decision_among t (last_given opened before) (first_due t l.untaken)) ≡ d → IsDueAnswer device opened t (due_bytes d) before (due_answer d)
-    by_lost true q e = subst (λ x. IsDueAnswer device opened t (due_bytes x) before (due_answer x)) e (inl q, refl)
-    by_lost false q e = by_first q (first_due t l.untaken) refl e
 
 -- What holds of a link after these calls: it follows its history, its handles rise, and its calls of `due` and `take`
 -- gave what they should.
@@ -252,14 +238,10 @@ Fits32 None = Unit {0}
 Fits32 (Some n) = n ≤ 4294967295
 
 fits_after : (h : ℕ) → h ≤ 4294967295 → Fits32 (handle_after h)
-fits_after h p = by_test (nat_eq h 4294967295) refl
+fits_after h p = on_bool (nat_eq h 4294967295) (λ b. nat_eq h 4294967295 ≡ b → Fits32 (cond b None (Some (h + 1)))) (λ q. tt) (λ q. further q) refl
   where
     further : nat_eq h 4294967295 ≡ false → h + 1 ≤ 4294967295
     further q = grind (arith, nat_tests)
-
-    by_test : (b : Bool) → nat_eq h 4294967295 ≡ b → Fits32 (cond b None (Some (h + 1)))
-    by_test true q = tt
-    by_test false q = further q
 
 -- room, or one without
 no_room : (s n : ℕ) (us : List Untaken) → span_has_room s n us ≡ false → (x : ℕ) × (holds x us ≡ true) × (x + s ≤ n)
@@ -269,18 +251,16 @@ no_room s n (u ∷ us) e = by_test (nat_lt n (u.command.handle + s)) refl e (no_
     far : (a : ℕ) → nat_lt n (a + s) ≡ false → a + s ≤ n
     far a q = grind (arith, nat_tests)
 
-    or_true : (b : Bool) → (b || true) ≡ true
-    or_true true = refl
-    or_true false = refl
-
     by_test : (b : Bool) → nat_lt n (u.command.handle + s) ≡ b → (b && span_has_room s n us) ≡ false → (span_has_room s n us ≡ false → (x : ℕ) × (holds x us ≡ true) × (x + s ≤ n)) →
         (x : ℕ) × ((eqb u.command.handle x || holds x us) ≡ true) × (x + s ≤ n)
-    by_test true q e rest = let r = rest e in (r.0, ap (λ b. eqb u.command.handle r.0 || b) r.1 ∙ or_true (eqb u.command.handle r.0), r.2)
+    by_test true q e rest = let r = rest e in (r.0, ap (λ b. eqb u.command.handle r.0 || b) r.1 ∙ or-true (eqb u.command.handle r.0), r.2)
     by_test false q e rest = (u.command.handle, ap (λ b. b || holds u.command.handle us) (equal_self u.command.handle), far u.command.handle q)
 
 submit_right : (device : Peer) (first opened s : ℕ) (before : List Call) (l : LinkState) (r : Request) (a : Result Handle ControlFault) → Now device first opened s before l →
     l.lost ≡ is_lost before → Fits32 l.next → submission r l ≡ a → IsSubmitAnswer s (first + length (commands before)) (length r.params) before a
-submit_right device first opened s before l r a g lost fits e = by_lost l.lost lost e
+submit_right device first opened s before l r a g lost fits e =
+    on_bool l.lost (λ b. b ≡ is_lost before → cond b (Err faults.Lost) (submission_under most_command_parameter_bytes r l.next l) ≡ a → IsSubmitAnswer s (first + length (commands before)) (length r.params) before a)
+    (λ q e. subst (λ x. IsSubmitAnswer s (first + length (commands before)) (length r.params) before x) e (sym q)) (λ q e. by_next (sym q) l.next g.next_is fits e) lost e
   where
     room_of : (k : ℕ) → k ≡ first + length (commands before) → span_has_room l.span k l.untaken ≡ true → HasSpanRoom s (first + length (commands before)) before
     room_of k n q x p = each_held (λ y. first + length (commands before) < y + s) x l.untaken
@@ -303,7 +283,7 @@ submit_right device first opened s before l r a g lost fits e = by_lost l.lost l
         (b : Bool) → nat_lt most_command_parameter_bytes (length r.params) ≡ b → cond b (Err faults.TooLong) (Ok (let h : Handle = record { 0 = k } in h)) ≡ a →
         IsSubmitAnswer s (first + length (commands before)) (length r.params) before a
     by_length q k n f room true p e = subst (λ x. IsSubmitAnswer s (first + length (commands before)) (length r.params) before x) e
-        (q, low k (first + length (commands before)) f n, room_of k n room, is_below 1445 (length r.params) p)
+        (q, low k (first + length (commands before)) f n, room_of k n room, ltb-true 1445 (length r.params) p)
     by_length q k n f room false p e = subst (λ x. IsSubmitAnswer s (first + length (commands before)) (length r.params) before x) e
         (q, n, low k (first + length (commands before)) f n, room_of k n room, short (length r.params) p)
       where
@@ -324,10 +304,6 @@ submit_right device first opened s before l r a g lost fits e = by_lost l.lost l
         spent : (m : ℕ) → 4294967296 ≡ m → 4294967295 < m
         spent m n = omega arith
     by_next q (Some k) n f e = by_room q k n f (span_has_room l.span k l.untaken) refl e
-
-    by_lost : (b : Bool) → b ≡ is_lost before → cond b (Err faults.Lost) (submission_under most_command_parameter_bytes r l.next l) ≡ a → IsSubmitAnswer s (first + length (commands before)) (length r.params) before a
-    by_lost true q e = subst (λ x. IsSubmitAnswer s (first + length (commands before)) (length r.params) before x) e (sym q)
-    by_lost false q e = by_next (sym q) l.next g.next_is fits e
 
 -- the next handle has 32 bits, and so each submit answers what it must
 pub record Fit (first s : ℕ) (calls : List Call) (l : LinkState) : Type 0 where
@@ -366,14 +342,11 @@ fit device first opened s (TakesAnswer x a ∷ before) after some low h =
 -- a held handle lies near the next one
 near_held : (s n h : ℕ) (accepted : List CommandFields) (sent : ℕ → List Sending) (us : List Untaken) → AreSent s n accepted sent us → holds h us ≡ true → n ≤ h + s
 near_held s n h accepted sent [] p e = cc
-near_held s n h accepted sent (u ∷ us) p e = by_test (eqb u.command.handle h) refl e (near_held s n h accepted sent us p.1)
+near_held s n h accepted sent (u ∷ us) p e = on_bool (eqb u.command.handle h) (λ b. eqb u.command.handle h ≡ b → (b || holds h us) ≡ true → (holds h us ≡ true → n ≤ h + s) → n ≤ h + s)
+    (λ q e rest. near_is u.command.handle p.0.near (eqb-true u.command.handle h q)) (λ q e rest. rest e) refl e (near_held s n h accepted sent us p.1)
   where
     near_is : (x : ℕ) → n ≤ x + s → x ≡ h → n ≤ h + s
     near_is x a e = omega arith
-
-    by_test : (b : Bool) → eqb u.command.handle h ≡ b → (b || holds h us) ≡ true → (holds h us ≡ true → n ≤ h + s) → n ≤ h + s
-    by_test true q e rest = near_is u.command.handle p.0.near (equal_is u.command.handle h q)
-    by_test false q e rest = rest e
 
 -- Each history of a link whose span is not 0 is lawful.
 pub lawful : (device : Peer) (first opened span : ℕ) (calls : List Call) (after : LinkState) → 0 < span → IsHistory device first opened span calls after →

@@ -1,28 +1,15 @@
 -- A link that is asked often enough gives each command that waits out in time.
-use Rattle.std.proofs.Common.{◌≡◌, ℕ, suc, ◌+◌, ◌-◌, ◌*◌, ◌<◌, ◌≤◌, Bool, true, false, cond, not, ◌&&◌, ◌||◌, max, List, [], ◌∷◌, ◌++◌, length, Some, None, Ok, Err, is_none, refl, sym, ap, ◌∙◌, arith}
-use Rattle.std.specs.Prelude.{nat_eq, nat_le}
-use Rattle.std.proofs.Math.Dec.{eqb}
-use Rattle.std.proofs.lemmas.Bool.Decides.{nat_tests}
+use Rattle.oca_control.proofs.Words.{◌≡◌, ℕ, suc, ◌+◌, ◌-◌, ◌*◌, ◌<◌, ◌≤◌, Bool, true, false, cond, not, ◌&&◌, ◌||◌, max, List, [], ◌∷◌, ◌++◌, length, Some, None, Ok, Err, is_none, refl, sym, ap, ◌∙◌}
+use Rattle.oca_control.proofs.Words.{arith, nat_eq, nat_le, nat_tests, or_parts, and_parts, le_refl, Peer, Handle, same_peer, Due, AnswerFields, LinkState, Request, Call, Submits, SendsDue, Receives}
+use Rattle.oca_control.proofs.Words.{TakesAnswer, IsHistory, clock_of_calls, commands, Sending, sending_of, sendings, answers_of, answers_to, first_of, is_untaken, may_be_sent, is_lost_answer}
+use Rattle.oca_control.proofs.Words.{is_lost, NoneIsDue, IsDueAnswer, is_none_left, last_asked, IsAskedEvery, IsWaiting, IsSentInTime}
 use Rattle.std.proofs.lemmas.Nat.{row_fits}
-use Rattle.oca_types.specs.declared.words.Peer.{Peer}
-use Rattle.oca_types.specs.declared.words.Handle.{Handle}
-use Rattle.oca_types.specs.Peers.{same_peer}
-use Rattle.oca_control.specs.declared.due.Due.{Due}
 use Rattle.oca_control.specs.declared.due.Due.TheVariants as dues
-use Rattle.oca_control.specs.Answers.{AnswerFields}
-use Rattle.oca_control.specs.Links.{LinkState, Request}
-use Rattle.oca_control.specs.Histories.{Call, Submits, SendsDue, Receives, TakesAnswer, IsHistory, clock_of_calls, commands, Sending, sending_of, sendings, answers_of, answers_to, first_of, is_untaken, may_be_sent, is_lost_answer, is_lost, NoneIsDue, IsDueAnswer}
-use Rattle.oca_control.specs.Answering.{is_none_left, last_asked, IsAskedEvery, IsWaiting, IsSentInTime}
-use Rattle.oca_control.proofs.Following.{both_true}
 use Rattle.oca_control.proofs.Histories.{IsMadeBy, is_made_by, holds_after_calls}
 
 none_more : (xs ys : List AnswerFields) → first_of (xs ++ ys) ≡ None → first_of xs ≡ None
 none_more [] ys e = refl
 none_more (x ∷ xs) ys e = cc
-
-neither : (a b : Bool) → (a || b) ≡ false → (a ≡ false) × (b ≡ false)
-neither true b e = cc
-neither false b e = (refl, e)
 
 first_alone : (a b : Bool) → (a || b) ≡ true → b ≡ false → a ≡ true
 first_alone true b e q = refl
@@ -65,14 +52,11 @@ in_time_by ms since asked t [] p few g = let r : asked ≤ since = g.rested in r
 in_time_by ms since asked t (x ∷ xs) p few g =
     let r : asked < x.at + 250 = g.rested in
     let e : x.at ≤ since + ms + length xs * (250 + ms) = g.early in
-    let m : length xs * (250 + ms) + (250 + ms) ≤ 20 * (250 + ms) = row_fits (length xs) (250 + ms) 20 (250 + ms) (below (length xs) few) (at_most (250 + ms)) in
+    let m : length xs * (250 + ms) + (250 + ms) ≤ 20 * (250 + ms) = row_fits (length xs) (250 + ms) 20 (250 + ms) (below (length xs) few) (le_refl (250 + ms)) in
     record { recent = omega arith; ends = omega arith }
   where
     below : (n : ℕ) → suc n ≤ 20 → n < 20
     below n p = omega arith
-
-    at_most : (n : ℕ) → n ≤ n
-    at_most n = omega arith
 
 -- ---- from a submit on
 
@@ -199,15 +183,12 @@ module _ (device : Peer) (first opened s : ℕ) (some : 0 < s) (before : List Ca
       by dues.Lost soon d w = let q : true ≡ false = w.not_lost in cc
 
   given : (later : List Call) (after : LinkState) → IsMadeBy device first opened s (later ++ base) after → IsAskedEvery ms since later → IsWaiting device h.0 (later ++ base) → GivenAfter later
-  given [] after p e w = rw none (record { rested = at_most since; early = tt })
+  given [] after p e w = rw none (record { rested = le_refl since; early = tt })
     where
-      at_most : (n : ℕ) → n ≤ n
-      at_most n = omega arith
-
       none : sendings opened h.0 before ≡ []
       none = let n : h.0 ≡ first + length (commands before) = number_of [] after p in (holds_after_calls device first opened s before p.0 some p.1).now.fresh h.0 (omega arith)
   given (SendsDue n a bytes ∷ later) after p e w =
-      let lost = neither (is_lost_answer a) (is_lost (later ++ base)) w.not_lost in
+      let lost = or_parts (is_lost_answer a) (is_lost (later ++ base)) w.not_lost in
       by_due later n a bytes e.0 (holds_after_calls device first opened s (SendsDue n a bytes ∷ (later ++ base)) after some p).dues_are.0 w
       (given later p.0 p.1 e.1 (record { untaken = w.untaken; unanswered = w.unanswered; not_lost = lost.1 }))
   given (Submits q n (Ok x) ∷ later) after p e w =
@@ -224,7 +205,7 @@ module _ (device : Peer) (first opened s : ℕ) (some : 0 < s) (before : List Ca
     not_lost = w.not_lost;
   })
   given (TakesAnswer x (Some a) ∷ later) after p e w = given later p.0 p.1 e.1 (record {
-    untaken = (both_true (not (nat_eq x h.0)) (is_untaken h.0 (later ++ base)) w.untaken).1;
+    untaken = (and_parts (not (nat_eq x h.0)) (is_untaken h.0 (later ++ base)) w.untaken).1;
     unanswered = w.unanswered;
     not_lost = w.not_lost;
   })

@@ -1,22 +1,14 @@
 -- What is sent in time, and a turn.
-use Rattle.std.proofs.Common.{◌≡◌, ℕ, ◌+◌, ◌<◌, ◌≤◌, min, Bool, true, false, cond, List, [], ◌∷◌, ◌++◌, length, refl, sym, ap, ◌∙◌, subst, arith, inl, inr}
-use Rattle.std.specs.Prelude.{IsTrue, count_by}
-use Rattle.oca_types.specs.declared.words.Peer.{Peer}
-use Rattle.oca_net.specs.declared.end.Heard.{Heard}
+use Rattle.oca_control.proofs.Words.{◌≡◌, ℕ, ◌+◌, ◌<◌, ◌≤◌, min, Bool, true, false, cond, List, [], ◌∷◌, ◌++◌, length, refl, sym, ap, ◌∙◌, subst, arith, inl, inr, IsTrue, count_by, Peer, Heard}
+use Rattle.oca_control.proofs.Words.{Delivery, Datagram, Quiet, Failed, is_failed, last_u64, EndState, SendsAllBut, DeliversAndTakes, Reception, ReceivesDatagram, DriveReport, LinkState, Decision}
+use Rattle.oca_control.proofs.Words.{IsLost, late_at, answered_by, is_failed_delivery, drive_report_of, all_given_to, GivesIf, SendsInTime, decisions_in_time, link_in_time, TurnsInTime, TurnsLinkOnce}
+use Rattle.oca_control.proofs.Words.{Turns, given_report}
 use Rattle.oca_net.specs.declared.end.Heard.TheVariants as heard
-use Rattle.oca_net.specs.Deliveries.{Delivery, Datagram, Quiet, Failed}
-use Rattle.oca_net.specs.Ends.{is_failed, last_u64}
-use Rattle.oca_net.specs.EndStates.{EndState, Receives, SendsAllBut, DeliversAndTakes}
+use Rattle.oca_net.specs.EndStates.{Receives}
 use Rattle.oca_net.proofs.Sending.{sends_none}
 use Rattle.oca_net.proofs.Hearing.{oversize_heard}
 use Rattle.oca_net.proofs.Running.{runs_one}
-use Rattle.oca_control.specs.declared.reception.Reception.{Reception}
-use Rattle.oca_control.specs.Steps.{ReceivesDatagram}
-use Rattle.oca_control.specs.declared.report.DriveReport.{DriveReport}
-use Rattle.oca_control.specs.Links.{LinkState, Decision, IsLost, late_at}
-use Rattle.oca_control.specs.Driving.{answered_by, is_failed_delivery, drive_report_of, all_given_to, decisions_from, link_from}
-use Rattle.oca_control.specs.Turning.{GivesIf, SendsInTime, decisions_in_time, link_in_time, TurnsInTime, TurnsLinkOnce, Turns}
-use Rattle.oca_control.specs.PrivateDriving.{given_report}
+use Rattle.oca_control.specs.Driving.{decisions_from, link_from}
 use Rattle.oca_control.proofs.Turns.{datagram_reported, silent_reported, failed_reported, heard_datagram, same_device}
 
 -- what was sent in time, by what was decided

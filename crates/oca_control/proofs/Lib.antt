@@ -1,3 +1,4 @@
+pub mod Words
 pub mod Following
 pub mod Calls
 pub mod Dues

@@ -1,20 +1,10 @@
 -- Commands that are lost before they are late.
-use Rattle.std.proofs.Common.{◌≡◌, ℕ, zero, suc, ◌+◌, ◌-◌, ◌*◌, ◌<◌, ◌≤◌, Bool, true, false, cond, ◌&&◌, ◌||◌, max, List, [], ◌∷◌, ◌++◌, length, map, Option, Some, None, Ok, is_none, refl, sym, ap, ◌∙◌, arith, subst}
-use Rattle.std.specs.Prelude.{nat_eq, nat_lt, nat_le}
-use Rattle.std.specs.List.{AllByRecursion, list_any}
-use Rattle.std.proofs.Math.Dec.{eqb}
-use Rattle.std.proofs.Math.Nat.{suc-mul, mul-le-mul_right}
-use Rattle.std.proofs.lemmas.Bool.Decides.{nat_tests}
-use Rattle.oca_types.specs.declared.words.Peer.{Peer}
-use Rattle.oca_types.specs.declared.words.Handle.{Handle}
-use Rattle.oca_types.specs.Peers.{RequestFields}
-use Rattle.oca_pdu.specs.Messages.{Msg, Command, Response, KeepAlive}
-use Rattle.oca_control.specs.Answers.{AnswerFields, answer_of_response}
-use Rattle.oca_control.specs.Untaken.{Untaken, new_untaken, is_due, is_late, marked_sent, waits, answered, hears_all}
-use Rattle.oca_control.specs.Links.{LinkState, present_moment, late_at, command_under, submission, submitted, after_submission, Decision, GivesCommand, GivesKeepAlive, GivesNothing, IsLost, decision, after_due, hears_content}
-use Rattle.oca_control.specs.Histories.{Call, IsHistory, sendings}
-use Rattle.oca_control.specs.Driving.{goes_on, link_from}
-use Rattle.oca_control.specs.Running.{NothingIsLeft, HasTimeLeft, HaveTimeLeft, HasTimeAt}
+use Rattle.oca_control.proofs.Words.{◌≡◌, ℕ, zero, suc, ◌+◌, ◌-◌, ◌*◌, ◌<◌, ◌≤◌, Bool, true, false, cond, ◌&&◌, ◌||◌, max, List, [], ◌∷◌, ◌++◌, length, map, Option, Some, None, Ok, is_none, refl, sym}
+use Rattle.oca_control.proofs.Words.{ap, ◌∙◌, arith, subst, nat_eq, nat_lt, nat_le, AllByRecursion, list_any, eqb, suc-mul, mul-le-mul_right, nat_tests, or_from, Peer, Handle, RequestFields, Msg}
+use Rattle.oca_control.proofs.Words.{Command, Response, KeepAlive, AnswerFields, answer_of_response, Untaken, new_untaken, is_due, is_late, marked_sent, waits, answered, hears_all, LinkState}
+use Rattle.oca_control.proofs.Words.{present_moment, late_at, command_under, submission, submitted, after_submission, Decision, GivesCommand, GivesKeepAlive, GivesNothing, IsLost, decision, after_due}
+use Rattle.oca_control.proofs.Words.{hears_content, Call, IsHistory, sendings, goes_on, NothingIsLeft, HasTimeLeft, HaveTimeLeft, HasTimeAt}
+use Rattle.oca_control.specs.Driving.{link_from}
 use Rattle.oca_control.proofs.Following.{each_map, each_both, each_append}
 use Rattle.oca_control.proofs.Dues.{none_first}
 use Rattle.oca_control.proofs.Histories.{holds_after}
@@ -163,10 +153,7 @@ fits_submitted ms request now l h e short q =
 
 none_any : (p : Untaken → Bool) (us : List Untaken) → AllByRecursion (λ u. p u ≡ false) us → list_any p us ≡ false
 none_any p [] a = refl
-none_any p (u ∷ us) a = both (p u) (list_any p us) a.0 (none_any p us a.1)
-  where
-    both : (a b : Bool) → a ≡ false → b ≡ false → (a || b) ≡ false
-    both a b p q = cc
+none_any p (u ∷ us) a = or_from (p u) (list_any p us) a.0 (none_any p us a.1)
 
 -- A link whose commands fit is not late.
 pub calm_fits : (ms now : ℕ) (l : LinkState) → AllByRecursion (Fits ms (present_moment now l)) l.untaken → late_at now l ≡ false

@@ -1,25 +1,14 @@
 -- What is known of the content of bytes.
-use Rattle.std.proofs.Common.{◌≡◌, ℕ, ◌+◌, ◌≤◌, true, false, cond, List, [], ◌∷◌, length, map, refl, sym, ap, ◌∙◌, arith, subst, Option, Some, None, Result, Ok, Err, Bool, length-append}
-use Rattle.std.specs.Prelude.{nat_lt, nat_le}
-use Rattle.std.specs.List.{flat_map}
-use Rattle.std.proofs.lemmas.Bool.Decides.{nat_tests}
+use Rattle.oca_control.proofs.Words.{◌≡◌, ℕ, ◌+◌, ◌≤◌, true, cond, List, [], ◌∷◌, length, map, refl, sym, ap, ◌∙◌, arith, subst, Option, Some, None, Result, Ok, Err, Bool, length-append, nat_le}
+use Rattle.oca_control.proofs.Words.{flat_map, nat_tests, le-ltb, CommandFields, Peer, Msg, Command, Response, KeepAlive, Pdu, Commands, Responses, OneKeepAlive, ResponseFields, messages_of}
+use Rattle.oca_control.proofs.Words.{IsDatagram, pdu_encoding, response_encoding, read_datagram, Reception, IsContent, LinkState, reception, received, shortened_message, shortened, ReceivesWithin}
+use Rattle.oca_control.proofs.Words.{IsShortResponse, AreShortResponses, on_bool}
 use Rattle.std.proofs.lemmas.List.Concat.{flat_map-cons}
-use Rattle.oca_types.specs.Peers.{CommandFields}
 use Rattle.oca_pdu.specs.declared.fault.PduFault.{PduFault}
-use Rattle.oca_types.specs.declared.words.Peer.{Peer}
-use Rattle.oca_pdu.specs.Messages.{Msg, Command, Response, KeepAlive, Pdu, Commands, Responses, OneKeepAlive, ResponseFields, messages_of}
-use Rattle.oca_pdu.specs.Encoding.{IsDatagram, pdu_encoding, response_encoding}
-use Rattle.oca_pdu.specs.Reading.{read_datagram}
 use Rattle.oca_pdu.proofs.Codec.{IsBytes}
 use Rattle.oca_pdu.proofs.Decided.{each-append}
 use Rattle.oca_pdu.proofs.Encoded.{datagram_again}
 use Rattle.oca_pdu.proofs.Exact.{is_found, not_refused}
-use Rattle.oca_control.specs.declared.reception.Reception.{Reception}
-use Rattle.oca_control.specs.Contents.{IsContent}
-use Rattle.oca_control.specs.Links.{LinkState, reception, received}
-use Rattle.oca_control.specs.Shortening.{shortened_message, shortened}
-use Rattle.oca_control.specs.Steps.{ReceivesWithin}
-use Rattle.oca_control.specs.PrivateSlots.{IsShortResponse, AreShortResponses}
 
 -- what reading gives
 abbrev pub content_read : Result (List Msg) PduFault → Option (List Msg)
@@ -77,10 +66,7 @@ datagram_short ps bytes ms are same =
 
 -- What is short enough is not shortened.
 kept_answer : (most : ℕ) (r : ResponseFields) → length r.params ≤ most → shortened_message most (Response r) ≡ Response r
-kept_answer most r short = ap (λ b. Response (record { handle = r.handle; status = cond b 14 r.status; count = cond b 0 r.count; params = cond b [] r.params })) (not_above most (length r.params) short)
-  where
-    not_above : (a b : ℕ) → b ≤ a → nat_lt a b ≡ false
-    not_above a b p = grind (arith, nat_tests)
+kept_answer most r short = ap (λ b. Response (record { handle = r.handle; status = cond b 14 r.status; count = cond b 0 r.count; params = cond b [] r.params })) (le-ltb most (length r.params) short)
 
 -- Where an answer may have as many bytes of parameters as a datagram holds, no message of a datagram is shortened.
 kept_messages : (most : ℕ) (ms : List Msg) → 1452 ≤ most → AreShortResponses ms → map (shortened_message most) ms ≡ ms
@@ -93,22 +79,15 @@ kept_messages most (KeepAlive form ∷ ms) wide short = ap (λ xs. KeepAlive for
 
 -- The messages of a datagram, each shortened.
 pub shortened_is : (most : ℕ) (ms : List Msg) → AreShortResponses ms → shortened most (Some ms) ≡ Some (map (shortened_message most) ms)
-shortened_is most ms short = by (nat_le 1452 most) refl
+shortened_is most ms short = on_bool (nat_le 1452 most) (λ b. nat_le 1452 most ≡ b → cond b (Some ms) (Some (map (shortened_message most) ms)) ≡ Some (map (shortened_message most) ms))
+    (λ p. ap (λ (x : List Msg). Some x) (sym (kept_messages most ms (wide most p) short))) (λ p. refl) refl
   where
     wide : (a : ℕ) → nat_le 1452 a ≡ true → 1452 ≤ a
     wide a p = grind (arith, nat_tests)
 
-    by : (b : Bool) → nat_le 1452 most ≡ b → cond b (Some ms) (Some (map (shortened_message most) ms)) ≡ Some (map (shortened_message most) ms)
-    by true p = ap (λ (x : List Msg). Some x) (sym (kept_messages most ms (wide most p) short))
-    by false p = refl
-
 -- Bytes that are no datagram hold nothing to shorten.
 pub shortened_none : (most : ℕ) → shortened most None ≡ None
-shortened_none most = by (nat_le 1452 most)
-  where
-    by : (b : Bool) → (let x : Option (List Msg) = cond b None None in x) ≡ None
-    by true = refl
-    by false = refl
+shortened_none most = on_bool (nat_le 1452 most) (λ b. (let x : Option (List Msg) = cond b None None in x) ≡ None) refl refl
 
 -- A datagram was heard whose messages are these, each shortened.
 pub received_messages : {most now : ℕ} {from : Peer} {bytes : List ℕ} {old new : LinkState} {returned : Reception} (ms : List Msg) → IsContent (Some ms) bytes → AreShortResponses ms →

@@ -1,13 +1,11 @@
 -- What a write to one slot does to the untaken commands.
-use Rattle.std.proofs.Common.{◌≡◌, ℕ, zero, suc, ◌+◌, ◌-◌, ◌%◌, ◌<◌, ◌≤◌, ◌≢◌, Bool, true, false, cond, List, [], ◌∷◌, ◌++◌, length, map, get_or, set, refl, sym, ap, ◌∙◌, arith, subst, Option, Some, None, append_assoc, append-nil, length-append, ◌⊎◌, inl, inr}
-use Rattle.std.specs.Prelude.{nat_lt, nat_eq, not, is_some, is_none, ◌&&◌, ◌||◌}
-use Rattle.std.specs.List.{list_any}
-use Rattle.std.proofs.lemmas.List.{get_or-set_same, get_or-set_other, get_or_default, map-append}
+use Rattle.oca_control.proofs.Words.{◌≡◌, ℕ, zero, suc, ◌+◌, ◌-◌, ◌%◌, ◌<◌, ◌≤◌, ◌≢◌, Bool, true, false, cond, List, [], ◌∷◌, ◌++◌, length, map, get_or, set, refl, sym, ap, ◌∙◌, arith, subst, Option}
+use Rattle.oca_control.proofs.Words.{Some, None, append_assoc, append-nil, length-append, ◌⊎◌, inl, inr, nat_lt, nat_eq, list_any, get_or-set_same, get_or-set_other, get_or_default, map-append}
+use Rattle.oca_control.proofs.Words.{list_any-append, list_all-append, nat_tests, zero-add, add-zero, ne_eqb, lt-ltb, eq-eqb, ltb-true, or-false, Untaken, first_due, waits, answer_under}
+use Rattle.oca_control.proofs.Words.{without_handle, span_has_room, Held, held_at, held_is_due, held_waits, held_answer, untaken_at, on_bool}
+use Rattle.std.specs.Prelude.{not, is_some, is_none, ◌&&◌, ◌||◌}
 use Rattle.std.proofs.lemmas.List.Elements.{filter-append}
-use Rattle.std.proofs.lemmas.List.Folds.{list_any-append, list_all-append}
-use Rattle.std.proofs.lemmas.Bool.Decides.{nat_tests}
-use Rattle.oca_control.specs.Untaken.{Untaken, first_due, waits, answer_under, without_handle, span_has_room}
-use Rattle.oca_control.specs.PrivateSlots.{Held, held_at, held_is_due, held_waits, held_answer, untaken_at, untaken_from}
+use Rattle.oca_control.specs.PrivateSlots.{untaken_from}
 
 -- handles less than 32 apart have slots of their own
 pub apart : (h k : ℕ) → h < k → k < h + 32 → k % 32 ≢ h % 32
@@ -28,13 +26,7 @@ others h lo (suc n) slots x far =
 -- The commands of m + n handles are those of the first m and then those of the n others.
 pub split : (lo m n : ℕ) (slots : List (Option Held)) → untaken_from lo (m + n) slots ≡ untaken_from lo m slots ++ untaken_from (lo + m) n slots
 unfolding untaken_from
-split lo zero n slots = ap (λ i. untaken_from lo i slots) (zero_plus n) ∙ ap (λ i. untaken_from i n slots) (sym (plus_zero lo))
-  where
-    zero_plus : (n : ℕ) → 0 + n ≡ n
-    zero_plus n = omega arith
-
-    plus_zero : (n : ℕ) → n + 0 ≡ n
-    plus_zero n = omega arith
+split lo zero n slots = ap (λ i. untaken_from lo i slots) (zero-add n) ∙ ap (λ i. untaken_from i n slots) (sym (add-zero lo))
 split lo (suc m) n slots =
     ap (λ i. untaken_from lo i slots) (suc_plus m n)
     ∙ ap (λ us. untaken_at lo (held_at lo slots) ++ us) (split (lo + 1) m n slots ∙ ap (λ i. untaken_from (lo + 1) m slots ++ untaken_from i n slots) (one_on lo m))
@@ -132,12 +124,9 @@ other_handles h lo (suc n) slots far =
     ∙ ap (λ us. us ++ without_handle h (untaken_from (lo + 1) n slots)) (one (held_at lo slots))
     ∙ ap (λ us. untaken_at lo (held_at lo slots) ++ us) (other_handles h (lo + 1) n slots (λ k l u. far k (omega arith) (omega arith)))
   where
-    differs : (a b : ℕ) → a ≢ b → nat_eq a b ≡ false
-    differs a b n = grind (arith, nat_tests)
-
     one : (o : Option Held) → without_handle h (untaken_at lo o) ≡ untaken_at lo o
     one None = refl
-    one (Some k) = ap (λ b. cond (not b) (untaken_at lo (Some k)) []) (differs lo h (far lo (omega arith) (omega arith)))
+    one (Some k) = ap (λ b. cond (not b) (untaken_at lo (Some k)) []) (ne_eqb lo h (far lo (omega arith) (omega arith)))
 
 without_parts : (h : ℕ) (front mid back : List Untaken) → without_handle h front ≡ front → without_handle h back ≡ back → without_handle h mid ≡ [] →
     front ++ ([] ++ back) ≡ without_handle h (front ++ (mid ++ back))
@@ -216,12 +205,9 @@ waits_none h lo (suc n) slots far =
     ∙ ap (λ b. b || list_any (waits h) (untaken_from (lo + 1) n slots)) (one (held_at lo slots))
     ∙ waits_none h (lo + 1) n slots (λ k l u. far k (omega arith) (omega arith))
   where
-    differs : (a b : ℕ) → a ≢ b → nat_eq a b ≡ false
-    differs a b n = grind (arith, nat_tests)
-
     one : (o : Option Held) → list_any (waits h) (untaken_at lo o) ≡ false
     one None = refl
-    one (Some k) = ap (λ b. (b && is_none k.answer) || false) (differs lo h (far lo (omega arith) (omega arith)))
+    one (Some k) = ap (λ b. (b && is_none k.answer) || false) (ne_eqb lo h (far lo (omega arith) (omega arith)))
 
 -- No answer is held under a handle that is none of those looked at.
 pub answer_none : (h lo n : ℕ) (slots : List (Option Held)) → ((k : ℕ) → lo ≤ k → k < lo + n → k ≢ h) → answer_under h (untaken_from lo n slots) ≡ None
@@ -229,12 +215,9 @@ unfolding untaken_from
 answer_none h lo zero slots far = refl
 answer_none h lo (suc n) slots far = one (held_at lo slots) (answer_none h (lo + 1) n slots (λ k l u. far k (omega arith) (omega arith)))
   where
-    differs : (a b : ℕ) → a ≢ b → nat_eq a b ≡ false
-    differs a b n = grind (arith, nat_tests)
-
     one : (o : Option Held) → answer_under h (untaken_from (lo + 1) n slots) ≡ None → answer_under h (untaken_at lo o ++ untaken_from (lo + 1) n slots) ≡ None
     one None rest = rest
-    one (Some k) rest = ap (λ b. cond b k.answer (answer_under h (untaken_from (lo + 1) n slots))) (differs lo h (far lo (omega arith) (omega arith))) ∙ rest
+    one (Some k) rest = ap (λ b. cond b k.answer (answer_under h (untaken_from (lo + 1) n slots))) (ne_eqb lo h (far lo (omega arith) (omega arith))) ∙ rest
 
 -- in the range of handles, what the slot says
 pub waits_at : (lo hi h : ℕ) (slots : List (Option Held)) → lo ≤ h → h < hi → list_any (waits h) (untaken_from lo (hi - lo) slots) ≡ held_waits (held_at h slots)
@@ -243,13 +226,9 @@ waits_at lo hi h slots above below = by (h - lo) (hi - (h + 1)) (omega arith) (o
     same : (a : ℕ) → nat_eq a a ≡ true
     same a = grind (arith, nat_tests)
 
-    or_false : (b : Bool) → (b || false) ≡ b
-    or_false true = refl
-    or_false false = refl
-
     one : (a : ℕ) (o : Option Held) → list_any (waits a) (untaken_at a o) ≡ held_waits o
     one a None = refl
-    one a (Some k) = ap (λ b. (b && is_none k.answer) || false) (same a) ∙ or_false (is_none k.answer)
+    one a (Some k) = ap (λ b. (b && is_none k.answer) || false) (same a) ∙ or-false (is_none k.answer)
 
     by : (m n : ℕ) → lo + m ≡ h → m + (n + 1) ≡ hi - lo → list_any (waits h) (untaken_from lo (hi - lo) slots) ≡ held_waits (held_at h slots)
     by m n e1 e2 =
@@ -260,18 +239,15 @@ waits_at lo hi h slots above below = by (h - lo) (hi - (h + 1)) (omega arith) (o
         ∙ ap (λ b. b || list_any (waits (lo + m)) (untaken_at (lo + m) (held_at (lo + m) slots) ++ untaken_from (lo + m + 1) n slots)) (waits_none (lo + m) lo m slots (λ k l u e. omega arith))
         ∙ list_any-append (waits (lo + m)) (untaken_at (lo + m) (held_at (lo + m) slots)) (untaken_from (lo + m + 1) n slots)
         ∙ ap (λ b. list_any (waits (lo + m)) (untaken_at (lo + m) (held_at (lo + m) slots)) || b) (waits_none (lo + m) (lo + m + 1) n slots (λ k l u e. omega arith))
-        ∙ or_false (list_any (waits (lo + m)) (untaken_at (lo + m) (held_at (lo + m) slots)))
+        ∙ or-false (list_any (waits (lo + m)) (untaken_at (lo + m) (held_at (lo + m) slots)))
         ∙ one (lo + m) (held_at (lo + m) slots)))
 
 answer_behind : (h : ℕ) (us vs : List Untaken) → answer_under h us ≡ None → list_any (λ u. nat_eq u.command.handle h) us ≡ false → answer_under h (us ++ vs) ≡ answer_under h vs
 answer_behind h [] vs none other = refl
-answer_behind h (u ∷ us) vs none other = by (nat_eq u.command.handle h) none other (answer_behind h us vs)
-  where
-    by : (b : Bool) → cond b u.answer (answer_under h us) ≡ None → (b || list_any (λ (u : Untaken). nat_eq u.command.handle h) us) ≡ false →
-        (answer_under h us ≡ None → list_any (λ (u : Untaken). nat_eq u.command.handle h) us ≡ false → answer_under h (us ++ vs) ≡ answer_under h vs) →
-        cond b u.answer (answer_under h (us ++ vs)) ≡ answer_under h vs
-    by true none other more = cc
-    by false none other more = more none other
+answer_behind h (u ∷ us) vs none other =
+    on_bool (nat_eq u.command.handle h) (λ b. cond b u.answer (answer_under h us) ≡ None → (b || list_any (λ (u : Untaken). nat_eq u.command.handle h) us) ≡ false → (answer_under h us ≡ None → list_any (λ
+    (u : Untaken). nat_eq u.command.handle h) us ≡ false → answer_under h (us ++ vs) ≡ answer_under h vs) → cond b u.answer (answer_under h (us ++ vs)) ≡ answer_under h vs)
+    (λ none other more. cc) (λ none other more. more none other) none other (answer_behind h us vs)
 
 no_handle : (h lo n : ℕ) (slots : List (Option Held)) → ((k : ℕ) → lo ≤ k → k < lo + n → k ≢ h) → list_any (λ (u : Untaken). nat_eq u.command.handle h) (untaken_from lo n slots) ≡ false
 unfolding untaken_from
@@ -281,12 +257,9 @@ no_handle h lo (suc n) slots far =
     ∙ ap (λ b. b || list_any (λ (u : Untaken). nat_eq u.command.handle h) (untaken_from (lo + 1) n slots)) (one (held_at lo slots))
     ∙ no_handle h (lo + 1) n slots (λ k l u. far k (omega arith) (omega arith))
   where
-    differs : (a b : ℕ) → a ≢ b → nat_eq a b ≡ false
-    differs a b n = grind (arith, nat_tests)
-
     one : (o : Option Held) → list_any (λ (u : Untaken). nat_eq u.command.handle h) (untaken_at lo o) ≡ false
     one None = refl
-    one (Some k) = ap (λ b. b || false) (differs lo h (far lo (omega arith) (omega arith)))
+    one (Some k) = ap (λ b. b || false) (ne_eqb lo h (far lo (omega arith) (omega arith)))
 
 -- The answer that is held under a handle in the range is that in its slot.
 pub answer_at : (lo hi h : ℕ) (slots : List (Option Held)) → lo ≤ h → h < hi → answer_under h (untaken_from lo (hi - lo) slots) ≡ held_answer (held_at h slots)
@@ -317,35 +290,26 @@ all_near s h lo (suc n) slots near =
     ∙ ap (λ b. b && span_has_room s h (untaken_from (lo + 1) n slots)) (one (held_at lo slots))
     ∙ all_near s h (lo + 1) n slots (omega arith)
   where
-    lower : (a b : ℕ) → a < b → nat_lt a b ≡ true
-    lower a b p = grind (arith, nat_tests)
-
     one : (o : Option Held) → span_has_room s h (untaken_at lo o) ≡ true
     one None = refl
-    one (Some k) = ap (λ b. b && true) (lower h (lo + s) near)
+    one (Some k) = ap (λ b. b && true) (lt-ltb h (lo + s) near)
 
 -- The lowest decides whether there is room.
 pub room_by_lowest : (s h lo hi : ℕ) (slots : List (Option Held)) → lo ≤ hi → (lo < hi → held_at lo slots ≡ None → ⊥) →
     span_has_room s h (untaken_from lo (hi - lo) slots) ≡ (nat_eq lo hi || nat_lt h (lo + s))
 room_by_lowest s h lo hi slots ordered held = elim (cases lo hi ordered) [
-  | inl same ↦ ap (span_has_room s h) (done lo hi slots (omega arith)) ∙ sym (ap (λ b. b || nat_lt h (lo + s)) (equal lo hi same))
+  | inl same ↦ ap (span_has_room s h) (done lo hi slots (omega arith)) ∙ sym (ap (λ b. b || nat_lt h (lo + s)) (eq-eqb lo hi same))
   | inr below ↦ ap (span_has_room s h) (step lo hi slots below) ∙ by_slot (held_at lo slots) (held below) ∙ sym (ap (λ b. b || nat_lt h (lo + s)) (unequal lo hi below))
 ]
   where
     cases : (a b : ℕ) → a ≤ b → (a ≡ b) ⊎ (a < b)
     cases a b p = grind arith
 
-    equal : (a b : ℕ) → a ≡ b → nat_eq a b ≡ true
-    equal a b p = grind (arith, nat_tests)
-
     unequal : (a b : ℕ) → a < b → nat_eq a b ≡ false
     unequal a b p = grind (arith, nat_tests)
 
-    lower : (a b : ℕ) → nat_lt a b ≡ true → a < b
-    lower a b p = grind (arith, nat_tests)
-
     by_test : (b : Bool) → nat_lt h (lo + s) ≡ b → (b && span_has_room s h (untaken_from (lo + 1) (hi - (lo + 1)) slots)) ≡ b
-    by_test true p = all_near s h (lo + 1) (hi - (lo + 1)) slots (let q : h < lo + s = lower h (lo + s) p in omega arith)
+    by_test true p = all_near s h (lo + 1) (hi - (lo + 1)) slots (let q : h < lo + s = ltb-true h (lo + s) p in omega arith)
     by_test false p = refl
 
     by_slot : (o : Option Held) → (o ≡ None → ⊥) → span_has_room s h (untaken_at lo o ++ untaken_from (lo + 1) (hi - (lo + 1)) slots) ≡ nat_lt h (lo + s)

@@ -1,13 +1,8 @@
 -- Taking messages in, and what a link answers.
-use Rattle.std.proofs.Common.{◌≡◌, ℕ, suc, ◌+◌, ◌<◌, ◌≤◌, Bool, true, false, cond, not, List, [], ◌∷◌, length, map, is_some, refl, sym, ap, ◌∙◌, arith, subst}
-use Rattle.std.specs.Prelude.{nat_lt, ◌&&◌}
-use Rattle.std.proofs.lemmas.Bool.{lt-ltb, ltb-true}
-use Rattle.std.proofs.Math.Dec.{eqb}
-use Rattle.oca_pdu.specs.Messages.{Msg, Command, Response, KeepAlive}
-use Rattle.oca_control.specs.Answers.{AnswerFields, answer_of_response}
-use Rattle.oca_control.specs.Untaken.{Untaken, span_has_room, answered, hears, hears_all, answers_by, answers_by_all, answer_under, without_handle}
-use Rattle.oca_control.specs.Shortening.{shortened_message}
-use Rattle.oca_control.specs.PrivateSlots.{AreShortResponses, IsShortResponse, TableState}
+use Rattle.oca_control.proofs.Words.{◌≡◌, ℕ, suc, ◌+◌, ◌<◌, ◌≤◌, Bool, true, false, cond, not, List, [], ◌∷◌, length, map, is_some, refl, sym, ap, ◌∙◌, arith, subst, nat_lt, lt-ltb, ltb-true, eqb}
+use Rattle.oca_control.proofs.Words.{add_assoc, Msg, Command, Response, KeepAlive, AnswerFields, answer_of_response, Untaken, span_has_room, answered, hears, hears_all, answers_by, answers_by_all}
+use Rattle.oca_control.proofs.Words.{answer_under, without_handle, shortened_message, AreShortResponses, IsShortResponse, TableState, on_bool}
+use Rattle.std.specs.Prelude.{◌&&◌}
 
 -- Half-way through the messages of a datagram, where an answer may have so many bytes of parameters: so many commands
 -- were answered so far, what is still to be heard gives the whole, and the next handle is as it was.
@@ -30,15 +25,12 @@ hears_further most m rest rest' all us first us' hi hi' n n' start h step heard 
   short = (subst AreShortResponses step h.short).1;
   count = ap (λ k. k + answers_by_all (map (shortened_message most) rest') us') count
       ∙ ap (λ vs. n + answers_by (shortened_message most m) us + answers_by_all (map (shortened_message most) rest') vs) heard
-      ∙ plus_assoc n (answers_by (shortened_message most m) us) (answers_by_all (map (shortened_message most) rest') (hears (shortened_message most m) us))
+      ∙ add_assoc n (answers_by (shortened_message most m) us) (answers_by_all (map (shortened_message most) rest') (hears (shortened_message most m) us))
       ∙ ap (λ ms. n + answers_by_all (map (shortened_message most) ms) us) (sym step)
       ∙ h.count;
   heard = ap (hears_all (map (shortened_message most) rest')) heard ∙ ap (λ ms. hears_all (map (shortened_message most) ms) us) (sym step) ∙ h.heard;
   next = next ∙ h.next;
 }
-  where
-    plus_assoc : (a b c : ℕ) → a + b + c ≡ a + (b + c)
-    plus_assoc a b c = omega arith
 
 -- Room within a span is room within 32 handles.
 pub room_in_all : (s h : ℕ) (us : List Untaken) → s ≤ 32 → span_has_room s h us ≡ true → span_has_room 32 h us ≡ true
@@ -67,17 +59,14 @@ as_many_heard (Command respond c ∷ ms) us = as_many_heard ms us
 
 no_more_without : (h : ℕ) (us : List Untaken) → length (without_handle h us) ≤ length us
 no_more_without h [] = omega arith
-no_more_without h (u ∷ us) = by (eqb u.command.handle h) (no_more_without h us)
+no_more_without h (u ∷ us) = on_bool (eqb u.command.handle h) (λ b. length (without_handle h us) ≤ length us → length (cond (not b) (u ∷ without_handle h us) (without_handle h us)) ≤ suc (length us))
+    (λ p. wider (length (without_handle h us)) (length us) p) (λ p. one_more (length (without_handle h us)) (length us) p) (no_more_without h us)
   where
     one_more : (a b : ℕ) → a ≤ b → suc a ≤ suc b
     one_more a b p = omega arith
 
     wider : (a b : ℕ) → a ≤ b → a ≤ suc b
     wider a b p = omega arith
-
-    by : (b : Bool) → length (without_handle h us) ≤ length us → length (cond (not b) (u ∷ without_handle h us) (without_handle h us)) ≤ suc (length us)
-    by true p = wider (length (without_handle h us)) (length us) p
-    by false p = one_more (length (without_handle h us)) (length us) p
 
 -- within the span still
 pub heard_few : (ms : List Msg) (s : ℕ) (t new : TableState) → new ≡ (let x : TableState = record { next = t.next; untaken = hears_all ms t.untaken } in x) → length t.untaken ≤ s → length new.untaken ≤ s

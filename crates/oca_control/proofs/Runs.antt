@@ -1,25 +1,13 @@
 -- What is done with a link over an end is a run.
-use Rattle.std.proofs.Common.{◌≡◌, ℕ, ◌+◌, ◌*◌, ◌<◌, ◌≤◌, Bool, true, false, cond, max, List, [], ◌∷◌, ◌++◌, length, Result, Ok, Err, refl, sym, ap, ◌∙◌, subst, inl, inr, append_assoc, append-nil, arith}
-use Rattle.std.specs.Prelude.{IsTrue}
-use Rattle.std.proofs.lemmas.Grind.{flat_map-append}
-use Rattle.oca_types.specs.declared.words.Peer.{Peer}
-use Rattle.oca_types.specs.declared.words.Handle.{Handle}
-use Rattle.oca_types.specs.Peers.{RequestFields}
-use Rattle.oca_net.specs.Deliveries.{Delivery, Datagram}
-use Rattle.oca_net.specs.EndStates.{EndState}
+use Rattle.oca_control.proofs.Words.{◌≡◌, ℕ, ◌+◌, ◌*◌, ◌<◌, ◌≤◌, Bool, true, false, cond, max, List, [], ◌∷◌, ◌++◌, length, Result, Ok, Err, refl, sym, ap, ◌∙◌, subst, inl, inr, append_assoc}
+use Rattle.oca_control.proofs.Words.{append-nil, arith, IsTrue, flat_map-append, Peer, Handle, RequestFields, Delivery, Datagram, EndState, ControlFault, Outcome, DriveReport, LinkState, Decision}
+use Rattle.oca_control.proofs.Words.{late_at, Call, IsHistory, Drives, NoTurn, OneMore, DrivesEnd, Turns, GivesIf, SendsInTime, TakesTurns, NoneTaken, OneTaken, Waits, Begins, Asks, HasOutcome}
+use Rattle.oca_control.proofs.Words.{TakesTurnsBefore, WaitsUntil, NothingIsLeft, HaveTimeLeft, delivered_at, moments_delivered, AreWithin, ReturnsWithin, IsRun, NothingDone, DroveATurn, TookATurn}
+use Rattle.oca_control.proofs.Words.{SentAllDue, SentAllInTime, Began, Took, RunsOver, begun_at, EveryCallRuns, EveryOwnReceiveRuns, EveryRunGoesOn, IsAsked, EveryScriptIsKept, on_bool}
 use Rattle.oca_net.specs.Memory.{MemoryState, state_of_memory, after_next, after_receive}
-use Rattle.oca_control.specs.declared.fault.ControlFault.{ControlFault}
-use Rattle.oca_control.specs.declared.outcome.Outcome.{Outcome}
 use Rattle.oca_control.specs.declared.outcome.Outcome.TheVariants as outcomes
-use Rattle.oca_control.specs.declared.report.DriveReport.{DriveReport}
-use Rattle.oca_control.specs.Links.{LinkState, Decision, late_at}
-use Rattle.oca_control.specs.Histories.{Call, IsHistory}
-use Rattle.oca_control.specs.Driving.{Drives, NoTurn, OneMore, DrivesEnd, SendsDue, link_from}
-use Rattle.oca_control.specs.Turning.{Turns, GivesIf, SendsInTime}
-use Rattle.oca_control.specs.Asking.{TakesTurns, NoneTaken, OneTaken, Waits, Begins, Asks, HasOutcome}
-use Rattle.oca_control.specs.Waiting.{TakesTurnsBefore, WaitsUntil}
+use Rattle.oca_control.specs.Driving.{SendsDue, link_from}
 use Rattle.oca_control.specs.Waiting as waiting
-use Rattle.oca_control.specs.Running.{NothingIsLeft, HaveTimeLeft, delivered_at, moments_delivered, AreWithin, ReturnsWithin, IsRun, NothingDone, DroveATurn, TookATurn, SentAllDue, SentAllInTime, Began, Took, RunsOver, begun_at, EveryCallRuns, EveryOwnReceiveRuns, EveryRunGoesOn, IsAsked, EveryScriptIsKept}
 use Rattle.oca_control.proofs.Asked.{run_asked}
 
 one_further : (ds : List Delivery) (d : Delivery) → moments_delivered (ds ++ d ∷ []) ≡ moments_delivered ds ++ delivered_at d
@@ -74,14 +62,12 @@ send_due_runs : (now : ℕ) (old new : LinkState) (e f : EndState) (r : DriveRep
 send_due_runs now old new e f r x = over_none (now ∷ []) old new e f (SentAllDue now NothingDone x.link) x.sends.telling x.sends.delivered
 
 send_in_time_runs : (now : ℕ) (old new : LinkState) (e f : EndState) (r : DriveReport) → SendsInTime now old new e f r → RunsOver (now ∷ []) old new e f
-send_in_time_runs now old new e f r k = by (late_at now old) refl k
+send_in_time_runs now old new e f r k = on_bool (late_at now old) (λ b. late_at now old ≡ b → GivesIf b now old new e f r → RunsOver (now ∷ []) old new e f)
+    (λ q x. over_none (now ∷ []) old new e f (run true q x.0) (ap (λ (y : EndState). y.tells) x.1) (λ tells. ap (λ (y : EndState). y.delivered) x.1))
+    (λ q x. over_none (now ∷ []) old new e f (run false q x.link) x.sends.telling x.sends.delivered) refl k
   where
     run : (b : Bool) → late_at now old ≡ b → new ≡ cond b old (link_from now (old.span + 1) old) → IsRun (now ∷ []) old new
     run b q made = SentAllInTime now NothingDone (made ∙ ap (λ c. cond c old (link_from now (old.span + 1) old)) (sym q))
-
-    by : (b : Bool) → late_at now old ≡ b → GivesIf b now old new e f r → RunsOver (now ∷ []) old new e f
-    by true q x = over_none (now ∷ []) old new e f (run true q x.0) (ap (λ (y : EndState). y.tells) x.1) (λ tells. ap (λ (y : EndState). y.delivered) x.1)
-    by false q x = over_none (now ∷ []) old new e f (run false q x.link) x.sends.telling x.sends.delivered
 
 turns_run : {h n : ℕ} {lost : Bool} {old new : LinkState} {e f : EndState} → TakesTurns h n lost old new e f → RunsOver [] old new e f
 turns_run (NoneTaken {l = l} {e = e}) = over_none [] l l e e NothingDone refl (λ tells. refl)

@@ -1,16 +1,9 @@
 -- When all that is due was sent, nothing is left.
-use Rattle.std.proofs.Common.{◌≡◌, ℕ, zero, suc, ◌+◌, ◌-◌, ◌<◌, ◌≤◌, Bool, true, false, cond, ◌&&◌, ◌||◌, max, List, [], ◌∷◌, length, map, Option, Some, None, is_none, refl, sym, ap, ◌∙◌, arith, subst}
-use Rattle.std.specs.Prelude.{nat_eq, nat_lt, nat_le}
-use Rattle.std.specs.List.{list_any}
-use Rattle.std.proofs.Math.Dec.{eqb}
-use Rattle.std.proofs.lemmas.Bool.Decides.{nat_tests}
-use Rattle.oca_types.specs.Peers.{CommandFields}
-use Rattle.oca_control.specs.Untaken.{Untaken, is_due, first_due, marked_sent}
-use Rattle.oca_control.specs.Links.{LinkState, present_moment, Decision, GivesCommand, GivesKeepAlive, GivesNothing, IsLost, decision, decision_among, after_due}
-use Rattle.oca_net.specs.EndStates.{EndState}
-use Rattle.oca_control.specs.declared.report.DriveReport.{DriveReport}
-use Rattle.oca_control.specs.Driving.{decides_lost, goes_on, decisions_from, link_from, SendsDue}
-use Rattle.oca_control.specs.Running.{NothingIsLeft}
+use Rattle.oca_control.proofs.Words.{◌≡◌, ℕ, zero, suc, ◌+◌, ◌-◌, ◌<◌, ◌≤◌, Bool, true, false, cond, ◌&&◌, ◌||◌, max, List, [], ◌∷◌, length, map, Option, Some, None, is_none, refl, sym, ap, ◌∙◌}
+use Rattle.oca_control.proofs.Words.{arith, subst, nat_eq, nat_lt, nat_le, list_any, eqb, nat_tests, and-false, le_refl, zero-lt-suc, CommandFields, Untaken, is_due, first_due, marked_sent, LinkState}
+use Rattle.oca_control.proofs.Words.{present_moment, Decision, GivesCommand, GivesKeepAlive, GivesNothing, IsLost, decision, decision_among, after_due, EndState, DriveReport, decides_lost, goes_on}
+use Rattle.oca_control.proofs.Words.{NothingIsLeft, on_bool}
+use Rattle.oca_control.specs.Driving.{decisions_from, link_from, SendsDue}
 use Rattle.oca_control.proofs.Following.{equal_self}
 use Rattle.oca_control.proofs.Calls.{is_given}
 
@@ -33,15 +26,12 @@ count_length t (u ∷ us) = one_more (is_due t u) (due_count t us) (length us) (
 -- Where no command is the first due one, the count of due ones is 0.
 pub none_counted : (t : ℕ) (us : List Untaken) → first_due t us ≡ None → due_count t us ≡ 0
 none_counted t [] e = refl
-none_counted t (u ∷ us) e = by (is_due t u) e (none_counted t us)
-  where
-    by : (b : Bool) → cond b (Some u) (first_due t us) ≡ None → (first_due t us ≡ None → due_count t us ≡ 0) → cond b 1 0 + due_count t us ≡ 0
-    by true e rest = cc
-    by false e rest = let z : due_count t us ≡ 0 = rest e in omega arith
+none_counted t (u ∷ us) e = on_bool (is_due t u) (λ b. cond b (Some u) (first_due t us) ≡ None → (first_due t us ≡ None → due_count t us ≡ 0) → cond b 1 0 + due_count t us ≡ 0)
+    (λ e rest. cc) (λ e rest. let z : due_count t us ≡ 0 = rest e in omega arith) e (none_counted t us)
 
 -- what was just sent is not due
 rested : (t : ℕ) (u : Untaken) → (is_none u.answer && (nat_eq (u.times + 1) 0 || nat_le 250 (t - t))) ≡ false
-rested t u = ap (λ b. is_none u.answer && b) (young t u.times) ∙ and_false (is_none u.answer)
+rested t u = ap (λ b. is_none u.answer && b) (young t u.times) ∙ and-false (is_none u.answer)
   where
     young : (t n : ℕ) → (nat_eq (n + 1) 0 || nat_le 250 (t - t)) ≡ false
     young t n = ap (λ b. b || nat_le 250 (t - t)) (never n) ∙ no_time t
@@ -52,22 +42,12 @@ rested t u = ap (λ b. is_none u.answer && b) (young t u.times) ∙ and_false (i
         no_time : (t : ℕ) → nat_le 250 (t - t) ≡ false
         no_time t = grind (arith, nat_tests)
 
-    and_false : (b : Bool) → (b && false) ≡ false
-    and_false true = refl
-    and_false false = refl
-
 given_is_due : (t h : ℕ) (u : Untaken) → cond (is_due t (marked_sent t h u)) 1 0 ≤ cond (is_due t u) 1 0
-given_is_due t h u = by (eqb u.command.handle h)
+given_is_due t h u = on_bool (eqb u.command.handle h) (λ b. cond (is_none u.answer && (nat_eq (cond b (u.times + 1) u.times) 0 || nat_le 250 (t - cond b t u.last))) 1 0 ≤ cond (is_due t u) 1 0)
+    (subst (λ (z : Bool). cond z 1 0 ≤ cond (is_due t u) 1 0) (sym (rested t u)) (least (cond (is_due t u) 1 0))) (le_refl (cond (is_due t u) 1 0))
   where
     least : (n : ℕ) → 0 ≤ n
     least n = omega arith
-
-    same : (n : ℕ) → n ≤ n
-    same n = omega arith
-
-    by : (b : Bool) → cond (is_none u.answer && (nat_eq (cond b (u.times + 1) u.times) 0 || nat_le 250 (t - cond b t u.last))) 1 0 ≤ cond (is_due t u) 1 0
-    by true = subst (λ (z : Bool). cond z 1 0 ≤ cond (is_due t u) 1 0) (sym (rested t u)) (least (cond (is_due t u) 1 0))
-    by false = same (cond (is_due t u) 1 0)
 
 not_more : (t h : ℕ) (us : List Untaken) → due_count t (map (marked_sent t h) us) ≤ due_count t us
 not_more t h [] = omega arith
@@ -151,6 +131,9 @@ is_quiet t sent false us keeps e = by_first (first_due t us) refl e
 
 -- ---- all that is due
 
+pub some_more : (n : ℕ) → 0 < n + 1
+some_more n = omega arith
+
 -- A moment that was taken in already changes nothing.
 pub again : (m now : ℕ) → max (max m now) now ≡ max m now
 again m now = omega arith
@@ -218,11 +201,7 @@ lost_stays (suc n) now l e = subst (λ (d : Decision). (cond (goes_on d) (link_f
 
 -- A link that is not lost after calls of `due` was not lost before.
 pub not_lost_before : (n now : ℕ) (l : LinkState) → (link_from now n l).lost ≡ false → l.lost ≡ false
-not_lost_before n now l e = by l.lost refl
-  where
-    by : (b : Bool) → l.lost ≡ b → b ≡ false
-    by true q = let never : true ≡ false = sym (lost_stays n now l q) ∙ e in cc
-    by false q = refl
+not_lost_before n now l e = on_bool l.lost (λ b. l.lost ≡ b → b ≡ false) (λ q. let never : true ≡ false = sym (lost_stays n now l q) ∙ e in cc) (λ q. refl) refl
 
 -- whether a call found the link lost, it shows
 pub lost_from : (n now : ℕ) (l : LinkState) → 0 < n → list_any decides_lost (decisions_from now n l) ≡ (link_from now n l).lost
@@ -234,22 +213,15 @@ lost_from zero now l p = absurd (never p)
 lost_from (suc n) now l p = by (decision now l) refl (λ x some. lost_from n now x some)
   where
     going : (d : Decision) → decision now l ≡ d → decides_lost d ≡ false → l.lost ≡ false
-    going d e not = by_lost l.lost refl
+    going d e not = on_bool l.lost (λ b. l.lost ≡ b → b ≡ false) (λ q. let same : d ≡ IsLost = sym e ∙ is q in let z : true ≡ false = sym (ap decides_lost same) ∙ not in cc) (λ q. refl) refl
       where
         is : l.lost ≡ true → decision now l ≡ IsLost
         is q = ap (λ b. cond b IsLost (decision_among (present_moment now l) l.sent (first_due (present_moment now l) l.untaken))) q
 
-        by_lost : (b : Bool) → l.lost ≡ b → b ≡ false
-        by_lost true q = let same : d ≡ IsLost = sym e ∙ is q in let z : true ≡ false = sym (ap decides_lost same) ∙ not in cc
-        by_lost false q = refl
-
     rest : (m : ℕ) (x : LinkState) → m ≡ n → x.lost ≡ false → ((y : LinkState) → 0 < n → list_any decides_lost (decisions_from now n y) ≡ (link_from now n y).lost) →
         list_any decides_lost (decisions_from now m x) ≡ (link_from now m x).lost
     rest zero x same e further = sym e
-    rest (suc m) x same e further = subst (λ (k : ℕ). list_any decides_lost (decisions_from now k x) ≡ (link_from now k x).lost) (sym same) (further x (subst (λ (k : ℕ). 0 < k) same (above m)))
-      where
-        above : (m : ℕ) → 0 < suc m
-        above m = omega arith
+    rest (suc m) x same e further = subst (λ (k : ℕ). list_any decides_lost (decisions_from now k x) ≡ (link_from now k x).lost) (sym same) (further x (subst (λ (k : ℕ). 0 < k) same (zero-lt-suc m)))
 
     by : (d : Decision) → decision now l ≡ d → ((y : LinkState) → 0 < n → list_any decides_lost (decisions_from now n y) ≡ (link_from now n y).lost) →
         (decides_lost d || list_any decides_lost (cond (goes_on d) (decisions_from now n (after_due d (present_moment now l) l)) []))
@@ -271,10 +243,7 @@ moment_from (suc n) now l p = by (decision now l) (λ x some. moment_from n now 
     rest : (m : ℕ) (x : LinkState) → m ≡ n → x.moment ≡ present_moment now l → ((y : LinkState) → 0 < n → (link_from now n y).moment ≡ present_moment now y) → (link_from now m x).moment ≡ present_moment now l
     rest zero x same e further = e
     rest (suc m) x same e further =
-        subst (λ (k : ℕ). (link_from now k x).moment ≡ present_moment now l) (sym same) (further x (subst (λ (k : ℕ). 0 < k) same (above m)) ∙ ap (λ k. max k now) e ∙ again l.moment now)
-      where
-        above : (m : ℕ) → 0 < suc m
-        above m = omega arith
+        subst (λ (k : ℕ). (link_from now k x).moment ≡ present_moment now l) (sym same) (further x (subst (λ (k : ℕ). 0 < k) same (zero-lt-suc m)) ∙ ap (λ k. max k now) e ∙ again l.moment now)
 
     by : (d : Decision) → ((y : LinkState) → 0 < n → (link_from now n y).moment ≡ present_moment now y) → (cond (goes_on d) (link_from now n (after_due d (present_moment now l) l)) (after_due d (present_moment now l) l)).moment ≡ present_moment now l
     by (GivesCommand c) further = rest n (after_due (GivesCommand c) (present_moment now l) l) refl refl further
@@ -294,10 +263,7 @@ pub gave_left : {now : ℕ} {old new : LinkState} {e f : EndState} {r : DriveRep
 gave_left {now} {old} {new} g few going =
     subst NothingIsLeft (sym g.link)
     (left_from (old.span + 1) now old (small (due_count (present_moment now old) old.untaken) (length old.untaken) (count_length (present_moment now old) old.untaken) few)
-    (sym (ap (λ (l : LinkState). l.lost) g.link) ∙ sym (gave_lost g (above old.span)) ∙ going))
+    (sym (ap (λ (l : LinkState). l.lost) g.link) ∙ sym (gave_lost g (some_more old.span)) ∙ going))
   where
     small : (a b : ℕ) → a ≤ b → b ≤ old.span → a < old.span + 1
     small a b p q = omega arith
-
-    above : (n : ℕ) → 0 < n + 1
-    above n = omega arith

@@ -1,11 +1,8 @@
 -- The invariant of the table of commands.
-use Rattle.std.proofs.Common.{◌≡◌, ℕ, ◌+◌, ◌-◌, ◌%◌, ◌<◌, ◌≤◌, Bool, true, false, List, [], ◌∷◌, ◌++◌, length, set, refl, sym, ap, ◌∙◌, arith, Option, Some, None, ◌⊎◌, inl, inr}
-use Rattle.std.specs.Prelude.{nat_lt, nat_eq, ◌||◌}
-use Rattle.std.proofs.lemmas.List.{get_or-set_same, get_or-set_other, length-set}
-use Rattle.std.proofs.lemmas.Bool.Decides.{nat_tests}
-use Rattle.oca_control.specs.Untaken.{span_has_room, new_untaken}
-use Rattle.oca_control.specs.Links.{Request, command_under}
-use Rattle.oca_control.specs.PrivateSlots.{Held, held_at, new_held, untaken_from, IsSlotTable}
+use Rattle.oca_control.proofs.Words.{◌≡◌, ℕ, ◌+◌, ◌-◌, ◌%◌, ◌<◌, ◌≤◌, Bool, true, false, List, [], ◌∷◌, ◌++◌, length, set, refl, sym, ap, ◌∙◌, arith, Option, Some, None, ◌⊎◌, inl, inr, nat_lt, nat_eq}
+use Rattle.oca_control.proofs.Words.{get_or-set_same, get_or-set_other, length-set, eqb-true, ltb-true, span_has_room, new_untaken, Request, command_under, Held, held_at, new_held, IsSlotTable}
+use Rattle.std.specs.Prelude.{◌||◌}
+use Rattle.oca_control.specs.PrivateSlots.{untaken_from}
 use Rattle.oca_control.proofs.Places.{apart, room_by_lowest, put_at}
 
 within : (a : ℕ) (slots : List (Option Held)) → length slots ≡ 32 → a % 32 < length slots
@@ -22,15 +19,9 @@ kept_same h slots x all = get_or-set_same slots (h % 32) x None (within h slots 
 pub room_near : (lo hi : ℕ) (slots : List (Option Held)) → IsSlotTable lo hi slots → span_has_room 32 hi (untaken_from lo (hi - lo) slots) ≡ true → hi < lo + 32
 room_near lo hi slots t room = by (nat_eq lo hi) (nat_lt hi (lo + 32)) refl refl (sym (room_by_lowest 32 hi lo hi slots t.ordered t.lowest) ∙ room)
   where
-    equal : (a b : ℕ) → nat_eq a b ≡ true → a ≡ b
-    equal a b p = grind (arith, nat_tests)
-
-    lower : (a b : ℕ) → nat_lt a b ≡ true → a < b
-    lower a b p = grind (arith, nat_tests)
-
     by : (a b : Bool) → nat_eq lo hi ≡ a → nat_lt hi (lo + 32) ≡ b → (a || b) ≡ true → hi < lo + 32
-    by true b p q e = let same : lo ≡ hi = equal lo hi p in omega arith
-    by false true p q e = lower hi (lo + 32) q
+    by true b p q e = let same : lo ≡ hi = eqb-true lo hi p in omega arith
+    by false true p q e = ltb-true hi (lo + 32) q
     by false false p q e = cc
 
 -- a command is put in
@@ -51,22 +42,6 @@ table_put lo hi slots k t left near = record {
 
     is_put : (h : ℕ) → held_at h (set slots (h % 32) (Some k)) ≡ None → ⊥
     is_put h none = let e = sym (kept_same h slots (Some k) t.all) ∙ none in cc
-
--- a command is changed
-pub table_changed : (lo hi h : ℕ) (slots : List (Option Held)) (x : Option Held) → IsSlotTable lo hi slots → lo ≤ h → h < hi → (x ≡ None → ⊥) → IsSlotTable lo hi (set slots (h % 32) x)
-table_changed lo hi h slots x t above below some = record {
-  ordered = t.ordered;
-  near = t.near;
-  last = t.last;
-  all = length-set slots (h % 32) x ∙ t.all;
-  lowest = λ under. elim (cases lo h above) [
-    | inl same ↦ λ none. some (sym (kept_same h slots x t.all) ∙ ap (λ i. held_at i (set slots (h % 32) x)) (sym same) ∙ none)
-    | inr less ↦ λ none. t.lowest under (sym (kept_other lo h slots x less (let n = t.near in omega arith)) ∙ none)
-  ];
-}
-  where
-    cases : (a b : ℕ) → a ≤ b → (a ≡ b) ⊎ (a < b)
-    cases a b p = grind arith
 
 -- a command is taken, and low goes on
 pub table_taken : (lo hi h lo' : ℕ) (slots : List (Option Held)) (x : Option Held) → IsSlotTable lo hi slots → lo ≤ lo' → lo' ≤ hi →

@@ -1,30 +1,20 @@
 -- What the parts of a turn, and the turns, add up to.
-use Rattle.std.proofs.Common.{◌≡◌, ℕ, suc, ◌+◌, ◌-◌, ◌<◌, ◌≤◌, Bool, true, false, cond, ◌||◌, min, List, [], ◌∷◌, ◌++◌, length, refl, sym, ap, ◌∙◌, subst, arith, length-append}
-use Rattle.std.specs.Prelude.{IsTrue, ◌&&◌, not, nat_lt, count_by}
-use Rattle.std.proofs.Math.Bool.{and-false}
-use Rattle.std.proofs.lemmas.Bool.{lt-ltb, le-ltb}
-use Rattle.std.specs.List.{list_any}
+use Rattle.oca_control.proofs.Words.{◌≡◌, ℕ, suc, ◌+◌, ◌-◌, ◌<◌, ◌≤◌, Bool, true, false, cond, ◌||◌, min, List, [], ◌∷◌, ◌++◌, length, refl, sym, ap, ◌∙◌, subst, arith, length-append, IsTrue, nat_lt}
+use Rattle.oca_control.proofs.Words.{count_by, and-false, lt-ltb, le-ltb, list_any, flat_map-append, list_any-append, add-zero, Peer, Heard, Delivery, Datagram, Quiet, Failed, Sent, is_failed}
+use Rattle.oca_control.proofs.Words.{EndState, SendsAllBut, DeliversAndTakes, Reception, ReceivesDatagram, Due, DriveReport, LinkState, Decision, GivesCommand, GivesKeepAlive, GivesNothing, IsLost}
+use Rattle.oca_control.proofs.Words.{decision, gone_on, due_answer, due_bytes, after_due, present_moment, answered_by, HearsDatagram, gives_command, is_keep_alive, decides_lost, goes_on, given_to}
+use Rattle.oca_control.proofs.Words.{all_given_to, NoTurn, OneMore, is_failed_delivery, drive_report_of, DrivesTurn, DrivesEnd, receives_driven, drive_report_sum, drive_report_capped, IsReportWithin}
+use Rattle.oca_control.proofs.Words.{given_report, GivesOne, DrivesOnce, DriveFindsClosed}
+use Rattle.std.specs.Prelude.{◌&&◌, not}
 use Rattle.std.proofs.lemmas.List.{append_assoc, append-nil}
-use Rattle.std.proofs.lemmas.Grind.{flat_map-append}
 use Rattle.std.proofs.lemmas.List.Sums.{sum_by-append}
-use Rattle.std.proofs.lemmas.List.Folds.{list_any-append}
-use Rattle.oca_types.specs.declared.words.Peer.{Peer}
-use Rattle.oca_net.specs.declared.end.Heard.{Heard}
 use Rattle.oca_net.specs.declared.end.Heard.TheVariants as heard
-use Rattle.oca_net.specs.Deliveries.{Delivery, Datagram, Quiet, Failed, Sent}
-use Rattle.oca_net.specs.Ends.{is_failed}
-use Rattle.oca_net.specs.EndStates.{EndState, Receives, SendsAllBut, DeliversAndTakes}
+use Rattle.oca_net.specs.EndStates.{Receives}
 use Rattle.oca_net.proofs.Sending.{sends_none, sends_more}
 use Rattle.oca_net.proofs.Hearing.{oversize_heard}
 use Rattle.oca_net.proofs.Running.{runs_none, runs_more, runs_one, runs_closed}
-use Rattle.oca_control.specs.declared.reception.Reception.{Reception}
-use Rattle.oca_control.specs.Steps.{ReceivesDatagram}
-use Rattle.oca_control.specs.declared.due.Due.{Due}
 use Rattle.oca_control.specs.declared.due.Due.TheVariants as dues
-use Rattle.oca_control.specs.declared.report.DriveReport.{DriveReport}
-use Rattle.oca_control.specs.Links.{LinkState, Decision, GivesCommand, GivesKeepAlive, GivesNothing, IsLost, decision, gone_on, due_answer, due_bytes, after_due, present_moment}
-use Rattle.oca_control.specs.Driving.{answered_by, HearsDatagram, gives_command, is_keep_alive, decides_lost, goes_on, decisions_from, link_from, given_to, all_given_to, NoTurn, OneMore, is_failed_delivery, drive_report_of, DrivesTurn, DrivesEnd, SendsDue, receives_driven, drive_report_sum, drive_report_capped}
-use Rattle.oca_control.specs.PrivateDriving.{IsReportWithin, given_report, GivesOne, DrivesOnce, DriveFindsClosed}
+use Rattle.oca_control.specs.Driving.{decisions_from, link_from, SendsDue}
 
 -- ---- one decision
 
@@ -356,13 +346,9 @@ failed_turn {e} {f} given l h none =
     heard_one Failed h h.delivered refl (subst (λ (k : ℕ). SendsAllBut k f f []) (sym (ap (λ (q : DriveReport). q.failed_sends) none)) (sends_none f))
     (record { between = l; hears = (refl, refl); gives = (refl, refl) }) (failed_reported given none) refl
 
--- how often was received
-none_more : (n : ℕ) → n + 0 ≡ n
-none_more n = omega arith
-
 -- A loop that a lost link ended received once a turn.
 pub receives_lost : (r : DriveReport) (turns : ℕ) → r.lost ≡ true → receives_driven r turns ≡ r.turns
-receives_lost r turns lost = ap (λ b. r.turns + cond (nat_lt r.turns turns && not b) 1 0) lost ∙ ap (λ b. r.turns + cond b 1 0) (and-false (nat_lt r.turns turns)) ∙ none_more r.turns
+receives_lost r turns lost = ap (λ b. r.turns + cond (nat_lt r.turns turns && not b) 1 0) lost ∙ ap (λ b. r.turns + cond b 1 0) (and-false (nat_lt r.turns turns)) ∙ add-zero r.turns
 
 -- A loop that ended before all its turns with a link that is not lost received once more than it took turns.
 pub receives_closed : (r : DriveReport) (turns : ℕ) → r.lost ≡ false → r.turns < turns → receives_driven r turns ≡ r.turns + 1
@@ -370,7 +356,7 @@ receives_closed r turns going below = ap (λ b. r.turns + cond (b && not r.lost)
 
 -- A loop that took all its turns received once a turn.
 pub receives_all : (r : DriveReport) (turns : ℕ) → turns ≤ r.turns → receives_driven r turns ≡ r.turns
-receives_all r turns over = ap (λ b. r.turns + cond (b && not r.lost) 1 0) (le-ltb r.turns turns over) ∙ none_more r.turns
+receives_all r turns over = ap (λ b. r.turns + cond (b && not r.lost) 1 0) (le-ltb r.turns turns over) ∙ add-zero r.turns
 
 -- a sum that fits
 pub sum_fits : (a b r : DriveReport) → IsReportWithin 18446744069414584320 a → IsReportWithin 4294967295 b → r ≡ drive_report_capped (drive_report_sum a b) → r ≡ drive_report_sum a b

@@ -1,17 +1,12 @@
 -- What a call makes of the table of commands.
-use Rattle.std.proofs.Common.{◌≡◌, ℕ, ◌+◌, ◌-◌, ◌%◌, ◌<◌, ◌≤◌, ◌≢◌, Bool, true, false, cond, List, [], ◌∷◌, ◌++◌, length, map, get_or, set, refl, sym, ap, ◌∙◌, arith, subst, Option, Some, None}
-use Rattle.std.specs.Prelude.{nat_lt, nat_eq, is_some, is_none, ◌||◌, ◌&&◌, IfSome}
-use Rattle.std.specs.List.{list_any}
+use Rattle.oca_control.proofs.Words.{◌≡◌, ℕ, ◌+◌, ◌-◌, ◌%◌, ◌<◌, ◌≤◌, ◌≢◌, Bool, true, false, cond, List, [], ◌∷◌, ◌++◌, length, map, get_or, set, refl, sym, ap, ◌∙◌, arith, subst, Option, Some, None}
+use Rattle.oca_control.proofs.Words.{nat_lt, nat_eq, IfSome, list_any, set-get_or, nat_tests, ne_eqb, AnswerFields, Untaken, new_untaken, first_due, waits, answered, answer_under, without_handle}
+use Rattle.oca_control.proofs.Words.{marked_sent, Commands, pdu_encoding, Request, command_under, GivesCommand, IsLost, due_answer, Held, held_at, held_is_due, held_waits, held_answer, held_given}
+use Rattle.oca_control.proofs.Words.{held_answered, new_held, untaken_at, IsSlotTable, TableState, IsLowestDueSlot, decided, first_decided, after_decision, bytes_decided}
+use Rattle.std.specs.Prelude.{is_some, is_none, ◌||◌, ◌&&◌}
 use Rattle.std.specs.Option.{option_map}
-use Rattle.std.proofs.lemmas.List.{set-get_or}
-use Rattle.std.proofs.lemmas.Bool.Decides.{nat_tests}
-use Rattle.oca_control.specs.Answers.{AnswerFields}
-use Rattle.oca_control.specs.Untaken.{Untaken, new_untaken, first_due, waits, answered, answer_under, without_handle, marked_sent}
-use Rattle.oca_pdu.specs.Messages.{Commands}
-use Rattle.oca_pdu.specs.Encoding.{pdu_encoding}
 use Rattle.oca_control.specs.declared.due.Due.TheVariants as dues
-use Rattle.oca_control.specs.Links.{Request, command_under, GivesCommand, IsLost, due_answer}
-use Rattle.oca_control.specs.PrivateSlots.{Held, held_at, held_is_due, held_waits, held_answer, held_given, held_answered, new_held, untaken_at, untaken_from, IsSlotTable, TableState, IsLowestDueSlot, decided, first_decided, after_decision, bytes_decided}
+use Rattle.oca_control.specs.PrivateSlots.{untaken_from}
 use Rattle.oca_control.proofs.Places.{slot_read, changed_at, removed_at, waits_at, waits_none, answer_at, answer_none}
 use Rattle.oca_control.proofs.Tables.{submitted_is}
 
@@ -25,9 +20,6 @@ table hi us = record { next = hi; untaken = us }
 
 same_nat : (a : ℕ) → nat_eq a a ≡ true
 same_nat a = grind (arith, nat_tests)
-
-differ_nat : (a b : ℕ) → a ≢ b → nat_eq a b ≡ false
-differ_nat a b p = grind (arith, nat_tests)
 
 in_range : (lo hi h : ℕ) → ((lo ≤ h) → (h < hi) → ⊥) → (k : ℕ) → lo ≤ k → k < lo + (hi - lo) → k ≢ h
 in_range lo hi h out k l u e = out (omega arith) (omega arith)
@@ -62,7 +54,7 @@ none_answered h a (u ∷ us) none = by (waits h u) refl none (none_answered h a 
 
 answered_other : (h : ℕ) (a : AnswerFields) (u : Untaken) → u.command.handle ≢ h → answered h a u ≡ u
 answered_other h a u other =
-    ap (λ b. let v : Untaken = record { command = u.command; submitted = u.submitted; times = u.times; last = u.last; answer = cond (b && is_none u.answer) (Some a) u.answer } in v) (differ_nat u.command.handle h other)
+    ap (λ b. let v : Untaken = record { command = u.command; submitted = u.submitted; times = u.times; last = u.last; answer = cond (b && is_none u.answer) (Some a) u.answer } in v) (ne_eqb u.command.handle h other)
 
 -- Putting an answer into the slot of a command that waits answers the command of that handle.
 pub view_answered : (lo hi h p : ℕ) (slots : List (Option Held)) (d x : Option Held) (a : AnswerFields) → IsSlotTable lo hi slots → (lo ≤ h) × (h < hi) × (p ≡ h % 32) →
@@ -83,7 +75,7 @@ view_answered lo hi h p slots d x a t at wait is =
 -- SEND
 given_other : (now h : ℕ) (u : Untaken) → u.command.handle ≢ h → marked_sent now h u ≡ u
 given_other now h u other =
-    ap (λ b. let v : Untaken = record { command = u.command; submitted = u.submitted; times = cond b (u.times + 1) u.times; last = cond b now u.last; answer = u.answer } in v) (differ_nat u.command.handle h other)
+    ap (λ b. let v : Untaken = record { command = u.command; submitted = u.submitted; times = cond b (u.times + 1) u.times; last = cond b now u.last; answer = u.answer } in v) (ne_eqb u.command.handle h other)
 
 -- Noting in the slot of the lowest due command that it was sent does so to the command of that handle.
 pub view_given : (now lo hi h p : ℕ) (slots : List (Option Held)) (d x : Option Held) → IsSlotTable lo hi slots → IsLowestDueSlot now slots lo hi (Some h) → p ≡ h % 32 →
@@ -121,9 +113,6 @@ due_kept now lo hi h p slots d t at place = by (get_or slots p d) refl (sym (ap 
     by : (o : Option Held) → get_or slots p d ≡ o → held_is_due now o ≡ true → (k : Held) × (get_or slots p d ≡ Some k)
     by None e due = cc
     by (Some k) e due = (k, e)
-
-pub none_decided : (now lo hi : ℕ) (slots : List (Option Held)) → IsLowestDueSlot now slots lo hi None → first_decided now (untaken_from lo (hi - lo) slots) ≡ None
-none_decided now lo hi slots none = ap (option_map decided) none
 
 -- it was sent 20 times
 pub spent : (now lo hi h p : ℕ) (slots : List (Option Held)) (d : Option Held) (b : Bool) → IsSlotTable lo hi slots → IsLowestDueSlot now slots lo hi (Some h) → p ≡ h % 32 →

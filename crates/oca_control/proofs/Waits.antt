@@ -1,15 +1,10 @@
 -- A command is waited for until a moment.
-use Rattle.std.proofs.Common.{◌≡◌, ◌⊎◌, ℕ, ◌+◌, ◌<◌, ◌≤◌, Bool, false, ◌||◌, Some, None, refl, sym, ap, ◌∙◌, subst, inl, inr, arith}
-use Rattle.oca_net.specs.Ends.{last_u64}
-use Rattle.oca_net.specs.EndStates.{EndState}
-use Rattle.oca_control.specs.declared.outcome.Outcome.{Outcome}
+use Rattle.oca_control.proofs.Words.{◌≡◌, ◌⊎◌, ℕ, ◌+◌, ◌<◌, ◌≤◌, Bool, false, ◌||◌, Some, None, refl, sym, ap, ◌∙◌, subst, inl, inr, arith, or_parts, add-zero, last_u64, EndState, Outcome}
+use Rattle.oca_control.proofs.Words.{answer_under, LinkState, present_moment, IsPresent, TakesTurns, NoneTaken, OneTaken, Waits, IsBefore, WaitsWhile, TakesATurnAndSees, TakesTurnsBefore, OneTurn}
+use Rattle.oca_control.proofs.Words.{ReceivesInAWait, WaitsUntil, most_turns_of_a_wait, Settles, EndsWait}
 use Rattle.oca_control.specs.declared.outcome.Outcome.TheVariants as outcomes
-use Rattle.oca_control.specs.Untaken.{answer_under}
-use Rattle.oca_control.specs.Links.{LinkState, present_moment}
-use Rattle.oca_control.specs.Asking.{IsPresent, TakesTurns, NoneTaken, OneTaken, Waits}
-use Rattle.oca_control.specs.Waiting.{IsBefore, WaitsWhile, TakesATurnAndSees, TakesTurnsBefore, NoTurn, OneTurn, ReceivesInAWait, WaitsUntil, most_turns_of_a_wait}
-use Rattle.oca_control.specs.PrivateAsking.{Settles, EndsWait}
-use Rattle.oca_control.proofs.Asks.{neither}
+use Rattle.oca_control.specs.Waiting.{NoTurn}
+use Rattle.oca_control.proofs.Asks.{one_further}
 use Rattle.oca_control.proofs.InTurn.{asked_once}
 
 -- one more turn, before which nothing was known and there was time left
@@ -17,7 +12,7 @@ pub one_more_before : {h until n : ℕ} {late closed lost shut : Bool} {old l m 
     → TakesTurnsBefore h until n late closed old l d e → EndsWait h until late closed e l None m → TakesATurnAndSees lost shut m new e f
     → TakesTurnsBefore h until (n + 1) lost shut old new d f
 one_more_before {h} {until} {n} {late} {closed} {lost} {shut} {old} {l} {m} {new} {d} {e} {f} before s turn =
-    let going = neither late l.lost s.0.1 in
+    let going = or_parts late l.lost s.0.1 in
     let open_there : TakesTurnsBefore h until n false false old l d e =
     subst (λ (b : Bool). TakesTurnsBefore h until n b false old l d e) going.0 (subst (λ (b : Bool). TakesTurnsBefore h until n late b old l d e) s.1.0 before) in
     OneTurn open_there s.0.0 going.1 (subst (λ (k : LinkState). IsBefore until k e) s.0.2 s.1.1)
@@ -42,7 +37,7 @@ waited_until {h} {until} {n} {late} {closed} {old} {l} new {d} {e} outcomes.Lost
   ap (λ (k : LinkState). late || k.lost) s.2 ∙ s.1,
 )
 waited_until {h} {until} {n} {late} {closed} {old} {l} new {d} {e} outcomes.Unanswered t le s =
-    let going = neither late l.lost s.0.1 in (
+    let going = or_parts late l.lost s.0.1 in (
       n,
       closed,
       le,
@@ -65,7 +60,7 @@ pub waited_in_vain : {h until n : ℕ} {late closed : Bool} {old l : LinkState} 
     → TakesTurnsBefore h until n late closed old l d e → n ≤ most_turns_of_a_wait → n ≡ most_turns_of_a_wait → Settles h late l None new
     → WaitsUntil h until old outcomes.Unanswered new d e
 waited_in_vain {h} {until} {n} {late} {closed} {old} {l} new {d} {e} t le all s =
-    let going = neither late l.lost s.1 in (
+    let going = or_parts late l.lost s.1 in (
       n,
       closed,
       le,
@@ -78,18 +73,9 @@ waited_in_vain {h} {until} {n} {late} {closed} {old} {l} new {d} {e} t le all s 
 -- ---- how often was received
 
 received : {h until n : ℕ} {late closed : Bool} {old new : LinkState} {e f : EndState} → TakesTurnsBefore h until n late closed old new e f → f.receives < last_u64 → f.receives ≡ e.receives + n
-received (NoTurn {e = e}) below = plus_none e.receives
-  where
-    plus_none : (n : ℕ) → n ≡ n + 0
-    plus_none n = omega arith
+received (NoTurn {e = e}) below = sym (add-zero e.receives)
 received (OneTurn {n = n} {d = d} {e = e} {f = f} before none going time turn) below =
     one_further d.receives e.receives f.receives n (received before) (asked_once turn.turns) below
-  where
-    one_further : (a b c n : ℕ) → (b < last_u64 → b ≡ a + n) → (c < last_u64 → c ≡ b + 1) → c < last_u64 → c ≡ a + (n + 1)
-    one_further a b c n f g below =
-        let last = g below in
-        let less : b < last_u64 = omega arith in
-        omega (arith, f less, last)
 
 at_most : (a b n : ℕ) → b ≡ a + n → n ≤ most_turns_of_a_wait → b ≤ a + most_turns_of_a_wait
 at_most a b n p q = omega arith

@@ -5,8 +5,8 @@ use Rattle.std.specs.Prelude.{Err}
 use Rattle.std.specs.List.{list_any}
 use Rattle.oca_types.specs.declared.words.Peer.{Peer}
 use Rattle.oca_types.specs.declared.words.Handle.{Handle}
-use Rattle.oca_types.specs.Peers.{CommandFields, RequestFields, same_peer}
-use Rattle.oca_types.specs.Sizes.{most_command_parameter_bytes}
+pub use Rattle.oca_types.specs.Peers.{CommandFields, RequestFields, same_peer}
+pub use Rattle.oca_types.specs.Sizes.{most_command_parameter_bytes}
 use Rattle.oca_pdu.specs.declared.message.Form.TheVariants.{Seconds}
 use Rattle.oca_pdu.specs.Messages.{Msg, Commands, OneKeepAlive}
 use Rattle.oca_pdu.specs.Encoding.{pdu_encoding}

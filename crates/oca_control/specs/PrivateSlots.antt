@@ -5,7 +5,9 @@ use Rattle.std.specs.Prelude.{◌&&◌, ◌||◌, if◌then◌else◌, List, [],
 use Rattle.std.specs.Prelude.{is_some, slice_index_or}
 use Rattle.std.specs.List.{AllByRecursion}
 use Rattle.std.specs.Option.{option_map}
-use Rattle.oca_pdu.specs.Messages.{Msg, Command, Response, KeepAlive}
+pub use Rattle.oca_pdu.specs.Messages.{Msg, Command, Response, KeepAlive, msg_of}
+pub use Rattle.oca_pdu.specs.Limits.{most_messages}
+pub use Rattle.oca_pdu.specs.Datagrams.{messages_left}
 use Rattle.oca_control.specs.Answers.{AnswerFields}
 use Rattle.oca_types.specs.Sizes.{most_parameter_bytes}
 use Rattle.oca_control.specs.Limits.{repeat_time, most_sendings, longest_life}

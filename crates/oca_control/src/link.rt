@@ -1,23 +1,19 @@
 //! The link of a controller to a device.
 ghost use Rattle.std.specs.Prelude.{◌≡◌, ◌≤◌, ◌<◌, ℕ, max, if◌then◌else◌, length, List, Option, Some, None};
-ghost use Rattle.std.specs.Prelude.{MatchOption, min, map};
-ghost use Rattle.std.specs.Option.{option_map};
-ghost use Rattle.oca_types.specs.Peers.{RequestFields};
-ghost use Rattle.oca_types.specs.Sizes.{span_size, most_command_parameter_bytes};
-ghost use Rattle.oca_pdu.specs.Messages.{Msg, msg_of};
-ghost use Rattle.oca_pdu.specs.Limits.{most_messages};
-ghost use Rattle.oca_pdu.specs.Datagrams.{messages_left};
+ghost use Rattle.std.specs.Prelude.{MatchOption, min, map, option_map};
+ghost use Rattle.oca_types.specs.Sizes.{span_size};
 ghost use Rattle.oca_control.specs.Answers.{answer_fields};
 ghost use Rattle.oca_control.specs.Contents.{IsContent};
-ghost use Rattle.oca_control.specs.Untaken.{Untaken, hears, answers_by, hears_all, answers_by_all, first_answered};
+ghost use Rattle.oca_control.specs.Untaken.{hears, answers_by, hears_all, answers_by_all, first_answered};
 ghost use Rattle.oca_control.specs.Untaken.{answer_under, waits};
 ghost use Rattle.std.specs.List.{list_any};
 ghost use Rattle.oca_control.specs.Links.{reception_counted, late_at, new_link, submission_within, submitted_within};
 ghost use Rattle.oca_control.specs.Links.{decision, due_answer, due_bytes, gone_on, IsNextDue, NeverIsDue, reception};
-ghost use Rattle.oca_control.specs.Links.{present_moment, received, taken};
+ghost use Rattle.oca_control.specs.Links.{present_moment, received, taken, RequestFields, most_command_parameter_bytes};
 ghost use Rattle.oca_control.specs.Steps.{ReceivesWithin};
 ghost use Rattle.oca_control.specs.Shortening.{shortened, shortened_message};
 ghost use Rattle.oca_control.specs.PrivateSlots.{AreShortResponses, IsShortResponse};
+ghost use Rattle.oca_control.specs.PrivateSlots.{Msg, msg_of, most_messages, messages_left};
 
 use crate::answer::Answer;
 use crate::due::Due;

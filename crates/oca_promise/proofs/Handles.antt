@@ -3,6 +3,7 @@ use Rattle.std.proofs.Common.{◌≡◌, ℕ, ◌+◌, ◌<◌, Bool, true, fals
 use Rattle.std.specs.List.{AllByRecursion, filter, list_any}
 use Rattle.std.proofs.Math.Dec.{eqb}
 use Rattle.std.proofs.lemmas.Bool.Decides.{nat_tests}
+use Rattle.std.proofs.lemmas.Bool.{eqb-true}
 use Rattle.oca_types.specs.declared.words.Handle.{Handle}
 use Rattle.oca_types.specs.Peers.{RequestFields, same_peer}
 use Rattle.oca_pdu.specs.Messages.{Msg, Command, Response, KeepAlive}
@@ -11,7 +12,7 @@ use Rattle.oca_control.specs.Answers.{AnswerFields, answer_of_response}
 use Rattle.oca_control.specs.Untaken.{Untaken, new_untaken, marked_sent, answered, hears_all, answer_under, without_handle}
 use Rattle.oca_control.specs.Links.{LinkState, Decision, GivesCommand, GivesKeepAlive, GivesNothing, IsLost, after_due, after_submission, command_under, decision, gone_on, handle_after, hears_content, present_moment, received, submission, submitted, taken}
 use Rattle.oca_control.proofs.Calls.{is_accepted, each_without}
-use Rattle.oca_control.proofs.Following.{each_append, equal_is}
+use Rattle.oca_control.proofs.Following.{each_append}
 use Rattle.oca_pair.specs.Steps.{content_read}
 use Rattle.oca_promise.specs.Doings.{Doing, Submits, Sends, Hears, Takes, done, all_done, is_begun_or_taken, is_taking}
 
@@ -156,7 +157,7 @@ none_taken : (h k : ℕ) (l : LinkState) → eqb k h ≡ true → is_some (answe
 none_taken h k l same held = by (is_some (answer_under k l.untaken)) held
   where
     is : k ≡ h
-    is = equal_is k h same
+    is = eqb-true k h same
 
     by : (b : Bool) → b ≡ true → NoneHeld h (cond b (without_handle k l.untaken) l.untaken)
     by true e = subst (λ (x : ℕ). NoneHeld h (without_handle x l.untaken)) (sym is) (none_without h l.untaken)

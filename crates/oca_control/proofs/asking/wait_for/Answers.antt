@@ -1,6 +1,5 @@
-use Rattle.std.proofs.Common.{arith}
+use Rattle.oca_control.proofs.Words.{arith, NoneTaken}
 use Rattle.oca_control.specs.declared.outcome.Outcome.TheVariants as outcomes
-use Rattle.oca_control.specs.Asking.{NoneTaken}
 use Rattle.oca_control.proofs.Asks.{one_more_turn, waits_settled, waits_unsettled, waits_asked}
 use Rattle.oca_control.proofs.asking.wait_for.Goals as goal
 

@@ -1,4 +1,4 @@
-use Rattle.oca_control.specs.Asking.{TakesTurns}
+use Rattle.oca_control.proofs.Words.{TakesTurns}
 use Rattle.oca_control.proofs.asking.wait_for.Given as goal
 
 abbrev pub invariant-loop-turn : goal.invariant-loop-turn

@@ -1,4 +1,4 @@
-use Rattle.std.proofs.Common.{arith}
+use Rattle.oca_control.proofs.Words.{arith}
 use Rattle.oca_control.specs.declared.outcome.Outcome.TheVariants as outcomes
 use Rattle.oca_control.specs.Waiting.{NoTurn}
 use Rattle.oca_control.proofs.Waits.{one_more_before, received_in_wait, waited_until, waited_last, waited_in_vain}

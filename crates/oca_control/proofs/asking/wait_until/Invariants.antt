@@ -1,4 +1,4 @@
-use Rattle.oca_control.specs.Waiting.{TakesTurnsBefore}
+use Rattle.oca_control.proofs.Words.{TakesTurnsBefore}
 use Rattle.oca_control.proofs.asking.wait_until.Given as goal
 
 abbrev pub invariant-loop-turn : goal.invariant-loop-turn

@@ -1,6 +1,4 @@
-use Rattle.std.proofs.Common.{◌≡◌, ◌+◌, ◌*◌, ℕ, ap, ◌∙◌, sym, refl, subst, arith}
-use Rattle.oca_control.specs.declared.report.DriveReport.{DriveReport}
-use Rattle.oca_control.specs.Driving.{DrivesEnd}
+use Rattle.oca_control.proofs.Words.{◌≡◌, ◌+◌, ◌*◌, ap, ◌∙◌, sym, refl, subst, arith, add-zero, DriveReport, DrivesEnd}
 use Rattle.oca_net.proofs.Running.{received_more}
 use Rattle.oca_control.proofs.Turns.{turns_none, turns_more, turns_closed, one_turn_more, none_within, more_within, wider, receives_lost, receives_closed, receives_all}
 use Rattle.oca_control.proofs.driving.drive.Goals as goal
@@ -18,11 +16,8 @@ loop-turn-init g c =
       going = ap (λ (r : DriveReport). r.lost) c.nothing-report.ensures;
       turns = ap (λ (r : DriveReport). r.turns) c.nothing-report.ensures;
       within = none_within c.nothing-report.result _ c.nothing-report.ensures;
-      receives = λ _. sym (ap (λ (r : DriveReport). e.receives + r.turns) c.nothing-report.ensures ∙ plus_zero e.receives);
+      receives = λ _. sym (ap (λ (r : DriveReport). e.receives + r.turns) c.nothing-report.ensures ∙ add-zero e.receives);
     }
-  where
-    plus_zero : (n : ℕ) → n + 0 ≡ n
-    plus_zero n = omega arith
 
 pub loop-turn-preserved : goal.loop-turn-preserved
 loop-turn-preserved g c =

@@ -1,7 +1,4 @@
-use Rattle.std.proofs.Common.{◌≡◌, ◌+◌, ◌*◌, ◌<◌, false}
-use Rattle.oca_net.specs.Ends.{last_u64}
-use Rattle.oca_control.specs.Driving.{DrivesEnd}
-use Rattle.oca_control.specs.PrivateDriving.{IsReportWithin}
+use Rattle.oca_control.proofs.Words.{◌≡◌, ◌+◌, ◌*◌, ◌<◌, false, last_u64, DrivesEnd, IsReportWithin}
 use Rattle.oca_control.proofs.driving.drive.Given as goal
 
 abbrev pub invariant-loop-turn : goal.invariant-loop-turn

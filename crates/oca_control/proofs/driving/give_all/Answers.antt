@@ -1,4 +1,4 @@
-use Rattle.std.proofs.Common.{◌+◌, ℕ, ap, ◌∙◌, arith, subst}
+use Rattle.oca_control.proofs.Words.{◌+◌, ℕ, ap, ◌∙◌, arith, subst}
 use Rattle.oca_control.specs.Driving.{SendsDue}
 use Rattle.oca_control.proofs.Turns.{gives_start, gives_more, gives_last, gave_all, none_within, more_within, wider}
 use Rattle.oca_control.proofs.driving.give_all.Goals as goal

@@ -1,4 +1,4 @@
-use Rattle.oca_control.specs.PrivateDriving.{IsReportWithin}
+use Rattle.oca_control.proofs.Words.{IsReportWithin}
 use Rattle.oca_control.proofs.Turns.{GivesSoFar}
 use Rattle.oca_control.proofs.driving.give_all.Given as goal
 

@@ -1,6 +1,4 @@
-use Rattle.std.proofs.Common.{ap, ◌∙◌, sym, refl, true}
-use Rattle.oca_control.specs.declared.report.DriveReport.{DriveReport}
-use Rattle.oca_control.specs.Links.{decision}
+use Rattle.oca_control.proofs.Words.{ap, ◌∙◌, sym, refl, true, DriveReport, decision}
 use Rattle.oca_control.proofs.Turns.{sends, keeps_alive, gives_nothing, gives_lost, gave_out, gave_nothing}
 use Rattle.oca_control.proofs.driving.give_one.Goals as goal
 

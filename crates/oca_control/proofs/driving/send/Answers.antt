@@ -1,5 +1,4 @@
-use Rattle.std.proofs.Common.{ℕ, List, [], ◌∷◌, subst}
-use Rattle.oca_net.specs.EndStates.{SendsAllBut}
+use Rattle.oca_control.proofs.Words.{ℕ, List, [], ◌∷◌, subst, SendsAllBut}
 use Rattle.oca_net.proofs.Sending.{sends_one}
 use Rattle.oca_control.proofs.driving.send.Goals as goal
 

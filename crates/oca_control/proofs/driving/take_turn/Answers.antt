@@ -1,4 +1,4 @@
-use Rattle.std.proofs.Common.{ℕ, List, refl, subst}
+use Rattle.oca_control.proofs.Words.{ℕ, List, refl, subst}
 use Rattle.oca_net.specs.declared.end.Heard.TheVariants as heard
 use Rattle.oca_net.specs.EndStates.{Receives}
 use Rattle.oca_control.proofs.Turns.{datagram_turn, quiet_turn, oversize_turn, failed_turn}

@@ -1,8 +1,4 @@
-use Rattle.std.proofs.Common.{rules, ◌≡◌, ◌+◌, ap, arith}
-use Rattle.oca_pdu.specs.Messages.{msg_of}
-use Rattle.oca_control.specs.Untaken.{answers_by}
-use Rattle.oca_control.specs.Shortening.{shortened_message}
-use Rattle.oca_control.specs.PrivateSlots.{TableState}
+use Rattle.oca_control.proofs.Words.{rules, ◌≡◌, ◌+◌, ap, arith, msg_of, answers_by, shortened_message, TableState}
 use Rattle.oca_control.proofs.Receiving.{hears_first, hears_further}
 use Rattle.oca_control.proofs.link.hear_all.Goals as goal
 

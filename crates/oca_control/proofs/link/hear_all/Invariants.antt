@@ -1,4 +1,4 @@
-use Rattle.oca_pdu.specs.Datagrams.{messages_left}
+use Rattle.oca_control.proofs.Words.{messages_left}
 use Rattle.oca_control.proofs.Receiving.{HearsOn}
 use Rattle.oca_control.proofs.link.hear_all.Given as goal
 

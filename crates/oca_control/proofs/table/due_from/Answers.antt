@@ -1,6 +1,5 @@
-use Rattle.std.proofs.Common.{◌≡◌, ◌-◌, arith, subst, ℕ}
-use Rattle.oca_types.specs.Moments.{HoldsFrom}
-use Rattle.oca_control.specs.PrivateSlots.{untaken_from, some_due}
+use Rattle.oca_control.proofs.Words.{◌≡◌, ◌-◌, arith, subst, ℕ, HoldsFrom, some_due}
+use Rattle.oca_control.specs.PrivateSlots.{untaken_from}
 use Rattle.oca_control.proofs.Places.{slot_read}
 use Rattle.oca_control.proofs.DueTimes.{none_from, from_more}
 use Rattle.oca_control.proofs.table.due_from.Goals as goal

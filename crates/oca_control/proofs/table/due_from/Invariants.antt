@@ -1,6 +1,5 @@
-use Rattle.std.proofs.Common.{◌-◌}
-use Rattle.oca_types.specs.Moments.{HoldsFrom}
-use Rattle.oca_control.specs.PrivateSlots.{untaken_from, some_due}
+use Rattle.oca_control.proofs.Words.{◌-◌, HoldsFrom, some_due}
+use Rattle.oca_control.specs.PrivateSlots.{untaken_from}
 use Rattle.oca_control.proofs.table.due_from.Given as goal
 
 -- of those below

@@ -1,6 +1,5 @@
-use Rattle.std.proofs.Common.{◌≡◌, ◌∙◌, ap, sym, arith, true, false}
+use Rattle.oca_control.proofs.Words.{◌≡◌, ◌∙◌, ap, sym, arith, true, false, held_answer, held_at}
 use Rattle.std.specs.Prelude.{is_some}
-use Rattle.oca_control.specs.PrivateSlots.{held_answer, held_at}
 use Rattle.oca_control.proofs.Places.{slot_read}
 use Rattle.oca_control.proofs.DueTimes.{answered_here, not_answered, none_answered}
 use Rattle.oca_control.proofs.table.lowest_answered.Goals as goal

@@ -1,5 +1,4 @@
-use Rattle.std.proofs.Common.{◌≡◌, ◌-◌}
-use Rattle.oca_control.specs.Untaken.{first_answered}
+use Rattle.oca_control.proofs.Words.{◌≡◌, ◌-◌, first_answered}
 use Rattle.oca_control.specs.PrivateSlots.{untaken_from}
 use Rattle.oca_control.proofs.table.lowest_answered.Given as goal
 

@@ -1,5 +1,4 @@
-use Rattle.std.proofs.Common.{◌≡◌, ◌∙◌, ap, sym, arith, true, false}
-use Rattle.oca_control.specs.PrivateSlots.{held_is_due, held_at}
+use Rattle.oca_control.proofs.Words.{◌≡◌, ◌∙◌, ap, sym, arith, true, false, held_is_due, held_at}
 use Rattle.oca_control.proofs.Places.{slot_read, due_here, not_due, none_due}
 use Rattle.oca_control.proofs.table.lowest_due.Goals as goal
 

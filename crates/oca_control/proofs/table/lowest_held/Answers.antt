@@ -1,6 +1,5 @@
-use Rattle.std.proofs.Common.{◌≡◌, ◌∙◌, ap, sym, arith, true, false}
+use Rattle.oca_control.proofs.Words.{◌≡◌, ◌∙◌, ap, sym, arith, true, false, held_at}
 use Rattle.std.specs.Prelude.{is_some}
-use Rattle.oca_control.specs.PrivateSlots.{held_at}
 use Rattle.oca_control.proofs.Places.{slot_read, not_held, done}
 use Rattle.oca_control.proofs.table.lowest_held.Goals as goal
 

@@ -1,4 +1,4 @@
-use Rattle.std.proofs.Common.{◌≡◌, ◌-◌}
+use Rattle.oca_control.proofs.Words.{◌≡◌, ◌-◌}
 use Rattle.oca_control.specs.PrivateSlots.{untaken_from}
 use Rattle.oca_control.proofs.table.lowest_held.Given as goal
 

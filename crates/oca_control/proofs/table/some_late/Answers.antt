@@ -1,5 +1,4 @@
-use Rattle.std.proofs.Common.{◌≡◌, ◌∙◌, ap, sym, arith, true, false}
-use Rattle.oca_control.specs.PrivateSlots.{held_is_late, held_at}
+use Rattle.oca_control.proofs.Words.{◌≡◌, ◌∙◌, ap, sym, arith, true, false, held_is_late, held_at}
 use Rattle.oca_control.proofs.Places.{slot_read}
 use Rattle.oca_control.proofs.DueTimes.{late_here, not_late, none_late}
 use Rattle.oca_control.proofs.table.some_late.Goals as goal

@@ -1,6 +1,4 @@
-use Rattle.std.proofs.Common.{◌≡◌, ◌-◌}
-use Rattle.std.specs.List.{list_any}
-use Rattle.oca_control.specs.Untaken.{is_late}
+use Rattle.oca_control.proofs.Words.{◌≡◌, ◌-◌, list_any, is_late}
 use Rattle.oca_control.specs.PrivateSlots.{untaken_from}
 use Rattle.oca_control.proofs.table.some_late.Given as goal
 

@@ -1,7 +1,5 @@
 use Rattle.oca_control.proofs.InTurn.{datagram_turn, quiet_turn, oversize_turn, failed_turn, closed_turn}
-use Rattle.std.proofs.Common.{◌≡◌, ap, ◌∙◌, sym, arith}
-use Rattle.oca_control.specs.declared.report.DriveReport.{DriveReport}
-use Rattle.oca_control.specs.PrivateDriving.{given_report}
+use Rattle.oca_control.proofs.Words.{◌≡◌, ap, ◌∙◌, sym, arith, DriveReport, given_report}
 use Rattle.std.specs.Prelude.{[]}
 use Rattle.oca_control.proofs.turning.turn.Goals as goal
 

@@ -1,7 +1,4 @@
-use Rattle.std.proofs.Common.{rules, arith, map, ◌∙◌, sym}
-use Rattle.oca_pdu.specs.Reading.{read_datagram}
-use Rattle.oca_pdu.specs.Datagrams.{datagram_messages, messages_left}
-use Rattle.oca_control.specs.Shortening.{shortened_message}
+use Rattle.oca_control.proofs.Words.{rules, arith, map, ◌∙◌, sym, read_datagram, datagram_messages, messages_left, shortened_message}
 use Rattle.oca_control.proofs.Messages.{content_read, has_content, datagram_short, no_content, received_messages, received_none, answer_of_content, link_of_content}
 use Rattle.oca_control.proofs.Receiving.{heard_few}
 use Rattle.oca_control.proofs.link.LinkOf.datagram.Goals as goal

@@ -1,4 +1,4 @@
-use Rattle.std.proofs.Common.{rules, ◌∙◌, sym}
+use Rattle.oca_control.proofs.Words.{rules, ◌∙◌, sym}
 use Rattle.oca_control.proofs.Receiving.{room_in_all}
 use Rattle.oca_control.proofs.link.LinkOf.submit.Goals as goal
 

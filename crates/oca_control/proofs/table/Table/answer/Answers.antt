@@ -1,5 +1,4 @@
-use Rattle.std.proofs.Common.{ap, ◌∙◌, sym}
-use Rattle.std.proofs.lemmas.List.{set-get_or}
+use Rattle.oca_control.proofs.Words.{ap, ◌∙◌, sym, set-get_or}
 use Rattle.oca_control.proofs.Views.{waits_out, waits_in, none_answered, view_answered, table, view}
 use Rattle.oca_control.proofs.table.Table.answer.Goals as goal
 

@@ -1,21 +1,14 @@
-use Rattle.std.proofs.Common.{◌≡◌, ◌+◌, ◌-◌, ◌<◌, ◌≤◌, ap, ◌∙◌, sym, arith, Bool, true, false, ℕ, length}
-use Rattle.std.specs.Prelude.{◌||◌, nat_eq, nat_lt, IsTrue}
-use Rattle.std.proofs.lemmas.Bool.Decides.{nat_tests}
+use Rattle.oca_control.proofs.Words.{◌≡◌, ◌+◌, ◌-◌, ◌<◌, ◌≤◌, ap, ◌∙◌, sym, arith, Bool, true, false, ℕ, length, nat_eq, nat_lt, IsTrue, nat_tests, eq-eqb, ne_eqb}
+use Rattle.std.specs.Prelude.{◌||◌}
 use Rattle.oca_control.specs.PrivateSlots.{untaken_from}
 use Rattle.oca_control.proofs.Places.{room_by_lowest, length_from}
 use Rattle.oca_control.proofs.table.Table.has_room.Goals as goal
 
 equal : (a b : ℕ) (x : Bool) → a ≡ b → (nat_eq a b || x) ≡ nat_eq a b
-equal a b x p = ap (λ t. t || x) (is_equal a b p) ∙ sym (is_equal a b p)
-  where
-    is_equal : (a b : ℕ) → a ≡ b → nat_eq a b ≡ true
-    is_equal a b p = grind (arith, nat_tests)
+equal a b x p = ap (λ t. t || x) (eq-eqb a b p) ∙ sym (eq-eqb a b p)
 
 unequal : (a b : ℕ) (x : Bool) → (a ≡ b → ⊥) → (nat_eq a b || x) ≡ x
-unequal a b x p = ap (λ t. t || x) (is_unequal a b p)
-  where
-    is_unequal : (a b : ℕ) → (a ≡ b → ⊥) → nat_eq a b ≡ false
-    is_unequal a b p = grind (arith, nat_tests)
+unequal a b x p = ap (λ t. t || x) (ne_eqb a b p)
 
 pub returns-then-self-clause-room : goal.returns-then-self-clause-room
 returns-then-self-clause-room g c =

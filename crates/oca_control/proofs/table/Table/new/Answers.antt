@@ -1,5 +1,5 @@
-use Rattle.std.proofs.Common.{◌≡◌, ◌-◌, ℕ, ap, ◌∙◌, List, [], Option, arith}
-use Rattle.oca_control.specs.PrivateSlots.{TableState, Held, untaken_from}
+use Rattle.oca_control.proofs.Words.{◌≡◌, ◌-◌, ℕ, ap, ◌∙◌, List, [], Option, arith, TableState, Held}
+use Rattle.oca_control.specs.PrivateSlots.{untaken_from}
 use Rattle.oca_control.proofs.Places.{done}
 use Rattle.oca_control.proofs.table.Table.new.Goals as goal
 

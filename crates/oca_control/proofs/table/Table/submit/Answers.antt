@@ -1,6 +1,5 @@
-use Rattle.std.proofs.Common.{◌≡◌, ◌<◌, ◌-◌, true, ap, ◌∙◌}
-use Rattle.oca_control.specs.Untaken.{span_has_room}
-use Rattle.oca_control.specs.PrivateSlots.{TableState, untaken_from}
+use Rattle.oca_control.proofs.Words.{◌≡◌, ◌<◌, ◌-◌, true, ap, ◌∙◌, span_has_room, TableState}
+use Rattle.oca_control.specs.PrivateSlots.{untaken_from}
 use Rattle.oca_control.proofs.Tables.{room_near, table_put}
 use Rattle.oca_control.proofs.Views.{view_put}
 use Rattle.oca_control.proofs.table.Table.submit.Goals as goal

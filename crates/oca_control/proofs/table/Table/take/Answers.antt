@@ -1,4 +1,4 @@
-use Rattle.std.proofs.Common.{◌∙◌, sym, arith, ◌<◌, length}
+use Rattle.oca_control.proofs.Words.{◌∙◌, sym, arith, ◌<◌, length}
 use Rattle.oca_control.proofs.Tables.{table_taken}
 use Rattle.oca_control.proofs.Views.{answer_in_slot, answer_out, view_taken, not_taken}
 use Rattle.oca_control.proofs.table.Table.take.Goals as goal

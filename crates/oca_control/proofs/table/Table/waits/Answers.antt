@@ -1,4 +1,4 @@
-use Rattle.std.proofs.Common.{sym}
+use Rattle.oca_control.proofs.Words.{sym}
 use Rattle.oca_control.proofs.Views.{waits_out, waits_in}
 use Rattle.oca_control.proofs.table.Table.waits.Goals as goal
 
