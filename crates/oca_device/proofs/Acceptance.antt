@@ -1,14 +1,10 @@
 -- Accepted commands with their replies, and the commands alone.
-use Rattle.std.proofs.Common.{◌≡◌, ℕ, ◌-◌, Bool, true, false, cond, List, [], ◌∷◌, ◌++◌, length, take, drop, refl, sym, ap, ◌∙◌, zero, suc, arith}
-use Rattle.std.specs.Prelude.{map, not, nat_eq, nat_lt, ◌&&◌, ◌||◌, Option, Some, None, is_some}
-use Rattle.std.specs.List.{list_any, list_all, IsDistinct, AllByRecursion}
-use Rattle.std.proofs.lemmas.List.{append_assoc, append-nil, length-map}
-use Rattle.std.proofs.lemmas.Bool.Decides.{nat_tests}
-use Rattle.oca_types.specs.Peers.{CommandFields}
-use Rattle.oca_types.specs.Sizes.{DeviceSizes}
-use Rattle.oca_pdu.specs.Messages.{Msg, Command, Response, KeepAlive}
-use Rattle.oca_session.specs.Accepted.{Entry, window, outside, has_handle, is_below, accepts, entry_under, asks_the_same}
-use Rattle.oca_device.specs.LawByEvents.{accepts_handle, accepted_of, is_duplicate, is_reuse, with_command}
+use Rattle.oca_device.proofs.Words.{◌≡◌, ℕ, ◌-◌, Bool, true, false, cond, List, [], ◌∷◌, ◌++◌, length, drop, refl, sym, ap, ◌∙◌, zero, suc, arith, map, not, nat_eq, nat_lt, ◌&&◌, ◌||◌, Option, Some}
+use Rattle.oca_device.proofs.Words.{None, is_some, list_any, list_all, AllByRecursion, append_assoc, append-nil, length-map, nat_tests, or_parts, eqb-true, CommandFields, DeviceSizes, Msg, Command}
+use Rattle.oca_device.proofs.Words.{Response, KeepAlive, Entry, window, outside, has_handle, is_below, accepts, entry_under, asks_the_same, accepts_handle, accepted_of, is_duplicate, is_reuse}
+use Rattle.oca_device.proofs.Words.{with_command, on_bool}
+use Rattle.std.proofs.Common.{take}
+use Rattle.std.specs.List.{IsDistinct}
 
 abbrev pub commands_of : List Entry → List CommandFields
 commands_of es = map (λ e. e.command) es
@@ -54,29 +50,20 @@ accepts_same w A h =
 
 pub found_in_front : (h : ℕ) (es more : List Entry) (e : Entry) → entry_under h es ≡ Some e → entry_under h (es ++ more) ≡ Some e
 found_in_front h [] more e p = absurd cc
-found_in_front h (x ∷ es) more e p = by (nat_eq x.command.handle h) p (found_in_front h es more e)
-  where
-    by : (b : Bool) → cond b (Some x) (entry_under h es) ≡ Some e → (entry_under h es ≡ Some e → entry_under h (es ++ more) ≡ Some e) →
-        cond b (Some x) (entry_under h (es ++ more)) ≡ Some e
-    by true q ih = q
-    by false q ih = ih q
+found_in_front h (x ∷ es) more e p =
+    on_bool (nat_eq x.command.handle h) (λ b. cond b (Some x) (entry_under h es) ≡ Some e → (entry_under h es ≡ Some e → entry_under h (es ++ more) ≡ Some e) → cond b (Some x) (entry_under h (es ++ more)) ≡ Some e)
+    (λ q ih. q) (λ q ih. ih q) p (found_in_front h es more e)
 
 pub equal_self : (a : ℕ) → nat_eq a a ≡ true
 equal_self a = grind (arith, nat_tests)
 
-pub equal_is : (a b : ℕ) → nat_eq a b ≡ true → a ≡ b
-equal_is a b h = grind (arith, nat_tests)
-
 -- the entry of a handle that was not there before
 pub found_last : (es : List Entry) (e : Entry) → list_any (has_handle e.command.handle) es ≡ false → entry_under e.command.handle (es ++ e ∷ []) ≡ Some e
 found_last [] e p = ap (λ b. cond b (Some e) None) (equal_self e.command.handle)
-found_last (x ∷ es) e p = by (nat_eq x.command.handle e.command.handle) p (found_last es e)
-  where
-    by : (b : Bool) → (b || list_any (has_handle e.command.handle) es) ≡ false →
-        (list_any (has_handle e.command.handle) es ≡ false → entry_under e.command.handle (es ++ e ∷ []) ≡ Some e) →
-        cond b (Some x) (entry_under e.command.handle (es ++ e ∷ [])) ≡ Some e
-    by true q ih = absurd cc
-    by false q ih = ih q
+found_last (x ∷ es) e p =
+    on_bool (nat_eq x.command.handle e.command.handle) (λ b. (b || list_any (has_handle e.command.handle) es) ≡ false → (list_any (has_handle e.command.handle) es ≡ false → entry_under e.command.handle
+    (es ++ e ∷ []) ≡ Some e) → cond b (Some x) (entry_under e.command.handle (es ++ e ∷ [])) ≡ Some e)
+    (λ q ih. absurd cc) (λ q ih. ih q) p (found_last es e)
 
 accepted_is_new : (a b : Bool) → (not a && b) ≡ true → a ≡ false
 accepted_is_new true b p = absurd cc
@@ -96,19 +83,13 @@ distinct_none = tt
 
 not_again : (x : CommandFields) (h : ℕ) (ys : List CommandFields) → AllByRecursion (λ y. same_handle x y ≡ false) ys → has h ys ≡ true → nat_eq x.handle h ≡ false
 not_again x h [] all p = absurd cc
-not_again x h (y ∷ ys) all p = by (nat_eq y.handle h) refl p (not_again x h ys all.1)
-  where
-    by : (b : Bool) → nat_eq y.handle h ≡ b → (b || has h ys) ≡ true → (has h ys ≡ true → nat_eq x.handle h ≡ false) → nat_eq x.handle h ≡ false
-    by true e q ih = ap (nat_eq x.handle) (sym (equal_is y.handle h e)) ∙ all.0
-    by false e q ih = ih q
+not_again x h (y ∷ ys) all p = on_bool (nat_eq y.handle h) (λ b. nat_eq y.handle h ≡ b → (b || has h ys) ≡ true → (has h ys ≡ true → nat_eq x.handle h ≡ false) → nat_eq x.handle h ≡ false)
+    (λ e q ih. ap (nat_eq x.handle) (sym (eqb-true y.handle h e)) ∙ all.0) (λ e q ih. ih q) refl p (not_again x h ys all.1)
 
 pub found_has : (h : ℕ) (es : List Entry) → is_some (entry_under h es) ≡ has h (commands_of es)
 found_has h [] = refl
-found_has h (e ∷ es) = by (nat_eq e.command.handle h) (found_has h es)
-  where
-    by : (b : Bool) → is_some (entry_under h es) ≡ has h (commands_of es) → is_some (cond b (Some e) (entry_under h es)) ≡ (b || has h (commands_of es))
-    by true p = refl
-    by false p = p
+found_has h (e ∷ es) = on_bool (nat_eq e.command.handle h) (λ b. is_some (entry_under h es) ≡ has h (commands_of es) → is_some (cond b (Some e) (entry_under h es)) ≡ (b || has h (commands_of es)))
+    (λ p. refl) (λ p. p) (found_has h es)
 
 is_some_there : (o : Option Entry) (x : Entry) → o ≡ Some x → is_some o ≡ true
 is_some_there o x p = ap is_some p
@@ -128,32 +109,23 @@ all_pushed : (x c : CommandFields) (ys : List CommandFields) → AllByRecursion 
 all_pushed x c [] all p = (p, tt)
 all_pushed x c (y ∷ ys) all p = (all.0, all_pushed x c ys all.1 p)
 
-neither : (a b : Bool) → (a || b) ≡ false → (a ≡ false) × (b ≡ false)
-neither true b p = absurd cc
-neither false b p = (refl, p)
-
 distinct_pushed : (c : CommandFields) (xs : List CommandFields) → AreDistinct xs → has c.handle xs ≡ false → AreDistinct (xs ++ c ∷ [])
 unfolding IsDistinct
 distinct_pushed c [] d p = (tt, tt)
 distinct_pushed c (x ∷ xs) d p =
-    let parts = neither (nat_eq x.handle c.handle) (has c.handle xs) p in
+    let parts = or_parts (nat_eq x.handle c.handle) (has c.handle xs) p in
     (all_pushed x c xs d.0 parts.0, distinct_pushed c xs d.1 parts.1)
 
 pub distinct_after : (w : DeviceSizes) (A : List CommandFields) (c : CommandFields) → AreDistinct A → AreDistinct (with_command w A c)
-distinct_after w A c d = by (accepts_handle w A c.handle) refl
-  where
-    by : (b : Bool) → accepts_handle w A c.handle ≡ b → AreDistinct (cond b (A ++ c ∷ []) A)
-    by true e = distinct_pushed c A d (accepted_is_new (has c.handle A) (list_all (λ x. nat_lt x.handle c.handle) (outside w.window A)) e)
-    by false e = d
+distinct_after w A c d = on_bool (accepts_handle w A c.handle) (λ b. accepts_handle w A c.handle ≡ b → AreDistinct (cond b (A ++ c ∷ []) A))
+    (λ e. distinct_pushed c A d (accepted_is_new (has c.handle A) (list_all (λ x. nat_lt x.handle c.handle) (outside w.window A)) e)) (λ e. d) refl
 
 -- A after messages
 pub accepted_one : (w : DeviceSizes) (A : List CommandFields) (respond : Bool) (c : CommandFields) (ms : List Msg) →
     A ++ accepted_of w A (Command respond c ∷ ms) ≡ with_command w A c ++ accepted_of w (with_command w A c) ms
-accepted_one w A respond c ms = by (accepts_handle w A c.handle)
-  where
-    by : (b : Bool) → A ++ cond b (c ∷ accepted_of w (A ++ c ∷ []) ms) (accepted_of w A ms) ≡ cond b (A ++ c ∷ []) A ++ accepted_of w (cond b (A ++ c ∷ []) A) ms
-    by true = sym (append_assoc A (c ∷ []) (accepted_of w (A ++ c ∷ []) ms))
-    by false = refl
+accepted_one w A respond c ms =
+    on_bool (accepts_handle w A c.handle) (λ b. A ++ cond b (c ∷ accepted_of w (A ++ c ∷ []) ms) (accepted_of w A ms) ≡ cond b (A ++ c ∷ []) A ++ accepted_of w (cond b (A ++ c ∷ []) A) ms)
+    (sym (append_assoc A (c ∷ []) (accepted_of w (A ++ c ∷ []) ms))) refl
 
 pub distinct_of : (w : DeviceSizes) (A : List CommandFields) (ms : List Msg) → AreDistinct A → AreDistinct (A ++ accepted_of w A ms)
 distinct_of w A [] d = subst_nil A d
@@ -198,7 +170,7 @@ none_left f c h (y ∷ xs) x all e =
     turned a b p = grind (arith, nat_tests)
 
     other : nat_eq y.handle h ≡ false
-    other = ap (nat_eq y.handle) (sym (equal_is x.handle h e)) ∙ turned x.handle y.handle all.0
+    other = ap (nat_eq y.handle) (sym (eqb-true x.handle h e)) ∙ turned x.handle y.handle all.0
 
 any_asks : (f : Bool → Bool) (c : CommandFields) (es : List Entry) → AreDistinct (commands_of es) →
     list_any (λ x. nat_eq x.handle c.handle && f (asks_the_same x c)) (commands_of es) ≡ asks_so f (entry_under c.handle es) c

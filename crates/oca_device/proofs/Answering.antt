@@ -1,22 +1,12 @@
 -- The answers to messages are the replies of executions.
-use Rattle.std.proofs.Common.{◌≡◌, ℕ, ◌-◌, Bool, true, false, cond, List, [], ◌∷◌, ◌++◌, length, refl, sym, ap, ◌∙◌, subst}
-use Rattle.std.specs.Prelude.{map, nat_eq, ◌&&◌, ◌||◌, Option, Some, None}
-use Rattle.std.proofs.lemmas.List.{append_assoc, append-nil}
-use Rattle.oca_types.specs.declared.words.Peer.{Peer}
-use Rattle.oca_types.specs.Peers.{same_peer, CommandFields}
-use Rattle.oca_types.specs.Sizes.{DeviceSizes}
-use Rattle.oca_pdu.specs.Messages.{Msg, Command, Response, KeepAlive}
-use Rattle.oca_tree.specs.declared.object.Object.{Object}
+use Rattle.oca_device.proofs.Words.{◌≡◌, ℕ, ◌-◌, Bool, true, false, cond, List, [], ◌∷◌, ◌++◌, length, refl, sym, ap, ◌∙◌, subst, map, nat_eq, ◌&&◌, ◌||◌, Option, Some, None, append_assoc, append-nil}
+use Rattle.oca_device.proofs.Words.{eqb-true, Peer, same_peer, CommandFields, DeviceSizes, Msg, Command, Response, KeepAlive, Object, after_change, Entry, Fresh, Duplicate, Reused, judge_unaccepted}
+use Rattle.oca_device.proofs.Words.{accepts, entry_under, window, asks_the_same, run, is_noted, accepted, State, judged_in, reply_of, after_command, after_messages, time_of, response}
+use Rattle.oca_device.proofs.Words.{answer_to_command, answers_to_messages, accepts_handle, accepted_of, is_duplicate, Change, Executes, Releases, Sets, objects, reply, replies}
 use Rattle.oca_tree.specs.Execution.{execution}
 use Rattle.oca_tree.specs.Locks.{released}
-use Rattle.oca_tree.specs.LocalChanges.{after_change}
-use Rattle.oca_session.specs.Accepted.{Entry, Fresh, Duplicate, Reused, judge_unaccepted, accepts, entry_under, window, asks_the_same}
-use Rattle.oca_device.specs.Notes.{run, is_noted, accepted}
-use Rattle.oca_device.specs.States.{State, judged_in, reply_of, after_command, after_messages, time_of}
-use Rattle.oca_device.specs.Answers.{response, answer_to_command, answers_to_messages}
-use Rattle.oca_device.specs.LawByEvents.{accepts_handle, accepted_of, is_duplicate, Change, Executes, Releases, Sets, objects, reply, replies}
 use Rattle.oca_device.proofs.Peers.{same_self}
-use Rattle.oca_device.proofs.Acceptance.{commands_of, AreDistinct, accepts_same, found_in_front, found_last, found_after, new_where_accepted, duplicate_is, asks_so, equal_is}
+use Rattle.oca_device.proofs.Acceptance.{commands_of, AreDistinct, accepts_same, found_in_front, found_last, found_after, new_where_accepted, duplicate_is, asks_so}
 use Rattle.oca_device.proofs.Messages.{executed_of, fresh_state, entry_of, fresh_known, fresh_accepted, fresh_executed, after_judged, kept_alive, alive_accepted, alive_executed, alive_known, distinct_next}
 
 -- ---- serving messages only adds accepted commands
@@ -184,7 +174,7 @@ replied_fresh w p c s tree C A new same rep = λ h e f.
         cond b (response h (reply_of s.tree p c) ∷ []) (reply p h [] tree C) ≡ response h e.reply ∷ []
     by h e f true k =
         let found : Some (entry_of p c s) ≡ Some e =
-        sym (found_last A (entry_of p c s) (new_where_accepted w A c.handle new)) ∙ ap (λ (x : ℕ). entry_under x (A ++ entry_of p c s ∷ [])) (equal_is c.handle h k) ∙ f in
+        sym (found_last A (entry_of p c s) (new_where_accepted w A c.handle new)) ∙ ap (λ (x : ℕ). entry_under x (A ++ entry_of p c s ∷ [])) (eqb-true c.handle h k) ∙ f in
         ap (λ (o : Option Entry). response h (or_else e o).reply ∷ []) found
     by h e f false k = rep h e (sym (found_before h A (entry_of p c s) k) ∙ f)
 

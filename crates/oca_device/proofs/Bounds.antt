@@ -1,24 +1,10 @@
 -- How many answers messages have at most, and how long their commands are.
-use Rattle.std.proofs.Common.{◌≡◌, ℕ, ◌+◌, ◌≤◌, Bool, true, false, cond, List, [], ◌∷◌, ◌++◌, length, refl, sym, ap, ◌∙◌, arith, subst}
-use Rattle.std.proofs.lemmas.Bool.{leb-true}
-use Rattle.std.proofs.lemmas.List.{length-append}
-use Rattle.std.specs.List.{flat_map, AllByRecursion}
-use Rattle.std.specs.Prelude.{map, not, count_by, nat_le, ◌||◌, Ok}
-use Rattle.std.proofs.lemmas.List.Sums.{sum_by-cons}
-use Rattle.oca_types.specs.Peers.{CommandFields}
-use Rattle.oca_pdu.specs.Messages.{ResponseFields, Msg, Command, Response, KeepAlive, Pdu, Commands, Responses, OneKeepAlive, messages_of}
-use Rattle.oca_pdu.specs.Encoding.{command_encoding, command_type, pdu_frame, pdu_encoding, IsDatagram}
-use Rattle.oca_pdu.specs.Limits.{is_command, is_response}
-use Rattle.oca_types.specs.declared.words.Peer.{Peer}
-use Rattle.oca_types.specs.Sizes.{DeviceSizes}
-use Rattle.oca_session.specs.Accepted.{Judgement, Fresh, Duplicate, Reused, Old}
-use Rattle.oca_device.specs.Notes.{Admitted}
-use Rattle.oca_device.specs.States.{State, noted, admits, judged_in, after_message}
-use Rattle.oca_device.specs.Groups.{last_with, from_with, with_answer, with_answers, encodings}
-use Rattle.oca_device.specs.Answers.{answer_to_command, answer_to, answers_to_messages, answers_to_reading, packets_of}
-use Rattle.oca_device.specs.Rooms.{is_short_enough, shortened_answers}
+use Rattle.oca_device.proofs.Words.{◌≡◌, ℕ, ◌+◌, ◌≤◌, Bool, true, false, cond, List, [], ◌∷◌, ◌++◌, length, refl, sym, ap, ◌∙◌, arith, subst, leb-true, length-append, flat_map, AllByRecursion, map}
+use Rattle.oca_device.proofs.Words.{not, count_by, nat_le, ◌||◌, Ok, sum_by-cons, CommandFields, ResponseFields, Msg, Command, Response, KeepAlive, Pdu, Commands, Responses, OneKeepAlive, messages_of}
+use Rattle.oca_device.proofs.Words.{command_encoding, command_type, pdu_frame, pdu_encoding, IsDatagram, is_command, is_response, Peer, DeviceSizes, Judgement, Fresh, Duplicate, Reused, Old, Admitted}
+use Rattle.oca_device.proofs.Words.{State, noted, admits, judged_in, after_message, last_with, from_with, with_answer, with_answers, encodings, answer_to_command, answer_to, answers_to_messages}
+use Rattle.oca_device.proofs.Words.{answers_to_reading, packets_of, is_short_enough, shortened_answers, IsShort, commands_of, all_commands, on_bool}
 use Rattle.oca_device.proofs.Rooms.{as_many}
-use Rattle.oca_device.specs.PrivateServing.{IsShort, commands_of, all_commands}
 
 -- a message has one answer at most, and a response none
 abbrev pub may_answer : Msg → ℕ
@@ -98,11 +84,9 @@ all_short most ps bytes h room = pdus_short most ps (length bytes) (omega (arith
 -- ---- a datagram is answered with at most as many packets as it has messages that are answered
 
 last_grows : (p : Pdu) (m : Msg) → length (encodings (last_with p m)) ≤ 2
-last_grows (Responses rs) (Response r) = by (nat_le (length (pdu_encoding (Responses (rs ++ r ∷ [])))) 1472)
-  where
-    by : (b : Bool) → length (encodings (cond b (Responses (rs ++ r ∷ []) ∷ []) (Responses rs ∷ Responses (r ∷ []) ∷ []))) ≤ 2
-    by true = omega arith
-    by false = omega arith
+last_grows (Responses rs) (Response r) =
+    on_bool (nat_le (length (pdu_encoding (Responses (rs ++ r ∷ [])))) 1472) (λ b. length (encodings (cond b (Responses (rs ++ r ∷ []) ∷ []) (Responses rs ∷ Responses (r ∷ []) ∷ []))) ≤ 2)
+    (omega arith) (omega arith)
 last_grows (Responses rs) (KeepAlive form) = omega arith
 last_grows (Responses rs) (Command respond c) = omega arith
 last_grows (OneKeepAlive form) m = omega arith
@@ -127,11 +111,7 @@ command_answers Reused p c s = omega arith
 command_answers Old p c s = omega arith
 
 message_answers : (w : DeviceSizes) (p : Peer) (m : Msg) (s : State) → length (answer_to w p m s) ≤ may_answer m
-message_answers w p (Command respond c) s = by respond
-  where
-    by : (b : Bool) → length (cond b (answer_to_command (judged_in w s p c) p c s) []) ≤ 1
-    by true = command_answers (judged_in w s p c) p c s
-    by false = omega arith
+message_answers w p (Command respond c) s = on_bool respond (λ b. length (cond b (answer_to_command (judged_in w s p c) p c s) []) ≤ 1) (command_answers (judged_in w s p c) p c s) (omega arith)
 message_answers w p (KeepAlive form) s = omega arith
 message_answers w p (Response r) s = omega arith
 
@@ -145,13 +125,9 @@ packets_few ms = omega (arith, answers_grow [] ms)
 
 pub few_packets : (most : ℕ) (w : DeviceSizes) (p : Peer) (ms : List Msg) (s : State) (n : ℕ) → most_answers ms ≤ n →
     length (packets_of (shortened_answers most (answers_to_reading w p (Ok ms) s))) ≤ n
-few_packets most w p ms s n few = by (admits w s p)
-  where
-    by : (b : Bool) → length (packets_of (shortened_answers most (cond b (answers_to_messages w p ms (noted p (Admitted ms) s)) []))) ≤ n
-    by true =
-        let xs = answers_to_messages w p ms (noted p (Admitted ms) s) in
-        omega (arith, few, packets_few (shortened_answers most xs), as_many most xs, all_answers w p ms (noted p (Admitted ms) s))
-    by false = omega (arith, packets_few (shortened_answers most []), as_many most [])
+few_packets most w p ms s n few = on_bool (admits w s p) (λ b. length (packets_of (shortened_answers most (cond b (answers_to_messages w p ms (noted p (Admitted ms) s)) []))) ≤ n)
+    (let xs = answers_to_messages w p ms (noted p (Admitted ms) s) in omega (arith, few, packets_few (shortened_answers most xs), as_many most xs, all_answers w p ms (noted p (Admitted ms) s)))
+    (omega (arith, packets_few (shortened_answers most []), as_many most []))
 
 -- a datagram that is not admitted is not answered
 pub no_packets : (most : ℕ) (w : DeviceSizes) (p : Peer) (ms : List Msg) (s : State) (n : ℕ) → admits w s p ≡ false →

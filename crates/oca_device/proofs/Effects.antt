@@ -1,20 +1,10 @@
 -- What the messages of a known peer write, and which executions are noted of them, by the law's words.
-use Rattle.std.proofs.Common.{◌≡◌, ℕ, Bool, true, false, cond, List, [], ◌∷◌, ◌++◌, refl, sym, ap, ◌∙◌}
-use Rattle.std.specs.Prelude.{map, Option, Some, None}
-use Rattle.std.proofs.lemmas.List.{append_assoc, append-nil}
-use Rattle.oca_types.specs.declared.words.Peer.{Peer}
-use Rattle.oca_types.specs.Peers.{CommandFields}
-use Rattle.oca_types.specs.Sizes.{DeviceSizes}
-use Rattle.oca_pdu.specs.Messages.{Msg, Command, Response, KeepAlive}
-use Rattle.oca_tree.specs.declared.object.Object.{Object}
+use Rattle.oca_device.proofs.Words.{◌≡◌, ℕ, Bool, true, false, cond, List, [], ◌∷◌, ◌++◌, refl, sym, ap, ◌∙◌, map, Option, Some, None, append_assoc, append-nil, Peer, CommandFields, DeviceSizes, Msg}
+use Rattle.oca_device.proofs.Words.{Command, Response, KeepAlive, Object, after_change, Entry, Fresh, Duplicate, Reused, judge_unaccepted, accepts, entry_under, window, asks_the_same, is_noted}
+use Rattle.oca_device.proofs.Words.{accepted, run, State, judged_in, reply_of, after_command, after_messages, time_of, written_by_execution, written_by_command, written_by_messages, accepts_handle}
+use Rattle.oca_device.proofs.Words.{accepted_of, Change, Executes, Releases, Sets, objects, ExecutionFor, executions, executions_noted, written_of}
 use Rattle.oca_tree.specs.Execution.{execution}
 use Rattle.oca_tree.specs.Locks.{released}
-use Rattle.oca_tree.specs.LocalChanges.{after_change}
-use Rattle.oca_session.specs.Accepted.{Entry, Fresh, Duplicate, Reused, judge_unaccepted, accepts, entry_under, window, asks_the_same}
-use Rattle.oca_device.specs.Notes.{is_noted, accepted, run}
-use Rattle.oca_device.specs.States.{State, judged_in, reply_of, after_command, after_messages, time_of}
-use Rattle.oca_device.specs.Written.{written_by_execution, written_by_command, written_by_messages}
-use Rattle.oca_device.specs.LawByEvents.{accepts_handle, accepted_of, Change, Executes, Releases, Sets, objects, ExecutionFor, executions, executions_noted, written_of}
 use Rattle.oca_device.proofs.Acceptance.{accepts_same}
 use Rattle.oca_device.proofs.Messages.{executed_of, fresh_state, fresh_known, fresh_executed, after_judged, kept_alive, alive_executed, alive_known}
 

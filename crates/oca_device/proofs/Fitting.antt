@@ -1,27 +1,18 @@
 -- Each answer fits into a datagram.
-use Rattle.std.proofs.Common.{◌≡◌, ℕ, ◌≤◌, Bool, true, false, cond, List, [], ◌∷◌, ◌++◌, length, refl, sym, ap, ◌∙◌, arith}
-use Rattle.std.specs.Prelude.{nat_lt, nat_eq, ◌&&◌, ◌||◌, not, Option, Some, None, is_none, Result, Ok, Err}
-use Rattle.std.specs.List.{AllByRecursion}
-use Rattle.std.proofs.lemmas.Bool.Decides.{nat_tests}
-use Rattle.oca_types.specs.declared.words.Peer.{Peer}
+use Rattle.oca_device.proofs.Words.{◌≡◌, ℕ, ◌≤◌, Bool, true, false, cond, List, [], ◌∷◌, ◌++◌, length, refl, sym, ap, ◌∙◌, arith, nat_lt, nat_eq, ◌&&◌, ◌||◌, not, Option, Some, None, is_none, Result}
+use Rattle.oca_device.proofs.Words.{Ok, Err, AllByRecursion, nat_tests, Peer, same_peer, CommandFields, DeviceSizes, Msg, Command, Response, KeepAlive, Object, object_of, after_change}
+use Rattle.oca_device.proofs.Words.{IsAnswerMessage, Happening, Passes, Says, Sets, Change, Executes, Releases, reply, replies, answers_by_events, changes, clock, admitted, accepted_by, served_of}
+use Rattle.oca_device.proofs.Words.{accepts_handle, is_duplicate, with_command}
 use Rattle.oca_types.specs.declared.status.Status.{Status}
 use Rattle.oca_types.specs.declared.status.Status.TheVariants as status
-use Rattle.oca_types.specs.Peers.{same_peer, CommandFields}
 use Rattle.oca_types.specs.Status.{status_number}
-use Rattle.oca_types.specs.Sizes.{DeviceSizes}
-use Rattle.oca_pdu.specs.Messages.{Msg, Command, Response, KeepAlive}
-use Rattle.oca_tree.specs.declared.object.Object.{Object}
 use Rattle.oca_model.specs.declared.request.Request.{Request}
 use Rattle.oca_model.specs.declared.value.ValueFault.{ValueFault}
 use Rattle.oca_model.specs.Answers.{answer_encoding}
-use Rattle.oca_tree.specs.Objects.{object_of}
 use Rattle.oca_tree.specs.Execution.{TreeAndReply, execution, by_status, status_of, first_that_applies, kind_at, asked_at, is_unknown, is_kind_left_out, is_locked, is_malformed, sets_unlisted, on_both, is_failing}
 use Rattle.oca_tree.specs.Requests.{fits_positions, asks_out_of_range, asks_invalid}
 use Rattle.oca_tree.specs.Typed.{answer_given}
 use Rattle.oca_tree.specs.Locks.{released}
-use Rattle.oca_tree.specs.LocalChanges.{after_change}
-use Rattle.oca_device.specs.Groups.{IsAnswerMessage}
-use Rattle.oca_device.specs.LawByEvents.{Happening, Passes, Says, Sets, Change, Executes, Releases, reply, replies, answers_by_events, changes, clock, admitted, accepted_by, served_of, accepts_handle, is_duplicate, with_command}
 
 -- ---- the parameters of an answer
 

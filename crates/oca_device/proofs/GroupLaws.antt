@@ -1,13 +1,8 @@
 -- The groups of answers are there, and they are the only ones.
-use Rattle.std.proofs.Common.{◌≡◌, ℕ, ◌+◌, ◌≤◌, ◌<◌, Bool, true, false, cond, List, [], ◌∷◌, ◌++◌, length, refl, sym, ap, ◌∙◌, subst, arith}
-use Rattle.std.specs.Prelude.{map, nat_le, ⊤}
-use Rattle.std.specs.List.{flat_map, AllByRecursion}
-use Rattle.std.proofs.lemmas.Bool.Decides.{nat_tests}
-use Rattle.std.proofs.lemmas.Grind.{flat_map-append}
-use Rattle.std.proofs.lemmas.List.{append_assoc, append-nil, length-append, map-append}
-use Rattle.oca_pdu.specs.Messages.{ResponseFields, Msg, Command, Response, KeepAlive, Pdu, Commands, Responses, OneKeepAlive, messages_of}
-use Rattle.oca_pdu.specs.Encoding.{response_encoding, pdu_encoding}
-use Rattle.oca_device.specs.Groups.{IsGroup, IsFullBefore, AreGroups, IsAnswerMessage, pdu_of, with_response, last_with, from_with, with_answer, with_answers, groups_of}
+use Rattle.oca_device.proofs.Words.{◌≡◌, ℕ, ◌+◌, ◌≤◌, ◌<◌, Bool, true, false, cond, List, [], ◌∷◌, ◌++◌, length, refl, sym, ap, ◌∙◌, subst, arith, map, nat_le, ⊤, flat_map, AllByRecursion, nat_tests}
+use Rattle.oca_device.proofs.Words.{flat_map-append, append_assoc, append-nil, length-append, map-append, ResponseFields, Msg, Command, Response, KeepAlive, Pdu, Commands, Responses, OneKeepAlive}
+use Rattle.oca_device.proofs.Words.{messages_of, response_encoding, pdu_encoding, IsGroup, IsFullBefore, AreGroups, IsAnswerMessage, pdu_of, with_response, last_with, from_with, with_answer}
+use Rattle.oca_device.proofs.Words.{with_answers, groups_of, on_bool}
 
 -- ---- the size of a PDU of responses
 
@@ -123,16 +118,14 @@ last_grown (Commands respond cs) m g a = absurd g
 -- the first group keeps its first response
 still_first : (p q : Pdu) (groups : List Pdu) (m : Msg) → IsGroup q → IsFullBefore p q → FullFirst p (from_with q groups m)
 still_first p q (x ∷ groups) m g h = h
-still_first p (Responses (s ∷ rs)) [] (Response r) g h = by (nat_le (length (pdu_encoding (Responses (s ∷ rs ++ r ∷ [])))) 1472)
+still_first p (Responses (s ∷ rs)) [] (Response r) g h =
+    on_bool (nat_le (length (pdu_encoding (Responses (s ∷ rs ++ r ∷ [])))) 1472) (λ b. FullFirst p (cond b (Responses (s ∷ rs ++ r ∷ []) ∷ []) (Responses (s ∷ rs) ∷ Responses (r ∷ []) ∷ [])))
+    (still p h) h
   where
     still : (y : Pdu) → IsFullBefore y (Responses (s ∷ rs)) → IsFullBefore y (Responses (s ∷ (rs ++ r ∷ [])))
     still (Responses xs) k = k
     still (OneKeepAlive form) k = tt
     still (Commands respond cs) k = tt
-
-    by : (b : Bool) → FullFirst p (cond b (Responses (s ∷ rs ++ r ∷ []) ∷ []) (Responses (s ∷ rs) ∷ Responses (r ∷ []) ∷ []))
-    by true = still p h
-    by false = h
 still_first p (Responses []) [] (Response r) g h = absurd (omega (arith, g.0))
 still_first p (Responses rs) [] (KeepAlive form) g h = h
 still_first p (Responses rs) [] (Command respond c) g h = h

@@ -1,17 +1,11 @@
 -- Groups of answers, and their packets.
-use Rattle.std.proofs.Common.{◌≡◌, ℕ, zero, suc, ◌+◌, ◌≤◌, ◌<◌, Bool, true, false, cond, List, [], ◌∷◌, ◌++◌, length, refl, sym, ap, ◌∙◌, arith}
-use Rattle.std.specs.Prelude.{nat_le, ◌-◌, ◌↔◌, slice_index_or, slice_set, take, Result, Ok, Err, IsOk, OnOk, OnErr, is_ok}
-use Rattle.std.proofs.lemmas.Bool.{le-leb, leb-true, lt-ltb, le-ltb, ltb-true, ltb-false}
-use Rattle.std.proofs.lemmas.List.{append_assoc, take_more, take_all, take-append-le, length-take-le, length-map, length-append, map-append}
-use Rattle.std.proofs.lemmas.Grind.{take-set_at}
+use Rattle.oca_device.proofs.Words.{◌≡◌, ℕ, zero, suc, ◌+◌, ◌≤◌, ◌<◌, Bool, true, false, cond, List, [], ◌∷◌, ◌++◌, length, refl, sym, ap, ◌∙◌, arith, nat_le, ◌↔◌, slice_index_or, slice_set, take}
+use Rattle.oca_device.proofs.Words.{Result, Ok, Err, IsOk, OnOk, OnErr, is_ok, le-leb, leb-true, lt-ltb, le-ltb, ltb-true, ltb-false, append_assoc, take_more, take_all, take-append-le, length-take-le}
+use Rattle.oca_device.proofs.Words.{length-map, length-append, map-append, take-set_at, ResponseFields, Msg, Command, Response, KeepAlive, Pdu, Commands, Responses, OneKeepAlive, pdu_encoding}
+use Rattle.oca_device.proofs.Words.{ArrayVec, IsResponses, responses_size, bytes_of_packets, KeptPackets, first_packets, AreEncodings, AreGrouped, IsGrouped, Joins, JoinsLast, pdu_of, last_with}
+use Rattle.oca_device.proofs.Words.{from_with, with_answer, with_answers, encodings, on_bool}
+use Rattle.std.specs.Prelude.{◌-◌}
 use Rattle.oca_pdu.specs.declared.message.Form.{Form}
-use Rattle.oca_pdu.specs.Messages.{ResponseFields, Msg, Command, Response, KeepAlive, Pdu, Commands, Responses, OneKeepAlive}
-use Rattle.oca_pdu.specs.Encoding.{pdu_encoding}
-use Rattle.arrayvec.specs.ArrayVec.{ArrayVec}
-use Rattle.oca_pdu.specs.Writing.{IsResponses, responses_size}
-use Rattle.oca_device.specs.Outboxes.{bytes_of_packets, KeptPackets, first_packets}
-use Rattle.oca_device.specs.PrivateServing.{AreEncodings, AreGrouped, IsGrouped, Joins, JoinsLast}
-use Rattle.oca_device.specs.Groups.{pdu_of, last_with, from_with, with_answer, with_answers, encodings}
 
 pub answers_both : (groups : List Pdu) (xs ys : List Msg) → with_answers groups (xs ++ ys) ≡ with_answers (with_answers groups xs) ys
 answers_both groups [] ys = refl
@@ -140,17 +134,9 @@ none_before m (p ∷ groups) e = absurd cc
 abbrev pub kept : List (List ℕ) → ℕ → Bool → KeptPackets
 kept packets room is_cut = record { packets = packets; room = room; is_cut = is_cut }
 
-take_none : (room : ℕ) → let none : List (List ℕ) = [] in take room none ≡ none
-take_none zero = refl
-take_none (suc n) = refl
-
 -- so many packets are as many
 pub count_is : (count : ℕ) (xs : List (ArrayVec ℕ)) → count ≤ length xs → length (bytes_of_packets (take count xs)) ≡ count
 count_is count xs h = length-map (take count xs) (λ (p : ArrayVec ℕ). p.items) ∙ length-take-le count xs h
-
--- nothing is kept of nothing
-pub none_kept : (room : ℕ) → kept [] room false ≡ first_packets room []
-none_kept room = ap (λ (ps : List (List ℕ)). kept ps room false) (sym (take_none room)) ∙ ap (kept (take room []) room) (sym (le-ltb room 0 (omega arith)))
 
 -- where none was left out, all are kept
 pub whole_kept : (room : ℕ) (ps : List (List ℕ)) → length ps ≤ room → kept ps room false ≡ first_packets room ps
@@ -187,10 +173,6 @@ was_cut bs r room ps e = record {
   first = ap (λ (k : KeptPackets). k.packets) e;
   more = ltb-true room (length ps) (sym (ap (λ (k : KeptPackets). k.is_cut) e));
 }
-
--- the packets of groups, where none was left out
-pub encoded_so : (bs : List (List ℕ)) (r : ℕ) → AreGrouped (kept bs r false) → AreEncodings bs
-encoded_so bs r some = (some.0, (was_whole bs r r (encodings some.0) some.1).all)
 
 -- an answer joined the last packet
 pub joined_so : (m : Msg) (before after : List (List ℕ)) (r : ℕ) → length before ≤ r → AreGrouped (kept before r false) → JoinsLast true m before after →
@@ -246,11 +228,9 @@ left_out_so m before r full some h =
     }
 
 one_or_two : (p : Pdu) (m : Msg) → 0 < length (encodings (last_with p m))
-one_or_two (Responses rs) (Response r) = by (nat_le (length (pdu_encoding (Responses (rs ++ r ∷ [])))) 1472)
-  where
-    by : (b : Bool) → 0 < length (encodings (cond b (Responses (rs ++ r ∷ []) ∷ []) (Responses rs ∷ Responses (r ∷ []) ∷ [])))
-    by true = omega arith
-    by false = omega arith
+one_or_two (Responses rs) (Response r) =
+    on_bool (nat_le (length (pdu_encoding (Responses (rs ++ r ∷ [])))) 1472) (λ b. 0 < length (encodings (cond b (Responses (rs ++ r ∷ []) ∷ []) (Responses rs ∷ Responses (r ∷ []) ∷ []))))
+    (omega arith) (omega arith)
 one_or_two (Responses rs) (KeepAlive form) = omega arith
 one_or_two (Responses rs) (Command respond c) = omega arith
 one_or_two (OneKeepAlive form) m = omega arith

@@ -1,36 +1,20 @@
 -- Deliveries that are taken in, groups of them, and which answers wait.
-use Rattle.std.proofs.Common.{◌≡◌, ℕ, ◌+◌, ◌≤◌, ◌<◌, min, Bool, true, false, cond, List, [], ◌∷◌, ◌++◌, length, length-append, refl, sym, ap, ◌∙◌, subst, arith}
-use Rattle.std.specs.Prelude.{take, slice_index_or, IsTrue, ◌||◌, ◌&&◌, ◌==◌, not}
-use Rattle.std.proofs.lemmas.Bool.{le-leb, lt-leb, false≢true}
-use Rattle.arrayvec.specs.ArrayVec.{ArrayVec}
-use Rattle.oca_device.specs.Outboxes.{bytes_of_packets}
-use Rattle.std.proofs.lemmas.List.{append_assoc, append-nil, take_more, take_all, get_or-map, length-map, map-append}
-use Rattle.oca_types.specs.declared.words.Peer.{Peer}
-use Rattle.oca_types.specs.Sizes.{DeviceSizes}
-use Rattle.oca_net.specs.declared.end.Heard.{Heard}
+use Rattle.oca_device.proofs.Words.{◌≡◌, ℕ, ◌+◌, ◌≤◌, ◌<◌, Bool, true, false, cond, List, [], ◌∷◌, ◌++◌, length, refl, sym, ap, ◌∙◌, subst, arith, take, slice_index_or, IsTrue, ◌||◌, ◌&&◌, ◌==◌, not}
+use Rattle.oca_device.proofs.Words.{le-leb, lt-leb, ArrayVec, bytes_of_packets, append_assoc, append-nil, take_more, get_or-map, length-map, map-append, Peer, DeviceSizes, Heard, Delivery, Datagram}
+use Rattle.oca_device.proofs.Words.{Quiet, Failed, Sent, is_failed, largest_datagram, last_u64, TakesAllBut, EndState, Receives, Sends, SendsAllBut, Object, Report, Verdict, Answer, Event, packets}
+use Rattle.oca_device.proofs.Words.{verdict, DeviceState, Represents, no_turns, one_turn, verdict_turn, added, capped, turn_report, events_after, events_after_all, Serves, sent_for, sent_to}
+use Rattle.oca_device.proofs.Words.{state_after, Followed, ElectronicsState, Follows, handed, handed_of, KeepingState, Storing, StoreState, Group, is_writing, is_repeating, answers_wait, behind_after}
+use Rattle.oca_device.proofs.Words.{behind_all, waiting, at_once, some_wait, behind_group, storings_of, sent_for_group, all_deliveries, behind_groups, storings_in_all, sent_of_all, ServesKeeping}
+use Rattle.oca_device.proofs.Words.{packets_held, TakesExactly, TakesIn, SettlesGroup, StaysClosed}
+use Rattle.std.proofs.Common.{min, length-append}
 use Rattle.oca_net.specs.declared.end.Heard.TheVariants as heard
-use Rattle.oca_net.specs.Deliveries.{Delivery, Datagram, Quiet, Failed, Sent}
-use Rattle.oca_net.specs.Ends.{is_failed, largest_datagram, last_u64, TakesAllBut}
-use Rattle.oca_net.specs.EndStates.{EndState, Receives, Sends, SendsAllBut}
 use Rattle.oca_net.proofs.Sending.{takes_none, takes_more, sends_none, sends_more, sends_one}
 use Rattle.oca_net.proofs.Hearing.{oversize_heard}
 use Rattle.oca_net.proofs.Running.{Delivered, delivered_none, delivered_more, delivered_one, delivered_closed}
-use Rattle.oca_tree.specs.declared.object.Object.{Object}
-use Rattle.oca_device.specs.declared.report.Report.{Report}
-use Rattle.oca_device.specs.declared.verdict.Verdict.{Verdict}
-use Rattle.oca_device.specs.declared.keeping.Answer.{Answer}
-use Rattle.oca_device.specs.Events.{Event}
+use Rattle.oca_pdu.proofs.Decided.{each-append}
 use Rattle.oca_device.specs.Events as event
-use Rattle.oca_device.specs.Answers.{packets, verdict}
-use Rattle.oca_device.specs.Devices.{DeviceState, Represents}
-use Rattle.oca_device.specs.Reports.{no_turns, one_turn, verdict_turn, added, capped, turn_report, events_after, events_after_all}
-use Rattle.oca_device.specs.Replies.{Serves, sent_for, sent_to}
-use Rattle.oca_device.specs.States.{state_after}
 use Rattle.oca_device.specs.Written as effects
-use Rattle.oca_device.specs.Following.{Followed, ElectronicsState, Follows, handed, handed_of}
-use Rattle.oca_device.specs.Keeping.{KeepingState, Storing, StoreState, Group, is_writing, is_repeating, answers_wait, behind_after, behind_all, waiting, at_once, some_wait, behind_group, storings_of, sent_for_group, all_deliveries, behind_groups, storings_in_all, sent_of_all, ServesKeeping}
-use Rattle.oca_device.specs.PrivateKeeping.{packets_held, TakesExactly, TakesIn, SettlesGroup, StaysClosed}
-use Rattle.oca_device.proofs.Turns.{later_events, later_handed, nothing_served, one_served, serves_more, verdict_one, first_sent, further}
+use Rattle.oca_device.proofs.Turns.{cap_more, capped_more, later_events, later_handed, nothing_served, one_served, serves_more, verdict_one, first_sent, further}
 
 -- ---- deliveries one after another
 
@@ -74,12 +58,6 @@ module _ (w : DeviceSizes) (tree : List Object) where
 
 cap-more : (t b : ℕ) → min (min t last_u64 + min b last_u64) last_u64 ≡ min (t + b) last_u64
 cap-more t b = omega arith
-
-cap-once : (t b : ℕ) → min (min t last_u64 + b) last_u64 ≡ min (t + b) last_u64
-cap-once t b = omega arith
-
-capped-once : (t b : Report) → capped (added (capped t) b) ≡ capped (added t b)
-capped-once t b = simp cap-once
 
 pub capped-more : (t b : Report) → capped (added (capped t) (capped b)) ≡ capped (added t b)
 capped-more t b = simp cap-more
@@ -167,7 +145,7 @@ pub in_more : {p q o : Bool} {a b c : DeviceState} {e f g : EndState} {x y z : E
     TakesIn p a b e f x y k l r → TakesExactly q b c f g y z l m s → o ≡ (p || q) → t ≡ capped (added r s) → TakesIn o a c e g x z k m t
 in_more {a = a} {c = c} {e = e} {g = g} {x = x} {z = z} {k = k} {m = m} {r = r} {s = s} h i due is = record {
   report = added h.report s;
-  returns = is ∙ ap (λ (n : Report). capped (added n s)) h.returns ∙ capped-once h.report s;
+  returns = is ∙ ap (λ (n : Report). capped (added n s)) h.returns ∙ capped_more h.report s;
   takes = subst (λ (v : Bool). TakesExactly v a c e g x z k m (added h.report s)) (sym due) (more_exactly h.takes i);
 }
 
@@ -381,6 +359,7 @@ keeps_none b d e x s r is =
     let ends = delivered_none e in
     record {
       groups = [];
+      few = tt;
       report = no_turns;
       returns = is;
       serves = nothing_served d;
@@ -412,6 +391,7 @@ keeps_more {p} {q} {o} {a} {b} {c} {e} {f} {g} {x} {y} {z} {s} {t} {u} {m} {n} r
     let all = later_deliveries gs hs in
     record {
       groups = gs ++ hs;
+      few = each-append (λ g. length g.deliveries ≤ 64) gs hs h.few k.few;
       report = added h.report k.report;
       returns = is ∙ ap (λ (v : Report). capped (added v n)) h.returns ∙ ap (λ (v : Report). capped (added (capped h.report) v)) k.returns ∙ capped-more h.report k.report;
       serves = subst (λ (xs : List Delivery). Serves xs a c (added h.report k.report)) (sym all) (serves_more a b c ds es h.report k.report h.serves k.serves);
@@ -461,10 +441,13 @@ and_true : (x : Bool) → x ≡ x && true
 and_true true = refl
 and_true false = refl
 
+few_taken : (returned report : Report) (ds : List Delivery) → returned.turns ≤ 64 → returned ≡ capped report → report.turns ≡ length ds → length ds ≤ 64
+few_taken returned report ds few is all = let same : returned.turns ≡ min report.turns last_u64 = ap (λ (r : Report). r.turns) is in omega arith
+
 -- Deliveries were taken in, and none of the answers waits.
 pub keeps_undue : {a b : DeviceState} {e f : EndState} {x y : ElectronicsState} {k l : KeepingState} {s t : StoreState} {r : Report} →
-    (q : Bool) → q ≡ false → TakesIn q a b e f x y k l r → t ≡ s → ServesKeeping k.is_behind l.is_behind a b e f x y s t r
-keeps_undue {a} {b} {e} {f} {x} {y} {k} {l} {s} {t} {r} q undue h' same =
+    (q : Bool) → q ≡ false → r.turns ≤ 64 → TakesIn q a b e f x y k l r → t ≡ s → ServesKeeping k.is_behind l.is_behind a b e f x y s t r
+keeps_undue {a} {b} {e} {f} {x} {y} {k} {l} {s} {t} {r} q undue small h' same =
     let h : TakesIn false a b e f x y k l r = subst (λ (v : Bool). TakesIn v a b e f x y k l r) undue h' in
     let i = h.takes in
     let ds = i.deliveries in
@@ -472,6 +455,7 @@ keeps_undue {a} {b} {e} {f} {x} {y} {k} {l} {s} {t} {r} q undue h' same =
     let all : ds ≡ all_deliveries (g ∷ []) = sym (append-nil ds) in
     record {
       groups = g ∷ [];
+      few = (few_taken r h.report ds small h.returns i.serves.turns, tt);
       report = h.report;
       returns = h.returns;
       serves = subst (λ (xs : List Delivery). Serves xs a b h.report) all i.serves;
@@ -497,9 +481,9 @@ keeps_undue {a} {b} {e} {f} {x} {y} {k} {l} {s} {t} {r} q undue h' same =
 
 -- Deliveries were taken in, and the objects were handed to the store.
 pub keeps_due : {a b : DeviceState} {e f g : EndState} {x y : ElectronicsState} {k l m : KeepingState} {s t : StoreState} {q r : Report} {failed : ℕ} →
-    k.held ≡ [] → (v : Bool) → v ≡ true → TakesIn v a b e f x y k l q → SettlesGroup b.tree f g l m s t failed → r ≡ record q { failed_sends = min (q.failed_sends + failed) last_u64 } →
+    k.held ≡ [] → (v : Bool) → v ≡ true → q.turns ≤ 64 → TakesIn v a b e f x y k l q → SettlesGroup b.tree f g l m s t failed → r ≡ record q { failed_sends = min (q.failed_sends + failed) last_u64 } →
     ServesKeeping k.is_behind m.is_behind a b e g x y s t r
-keeps_due {a} {b} {e} {f} {g} {x} {y} {k} {l} {m} {s} {t} {q} {r} {failed} none v due h' settled is =
+keeps_due {a} {b} {e} {f} {g} {x} {y} {k} {l} {m} {s} {t} {q} {r} {failed} none v due small h' settled is =
     let h : TakesIn true a b e f x y k l q = subst (λ (n : Bool). TakesIn n a b e f x y k l q) due h' in
     let i = h.takes in
     let ds = i.deliveries in
@@ -509,6 +493,7 @@ keeps_due {a} {b} {e} {f} {g} {x} {y} {k} {l} {m} {s} {t} {q} {r} {failed} none 
     let exact : Report = record h.report { failed_sends = h.report.failed_sends + failed } in
     record {
       groups = group ∷ [];
+      few = (few_taken q h.report ds small h.returns i.serves.turns, tt);
       report = exact;
       returns = is ∙ ap (λ (v : Report). let z : Report = record v { failed_sends = min (v.failed_sends + failed) last_u64 } in z) h.returns ∙ capped_failed h.report failed;
       serves = subst (λ (xs : List Delivery). Serves xs a b exact) all (served_failed a b ds h.report failed i.serves);
@@ -543,12 +528,9 @@ keeps_due {a} {b} {e} {f} {g} {x} {y} {k} {l} {m} {s} {t} {q} {r} {failed} none 
           ∙ ap (λ (v : Bool). behind_all k.is_behind w tree events ds && not (v && settled.stored)) (i.waited w tree events rep);
     }
   where
-    cap_failed : (n k : ℕ) → min (min n last_u64 + k) last_u64 ≡ min (n + k) last_u64
-    cap_failed n k = omega arith
-
     capped_failed : (n : Report) (k : ℕ) →
         (let z : Report = record (capped n) { failed_sends = min ((capped n).failed_sends + k) last_u64 } in z) ≡ capped (record n { failed_sends = n.failed_sends + k })
-    capped_failed n k = ap (λ (v : ℕ). let z : Report = record (capped n) { failed_sends = v } in z) (cap_failed n.failed_sends k)
+    capped_failed n k = ap (λ (v : ℕ). let z : Report = record (capped n) { failed_sends = v } in z) (cap_more n.failed_sends k)
 
     served_failed : (a b : DeviceState) (ds : List Delivery) (n : Report) (k : ℕ) → Serves ds a b n → Serves ds a b (record n { failed_sends = n.failed_sends + k })
     served_failed a b ds n k h = record {
@@ -580,11 +562,6 @@ held_further i k n answers d to bytes {a} {b} {c} {was_taken} h f s to_is bytes_
     subst (λ (m : ℕ). SendsAllBut m a c (take (i + 1) (packets_held answers))) (sym e)
     (subst (λ (xs : List Sent). SendsAllBut (k + cond was_taken 0 1) a c xs) (sym (take_more (packets_held answers) i none inside ∙ ap (λ (x : Sent). take i (packets_held answers) ++ x ∷ []) this))
     (sends_more f (sends_one sends)))
-
-pub held_all : (k i : ℕ) (answers : List Answer) {a b : EndState} → length answers ≤ i → SendsAllBut k a b (take i (packets_held answers)) → SendsAllBut k a b (packets_held answers)
-held_all k i answers {a} {b} h f =
-    let one : Answer → Sent = λ x. record { to = x.to; bytes = x.packet.items } in
-    subst (λ (xs : List Sent). SendsAllBut k a b xs) (take_all i (packets_held answers) (omega (arith, h, length-map answers one))) f
 
 -- one answer more is held
 pub held_more : (xs : List Answer) (a : Answer) → packets_held (xs ++ a ∷ []) ≡ packets_held xs ++ (record { to = a.to; bytes = a.packet.items }) ∷ []
@@ -623,14 +600,6 @@ undue {q} {a} {b} {e} {f} {x} {y} {k} {l} {r} is h = subst (λ (v : Bool). Takes
 pub begun : {p q o : Bool} {a b : DeviceState} {e f : EndState} {x y : ElectronicsState} {s t : StoreState} {r : Report} → o ≡ q → ServesKeeping p q a b e f x y s t r → ServesKeeping p o a b e f x y s t r
 begun {p} {q} {o} {a} {b} {e} {f} {x} {y} {s} {t} {r} is h = subst (λ (v : Bool). ServesKeeping p v a b e f x y s t r) (sym is) h
 
--- and so is what a store was before
+-- and not-false is what a store was before
 pub stored_from : {p q : Bool} {a b : DeviceState} {e f : EndState} {x y : ElectronicsState} {s t u : StoreState} {r : Report} → s ≡ u → ServesKeeping p q a b e f x y s t r → ServesKeeping p q a b e f x y u t r
 stored_from {p} {q} {a} {b} {e} {f} {x} {y} {s} {t} {u} {r} is h = subst (λ (v : StoreState). ServesKeeping p q a b e f x y v t r) is h
-
-pub not_so : (b : Bool) → not b ≡ true → b ≡ false
-not_so true h = absurd (false≢true h)
-not_so false h = refl
-
-pub so : (b : Bool) → not b ≡ false → b ≡ true
-so true h = refl
-so false h = absurd (false≢true (sym h))

@@ -1,31 +1,16 @@
 -- When a clock reading changes something.
-use Rattle.std.proofs.Common.{◌≡◌, ℕ, zero, suc, ◌+◌, ◌<◌, ◌≤◌, ◌^◌, Bool, true, false, cond, max, List, [], ◌∷◌, length, take, Option, Some, None, refl, sym, ap, ◌∙◌, subst, arith}
-use Rattle.std.specs.Prelude.{not, ◌||◌, map, filter, is_some}
-use Rattle.std.specs.List.{list_any, slice_get}
+use Rattle.oca_device.proofs.Words.{◌≡◌, ℕ, zero, suc, ◌+◌, ◌<◌, ◌≤◌, ◌^◌, Bool, true, false, cond, List, [], ◌∷◌, length, refl, sym, ap, ◌∙◌, subst, arith, not, ◌||◌, map, filter, is_some, list_any}
+use Rattle.oca_device.proofs.Words.{slice_get, sum_by-cons, le-leb, lt-leb, or_parts, or-false, Peer, same_peer, DeviceSizes, Object, is_held_by, without_lock_of, lock_of_one, lock_count, Session}
+use Rattle.oca_device.proofs.Words.{Table, stays, staying, lapsed, HoldsFrom, forgets, lapses, noted_peers, State, released_all, lapsed_at, moved_to, session_within, table_within, table_of, frees}
+use Rattle.oca_device.proofs.Words.{releases, on_bool}
+use Rattle.std.proofs.Common.{max, take, Option, Some, None}
 use Rattle.std.specs.Option.{option_and_then}
-use Rattle.std.proofs.lemmas.List.Sums.{sum_by-cons}
-use Rattle.std.proofs.lemmas.Bool.{le-leb, lt-leb}
-use Rattle.oca_types.specs.declared.words.Peer.{Peer}
-use Rattle.oca_types.specs.Peers.{same_peer}
-use Rattle.oca_types.specs.Sizes.{DeviceSizes}
-use Rattle.oca_tree.specs.declared.object.Object.{Object}
 use Rattle.oca_tree.specs.declared.object.Lock.{Lock}
-use Rattle.oca_tree.specs.Locks.{is_held_by, without_lock_of, released, lock_of_one, lock_count}
-use Rattle.oca_session.specs.Table.{Session, Table, stays, staying, lapsed}
-use Rattle.oca_types.specs.Moments.{HoldsFrom}
+use Rattle.oca_tree.specs.Locks.{released}
 use Rattle.oca_types.proofs.MomentTests.{same_test}
-use Rattle.oca_session.specs.Lapses.{forgets, lapses}
-use Rattle.oca_device.specs.Notes.{noted_peers}
-use Rattle.oca_device.specs.States.{State, released_all, lapsed_at, moved_to}
-use Rattle.oca_device.specs.Devices.{session_within, table_within, table_of}
 use Rattle.oca_device.specs.Lapses.{TickKeeps, IsNextLapse, NeverLapses}
-use Rattle.oca_device.specs.PrivateLapses.{frees, releases}
 use Rattle.oca_device.proofs.Peers.{same_turned}
 use Rattle.oca_device.proofs.Runs.{table_moved, lapsed_moved}
-
-neither : (a b : Bool) → (a || b) ≡ false → (a ≡ false) × (b ≡ false)
-neither true b h = cc
-neither false b h = (refl, h)
 
 -- ---- locks are taken off
 
@@ -57,22 +42,14 @@ freed_other p o other = ap (λ b. cond b (record o { lock = None }) o) other
 freed_none : (ps : List Peer) (o : Object) → held ps o ≡ false → freed ps o ≡ o
 freed_none [] o none = refl
 freed_none (p ∷ ps) o none =
-    let parts = neither (is_held_by p o.lock) (held ps o) none in
+    let parts = or_parts (is_held_by p o.lock) (held ps o) none in
     ap (freed ps) (freed_other p o parts.0) ∙ freed_none ps o parts.1
 
 not_held : (q p : Peer) (o : Object) → is_held_by q o.lock ≡ false → is_held_by q (without_lock_of p o).lock ≡ false
-not_held q p o h = by (is_held_by p o.lock)
-  where
-    by : (b : Bool) → is_held_by q (cond b (record o { lock = None }) o).lock ≡ false
-    by true = refl
-    by false = h
+not_held q p o h = on_bool (is_held_by p o.lock) (λ b. is_held_by q (cond b (record o { lock = None }) o).lock ≡ false) refl h
 
 not_own : (p : Peer) (o : Object) → is_held_by p (without_lock_of p o).lock ≡ false
-not_own p o = by (is_held_by p o.lock) refl
-  where
-    by : (b : Bool) → is_held_by p o.lock ≡ b → is_held_by p (cond b (record o { lock = None }) o).lock ≡ false
-    by true e = refl
-    by false e = e
+not_own p o = on_bool (is_held_by p o.lock) (λ b. is_held_by p o.lock ≡ b → is_held_by p (cond b (record o { lock = None }) o).lock ≡ false) (λ e. refl) (λ e. e) refl
 
 never_held : (q : Peer) (ps : List Peer) (o : Object) → is_held_by q o.lock ≡ false → is_held_by q (freed ps o).lock ≡ false
 never_held q [] o h = h
@@ -88,7 +65,7 @@ freed_held (p ∷ ps) o =
 none_freed : (ps : List Peer) (tree : List Object) → list_any (held ps) tree ≡ false → map (freed ps) tree ≡ tree
 none_freed ps [] none = refl
 none_freed ps (o ∷ tree) none =
-    let parts = neither (held ps o) (list_any (held ps) tree) none in
+    let parts = or_parts (held ps o) (list_any (held ps) tree) none in
     ap (λ x. x ∷ map (freed ps) tree) (freed_none ps o parts.0) ∙ ap (λ xs. o ∷ xs) (none_freed ps tree parts.1)
 
 -- and once they are taken off, none of these holds one
@@ -115,10 +92,6 @@ releases_where ss t [] = refl
 releases_where ss t (o ∷ tree) =
     ap (λ b. b || releases tree ss t) (frees_where ss t o.lock) ∙ ap (λ b. held (lapsed t ss) o || b) (releases_where ss t tree)
 
-or_false : (b : Bool) → (b || false) ≡ b
-or_false true = refl
-or_false false = refl
-
 or_assoc : (a b c : Bool) → (a || (b || c)) ≡ ((a || b) || c)
 or_assoc true b c = refl
 or_assoc false b c = refl
@@ -131,7 +104,7 @@ lock_in tree i = option_and_then (λ o. o.lock) (slice_get tree i)
 releases_next : (ss : List Session) (t : ℕ) (tree : List Object) (i : ℕ) → i < length tree →
     releases (take (suc i) tree) ss t ≡ (releases (take i tree) ss t || frees ss t (lock_in tree i))
 releases_next ss t [] i within = absurd (omega arith)
-releases_next ss t (o ∷ tree) zero within = or_false (frees ss t o.lock)
+releases_next ss t (o ∷ tree) zero within = or-false (frees ss t o.lock)
 releases_next ss t (o ∷ tree) (suc i) within =
     ap (λ b. frees ss t o.lock || b) (releases_next ss t tree i (omega arith))
     ∙ or_assoc (frees ss t o.lock) (releases (take i tree) ss t) (frees ss t (lock_in tree i))
@@ -153,7 +126,7 @@ pub no_lock_there : (tree : List Object) (ss : List Session) (i : ℕ) (o : Opti
     HoldsFrom (releases (take i tree) ss) o → HoldsFrom (releases (take (i + 1) tree) ss) o
 no_lock_there tree ss i o within e h =
     same_test (releases (take i tree) ss) (releases (take (i + 1) tree) ss) o
-    (λ t. releases_more ss t tree i within ∙ ap (λ x. releases (take i tree) ss t || frees ss t x) (sym e) ∙ or_false (releases (take i tree) ss t)) h
+    (λ t. releases_more ss t tree i within ∙ ap (λ x. releases (take i tree) ss t || frees ss t x) (sym e) ∙ or-false (releases (take i tree) ss t)) h
 
 -- no object is locked
 pub releases_none : (tree : List Object) (ss : List Session) (t : ℕ) → lock_count tree ≡ 0 → releases tree ss t ≡ false
@@ -168,33 +141,24 @@ releases_none (o ∷ tree) ss t none = by o.lock (sym (sum_by-cons lock_of_one o
 
 filter_short : {X : Type 0} (f : X → Bool) (xs : List X) → length (filter f xs) ≤ length xs
 filter_short f [] = omega arith
-filter_short {X} f (x ∷ xs) = by (f x) (filter_short f xs)
-  where
-    by : (b : Bool) → length (filter f xs) ≤ length xs → length (cond b (x ∷ filter f xs) (filter f xs)) ≤ length (x ∷ xs)
-    by true h = omega arith
-    by false h = omega arith
+filter_short {X} f (x ∷ xs) = on_bool (f x) (λ b. length (filter f xs) ≤ length xs → length (cond b (x ∷ filter f xs) (filter f xs)) ≤ length (x ∷ xs))
+    (λ h. omega arith) (λ h. omega arith) (filter_short f xs)
 
 all_stay : {X : Type 0} (f : X → Bool) (xs : List X) → list_any (λ x. not (f x)) xs ≡ false → filter f xs ≡ xs
 all_stay f [] none = refl
-all_stay {X} f (x ∷ xs) none = by (f x) none (all_stay f xs)
-  where
-    by : (b : Bool) → (not b || list_any (λ y. not (f y)) xs) ≡ false → (list_any (λ y. not (f y)) xs ≡ false → filter f xs ≡ xs) →
-        cond b (x ∷ filter f xs) (filter f xs) ≡ x ∷ xs
-    by true e h = ap (λ ys. x ∷ ys) (h e)
-    by false e h = cc
+all_stay {X} f (x ∷ xs) none =
+    on_bool (f x) (λ b. (not b || list_any (λ y. not (f y)) xs) ≡ false → (list_any (λ y. not (f y)) xs ≡ false → filter f xs ≡ xs) → cond b (x ∷ filter f xs) (filter f xs) ≡ x ∷ xs)
+    (λ e h. ap (λ ys. x ∷ ys) (h e)) (λ e h. cc) none (all_stay f xs)
 
 none_goes : {X : Type 0} (f : X → Bool) (xs : List X) → filter f xs ≡ xs → list_any (λ x. not (f x)) xs ≡ false
 none_goes f [] same = refl
-none_goes {X} f (x ∷ xs) same = by (f x) same (none_goes f xs)
+none_goes {X} f (x ∷ xs) same =
+    on_bool (f x) (λ b. cond b (x ∷ filter f xs) (filter f xs) ≡ x ∷ xs → (filter f xs ≡ xs → list_any (λ y. not (f y)) xs ≡ false) → (not b || list_any (λ y. not (f y)) xs) ≡ false)
+    (λ e h. h (ap rest e)) (λ e h. let short = filter_short f xs in let longer = ap length e in absurd (omega (arith, short, longer))) same (none_goes f xs)
   where
     rest : List X → List X
     rest [] = []
     rest (y ∷ ys) = ys
-
-    by : (b : Bool) → cond b (x ∷ filter f xs) (filter f xs) ≡ x ∷ xs → (filter f xs ≡ xs → list_any (λ y. not (f y)) xs ≡ false) →
-        (not b || list_any (λ y. not (f y)) xs) ≡ false
-    by true e h = h (ap rest e)
-    by false e h = let short = filter_short f xs in let longer = ap length e in absurd (omega (arith, short, longer))
 
 -- ---- a clock reading
 
@@ -221,7 +185,7 @@ module _ (w : DeviceSizes) (s : State) where
 
   keeps : (t : ℕ) → s.moment ≤ t → changes_at t ≡ false → TickKeeps w s t
   keeps t own none =
-      let parts = neither (forgets ss t) (releases s.tree ss t) none in
+      let parts = or_parts (forgets ss t) (releases s.tree ss t) none in
       record {
         objects = objects_at t own ∙ none_freed (lapsed t ss) s.tree (sym (releases_where ss t s.tree) ∙ parts.1);
         sessions = sessions_at t own ∙ all_stay (stays t) ss parts.0;

@@ -1,20 +1,12 @@
 -- What the messages of a known peer make of a state, by the law's words.
-use Rattle.std.proofs.Common.{◌≡◌, ℕ, ◌+◌, Bool, true, false, cond, List, [], ◌∷◌, ◌++◌, refl, sym, ap, ◌∙◌, subst, arith}
-use Rattle.std.specs.Prelude.{map, max, min, not, ◌*◌, Option, Some, None}
-use Rattle.std.proofs.lemmas.List.{append_assoc, append-nil, map-append}
-use Rattle.oca_types.specs.declared.words.Peer.{Peer}
-use Rattle.oca_types.specs.Peers.{same_peer, CommandFields}
-use Rattle.oca_types.specs.Sizes.{DeviceSizes}
+use Rattle.oca_device.proofs.Words.{◌≡◌, ℕ, ◌+◌, Bool, true, false, cond, List, [], ◌∷◌, ◌++◌, refl, sym, ap, ◌∙◌, subst, arith, map, max, min, not, ◌*◌, Option, Some, None, append_assoc, append-nil}
+use Rattle.oca_device.proofs.Words.{map-append, Peer, same_peer, CommandFields, DeviceSizes, Msg, Command, Response, KeepAlive, Entry, Fresh, Duplicate, Reused, judge_unaccepted, accepts, entry_under}
+use Rattle.oca_device.proofs.Words.{window, asks_the_same, Counts, Heartbeat, Executed, Note, notes_of, run, is_noted, accepted, heartbeat_noted, State, noted, judged_in, reply_of, after_command}
+use Rattle.oca_device.proofs.Words.{after_messages, time_of, counts, plus, count_of_command, counts_of_messages, accepts_handle, accepted_of, is_duplicate, Executes, objects, heartbeat}
+use Rattle.oca_device.proofs.Words.{counted_command, all_counted, on_bool}
 use Rattle.oca_pdu.specs.declared.message.Form.TheVariants.{Seconds, Millis}
-use Rattle.oca_pdu.specs.Messages.{Msg, Command, Response, KeepAlive}
 use Rattle.oca_tree.specs.Execution.{execution}
-use Rattle.oca_session.specs.Accepted.{Entry, Fresh, Duplicate, Reused, judge_unaccepted, accepts, entry_under, window, asks_the_same}
-use Rattle.oca_device.specs.declared.counts.Counts.{Counts}
-use Rattle.oca_device.specs.Notes.{Heartbeat, Executed, Note, notes_of, run, is_noted, accepted, heartbeat_noted}
-use Rattle.oca_device.specs.States.{State, noted, judged_in, reply_of, after_command, after_messages, time_of}
-use Rattle.oca_device.specs.Answers.{counts, plus, count_of_command, counts_of_messages}
-use Rattle.oca_device.specs.LawByEvents.{accepts_handle, accepted_of, is_duplicate, Executes, objects, heartbeat, counted_command, all_counted}
-use Rattle.oca_device.proofs.Runs.{run_goes_on, known_now}
+use Rattle.oca_device.proofs.Runs.{other_notes, run_goes_on, known_now}
 use Rattle.oca_device.proofs.Acceptance.{commands_of, AreDistinct, accepts_same, distinct_after, duplicate_is, reuse_is, asks_so}
 
 -- the commands that were executed in the peer's latest session
@@ -46,11 +38,7 @@ fresh_executed p c s k = ap commands_of (fresh_accepted p c s k) ∙ map-append 
 -- what is not accepted changes nothing
 not_fresh : (p : Peer) (c : CommandFields) (s : State) (o : Option Entry) → after_command (judge_unaccepted o c) p c s ≡ s
 not_fresh p c s None = refl
-not_fresh p c s (Some e) = by (asks_the_same e.command c)
-  where
-    by : (b : Bool) → after_command (cond b (Duplicate e.reply) Reused) p c s ≡ s
-    by true = refl
-    by false = refl
+not_fresh p c s (Some e) = on_bool (asks_the_same e.command c) (λ b. after_command (cond b (Duplicate e.reply) Reused) p c s ≡ s) refl refl
 
 pub after_judged : (w : DeviceSizes) (p : Peer) (c : CommandFields) (s : State) →
     after_command (judged_in w s p c) p c s ≡ cond (accepts_handle w (executed_of p s.notes) c.handle) (fresh_state p c s) s
@@ -139,15 +127,12 @@ messages_moment w p (Command respond c ∷ ms) s =
 messages_moment w p (KeepAlive form ∷ ms) s = messages_moment w p ms (kept_alive p (time_of form) s)
 messages_moment w p (Response r ∷ ms) s = messages_moment w p ms s
 
-pub other_note : (n : Note) (notes : List Note) (q : Peer) → same_peer n.peer q ≡ false → notes_of q (n ∷ notes) ≡ notes_of q notes
-other_note n notes q h = ap (λ b. cond b (n ∷ notes_of q notes) (notes_of q notes)) h
-
 pub messages_other : (w : DeviceSizes) (p q : Peer) (ms : List Msg) (s : State) → same_peer p q ≡ false → notes_of q (after_messages w p ms s).notes ≡ notes_of q s.notes
 messages_other w p q [] s h = refl
 messages_other w p q (Command respond c ∷ ms) s h =
     ap (λ (x : State). notes_of q (after_messages w p ms x).notes) (after_judged w p c s)
     ∙ by (accepts_handle w (executed_of p s.notes) c.handle)
-    (messages_other w p q ms (fresh_state p c s) h ∙ other_note (fresh_note p c s) s.notes q h)
+    (messages_other w p q ms (fresh_state p c s) h ∙ other_notes (fresh_note p c s) s.notes q h)
     (messages_other w p q ms s h)
   where
     by : (b : Bool) →
@@ -157,7 +142,7 @@ messages_other w p q (Command respond c ∷ ms) s h =
     by true f g = f
     by false f g = g
 messages_other w p q (KeepAlive form ∷ ms) s h =
-    messages_other w p q ms (kept_alive p (time_of form) s) h ∙ other_note (alive_note p (time_of form) s) s.notes q h
+    messages_other w p q ms (kept_alive p (time_of form) s) h ∙ other_notes (alive_note p (time_of form) s) s.notes q h
 messages_other w p q (Response r ∷ ms) s h = messages_other w p q ms s h
 
 -- ---- the heartbeat

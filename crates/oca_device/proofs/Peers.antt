@@ -1,14 +1,6 @@
 -- Lists of peers, and the session of a peer.
-use Rattle.std.proofs.Common.{◌≡◌, ℕ, Bool, true, false, cond, List, [], ◌∷◌, refl, sym, ap, ◌∙◌, arith}
-use Rattle.std.specs.Prelude.{map, filter, ◌&&◌, ◌||◌, nat_eq, Some, None, IsSome, is_some}
-use Rattle.std.specs.List.{list_any}
-use Rattle.std.proofs.lemmas.Bool.Decides.{nat_tests}
-use Rattle.oca_types.specs.declared.words.Peer.{Peer}
-use Rattle.oca_types.specs.Peers.{same_peer}
-use Rattle.oca_session.specs.Table.{Session, is_of, session_of, with_changed, peers_of}
-
-equal_is : (a b : ℕ) → nat_eq a b ≡ true → a ≡ b
-equal_is a b h = grind (arith, nat_tests)
+use Rattle.oca_device.proofs.Words.{◌≡◌, ℕ, Bool, true, false, cond, List, [], ◌∷◌, refl, sym, ap, ◌∙◌, arith, map, filter, ◌&&◌, ◌||◌, nat_eq, Some, None, IsSome, is_some, list_any, nat_tests}
+use Rattle.oca_device.proofs.Words.{eqb-true, and_parts, or_parts, Peer, same_peer, Session, is_of, session_of, with_changed, peers_of, on_bool}
 
 equal_self : (a : ℕ) → nat_eq a a ≡ true
 equal_self a = grind (arith, nat_tests)
@@ -16,18 +8,14 @@ equal_self a = grind (arith, nat_tests)
 equal_turned : (a b : ℕ) → nat_eq a b ≡ nat_eq b a
 equal_turned a b = grind (arith, nat_tests)
 
-both_true : (a b : Bool) → (a && b) ≡ true → (a ≡ true) × (b ≡ true)
-both_true true b q = (refl, q)
-both_true false b q = cc
-
 pub same_self : (p : Peer) → same_peer p p ≡ true
 same_self p = ap (λ b. b && nat_eq p.port p.port) (equal_self p.ip) ∙ equal_self p.port
 
 pub same_is : (p q : Peer) → same_peer p q ≡ true → p ≡ q
 same_is p q h =
-    let parts = both_true (nat_eq p.ip q.ip) (nat_eq p.port q.port) h in
-    ap (λ (n : ℕ). let x : Peer = record { ip = n; port = p.port } in x) (equal_is p.ip q.ip parts.0)
-    ∙ ap (λ (n : ℕ). let x : Peer = record { ip = q.ip; port = n } in x) (equal_is p.port q.port parts.1)
+    let parts = and_parts (nat_eq p.ip q.ip) (nat_eq p.port q.port) h in
+    ap (λ (n : ℕ). let x : Peer = record { ip = n; port = p.port } in x) (eqb-true p.ip q.ip parts.0)
+    ∙ ap (λ (n : ℕ). let x : Peer = record { ip = q.ip; port = n } in x) (eqb-true p.port q.port parts.1)
 
 pub same_turned : (p q : Peer) → same_peer p q ≡ same_peer q p
 same_turned p q = ap (λ b. b && nat_eq p.port q.port) (equal_turned p.ip q.ip) ∙ ap (λ b. nat_eq q.ip p.ip && b) (equal_turned p.port q.port)
@@ -37,11 +25,7 @@ abbrev pub is_in : Peer → List Peer → Bool
 is_in p ps = list_any (λ q. same_peer q p) ps
 
 pub in_filtered : (f : Peer → Bool) (p : Peer) (ps : List Peer) → is_in p (filter f ps) ≡ (f p && is_in p ps)
-in_filtered f p [] = never (f p)
-  where
-    never : (b : Bool) → false ≡ (b && false)
-    never true = refl
-    never false = refl
+in_filtered f p [] = on_bool (f p) (λ b. false ≡ (b && false)) refl refl
 in_filtered f p (q ∷ ps) = by_same (same_peer q p) refl (in_filtered f p ps)
   where
     here : (b : Bool) → same_peer q p ≡ true → b ≡ f p → is_in p (filter f ps) ≡ (f p && is_in p ps) →
@@ -61,19 +45,11 @@ in_filtered f p (q ∷ ps) = by_same (same_peer q p) refl (in_filtered f p ps)
         here (f q) s e h ∙ ap (λ x. x && true) e ∙ sym (ap (λ x. f p && (x || is_in p ps)) s)
     by_same false s h = there (f q) s h ∙ sym (ap (λ x. f p && (x || is_in p ps)) s)
 
-neither : (a b : Bool) → (a || b) ≡ false → (a ≡ false) × (b ≡ false)
-neither true b h = cc
-neither false b h = (refl, h)
-
 -- A peer has a session where it is among the sessions' peers.
 pub has_session : (p : Peer) (ss : List Session) → is_some (session_of p ss) ≡ is_in p (peers_of ss)
 has_session p [] = refl
-has_session p (s ∷ ss) = by_same (is_of p s) (has_session p ss)
-  where
-    by_same : (b : Bool) → is_some (session_of p ss) ≡ is_in p (peers_of ss) →
-        is_some (cond b (Some s) (session_of p ss)) ≡ (b || is_in p (peers_of ss))
-    by_same true h = refl
-    by_same false h = h
+has_session p (s ∷ ss) = on_bool (is_of p s) (λ b. is_some (session_of p ss) ≡ is_in p (peers_of ss) → is_some (cond b (Some s) (session_of p ss)) ≡ (b || is_in p (peers_of ss)))
+    (λ h. refl) (λ h. h) (has_session p ss)
 
 pub still_has_session : (p : Peer) (old new : List Session) → peers_of new ≡ peers_of old → IsSome (session_of p old) → IsSome (session_of p new)
 still_has_session p old new e h = has_session p new ∙ ap (is_in p) e ∙ sym (has_session p old) ∙ h
@@ -97,7 +73,7 @@ module _ (g : Peer → Session) (own : (q : Peer) → (g q).peer ≡ q) where
       (ps : List Peer) → is_in p ps ≡ false → map g ps ≡ map k ps
   made_alike k p h [] out = refl
   made_alike k p h (q ∷ ps) out =
-      let parts = neither (same_peer q p) (is_in p ps) out in
+      let parts = or_parts (same_peer q p) (is_in p ps) out in
       ap (λ s. s ∷ map g ps) (h q parts.0) ∙ ap (λ ss. k q ∷ ss) (made_alike k p h ps parts.1)
 
   -- the session of one peer is changed into what it is made of now

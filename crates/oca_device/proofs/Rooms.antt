@@ -1,16 +1,11 @@
 -- Replies for which there is no room: what is retained and answered of them.
-use Rattle.std.proofs.Common.{◌≡◌, ℕ, Bool, true, false, cond, List, [], ◌∷◌, ◌++◌, length, Option, Some, None, refl, sym, ap, ◌∙◌, arith}
-use Rattle.std.specs.Prelude.{map, nat_le, nat_lt, not, ◌&&◌, ◌||◌, take, drop, ◌-◌, option_map}
-use Rattle.std.specs.List.{list_any, list_all}
-use Rattle.std.proofs.lemmas.Bool.Decides.{nat_tests}
-use Rattle.std.proofs.lemmas.List.{map-append, length-map, take-map, drop-map}
+use Rattle.oca_device.proofs.Words.{◌≡◌, ℕ, Bool, true, false, cond, List, [], ◌∷◌, ◌++◌, length, refl, sym, ap, ◌∙◌, arith, map, nat_le, nat_lt, not, ◌&&◌, ◌||◌, take, option_map, list_any, list_all}
+use Rattle.oca_device.proofs.Words.{nat_tests, map-append, length-map, take-map, drop-map, CommandFields, Reply, Msg, Entry, Judgement, Fresh, Duplicate, Reused, Old, has_handle, is_below, window}
+use Rattle.oca_device.proofs.Words.{outside, accepts, entry_under, asks_the_same, judge_unaccepted, judgement, response, is_too_long, shortened_reply, shortened_entry, shortened_entries}
+use Rattle.oca_device.proofs.Words.{shortened_response, shortened_answers, on_bool}
+use Rattle.std.proofs.Common.{Option, Some, None}
+use Rattle.std.specs.Prelude.{drop, ◌-◌}
 use Rattle.oca_types.specs.declared.status.Status.TheVariants as status
-use Rattle.oca_types.specs.Peers.{CommandFields}
-use Rattle.oca_types.specs.Replies.{Reply}
-use Rattle.oca_pdu.specs.Messages.{Msg}
-use Rattle.oca_session.specs.Accepted.{Entry, Judgement, Fresh, Duplicate, Reused, Old, has_handle, is_below, window, outside, accepts, entry_under, asks_the_same, judge_unaccepted, judgement}
-use Rattle.oca_device.specs.Answers.{response}
-use Rattle.oca_device.specs.Rooms.{is_too_long, shortened_reply, shortened_entry, shortened_entries, shortened_response, shortened_answers}
 
 -- what a window that retains shortened replies says
 abbrev pub shortened_judgement : ℕ → Judgement → Judgement
@@ -21,11 +16,7 @@ shortened_judgement most Old = Old
 
 module _ (most : ℕ) where
   by_room : (P : Bool → Type 0) → (nat_le 1452 most ≡ true → P true) → (nat_le 1452 most ≡ false → P false) → P (nat_le 1452 most)
-  by_room P roomy narrow = by (nat_le 1452 most) refl
-    where
-      by : (b : Bool) → nat_le 1452 most ≡ b → P b
-      by true h = roomy h
-      by false h = narrow h
+  by_room P roomy narrow = on_bool (nat_le 1452 most) (λ b. nat_le 1452 most ≡ b → P b) (λ h. roomy h) (λ h. narrow h) refl
 
   abbrev short_reply : Reply
   short_reply = record { status = status.BufferOverflow; count = 0; params = record { items = [] } }
@@ -39,11 +30,7 @@ module _ (most : ℕ) where
   kept h r = ap (λ b. cond b short_reply r) (fits_all h r.params.items)
 
   response_short : (h : ℕ) (r : Reply) → shortened_response most (response h r) ≡ response h (shortened_reply most r)
-  response_short h r = by (is_too_long most r.params.items)
-    where
-      by : (b : Bool) → cond b (response h short_reply) (response h r) ≡ response h (cond b short_reply r)
-      by true = refl
-      by false = refl
+  response_short h r = on_bool (is_too_long most r.params.items) (λ b. cond b (response h short_reply) (response h r) ≡ response h (cond b short_reply r)) refl refl
 
   -- ---- what is answered
 
@@ -93,11 +80,9 @@ module _ (most : ℕ) where
 
   under_same : (h : ℕ) (es : List Entry) → entry_under h (map f es) ≡ option_map f (entry_under h es)
   under_same h [] = refl
-  under_same h (e ∷ es) = by (has_handle h e) (under_same h es)
-    where
-      by : (b : Bool) → entry_under h (map f es) ≡ option_map f (entry_under h es) → cond b (Some (f e)) (entry_under h (map f es)) ≡ option_map f (cond b (Some e) (entry_under h es))
-      by true same = refl
-      by false same = same
+  under_same h (e ∷ es) =
+      on_bool (has_handle h e) (λ b. entry_under h (map f es) ≡ option_map f (entry_under h es) → cond b (Some (f e)) (entry_under h (map f es)) ≡ option_map f (cond b (Some e) (entry_under h es)))
+      (λ same. refl) (λ same. same) (under_same h es)
 
   accepts_same : (w : ℕ) (A : List Entry) (h : ℕ) → accepts w (map f A) h ≡ accepts w A h
   accepts_same w A h =
@@ -111,11 +96,8 @@ module _ (most : ℕ) where
 
   unaccepted_same : (o : Option Entry) (c : CommandFields) → judge_unaccepted (option_map f o) c ≡ shortened_judgement most (judge_unaccepted o c)
   unaccepted_same None c = refl
-  unaccepted_same (Some e) c = by (asks_the_same e.command c)
-    where
-      by : (b : Bool) → cond b (Duplicate (shortened_reply most e.reply)) Reused ≡ shortened_judgement most (cond b (Duplicate e.reply) Reused)
-      by true = refl
-      by false = refl
+  unaccepted_same (Some e) c = on_bool (asks_the_same e.command c) (λ b. cond b (Duplicate (shortened_reply most e.reply)) Reused ≡ shortened_judgement most (cond b (Duplicate e.reply) Reused))
+      refl refl
 
   mapped_judged : (w : ℕ) (A : List Entry) (c : CommandFields) → judgement w (map f A) c ≡ shortened_judgement most (judgement w A c)
   mapped_judged w A c =

@@ -1,19 +1,11 @@
 -- How runs, the known peers and their sessions go on from note to note.
-use Rattle.std.proofs.Common.{◌≡◌, ℕ, ◌≤◌, Bool, true, false, cond, List, [], ◌∷◌, ◌++◌, refl, sym, ap, ◌∙◌, arith}
-use Rattle.std.specs.Prelude.{map, filter, not, ◌&&◌, ◌||◌, nat_le, ◌-◌, Some, None}
-use Rattle.std.proofs.lemmas.Bool.Decides.{nat_tests}
+use Rattle.oca_device.proofs.Words.{◌≡◌, ℕ, ◌≤◌, Bool, true, false, cond, List, [], ◌∷◌, ◌++◌, refl, sym, ap, ◌∙◌, arith, map, filter, not, ◌&&◌, ◌||◌, nat_le, Some, None, nat_tests, and-true}
+use Rattle.oca_device.proofs.Words.{or-false, or-true, Peer, same_peer, DeviceSizes, Msg, Entry, retained_of, Session, Table, session_of, with_changed, lapsed, stays, is_lapsed, staying}
+use Rattle.oca_device.proofs.Words.{with_moment_and_sessions, Note, Noted, Admitted, notes_of, is_recent, unbroken, run, is_noted, peers_except, noted_order, noted_peers, last_noted, heartbeat_noted}
+use Rattle.oca_device.proofs.Words.{accepted, State, noted, moved_to, lapsed_at, shortened_entries, session_within, table_within, on_bool}
+use Rattle.std.specs.Prelude.{◌-◌}
 use Rattle.std.proofs.lemmas.List.Folds.{list_any-append}
-use Rattle.oca_types.specs.declared.words.Peer.{Peer}
-use Rattle.oca_types.specs.Peers.{same_peer}
-use Rattle.oca_types.specs.Sizes.{DeviceSizes}
-use Rattle.oca_pdu.specs.Messages.{Msg}
-use Rattle.oca_session.specs.Accepted.{Entry, retained_of}
-use Rattle.oca_session.specs.Table.{Session, Table, session_of, with_changed, lapsed, stays, is_lapsed, staying, with_moment_and_sessions}
 use Rattle.oca_session.specs.Table as table
-use Rattle.oca_device.specs.Notes.{Note, Noted, Admitted, notes_of, is_recent, unbroken, run, is_noted, peers_except, noted_order, noted_peers, last_noted, heartbeat_noted, accepted}
-use Rattle.oca_device.specs.States.{State, noted, moved_to, lapsed_at}
-use Rattle.oca_device.specs.Rooms.{shortened_entries}
-use Rattle.oca_device.specs.Devices.{session_within, table_within}
 use Rattle.oca_device.proofs.Rooms.{none_retained}
 use Rattle.oca_device.proofs.Lists.{filter_same, filter_both, filter_mapped, filter_appended, map_appended, map_back}
 use Rattle.oca_device.proofs.Peers.{same_self, same_is, same_turned, is_in, in_filtered, session_made, made_alike, changed_made}
@@ -29,13 +21,9 @@ known_has_notes t (n ∷ ns) h = refl
 
 within_has_notes : (t : ℕ) (ns : List Note) → (is_recent t ns && has_notes ns) ≡ is_recent t ns
 within_has_notes t [] = refl
-within_has_notes t (n ∷ ns) = by (nat_le (t - n.at) 120000)
-  where
-    by : (b : Bool) → (b && true) ≡ b
-    by true = refl
-    by false = refl
+within_has_notes t (n ∷ ns) = and-true (nat_le (t - n.at) 120000)
 
-other_notes : (n : Note) (ns : List Note) (q : Peer) → same_peer n.peer q ≡ false → notes_of q (n ∷ ns) ≡ notes_of q ns
+pub other_notes : (n : Note) (ns : List Note) (q : Peer) → same_peer n.peer q ≡ false → notes_of q (n ∷ ns) ≡ notes_of q ns
 other_notes n ns q h = ap (λ b. cond b (n ∷ notes_of q ns) (notes_of q ns)) h
 
 own_notes : (n : Note) (ns : List Note) → notes_of n.peer (n ∷ ns) ≡ n ∷ notes_of n.peer ns
@@ -57,35 +45,26 @@ run_begins n ns h = ap unbroken (own_notes n ns) ∙ ap (λ b. n ∷ cond b (run
 -- those that were ever noted are those who opened
 opened_has : (ns : List Note) (p : Peer) → is_in p (noted_order ns) ≡ has_notes (notes_of p ns)
 opened_has [] p = refl
-opened_has (n ∷ ns) p = by_known (is_noted n.at ns n.peer) refl (opened_has ns p)
+opened_has (n ∷ ns) p =
+    on_bool (is_noted n.at ns n.peer) (λ b. is_noted n.at ns n.peer ≡ b → is_in p (noted_order ns) ≡ has_notes (notes_of p ns) → is_in p (cond b (noted_order ns) (peers_except n.peer
+    (noted_order ns) ++ n.peer ∷ [])) ≡ has_notes (cond (same_peer n.peer p) (n ∷ notes_of p ns) (notes_of p ns)))
+    (λ k h. by_same_known (same_peer n.peer p) refl k h)
+    (λ k h. list_any-append (λ q. same_peer q p) (peers_except n.peer (noted_order ns)) (n.peer ∷ []) ∙ by_same_new (same_peer n.peer p) refl h) refl (opened_has ns p)
   where
     by_same_known : (b : Bool) → same_peer n.peer p ≡ b → is_noted n.at ns n.peer ≡ true → is_in p (noted_order ns) ≡ has_notes (notes_of p ns) →
         is_in p (noted_order ns) ≡ has_notes (cond b (n ∷ notes_of p ns) (notes_of p ns))
     by_same_known true s k h = h ∙ known_has_notes n.at (notes_of p ns) (ap (is_noted n.at ns) (sym (same_is n.peer p s)) ∙ k)
     by_same_known false s k h = h
 
-    or_false : (b : Bool) → (b || false) ≡ b
-    or_false true = refl
-    or_false false = refl
-
-    or_true : (b : Bool) → (b || true) ≡ true
-    or_true true = refl
-    or_true false = refl
-
     by_same_new : (b : Bool) → same_peer n.peer p ≡ b → is_in p (noted_order ns) ≡ has_notes (notes_of p ns) →
         (is_in p (peers_except n.peer (noted_order ns)) || (same_peer n.peer p || false)) ≡ has_notes (cond b (n ∷ notes_of p ns) (notes_of p ns))
-    by_same_new true s h = ap (λ x. is_in p (peers_except n.peer (noted_order ns)) || (x || false)) s ∙ or_true (is_in p (peers_except n.peer (noted_order ns)))
+    by_same_new true s h = ap (λ x. is_in p (peers_except n.peer (noted_order ns)) || (x || false)) s ∙ or-true (is_in p (peers_except n.peer (noted_order ns)))
     by_same_new false s h =
         ap (λ x. is_in p (peers_except n.peer (noted_order ns)) || (x || false)) s
-        ∙ or_false (is_in p (peers_except n.peer (noted_order ns)))
+        ∙ or-false (is_in p (peers_except n.peer (noted_order ns)))
         ∙ in_filtered (λ q. not (same_peer q n.peer)) p (noted_order ns)
         ∙ ap (λ x. not x && is_in p (noted_order ns)) (same_turned p n.peer ∙ s)
         ∙ h
-
-    by_known : (b : Bool) → is_noted n.at ns n.peer ≡ b → is_in p (noted_order ns) ≡ has_notes (notes_of p ns) →
-        is_in p (cond b (noted_order ns) (peers_except n.peer (noted_order ns) ++ n.peer ∷ [])) ≡ has_notes (cond (same_peer n.peer p) (n ∷ notes_of p ns) (notes_of p ns))
-    by_known true k h = by_same_known (same_peer n.peer p) refl k h
-    by_known false k h = list_any-append (λ q. same_peer q p) (peers_except n.peer (noted_order ns)) (n.peer ∷ []) ∙ by_same_new (same_peer n.peer p) refl h
 
 -- the list of the known has exactly those who are known
 pub known_has : (t : ℕ) (ns : List Note) (p : Peer) → is_in p (noted_peers t ns) ≡ is_noted t ns p

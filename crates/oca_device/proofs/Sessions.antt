@@ -1,19 +1,15 @@
 -- The notes of a peer and its admitted datagrams say the same of its session.
-use Rattle.std.proofs.Common.{◌≡◌, ℕ, Bool, true, false, cond, List, [], ◌∷◌, ◌++◌, length, refl, sym, ap, ◌∙◌, subst}
-use Rattle.std.specs.Prelude.{filter, not, ◌&&◌, ◌||◌, ◌-◌, ◌*◌, nat_le, nat_lt, if◌then◌else◌}
-use Rattle.oca_types.specs.declared.words.Peer.{Peer}
-use Rattle.oca_types.specs.Peers.{same_peer, CommandFields}
-use Rattle.oca_types.specs.Sizes.{DeviceSizes}
-use Rattle.oca_pdu.specs.Messages.{Msg, Command, Response, KeepAlive}
-use Rattle.oca_device.specs.Notes.{Noted, Admitted, Heartbeat, Executed, Note, notes_of, is_recent, unbroken, run, is_noted, peers_except, noted_order, noted_peers, accepted, heartbeat_noted, last_noted, has_lapsed}
-use Rattle.oca_device.specs.States.{State, noted, admits, reply_of, after_messages, time_of, lapsed_at}
-use Rattle.oca_device.specs.LawByEvents.{Arrival, Happening, session, is_open, messages_in, heartbeat, accepted_of, accepts_handle, admitted, clock, session_has_lapsed, lapsed_peers, has_room}
+use Rattle.oca_device.proofs.Words.{◌≡◌, ℕ, Bool, true, false, cond, List, [], ◌∷◌, ◌++◌, length, refl, sym, ap, ◌∙◌, subst, filter, not, ◌&&◌, ◌||◌, ◌*◌, nat_le, nat_lt, if◌then◌else◌, Peer}
+use Rattle.oca_device.proofs.Words.{same_peer, CommandFields, DeviceSizes, Msg, Command, Response, KeepAlive, Noted, Admitted, Heartbeat, Executed, Note, notes_of, is_recent, unbroken, run, is_noted}
+use Rattle.oca_device.proofs.Words.{peers_except, noted_order, noted_peers, accepted, heartbeat_noted, last_noted, has_lapsed, State, noted, admits, reply_of, after_messages, time_of, lapsed_at}
+use Rattle.oca_device.proofs.Words.{Arrival, Happening, session, is_open, messages_in, heartbeat, accepted_of, accepts_handle, admitted, clock, session_has_lapsed, lapsed_peers, has_room, on_bool}
+use Rattle.std.specs.Prelude.{◌-◌}
 use Rattle.oca_device.specs.LawByEvents as law
 use Rattle.oca_device.proofs.Lists.{filter_same, filter_both}
 use Rattle.oca_device.proofs.Peers.{same_self, same_is}
-use Rattle.oca_device.proofs.Runs.{run_goes_on, run_begins, known_now}
+use Rattle.oca_device.proofs.Runs.{other_notes, run_goes_on, run_begins, known_now}
 use Rattle.oca_device.proofs.Acceptance.{commands_of, accepted_both}
-use Rattle.oca_device.proofs.Messages.{executed_of, fresh_state, fresh_known, after_judged, kept_alive, alive_known, messages_executed, messages_heartbeat, messages_other, heartbeat_both, other_note}
+use Rattle.oca_device.proofs.Messages.{executed_of, fresh_state, fresh_known, after_judged, kept_alive, alive_known, messages_executed, messages_heartbeat, messages_other, heartbeat_both}
 
 -- the session of a peer's last datagram, at whatever moment one looks
 abbrev pub latest : Peer → List Arrival → List Arrival
@@ -26,21 +22,14 @@ within t (a ∷ own) = nat_le (t - a.at) 120000
 
 pub session_latest : (t : ℕ) (q : Peer) (D : List Arrival) → session t q D ≡ cond (within t (latest q D)) (latest q D) []
 session_latest t q [] = refl
-session_latest t q (a ∷ D) = by (same_peer a.from q) (session_latest t q D)
-  where
-    by : (b : Bool) → session t q D ≡ cond (within t (latest q D)) (latest q D) [] →
-        cond (not b) (session t q D) (cond (nat_le (t - a.at) 120000) (a ∷ session a.at q D) [])
-        ≡ cond (within t (cond (not b) (latest q D) (a ∷ session a.at q D))) (cond (not b) (latest q D) (a ∷ session a.at q D)) []
-    by true h = refl
-    by false h = h
+session_latest t q (a ∷ D) =
+    on_bool (same_peer a.from q) (λ b. session t q D ≡ cond (within t (latest q D)) (latest q D) [] → cond (not b) (session t q D) (cond (nat_le (t - a.at) 120000) (a ∷ session a.at q D) []) ≡ cond
+    (within t (cond (not b) (latest q D) (a ∷ session a.at q D))) (cond (not b) (latest q D) (a ∷ session a.at q D)) [])
+    (λ h. refl) (λ h. h) (session_latest t q D)
 
 open_where : (t : ℕ) (own : List Arrival) → is_open (cond (within t own) own []) ≡ within t own
 open_where t [] = refl
-open_where t (a ∷ own) = by (nat_le (t - a.at) 120000)
-  where
-    by : (b : Bool) → is_open (cond b (a ∷ own) []) ≡ b
-    by true = refl
-    by false = refl
+open_where t (a ∷ own) = on_bool (nat_le (t - a.at) 120000) (λ b. is_open (cond b (a ∷ own) []) ≡ b) refl refl
 
 -- a peer is known where its latest session is within the silence
 pub known_where : (t : ℕ) (q : Peer) (D : List Arrival) → law.is_known t q D ≡ within t (latest q D)
@@ -110,21 +99,16 @@ session_now w p s D b h k = session_latest s.moment p D ∙ ap (λ x. cond x (la
 -- who is let in has what its present session has
 let_in_beat : (w : DeviceSizes) (p : Peer) (ms : List Msg) (s : State) (D : List Arrival) → Bridged w (notes_of p s.notes) (latest p D) →
     heartbeat_noted (run p (let_in p ms s).notes) ≡ law.heartbeat_of (session s.moment p D)
-let_in_beat w p ms s D h = by (is_noted s.moment s.notes p) refl
-  where
-    by : (b : Bool) → is_noted s.moment s.notes p ≡ b → heartbeat_noted (run p (let_in p ms s).notes) ≡ law.heartbeat_of (session s.moment p D)
-    by true k = ap heartbeat_noted (run_goes_on (let_in_note p ms s) s.notes k) ∙ h.beat ∙ ap law.heartbeat_of (sym (session_now w p s D true h k))
-    by false k = ap heartbeat_noted (run_begins (let_in_note p ms s) s.notes k) ∙ ap law.heartbeat_of (sym (session_now w p s D false h k))
+let_in_beat w p ms s D h = on_bool (is_noted s.moment s.notes p) (λ b. is_noted s.moment s.notes p ≡ b → heartbeat_noted (run p (let_in p ms s).notes) ≡ law.heartbeat_of (session s.moment p D))
+    (λ k. ap heartbeat_noted (run_goes_on (let_in_note p ms s) s.notes k) ∙ h.beat ∙ ap law.heartbeat_of (sym (session_now w p s D true h k)))
+    (λ k. ap heartbeat_noted (run_begins (let_in_note p ms s) s.notes k) ∙ ap law.heartbeat_of (sym (session_now w p s D false h k))) refl
 
 pub let_in_executed : (w : DeviceSizes) (p : Peer) (ms : List Msg) (s : State) (D : List Arrival) → Bridged w (notes_of p s.notes) (latest p D) →
     executed_of p (let_in p ms s).notes ≡ accepted_of w [] (messages_in (session s.moment p D))
-let_in_executed w p ms s D h = by (is_noted s.moment s.notes p) refl
-  where
-    by : (b : Bool) → is_noted s.moment s.notes p ≡ b → executed_of p (let_in p ms s).notes ≡ accepted_of w [] (messages_in (session s.moment p D))
-    by true k = ap (λ (x : List Note). commands_of (accepted x)) (run_goes_on (let_in_note p ms s) s.notes k) ∙ h.commands
-        ∙ ap (λ (x : List Arrival). accepted_of w [] (messages_in x)) (sym (session_now w p s D true h k))
-    by false k = ap (λ (x : List Note). commands_of (accepted x)) (run_begins (let_in_note p ms s) s.notes k)
-        ∙ ap (λ (x : List Arrival). accepted_of w [] (messages_in x)) (sym (session_now w p s D false h k))
+let_in_executed w p ms s D h =
+    on_bool (is_noted s.moment s.notes p) (λ b. is_noted s.moment s.notes p ≡ b → executed_of p (let_in p ms s).notes ≡ accepted_of w [] (messages_in (session s.moment p D)))
+    (λ k. ap (λ (x : List Note). commands_of (accepted x)) (run_goes_on (let_in_note p ms s) s.notes k) ∙ h.commands ∙ ap (λ (x : List Arrival). accepted_of w [] (messages_in x)) (sym (session_now w p s D true h k)))
+    (λ k. ap (λ (x : List Note). commands_of (accepted x)) (run_begins (let_in_note p ms s) s.notes k) ∙ ap (λ (x : List Arrival). accepted_of w [] (messages_in x)) (sym (session_now w p s D false h k))) refl
 
 -- an admitted datagram keeps the bridge of its own peer
 own_bridged : (w : DeviceSizes) (p : Peer) (ms : List Msg) (s : State) (D : List Arrival) → Bridged w (notes_of p s.notes) (latest p D) →
@@ -153,7 +137,7 @@ other_bridged : (w : DeviceSizes) (p q : Peer) (ms : List Msg) (s : State) (D : 
     Bridged w (notes_of q (after_messages w p ms (let_in p ms s)).notes) (latest q (arrival p ms s.moment ∷ D))
 other_bridged w p q ms s D e h =
     subst (λ (b : Bool). Bridged w (notes_of q (after_messages w p ms (let_in p ms s)).notes) (cond (not b) (latest q D) (arrival p ms s.moment ∷ session s.moment q D))) (sym e)
-    (subst (λ (own : List Note). Bridged w own (latest q D)) (sym (messages_other w p q ms (let_in p ms s) e ∙ other_note (let_in_note p ms s) s.notes q e)) h)
+    (subst (λ (own : List Note). Bridged w own (latest q D)) (sym (messages_other w p q ms (let_in p ms s) e ∙ other_notes (let_in_note p ms s) s.notes q e)) h)
 
 -- ---- who opened
 

@@ -1,33 +1,22 @@
 -- The state after events stands by what happened at them.
-use Rattle.std.proofs.Common.{◌≡◌, ℕ, Bool, true, false, cond, List, [], ◌∷◌, ◌++◌, refl, sym, ap, ◌∙◌, subst}
-use Rattle.std.specs.Prelude.{map, max, Result, Ok, Err}
-use Rattle.std.specs.List.{flat_map}
-use Rattle.std.proofs.lemmas.List.{append-nil}
-use Rattle.oca_types.specs.declared.words.Peer.{Peer}
-use Rattle.oca_types.specs.Peers.{same_peer, CommandFields}
-use Rattle.oca_types.specs.Sizes.{DeviceSizes}
-use Rattle.oca_pdu.specs.declared.fault.PduFault.{PduFault}
-use Rattle.oca_pdu.specs.Messages.{Msg, Pdu, messages_of}
-use Rattle.oca_pdu.specs.Encoding.{IsDatagram}
+use Rattle.oca_device.proofs.Words.{◌≡◌, ℕ, Bool, true, false, cond, List, [], ◌∷◌, ◌++◌, refl, sym, ap, ◌∙◌, subst, map, max, Result, Ok, Err, flat_map, append-nil, Peer, same_peer, CommandFields}
+use Rattle.oca_device.proofs.Words.{DeviceSizes, PduFault, Msg, Pdu, messages_of, IsDatagram, Object, LocalChange, after_change, Event, Tick, Local, Note, notes_of, unbroken, run, is_noted, accepted}
+use Rattle.oca_device.proofs.Words.{State, admits, after_messages, after_reading, released_all, lapsed_at, moved_to, after_local, state_after, answers_to_messages, answers_to_reading, answers_in}
+use Rattle.oca_device.proofs.Words.{counts_of_messages, served, verdict_of_reading, written_by_messages, written_by_reading, ExecutionFor, executions, executions_noted, written_of, Arrival, Happening}
+use Rattle.oca_device.proofs.Words.{Passes, Says, Sets, Happened, nothing, tick, local, malformed, datagram, EventsAreBytes, clock, admitted, session, messages_in, lapsed_peers, has_room, accepted_of}
+use Rattle.oca_device.proofs.Words.{accepted_by, Change, Executes, Releases, changes, objects, reply, replies, all_counted, IsVerdict}
 use Rattle.oca_pdu.specs.FirstFault.{IsFirstFault}
 use Rattle.oca_pdu.specs.Reading.{read_datagram}
 use Rattle.oca_pdu.specs.Laws.{AreBytes, ReadingIsExact, OneListOfMessages}
-use Rattle.oca_tree.specs.declared.object.Object.{Object}
 use Rattle.oca_tree.specs.Locks.{released}
-use Rattle.oca_tree.specs.LocalChanges.{LocalChange, after_change}
 use Rattle.oca_device.specs.declared.verdict.Verdict.TheVariants as verdicts
-use Rattle.oca_device.specs.Events.{Event, Datagram, Tick, Local}
-use Rattle.oca_device.specs.Notes.{Note, notes_of, unbroken, run, is_noted, accepted}
-use Rattle.oca_device.specs.States.{State, admits, after_messages, after_reading, released_all, lapsed_at, moved_to, after_local, state_after}
-use Rattle.oca_device.specs.Answers.{answers_to_messages, answers_to_reading, answers_in, counts_of_messages, served, verdict_of_reading}
-use Rattle.oca_device.specs.Written.{written_by_messages, written_by_reading}
+use Rattle.oca_device.specs.Events.{Datagram}
 use Rattle.oca_device.specs.Written as effects
-use Rattle.oca_device.specs.LawByEvents.{ExecutionFor, executions, executions_noted, written_of, Arrival, Happening, Passes, Says, Sets, Happened, nothing, tick, local, malformed, datagram, EventsAreBytes, clock, admitted, session, messages_in, lapsed_peers, has_room, accepted_of, accepted_by, Change, Executes, Releases, changes, objects, reply, replies, all_counted, IsVerdict}
 use Rattle.oca_device.specs.LawByEvents as law
 use Rattle.oca_device.proofs.Peers.{same_is}
-use Rattle.oca_device.proofs.Runs.{run_goes_on, run_begins}
+use Rattle.oca_device.proofs.Runs.{other_notes, run_goes_on, run_begins}
 use Rattle.oca_device.proofs.Acceptance.{AreDistinct, distinct_none, distinct_of}
-use Rattle.oca_device.proofs.Messages.{executed_of, messages_tree, messages_moment, messages_other, messages_counted, other_note}
+use Rattle.oca_device.proofs.Messages.{executed_of, messages_tree, messages_moment, messages_other, messages_counted}
 use Rattle.oca_device.proofs.Answering.{messages_answered, objects_both, reply_both, reply_released, reply_other, Replied, messages_replied}
 use Rattle.oca_device.proofs.Effects.{messages_written, executions_both, executions_released, messages_noted}
 use Rattle.oca_device.proofs.Sessions.{none_bridged, AllBridged, same_room, same_lapsed, arrival, let_in, let_in_note, let_in_known, let_in_executed, let_in_bridged}
@@ -138,7 +127,7 @@ module _ (w : DeviceSizes) (tree : List Object) (p : Peer) (ms : List Msg) (s : 
       (subst (λ (x : List CommandFields). Replied tree (C ++ map (Executes p) (accepted_of w x ms)) p (accepted (run p after.notes))) same_executed
       (messages_replied w p ms (let_in p ms s) tree C (let_in_known p ms s) h.tree_is (let_in_replied (is_noted s.moment s.notes p) refl)))
   by_same q false e =
-      let own : notes_of q after.notes ≡ notes_of q s.notes = messages_other w p q ms (let_in p ms s) e ∙ other_note (let_in_note p ms s) s.notes q e in
+      let own : notes_of q after.notes ≡ notes_of q s.notes = messages_other w p q ms (let_in p ms s) e ∙ other_notes (let_in_note p ms s) s.notes q e in
       subst (λ (x : List Note). Replied tree (C ++ executing) q (accepted (unbroken x))) (sym own)
       (λ i x f. reply_both q i [] tree C executing ∙ reply_other p q i (reply q i [] tree C) (objects tree C) (accepted_of w A ms) e ∙ h.replied q i x f)
 

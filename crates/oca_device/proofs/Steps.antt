@@ -1,32 +1,17 @@
 -- Noted each step of serving does to a device that is in a state.
-use Rattle.std.proofs.Common.{◌≡◌, ℕ, ◌+◌, ◌≤◌, ◌<◌, Bool, true, false, cond, List, [], ◌∷◌, ◌++◌, length, refl, sym, ap, ◌∙◌, subst, arith}
-use Rattle.std.specs.Prelude.{min, max, nat_lt, ◌||◌, IfSome, Option, Some, None, IsSome, Result, Ok, map, slice_get}
-use Rattle.std.proofs.lemmas.Bool.{lt-ltb, le-ltb}
-use Rattle.std.proofs.lemmas.List.{append_assoc, append-nil, length-map}
-use Rattle.oca_types.specs.declared.words.Peer.{Peer}
-use Rattle.oca_types.specs.Sizes.{DeviceSizes}
-use Rattle.oca_pdu.specs.Messages.{Msg, Command, Response, KeepAlive, Pdu}
+use Rattle.oca_device.proofs.Words.{◌≡◌, ℕ, ◌+◌, ◌≤◌, ◌<◌, Bool, true, false, cond, List, [], ◌∷◌, ◌++◌, length, refl, sym, ap, ◌∙◌, subst, arith, min, max, nat_lt, ◌||◌, IfSome, Option, Some, None}
+use Rattle.oca_device.proofs.Words.{IsSome, Result, Ok, map, lt-ltb, le-ltb, append_assoc, append-nil, length-map, le-max_left, Peer, DeviceSizes, Msg, Command, Response, KeepAlive, Pdu, Entry}
+use Rattle.oca_device.proofs.Words.{retained_of, AgreesWithAccepted, Judgement, Fresh, Duplicate, Reused, Old, Session, Table, session_of, with_changed, opened_session, heard_at, with_heartbeat}
+use Rattle.oca_device.proofs.Words.{with_accepted, with_sessions, with_moment_and_sessions, present, lapsed, staying, peers_of, Hears, AgreesAt, PduFault, Empty, Counts, Noted, Admitted, Heartbeat}
+use Rattle.oca_device.proofs.Words.{Executed, Note, run, is_noted, noted_peers, last_noted, heartbeat_noted, accepted, State, noted, moved_to, lapsed_at, admits, judged_in, reply_of, after_command}
+use Rattle.oca_device.proofs.Words.{after_message, after_messages, after_reading, time_of, state_after, known_after, with_answers, encodings, counts, plus, answer_to, answers_to_messages, packets_of}
+use Rattle.oca_device.proofs.Words.{count_of_message, counts_of_messages, answers_to_reading, verdict_of_reading, served, Object, Event, KeptPackets, first_packets, written_by_message}
+use Rattle.oca_device.proofs.Words.{written_by_messages, written_by_reading, Effect, effects_of_message, effects_of_messages, effects_of_reading, DeviceState, session_within, table_within, IsIn}
+use Rattle.oca_device.proofs.Words.{RepresentsWithin, ServesMessage, ServesMessages, TakesDatagram, shortened_entry, shortened_entries, shortened_answers, on_bool}
+use Rattle.std.specs.Prelude.{slice_get}
 use Rattle.oca_session.specs.declared.sessions.Admission.TheVariants as heard
-use Rattle.oca_session.specs.Accepted.{Entry, retained_of, AgreesWithAccepted, Judgement, Fresh, Duplicate, Reused, Old}
-use Rattle.oca_session.specs.Table.{Session, Table, session_of, with_changed, opened_session, heard_at, with_heartbeat, with_accepted, with_sessions, with_moment_and_sessions, present, lapsed, staying, peers_of, Hears, AgreesAt}
-use Rattle.oca_pdu.specs.declared.fault.PduFault.{PduFault}
-use Rattle.oca_pdu.specs.declared.fault.PduFaultKind.TheVariants.{Empty}
 use Rattle.oca_pdu.specs.Reading.{read_datagram}
-use Rattle.oca_device.specs.declared.counts.Counts.{Counts}
 use Rattle.oca_device.specs.declared.verdict.Verdict.TheVariants as verdicts
-use Rattle.oca_device.specs.Notes.{Noted, Admitted, Heartbeat, Executed, Note, run, is_noted, noted_peers, last_noted, heartbeat_noted, accepted}
-use Rattle.oca_device.specs.States.{State, noted, moved_to, lapsed_at, admits, judged_in, reply_of, after_command, after_message, after_messages, after_reading, time_of, state_after, known_after}
-use Rattle.oca_device.specs.Groups.{with_answers, encodings}
-use Rattle.oca_device.specs.Answers.{counts, plus, answer_to, answers_to_messages, packets_of, count_of_message, counts_of_messages, answers_to_reading, verdict_of_reading, served}
-use Rattle.oca_tree.specs.declared.object.Object.{Object}
-use Rattle.oca_device.specs.Events.{Event}
-use Rattle.oca_device.specs.Outboxes.{KeptPackets, first_packets}
-use Rattle.oca_device.specs.Written.{written_by_message, written_by_messages, written_by_reading}
-use Rattle.oca_device.specs.declared.effect.Effect.{Effect}
-use Rattle.oca_device.specs.Effects.{effects_of_message, effects_of_messages, effects_of_reading}
-use Rattle.oca_device.specs.Devices.{DeviceState, session_within, table_within, IsIn, RepresentsWithin}
-use Rattle.oca_device.specs.PrivateServing.{ServesMessage, ServesMessages, TakesDatagram}
-use Rattle.oca_device.specs.Rooms.{shortened_entry, shortened_entries, shortened_answers}
 use Rattle.oca_device.proofs.Grouping.{answers_both}
 use Rattle.oca_device.proofs.Rooms.{answers_joined, none_answered, entries_more}
 use Rattle.oca_device.proofs.Runs.{table_moved, lapsed_moved, session_known, table_noted, table_opened, run_goes_on, run_begins}
@@ -39,15 +24,12 @@ table_at w t ss = record { sizes = w; moment = t; sessions = ss }
 
 -- ---- the clock moves
 
-max_above : (m now : ℕ) → m ≤ max m now
-max_above m now = omega arith
-
 pub clock_moved : (most : ℕ) (w : DeviceSizes) (now : ℕ) (s : State) (old new : Table) (peers : List Peer) → old ≡ table_within most w s →
     peers ≡ lapsed (present old now) old.sessions → new ≡ with_moment_and_sessions old (present old now) (staying (present old now) old.sessions) →
     (peers ≡ lapsed_at (max s.moment now) s) × (new ≡ table_within most w (moved_to (max s.moment now) s))
 clock_moved most w now s old new peers was gone is = (
   gone ∙ ap (λ (t : Table). lapsed (present t now) t.sessions) was ∙ lapsed_moved most w (max s.moment now) s,
-  is ∙ ap (λ (t : Table). with_moment_and_sessions t (present t now) (staying (present t now) t.sessions)) was ∙ table_moved most w (max s.moment now) s (max_above s.moment now),
+  is ∙ ap (λ (t : Table). with_moment_and_sessions t (present t now) (staying (present t now) t.sessions)) was ∙ table_moved most w (max s.moment now) s (le-max_left s.moment now),
 )
 
 -- ---- what is known of the peers in the table
@@ -151,11 +133,9 @@ hears_no_room most w s p t old new was now h =
 
 -- a peer that was let in has the present moment as its last, and is known
 pub admitted_now : (s : State) (p : Peer) (ms : List Msg) → last_noted (run p (noted p (Admitted ms) s).notes) ≡ s.moment
-admitted_now s p ms = by_known (is_noted s.moment s.notes p) refl
-  where
-    by_known : (b : Bool) → is_noted s.moment s.notes p ≡ b → last_noted (run p (noted p (Admitted ms) s).notes) ≡ s.moment
-    by_known true k = ap last_noted (run_goes_on (record { peer = p; at = s.moment; what = Admitted ms }) s.notes k)
-    by_known false k = ap last_noted (run_begins (record { peer = p; at = s.moment; what = Admitted ms }) s.notes k)
+admitted_now s p ms = on_bool (is_noted s.moment s.notes p) (λ b. is_noted s.moment s.notes p ≡ b → last_noted (run p (noted p (Admitted ms) s).notes) ≡ s.moment)
+    (λ k. ap last_noted (run_goes_on (record { peer = p; at = s.moment; what = Admitted ms }) s.notes k))
+    (λ k. ap last_noted (run_begins (record { peer = p; at = s.moment; what = Admitted ms }) s.notes k)) refl
 
 -- ---- a message is served
 

@@ -1,19 +1,9 @@
 -- What a device knows of its peers is what the events say of them.
-use Rattle.std.proofs.Common.{◌≡◌, ℕ, ◌-◌, Bool, true, false, cond, List, [], ◌∷◌, length, refl, sym, ap, ◌∙◌, subst}
-use Rattle.std.specs.Prelude.{map, filter, Option, Some}
+use Rattle.oca_device.proofs.Words.{◌≡◌, ℕ, ◌-◌, Bool, true, cond, List, [], ◌∷◌, length, refl, sym, ap, ◌∙◌, subst, map, filter, Option, Some, Peer, CommandFields, DeviceSizes, most_parameter_bytes}
+use Rattle.oca_device.proofs.Words.{Object, Msg, Entry, window, outside, entry_under, greatest, higher_of, Session, Note, run, is_noted, noted_peers, noted_order, accepted, heartbeat_noted, State}
+use Rattle.oca_device.proofs.Words.{session_within, table_of, response, Arrival, Happening, clock, admitted, messages_in, accepted_of, Change, changes, reply, Summary, summary_of, summary_by_events}
+use Rattle.oca_device.proofs.Words.{greatest_handle, on_bool}
 use Rattle.std.specs.List.{IsDistinct}
-use Rattle.oca_types.specs.declared.words.Peer.{Peer}
-use Rattle.oca_types.specs.Peers.{CommandFields}
-use Rattle.oca_types.specs.Sizes.{DeviceSizes, most_parameter_bytes}
-use Rattle.oca_tree.specs.declared.object.Object.{Object}
-use Rattle.oca_pdu.specs.Messages.{Msg}
-use Rattle.oca_session.specs.Accepted.{Entry, window, outside, entry_under, greatest, higher_of}
-use Rattle.oca_session.specs.Table.{Session}
-use Rattle.oca_device.specs.Notes.{Note, run, is_noted, noted_peers, noted_order, accepted, heartbeat_noted}
-use Rattle.oca_device.specs.States.{State}
-use Rattle.oca_device.specs.Devices.{session_within, table_of}
-use Rattle.oca_device.specs.Answers.{response}
-use Rattle.oca_device.specs.LawByEvents.{Arrival, Happening, clock, admitted, messages_in, accepted_of, Change, changes, reply, Summary, summary_of, summary_by_events, greatest_handle}
 use Rattle.oca_device.specs.LawByEvents as law
 use Rattle.oca_device.proofs.Acceptance.{commands_of, AreDistinct, distinct_none, distinct_of, distinct_dropped, equal_self, found_after, window_mapped, outside_mapped}
 use Rattle.oca_device.proofs.Answering.{AnswersUnder, Replied}
@@ -33,11 +23,9 @@ module _ {X Y : Type 0} where
   -- two maps are the same where they are on the members
   map_filtered : (t : X → Bool) (f g : X → Y) → ((x : X) → t x ≡ true → f x ≡ g x) → (xs : List X) → map f (filter t xs) ≡ map g (filter t xs)
   map_filtered t f g h [] = refl
-  map_filtered t f g h (x ∷ xs) = by (t x) refl (map_filtered t f g h xs)
-    where
-      by : (b : Bool) → t x ≡ b → map f (filter t xs) ≡ map g (filter t xs) → map f (cond b (x ∷ filter t xs) (filter t xs)) ≡ map g (cond b (x ∷ filter t xs) (filter t xs))
-      by true e k = ap (λ (y : Y). y ∷ map f (filter t xs)) (h x e) ∙ ap (λ (ys : List Y). g x ∷ ys) k
-      by false e k = k
+  map_filtered t f g h (x ∷ xs) =
+      on_bool (t x) (λ b. t x ≡ b → map f (filter t xs) ≡ map g (filter t xs) → map f (cond b (x ∷ filter t xs) (filter t xs)) ≡ map g (cond b (x ∷ filter t xs) (filter t xs)))
+      (λ e k. ap (λ (y : Y). y ∷ map f (filter t xs)) (h x e) ∙ ap (λ (ys : List Y). g x ∷ ys) k) (λ e k. k) refl (map_filtered t f g h xs)
 
 summary_with : Peer → ℕ → ℕ → List CommandFields → List (List Msg) → Option ℕ → Summary
 summary_with p t ms cs rs floor = record { peer = p; heard = t; heartbeat = ms; commands = cs; replies = rs; floor = floor }

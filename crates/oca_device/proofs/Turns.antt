@@ -1,34 +1,18 @@
 -- Deliveries, what is sent for them, and reports of one turn and of several.
-use Rattle.std.proofs.Common.{◌≡◌, ℕ, ◌+◌, ◌≤◌, ◌<◌, Bool, cond, List, [], ◌∷◌, ◌++◌, length, refl, sym, ap, ◌∙◌, subst, arith, length-append}
-use Rattle.std.specs.Prelude.{take, slice_index_or, IsTrue, min}
-use Rattle.std.proofs.lemmas.Bool.{lt-ltb, le-ltb, le-leb, lt-leb}
-use Rattle.std.proofs.lemmas.List.{append_assoc, append-nil, map-append, take_more, get_or-map, length-map, take_all}
-use Rattle.arrayvec.specs.ArrayVec.{ArrayVec}
-use Rattle.oca_types.specs.declared.words.Peer.{Peer}
-use Rattle.oca_types.specs.Sizes.{DeviceSizes}
-use Rattle.oca_net.specs.declared.end.Heard.{Heard}
+use Rattle.oca_device.proofs.Words.{◌≡◌, ℕ, ◌+◌, ◌≤◌, ◌<◌, Bool, cond, List, [], ◌∷◌, ◌++◌, length, refl, sym, ap, ◌∙◌, subst, arith, take, slice_index_or, IsTrue, min, lt-ltb, le-leb, lt-leb}
+use Rattle.oca_device.proofs.Words.{append_assoc, append-nil, map-append, take_more, get_or-map, length-map, take_all, add-zero, zero-add, add_assoc, ArrayVec, Peer, DeviceSizes, Heard, Delivery}
+use Rattle.oca_device.proofs.Words.{Datagram, Quiet, Failed, Sent, is_failed, largest_datagram, last_u64, TakesAllBut, EndState, Receives, Sends, SendsAllBut, Object, Report, Verdict, Event, packets}
+use Rattle.oca_device.proofs.Words.{verdict, DeviceState, Represents, no_turns, one_turn, verdict_turn, added, capped, turn_report, events_after, events_after_all, report_of, receives_of, Serves}
+use Rattle.oca_device.proofs.Words.{ServesEnd, sent_in_all, sent_for, sent_to, bytes_of_packets, state_after, Followed, ElectronicsState, Follows, ServesEndWith, ServesLongWith, handed, handed_of}
+use Rattle.oca_device.proofs.Words.{IsAtMostEach, ServesTurn, IsClosed}
+use Rattle.std.proofs.Common.{length-append}
 use Rattle.oca_net.specs.declared.end.Heard.TheVariants as heard
-use Rattle.oca_net.specs.Deliveries.{Delivery, Datagram, Quiet, Failed, Sent}
-use Rattle.oca_net.specs.Ends.{is_failed, largest_datagram, last_u64, TakesAllBut}
-use Rattle.oca_net.specs.EndStates.{EndState, Receives, Sends, SendsAllBut}
 use Rattle.oca_net.proofs.Sending.{takes_none, takes_more, sends_none, sends_more, sends_one}
 use Rattle.oca_net.proofs.Hearing.{oversize_heard}
 use Rattle.oca_net.proofs.Running.{Delivered, delivered_none, delivered_more, delivered_one, delivered_closed}
-use Rattle.oca_tree.specs.declared.object.Object.{Object}
-use Rattle.oca_device.specs.declared.report.Report.{Report}
-use Rattle.oca_device.specs.declared.verdict.Verdict.{Verdict}
 use Rattle.oca_device.specs.declared.verdict.Verdict.TheVariants as verdicts
-use Rattle.oca_device.specs.Events.{Event}
 use Rattle.oca_device.specs.Events as event
-use Rattle.oca_device.specs.Answers.{packets, verdict}
-use Rattle.oca_device.specs.Devices.{DeviceState, Represents}
-use Rattle.oca_device.specs.Reports.{no_turns, one_turn, verdict_turn, added, capped, turn_report, events_after, events_after_all, report_of, receives_of}
-use Rattle.oca_device.specs.Replies.{Serves, ServesEnd, sent_in_all, sent_for, sent_to}
-use Rattle.oca_device.specs.Outboxes.{bytes_of_packets}
-use Rattle.oca_device.specs.States.{state_after}
 use Rattle.oca_device.specs.Written as effects
-use Rattle.oca_device.specs.Following.{Followed, ElectronicsState, Follows, ServesEndWith, ServesLongWith, handed, handed_of}
-use Rattle.oca_device.specs.PrivateTotals.{IsAtMostEach, ServesTurn, IsClosed}
 
 -- ---- sums of reports
 
@@ -38,10 +22,7 @@ added_none r = sums r.turns r.executed r.kept r.old r.reused r.malformed r.no_ro
     sums : (a b c d u e f g h i j : ℕ) →
         let x : Report = record { turns = a + 0; executed = b + 0; kept = c + 0; old = d + 0; reused = u + 0; malformed = e + 0; no_room = f + 0; oversize = g + 0; quiet = h + 0; failed_receives = i + 0; failed_sends = j + 0 } in
         let y : Report = record { turns = a; executed = b; kept = c; old = d; reused = u; malformed = e; no_room = f; oversize = g; quiet = h; failed_receives = i; failed_sends = j } in x ≡ y
-    sums a b c d u e f g h i j = simp to_zero
-      where
-        to_zero : (n : ℕ) → n + 0 ≡ n
-        to_zero n = omega arith
+    sums a b c d u e f g h i j = simp add-zero
 
 none_added : (r : Report) → added no_turns r ≡ r
 none_added r = sums r.turns r.executed r.kept r.old r.reused r.malformed r.no_room r.oversize r.quiet r.failed_receives r.failed_sends
@@ -49,16 +30,10 @@ none_added r = sums r.turns r.executed r.kept r.old r.reused r.malformed r.no_ro
     sums : (a b c d u e f g h i j : ℕ) →
         let x : Report = record { turns = 0 + a; executed = 0 + b; kept = 0 + c; old = 0 + d; reused = 0 + u; malformed = 0 + e; no_room = 0 + f; oversize = 0 + g; quiet = 0 + h; failed_receives = 0 + i; failed_sends = 0 + j } in
         let y : Report = record { turns = a; executed = b; kept = c; old = d; reused = u; malformed = e; no_room = f; oversize = g; quiet = h; failed_receives = i; failed_sends = j } in x ≡ y
-    sums a b c d u e f g h i j = simp from_zero
-      where
-        from_zero : (n : ℕ) → 0 + n ≡ n
-        from_zero n = omega arith
+    sums a b c d u e f g h i j = simp zero-add
 
 added_assoc : (q r s : Report) → added (added q r) s ≡ added q (added r s)
-added_assoc q r s = simp turned
-  where
-    turned : (x y z : ℕ) → x + y + z ≡ x + (y + z)
-    turned x y z = omega arith
+added_assoc q r s = simp add_assoc
 
 -- ---- deliveries one after another
 
@@ -349,7 +324,7 @@ told_turn {old} {new} {before} {after} {idle} {r = r} is h = subst (λ (m : Elec
 
 -- ---- numbers of reports
 
-cap_more : (t b : ℕ) → min (min t last_u64 + b) last_u64 ≡ min (t + b) last_u64
+pub cap_more : (t b : ℕ) → min (min t last_u64 + b) last_u64 ≡ min (t + b) last_u64
 cap_more t b = omega arith
 
 pub capped_more : (t b : Report) → capped (added (capped t) b) ≡ capped (added t b)
@@ -403,6 +378,3 @@ exact_more {a} {b} {c} {e} {f} {g} {x} {y} {z} {p} {n} m s h k is few one le =
 
 pub fewer_turns : (n m : ℕ) → n < m → receives_of n m ≡ n + 1
 fewer_turns n m h = ap (λ b. cond b (n + 1) n) (lt-ltb n m h)
-
-pub all_turns : (n m : ℕ) → n ≡ m → receives_of n m ≡ n
-all_turns n m e = ap (λ b. cond b (n + 1) n) (le-ltb n m (omega arith))

@@ -1,17 +1,23 @@
 -- A device represents an opening tree and events where it is what they say.
 use Rattle.std.specs.Prelude.{◌≡◌, ℕ, List, ◌∷◌, map}
 use Rattle.oca_types.specs.declared.words.Peer.{Peer}
-use Rattle.oca_types.specs.Sizes.{DeviceSizes, most_parameter_bytes}
+pub use Rattle.std.specs.Result.{result_err}
+pub use Rattle.oca_types.specs.Sizes.{DeviceSizes, most_parameter_bytes, window_size, sizes_of}
+pub use Rattle.oca_pdu.specs.Limits.{most_answered, most_commands}
 use Rattle.oca_tree.specs.declared.object.Object.{Object}
+pub use Rattle.oca_tree.specs.Settings.{set_fault}
+pub use Rattle.oca_tree.specs.LocalChanges.{front_fault, ToValue, ToLabel, ToEnabled, ToUnlocked, ToFailing}
+pub use Rattle.oca_tree.specs.Readers.{failing_at}
 use Rattle.oca_session.specs.Accepted.{retained_of}
-use Rattle.oca_session.specs.Table.{Session, Table}
+pub use Rattle.oca_session.specs.Table.{Session, Table, peers_of}
 use Rattle.oca_device.specs.declared.effect.Effect.{Effect}
-use Rattle.oca_device.specs.Events.{Event}
+pub use Rattle.oca_device.specs.Events.{Event, Datagram, Tick, Local}
 use Rattle.oca_device.specs.Notes.{Note, run, noted_peers, last_noted, heartbeat_noted, accepted}
-use Rattle.oca_device.specs.States.{State, state_after}
+pub use Rattle.oca_device.specs.States.{State, state_after, known_after}
 use Rattle.oca_device.specs.Written.{written}
 use Rattle.oca_device.specs.Effects.{effects}
-use Rattle.oca_device.specs.Rooms.{shortened_entries}
+pub use Rattle.oca_device.specs.Rooms.{shortened_entries, packets_within, told, verdict_within}
+pub use Rattle.oca_device.specs.Outboxes.{may_be_answered}
 
 -- What a device is: its objects, its clock and sessions, the numbers of the objects that the last datagram wrote to,
 -- and what became of each command of this datagram.

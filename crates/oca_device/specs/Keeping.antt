@@ -1,6 +1,7 @@
 -- What was answered is stored: which answers wait until the objects are stored, and when they leave.
 use Rattle.std.specs.Prelude.{◌≡◌, ◌+◌, ◌<◌, IsTrue, Bool, false, ◌&&◌, ◌||◌, ◌==◌, not, nat_le, if◌then◌else◌, List}
-use Rattle.std.specs.Prelude.{[], ◌∷◌, ◌++◌, length}
+use Rattle.std.specs.Prelude.{◌≤◌, [], ◌∷◌, ◌++◌, length}
+use Rattle.std.specs.List.{AllByRecursion}
 use Rattle.oca_types.specs.Sizes.{DeviceSizes}
 use Rattle.oca_net.specs.Deliveries.{Delivery, Datagram, Quiet, Failed, Sent}
 use Rattle.oca_net.specs.Ends.{largest_datagram, last_u64, TakesAllBut}
@@ -140,11 +141,12 @@ sent_of_all behind w tree events (g ∷ groups) =
 
 -- A DEVICE SERVED AN END AND KEPT ITS OBJECTS IN A STORE: there are groups of deliveries that it served; behind each
 -- with answers that wait the store was handed the objects, and these answers left only where it said that it holds
--- them. The end was handed just as many datagrams. What was written and is not stored is told before and after. A
--- number of the report that would pass 64 bits stays at its last value.
+-- them. A group has at most 64 deliveries. The end was handed just as many datagrams. What was written and is not
+-- stored is told before and after. A number of the report that would pass 64 bits stays at its last value.
 pub record ServesKeeping (behind is_behind : Bool) (old new : DeviceState) (before after : EndState)
     (idle moved : ElectronicsState) (had has : StoreState) (returned : Report) : Type 0 where
   pub groups : List Group
+  pub few : AllByRecursion (λ g. length g.deliveries ≤ 64) groups
   pub report : Report
   pub returns : returned ≡ capped report
   pub serves : Serves (all_deliveries groups) old new report

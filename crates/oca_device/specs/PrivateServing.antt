@@ -2,19 +2,28 @@
 use Rattle.std.specs.Prelude.{◌≡◌, ℕ, ◌+◌, ◌≤◌, Bool, true, false, ⊤, List, [], ◌∷◌, ◌++◌, length}
 use Rattle.oca_types.specs.declared.words.Peer.{Peer}
 use Rattle.oca_types.specs.Sizes.{DeviceSizes}
-use Rattle.oca_pdu.specs.Messages.{Msg, Command, Response, KeepAlive, Pdu}
+pub use Rattle.std.specs.List.{AllByRecursion}
+pub use Rattle.oca_types.specs.Peers.{fields_of}
+pub use Rattle.oca_pdu.specs.Messages.{Msg, Command, Response, KeepAlive, Pdu, msg_of}
+pub use Rattle.oca_pdu.specs.Datagrams.{messages_left}
 use Rattle.oca_pdu.specs.Encoding.{pdu_encoding}
-use Rattle.oca_pdu.specs.Reading.{read_datagram}
+pub use Rattle.oca_pdu.specs.Reading.{read_datagram}
+pub use Rattle.oca_tree.specs.Execution.{execution}
+pub use Rattle.oca_session.specs.Table.{session_of}
 use Rattle.oca_device.specs.declared.counts.Counts.{Counts}
 use Rattle.oca_device.specs.declared.verdict.Verdict.{Verdict}
 use Rattle.oca_device.specs.Groups.{pdu_of, last_with, with_answer, with_answers, encodings}
-use Rattle.oca_device.specs.States.{State, after_message, after_messages, after_reading}
-use Rattle.oca_device.specs.Answers.{answer_to, answers_to_messages, answers_to_reading, packets_of, plus}
+pub use Rattle.oca_device.specs.Notes.{Admitted, run, last_noted}
+pub use Rattle.oca_device.specs.States.{State, noted, moved_to, admits, released_all, reply_of, time_of}
+use Rattle.oca_device.specs.States.{after_message, after_messages, after_reading}
+pub use Rattle.oca_device.specs.Answers.{answer_to, answers_to_messages, answers_to_reading, packets_of, plus}
 use Rattle.oca_device.specs.Answers.{count_of_message, counts_of_messages, verdict_of_reading}
-use Rattle.oca_device.specs.Outboxes.{KeptPackets, first_packets}
+pub use Rattle.oca_device.specs.Outboxes.{KeptPackets, first_packets}
+pub use Rattle.oca_device.specs.PrivateMade.{reply_made}
+pub use Rattle.oca_device.specs.Written.{numbers_of, written_by_execution}
 use Rattle.oca_device.specs.Written.{written_by_message, written_by_messages, written_by_reading}
-use Rattle.oca_device.specs.Effects.{effects_of_message, effects_of_messages, effects_of_reading}
-use Rattle.oca_device.specs.Rooms.{shortened_answers}
+pub use Rattle.oca_device.specs.Effects.{effect_with, effects_of_message, effects_of_messages, effects_of_reading}
+pub use Rattle.oca_device.specs.Rooms.{is_short_enough, shortened_answers}
 use Rattle.oca_device.specs.Devices.{DeviceState, IsIn}
 
 -- the packets are those of some groups

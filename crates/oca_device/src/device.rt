@@ -1,31 +1,18 @@
 //! The device: it takes events, and puts its answers into an outbox.
 ghost use Rattle.std.specs.Prelude.{◌≡◌, ◌+◌, ◌<◌, ◌≤◌, List, [], ◌∷◌, ◌++◌, length, max, IfOk, OnErr, MatchOption};
 ghost use Rattle.std.specs.Prelude.{true, IsTrue, IsSome, if◌then◌else◌, Ok, Err, slice_get, Some, None, is_none};
-ghost use Rattle.oca_types.specs.Peers.{fields_of};
-ghost use Rattle.oca_types.specs.Sizes.{window_size, sizes_of, DeviceSizes};
-ghost use Rattle.std.specs.List.{AllByRecursion};
-ghost use Rattle.oca_pdu.specs.Messages.{Msg, Command as Commands, msg_of};
-ghost use Rattle.oca_pdu.specs.Limits.{most_answered, most_commands};
-ghost use Rattle.oca_pdu.specs.Datagrams.{messages_left};
-ghost use Rattle.oca_session.specs.Table.{session_of, peers_of};
-ghost use Rattle.oca_device.specs.Events.{Datagram as DatagramEvent, Tick, Local};
-ghost use Rattle.oca_device.specs.Notes.{Admitted, run, last_noted};
-ghost use Rattle.oca_device.specs.States.{State, state_after, known_after, noted, moved_to, admits, released_all};
-ghost use Rattle.oca_device.specs.States.{reply_of, time_of};
-ghost use Rattle.oca_tree.specs.Execution.{execution};
-ghost use Rattle.oca_tree.specs.Settings.{set_fault};
-ghost use Rattle.oca_tree.specs.LocalChanges.{front_fault, ToValue, ToLabel, ToEnabled, ToUnlocked, ToFailing};
-ghost use Rattle.oca_tree.specs.Readers.{failing_at};
+ghost use Rattle.oca_device.specs.Devices.{DeviceSizes, window_size, sizes_of, most_answered, most_commands, peers_of};
+ghost use Rattle.oca_device.specs.Devices.{Datagram as DatagramEvent, Tick, Local, state_after, known_after, set_fault};
+ghost use Rattle.oca_device.specs.Devices.{front_fault, ToValue, ToLabel, ToEnabled, ToUnlocked, ToFailing, failing_at};
+ghost use Rattle.oca_device.specs.Devices.{result_err, packets_within, told, verdict_within, may_be_answered};
 ghost use Rattle.oca_tree.specs.declared.front.FrontFault.TheVariants as front_faults;
 ghost use Rattle.oca_model.specs.declared.request.Request.TheVariants as asked;
-ghost use Rattle.std.specs.Result.{result_err};
-ghost use Rattle.oca_device.specs.Answers.{packets_of, answers_to_reading};
-ghost use Rattle.oca_device.specs.Rooms.{is_short_enough, shortened_answers, packets_within, told, verdict_within};
-ghost use Rattle.oca_device.specs.Outboxes.{first_packets, may_be_answered};
-ghost use Rattle.oca_pdu.specs.Reading.{read_datagram};
-ghost use Rattle.oca_device.specs.Written.{numbers_of, written, written_by_execution};
-ghost use Rattle.oca_device.specs.PrivateMade.{reply_made};
-ghost use Rattle.oca_device.specs.Effects.{effect_with, effects};
+ghost use Rattle.oca_device.specs.PrivateServing.{AllByRecursion, Msg, Command as Commands, msg_of, messages_left};
+ghost use Rattle.oca_device.specs.PrivateServing.{read_datagram, fields_of, session_of, Admitted, run, last_noted};
+ghost use Rattle.oca_device.specs.PrivateServing.{State, noted, moved_to, admits, released_all, reply_of, time_of};
+ghost use Rattle.oca_device.specs.PrivateServing.{execution, packets_of, answers_to_reading, is_short_enough};
+ghost use Rattle.oca_device.specs.PrivateServing.{shortened_answers, first_packets, numbers_of, written_by_execution};
+ghost use Rattle.oca_device.specs.PrivateServing.{reply_made, effect_with};
 
 use crate::bounded::BoundedOutbox;
 use crate::counts::{Counts, NONE};
@@ -272,8 +259,6 @@ impl<const COMMAND: usize, const ANSWER: usize> DeviceOf<COMMAND, ANSWER> {
     pub fn set(&mut self, ono: Ono, value: Value) -> Result<(), SetFault>
         ensures represents { Appends ANSWER self.old self.new (Local ono.0 (ToValue value)) }
         ensures fault { result_err result ≡ set_fault self.old.tree ono.0 value }
-        ensures represented { WhateverItRepresents ANSWER self.old (λ w T E.
-            result_err result ≡ set_fault (state_after w T E).tree ono.0 value) }
         ensures refused { OnErr result (self.new ≡ self.old) }
     {
         self.tree.set(ono, value)
@@ -288,8 +273,6 @@ impl<const COMMAND: usize, const ANSWER: usize> DeviceOf<COMMAND, ANSWER> {
     pub fn set_label(&mut self, ono: Ono, label: &str) -> Result<(), FrontFault>
         ensures represents { Appends ANSWER self.old self.new (Local ono.0 (ToLabel label.now)) }
         ensures fault { result_err result ≡ front_fault self.old.tree ono.0 (asked.SetLabel label.now) }
-        ensures represented { WhateverItRepresents ANSWER self.old (λ w T E.
-            result_err result ≡ front_fault (state_after w T E).tree ono.0 (asked.SetLabel label.now)) }
         ensures refused { OnErr result (self.new ≡ self.old) }
     {
         self.tree.set_label(ono, label)
@@ -302,8 +285,6 @@ impl<const COMMAND: usize, const ANSWER: usize> DeviceOf<COMMAND, ANSWER> {
     pub fn set_enabled(&mut self, ono: Ono, enabled: bool) -> Result<(), FrontFault>
         ensures represents { Appends ANSWER self.old self.new (Local ono.0 (ToEnabled enabled)) }
         ensures fault { result_err result ≡ front_fault self.old.tree ono.0 (asked.SetEnabled enabled) }
-        ensures represented { WhateverItRepresents ANSWER self.old (λ w T E.
-            result_err result ≡ front_fault (state_after w T E).tree ono.0 (asked.SetEnabled enabled)) }
         ensures refused { OnErr result (self.new ≡ self.old) }
     {
         self.tree.set_enabled(ono, enabled)
@@ -318,8 +299,6 @@ impl<const COMMAND: usize, const ANSWER: usize> DeviceOf<COMMAND, ANSWER> {
     pub fn unlock(&mut self, ono: Ono) -> Result<(), FrontFault>
         ensures represents { Appends ANSWER self.old self.new (Local ono.0 ToUnlocked) }
         ensures fault { result_err result ≡ front_fault self.old.tree ono.0 asked.Unlock }
-        ensures represented { WhateverItRepresents ANSWER self.old (λ w T E.
-            result_err result ≡ front_fault (state_after w T E).tree ono.0 asked.Unlock) }
         ensures refused { OnErr result (self.new ≡ self.old) }
     {
         self.tree.unlock(ono)
@@ -338,8 +317,6 @@ impl<const COMMAND: usize, const ANSWER: usize> DeviceOf<COMMAND, ANSWER> {
         ensures fault { result_err result ≡ front_fault self.old.tree ono.0 (asked.SetEnabled failing) }
         ensures missing { result_err result
             ≡ (if is_none (failing_at self.old.tree ono.0) then Some front_faults.NoObject else None) }
-        ensures represented { WhateverItRepresents ANSWER self.old (λ w T E.
-            result_err result ≡ front_fault (state_after w T E).tree ono.0 (asked.SetEnabled failing)) }
         ensures refused { OnErr result (self.new ≡ self.old) }
     {
         self.tree.set_failing(ono, failing)
@@ -349,8 +326,6 @@ impl<const COMMAND: usize, const ANSWER: usize> DeviceOf<COMMAND, ANSWER> {
     /// before the first such call. `None` if no object has the number `ono`. Nothing is changed.
     pub fn is_failing(&self, ono: Ono) -> Option<bool>
         ensures failing { result ≡ failing_at self.now.tree ono.0 }
-        ensures represented { WhateverItRepresents ANSWER self.now (λ w T E.
-            result ≡ failing_at (state_after w T E).tree ono.0) }
     {
         self.tree.is_failing(ono)
     }
@@ -359,7 +334,6 @@ impl<const COMMAND: usize, const ANSWER: usize> DeviceOf<COMMAND, ANSWER> {
     /// was given. They change only by commands of datagrams, by locks that are released, and at the local front panel.
     pub fn tree(&self) -> &Tree
         ensures tree { result.now ≡ self.now.tree }
-        ensures represented { WhateverItRepresents ANSWER self.now (λ w T E. result.now ≡ (state_after w T E).tree) }
     {
         &self.tree
     }
@@ -399,7 +373,6 @@ impl<const COMMAND: usize, const ANSWER: usize> DeviceOf<COMMAND, ANSWER> {
     pub fn written(&self) -> &[Ono]
         ensures written { numbers_of result.now ≡ self.now.written }
         ensures most { length result.now ≤ most_commands }
-        ensures represented { WhateverItRepresents ANSWER self.now (λ w T E. numbers_of result.now ≡ written w T E) }
     {
         self.written.as_slice()
     }
@@ -411,7 +384,6 @@ impl<const COMMAND: usize, const ANSWER: usize> DeviceOf<COMMAND, ANSWER> {
     pub fn effects(&self) -> &[Effect]
         ensures effects { result.now ≡ self.now.effects }
         ensures most { length result.now ≤ most_commands }
-        ensures represented { WhateverItRepresents ANSWER self.now (λ w T E. result.now ≡ effects w T E) }
     {
         self.effects.as_slice()
     }

@@ -213,8 +213,7 @@ pub fn serve_keeping<E: End, S: Store, L: Electronics>(
     ensures closed { result.turns < turns → IsTrue (E.state end.new).closed }
     ensures receives { (E.state end.new).receives < last_u64 →
         (E.state end.new).receives ≡ (E.state end.old).receives + receives_of result.turns turns }
-    ensures none { keeping.new.held ≡ [] }
-    ensures outbox { outbox.new ≡ [] }
+    ensures empty { (keeping.new.held ≡ []) × (outbox.new ≡ []) }
 {
     outbox.clear();
     keeping.begin();
@@ -383,6 +382,7 @@ fn take_in<E: End, S: Store, L: Electronics>(
     ensures store { S.state store.new ≡ S.state store.old }
     ensures turns { result.report.turns ≡ result.turns }
     ensures most { result.turns ≤ most }
+    ensures few { result.turns ≤ 64 }
     ensures some { result.is_closed ≡ false → 0 < result.turns }
     ensures closed { IsTrue result.is_closed → IsTrue (E.state end.new).closed }
     ensures receives { (E.state end.new).receives < last_u64 →

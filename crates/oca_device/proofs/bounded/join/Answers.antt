@@ -1,11 +1,5 @@
-use Rattle.std.proofs.Common.{◌≡◌, List, Bool, true, sym, subst}
+use Rattle.oca_device.proofs.Words.{◌≡◌, List, Bool, true, sym, subst, reply_in, Pdu, Commands, Responses, OneKeepAlive, response_with, pdu_encoding, response, is_of_responses, Joins}
 use Rattle.std.specs.Prelude.{ℕ}
-use Rattle.oca_types.specs.Replies.{reply_in}
-use Rattle.oca_pdu.specs.Messages.{Pdu, Commands, Responses, OneKeepAlive, response_with}
-use Rattle.oca_pdu.specs.Encoding.{pdu_encoding}
-use Rattle.oca_device.specs.Answers.{response}
-use Rattle.oca_pdu.specs.Writing.{is_of_responses}
-use Rattle.oca_device.specs.PrivateServing.{Joins}
 use Rattle.oca_device.proofs.Grouping.{extended, items_kept}
 use Rattle.oca_device.proofs.bounded.join.Goals as goal
 

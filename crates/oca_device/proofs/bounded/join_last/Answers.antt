@@ -1,10 +1,4 @@
-use Rattle.std.proofs.Common.{◌≡◌, ℕ, ◌+◌, ◌-◌, ◌<◌, List, [], ◌∷◌, ◌++◌, length, arith, ap, ◌∙◌, sym, subst}
-use Rattle.std.specs.Prelude.{take, slice_set}
-use Rattle.arrayvec.specs.ArrayVec.{ArrayVec}
-use Rattle.oca_types.specs.Replies.{reply_in}
-use Rattle.oca_device.specs.Outboxes.{bytes_of_packets}
-use Rattle.oca_device.specs.Answers.{response}
-use Rattle.oca_device.specs.PrivateServing.{JoinsLast}
+use Rattle.oca_device.proofs.Words.{◌≡◌, ℕ, ◌+◌, ◌-◌, ◌<◌, List, [], ◌∷◌, ◌++◌, length, arith, ap, ◌∙◌, sym, subst, take, slice_set, ArrayVec, reply_in, bytes_of_packets, response, JoinsLast}
 use Rattle.oca_device.proofs.Grouping.{ended, last_bytes, set_bytes, joins_last}
 use Rattle.oca_device.proofs.bounded.join_last.Goals as goal
 

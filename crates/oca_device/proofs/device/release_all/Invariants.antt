@@ -1,5 +1,4 @@
-use Rattle.std.proofs.Common.{◌≡◌, drop}
-use Rattle.oca_device.specs.States.{released_all}
+use Rattle.oca_device.proofs.Words.{◌≡◌, drop, released_all}
 use Rattle.oca_device.proofs.device.release_all.Given as goal
 
 abbrev pub invariant-loop-peer : goal.invariant-loop-peer

@@ -1,5 +1,4 @@
-use Rattle.std.proofs.Common.{◌+◌, Bool, cond, ap, arith}
-use Rattle.oca_device.specs.declared.report.Report.{Report}
+use Rattle.oca_device.proofs.Words.{◌+◌, Bool, cond, ap, arith, Report}
 use Rattle.oca_device.proofs.Keepings.{keeps_none, keeps_more, begun}
 use Rattle.oca_device.proofs.Turns.{fewer_turns}
 use Rattle.oca_device.proofs.keeping.serve_keeping.Goals as goal

@@ -1,6 +1,4 @@
-use Rattle.std.proofs.Common.{◌≡◌, ◌+◌, ◌<◌, ◌≤◌, []}
-use Rattle.oca_net.specs.Ends.{last_u64}
-use Rattle.oca_device.specs.Keeping.{ServesKeeping}
+use Rattle.oca_device.proofs.Words.{◌≡◌, ◌+◌, ◌<◌, ◌≤◌, [], last_u64, ServesKeeping}
 use Rattle.oca_device.proofs.keeping.serve_keeping.Given as goal
 
 abbrev pub invariant-loop-group : goal.invariant-loop-group

@@ -1,6 +1,4 @@
-use Rattle.std.proofs.Common.{List, subst}
-use Rattle.oca_tree.specs.declared.object.Object.{Object}
-use Rattle.oca_device.specs.Keeping.{Stores}
+use Rattle.oca_device.proofs.Words.{List, subst, Object, Stores}
 use Rattle.oca_device.proofs.keeping.settle.Goals as goal
 
 pub returns : goal.returns

@@ -1,7 +1,4 @@
-use Rattle.std.proofs.Common.{◌++◌, cond, [], List, refl, ap, ◌∙◌}
-use Rattle.oca_net.specs.Deliveries.{Sent}
-use Rattle.oca_device.specs.declared.report.Report.{Report}
-use Rattle.oca_device.specs.Replies.{sent_to}
+use Rattle.oca_device.proofs.Words.{◌++◌, cond, [], List, refl, ap, ◌∙◌, Sent, Report, sent_to}
 use Rattle.oca_device.proofs.Turns.{verdict_one}
 use Rattle.oca_device.proofs.Keepings.{datagram_in}
 use Rattle.oca_device.proofs.keeping.take_datagram.Goals as goal

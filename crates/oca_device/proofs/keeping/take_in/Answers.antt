@@ -1,6 +1,5 @@
-use Rattle.std.proofs.Common.{ℕ, ◌+◌, refl, sym, ap, ◌∙◌, arith}
+use Rattle.oca_device.proofs.Words.{ℕ, ◌+◌, refl, sym, ap, ◌∙◌, arith, Report}
 use Rattle.oca_net.proofs.Running.{received_more}
-use Rattle.oca_device.specs.declared.report.Report.{Report}
 use Rattle.oca_device.proofs.Keepings.{in_none, in_more, in_closed, room_none}
 use Rattle.oca_device.proofs.keeping.take_in.Goals as goal
 

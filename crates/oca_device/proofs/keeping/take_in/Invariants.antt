@@ -1,6 +1,4 @@
-use Rattle.std.proofs.Common.{◌≡◌, ◌+◌, ◌<◌, ◌≤◌, false, [], length}
-use Rattle.oca_net.specs.Ends.{last_u64}
-use Rattle.oca_device.specs.PrivateKeeping.{TakesIn}
+use Rattle.oca_device.proofs.Words.{◌≡◌, ◌+◌, ◌<◌, ◌≤◌, false, [], length, last_u64, TakesIn}
 use Rattle.oca_device.proofs.keeping.take_in.Given as goal
 
 abbrev pub invariant-loop-turn : goal.invariant-loop-turn

@@ -1,4 +1,4 @@
-use Rattle.std.proofs.Common.{refl, ◌∙◌}
+use Rattle.oca_device.proofs.Words.{refl, ◌∙◌}
 use Rattle.oca_device.proofs.Keepings.{undue, quiet_in, oversize_in, failed_in}
 use Rattle.oca_device.proofs.keeping.take_turn.Goals as goal
 

@@ -1,7 +1,5 @@
-use Rattle.std.proofs.Common.{◌≡◌, ◌<◌, length, sym, ◌∙◌, take, arith}
-use Rattle.oca_tree.specs.Locks.{lock_count}
-use Rattle.oca_session.specs.Lapses.{lapses}
-use Rattle.oca_device.specs.PrivateLapses.{releases}
+use Rattle.oca_device.proofs.Words.{◌≡◌, ◌<◌, length, sym, ◌∙◌, arith, lock_count, lapses, releases}
+use Rattle.std.proofs.Common.{take}
 use Rattle.oca_device.proofs.Lapses.{releases_none, lock_there, no_lock_there}
 use Rattle.oca_device.proofs.lapse.released_from.Goals as goal
 use Rattle.oca_device.proofs.lapse.released_from.Goals.{in-Some, in_default}

@@ -1,6 +1,5 @@
 use Rattle.std.proofs.Common.{take}
-use Rattle.oca_types.specs.Moments.{HoldsFrom}
-use Rattle.oca_device.specs.PrivateLapses.{releases}
+use Rattle.oca_device.proofs.Words.{HoldsFrom, releases}
 use Rattle.oca_device.proofs.lapse.released_from.Given as goal
 
 -- of the objects so far

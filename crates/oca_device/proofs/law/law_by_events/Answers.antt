@@ -1,10 +1,4 @@
-use Rattle.std.proofs.Common.{ap, ◌∙◌}
-use Rattle.std.specs.Prelude.{map}
-use Rattle.oca_session.specs.Table.{Table}
-use Rattle.oca_device.specs.States.{state_after}
-use Rattle.oca_device.specs.Groups.{groups_of}
-use Rattle.oca_device.specs.LawByEvents.{summary_of, answers_by_events}
-use Rattle.oca_device.specs.Answers.{packets_of}
+use Rattle.oca_device.proofs.Words.{ap, ◌∙◌, map, Table, state_after, groups_of, summary_of, answers_by_events, packets_of}
 use Rattle.oca_device.proofs.GroupLaws.{are_groups}
 use Rattle.oca_device.proofs.Fitting.{answers_fit}
 use Rattle.oca_device.proofs.Standing.{stands, answers_same, written_same, verdict_same, happened, happened_once}

@@ -1,5 +1,4 @@
-use Rattle.std.proofs.Common.{◌≡◌, ℕ, ◌+◌, Bool, cond, ap, ◌∙◌, sym, arith}
-use Rattle.arrayvec.specs.ArrayVec.{ArrayVec}
+use Rattle.oca_device.proofs.Words.{◌≡◌, ℕ, ◌+◌, Bool, cond, ap, ◌∙◌, sym, arith, ArrayVec}
 use Rattle.oca_net.proofs.Sending.{sends_none}
 use Rattle.oca_device.proofs.Turns.{packet_sent, all_sent}
 use Rattle.oca_device.proofs.serving.send_all.Goals as goal

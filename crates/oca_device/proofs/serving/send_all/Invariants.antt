@@ -1,6 +1,4 @@
-use Rattle.std.proofs.Common.{◌≤◌, length}
-use Rattle.oca_net.specs.EndStates.{SendsAllBut}
-use Rattle.oca_device.specs.Outboxes.{bytes_of_packets}
+use Rattle.oca_device.proofs.Words.{◌≤◌, length, SendsAllBut, bytes_of_packets}
 use Rattle.oca_device.proofs.Turns.{first_sent}
 use Rattle.oca_device.proofs.serving.send_all.Given as goal
 

@@ -1,7 +1,4 @@
-use Rattle.std.proofs.Common.{ℕ, ◌+◌, refl, ap, ◌∙◌, sym, subst, arith}
-use Rattle.std.specs.Prelude.{min}
-use Rattle.oca_device.specs.declared.report.Report.{Report}
-use Rattle.oca_device.specs.Following.{ServesEndWith}
+use Rattle.oca_device.proofs.Words.{refl, ap, sym, subst, arith, Report, ServesEndWith}
 use Rattle.oca_net.proofs.Running.{received_more}
 use Rattle.oca_device.proofs.Turns.{with_none, with_closed, long_none, long_more, long_closed, exact_more, none_within, more_within}
 use Rattle.oca_device.proofs.serving.serve_with.Goals as goal

@@ -1,7 +1,5 @@
-use Rattle.std.proofs.Common.{◌≡◌, ◌+◌, ◌*◌, ◌<◌, []}
-use Rattle.oca_net.specs.Ends.{last_u64}
-use Rattle.oca_device.specs.Following.{ServesEndWith, ServesLongWith}
-use Rattle.oca_device.specs.PrivateTotals.{IsAtMostEach}
+use Rattle.oca_device.proofs.Words.{◌≡◌, ◌+◌, ◌<◌, [], last_u64, ServesEndWith, ServesLongWith, IsAtMostEach}
+use Rattle.std.proofs.Common.{◌*◌}
 use Rattle.oca_device.proofs.serving.serve_with.Given as goal
 
 abbrev pub invariant-loop-turn : goal.invariant-loop-turn

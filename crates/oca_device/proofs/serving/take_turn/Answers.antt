@@ -1,7 +1,5 @@
-use Rattle.std.proofs.Common.{refl, ap, subst, List, ℕ}
+use Rattle.oca_device.proofs.Words.{refl, ap, subst, List, ℕ, Receives, Report}
 use Rattle.oca_net.specs.declared.end.Heard.TheVariants as heard
-use Rattle.oca_net.specs.EndStates.{Receives}
-use Rattle.oca_device.specs.declared.report.Report.{Report}
 use Rattle.oca_device.proofs.Turns.{quiet_turn, oversize_turn, failed_turn, datagram_turn, told_turn}
 use Rattle.oca_device.proofs.serving.take_turn.Goals as goal
 

@@ -1,10 +1,5 @@
-use Rattle.std.proofs.Common.{◌≡◌, ℕ, ◌+◌, ◌≤◌, List, [], ◌∷◌, ◌++◌, Bool, true, false, length, ap, ◌∙◌, sym, subst, refl, arith}
-use Rattle.std.specs.Prelude.{take, slice_set}
-use Rattle.arrayvec.specs.ArrayVec.{ArrayVec}
-use Rattle.oca_types.specs.Replies.{reply_in}
-use Rattle.oca_device.specs.Outboxes.{bytes_of_packets, KeptPackets}
-use Rattle.oca_device.specs.Answers.{response}
-use Rattle.oca_device.specs.PrivateServing.{AreGrouped, IsGrouped}
+use Rattle.oca_device.proofs.Words.{◌≡◌, ℕ, ◌+◌, ◌≤◌, List, [], ◌∷◌, ◌++◌, Bool, true, false, length, ap, ◌∙◌, sym, subst, refl, arith, take, slice_set, ArrayVec, reply_in, bytes_of_packets}
+use Rattle.oca_device.proofs.Words.{KeptPackets, response, AreGrouped, IsGrouped}
 use Rattle.oca_device.proofs.Grouping.{set_bytes, kept, alone_so, joined_so, cut_so, left_out_so, count_is}
 use Rattle.oca_device.proofs.bounded.BoundedOutbox.respond.Goals as goal
 

@@ -1,10 +1,5 @@
-use Rattle.std.proofs.Common.{◌≡◌, ℕ, ◌+◌, List, [], ◌∷◌, ◌++◌, Bool, true, false, length, ap, ◌∙◌, sym, subst, refl, arith}
-use Rattle.std.specs.Prelude.{take, slice_set}
-use Rattle.arrayvec.specs.ArrayVec.{ArrayVec}
-use Rattle.oca_pdu.specs.Messages.{Msg, KeepAlive, Pdu}
-use Rattle.oca_device.specs.Groups.{pdu_of, with_answer, encodings}
-use Rattle.oca_device.specs.Outboxes.{bytes_of_packets, KeptPackets}
-use Rattle.oca_device.specs.PrivateServing.{AreGrouped, IsGrouped}
+use Rattle.oca_device.proofs.Words.{◌≡◌, ℕ, ◌+◌, List, [], ◌∷◌, ◌++◌, Bool, true, false, length, ap, ◌∙◌, sym, subst, refl, arith, take, slice_set, ArrayVec, Msg, KeepAlive, Pdu, pdu_of, with_answer}
+use Rattle.oca_device.proofs.Words.{encodings, bytes_of_packets, KeptPackets, AreGrouped, IsGrouped}
 use Rattle.oca_device.proofs.Grouping.{set_bytes, kept, alone_so, cut_so, left_out_so, count_is, alive_alone}
 use Rattle.oca_device.proofs.bounded.BoundedOutbox.return_keepalive.Goals as goal
 use Rattle.oca_device.proofs.bounded.BoundedOutbox.return_keepalive.Goals.{then-self-via-then-self, then-self-via-else-self+then-self-2}

@@ -1,9 +1,4 @@
-use Rattle.std.proofs.Common.{◌≤◌, Bool, cond, ◌∙◌, sym, subst}
-use Rattle.oca_session.specs.Table.{present}
-use Rattle.oca_device.specs.Notes.{Admitted}
-use Rattle.oca_device.specs.Devices.{DeviceState, IsIn}
-use Rattle.oca_device.specs.States.{noted}
-use Rattle.oca_device.specs.Written.{numbers_of}
+use Rattle.oca_device.proofs.Words.{◌≤◌, Bool, cond, ◌∙◌, sym, subst, present, Admitted, DeviceState, IsIn, noted, numbers_of}
 use Rattle.oca_device.proofs.Opened.{device_with, parts_in}
 use Rattle.oca_device.proofs.Steps.{hears_known, hears_opened, hears_no_room, present_is}
 use Rattle.oca_device.proofs.device.DeviceOf.admit.Goals as goal

@@ -1,15 +1,7 @@
-use Rattle.std.proofs.Common.{◌≡◌, ℕ, ◌+◌, ◌≤◌, List, [], ◌∷◌, length, cond, ap, ◌∙◌, sym, subst, arith}
-use Rattle.std.specs.Prelude.{max}
-use Rattle.oca_pdu.specs.declared.fault.PduFault.{PduFault}
-use Rattle.oca_pdu.specs.declared.fault.PduFaultKind.TheVariants.{TooLong}
-use Rattle.oca_pdu.specs.Limits.{most_answered}
+use Rattle.oca_device.proofs.Words.{◌≡◌, ℕ, ◌+◌, ◌≤◌, List, [], ◌∷◌, length, cond, ap, ◌∙◌, sym, subst, arith, max, PduFault, TooLong, most_answered, verdict, RepresentsWithin, KeptPackets}
+use Rattle.oca_device.proofs.Words.{first_packets, may_be_answered, told, packets_within, state_after, moved_to}
 use Rattle.oca_device.specs.declared.verdict.Verdict.TheVariants as verdicts
-use Rattle.oca_device.specs.Answers.{verdict}
-use Rattle.oca_device.specs.Devices.{RepresentsWithin}
 use Rattle.oca_device.specs.Events.{Datagram}
-use Rattle.oca_device.specs.Outboxes.{KeptPackets, first_packets, may_be_answered}
-use Rattle.oca_device.specs.Rooms.{told, packets_within}
-use Rattle.oca_device.specs.States.{state_after, moved_to}
 use Rattle.oca_device.proofs.Steps.{none_sent, malformed_whole}
 use Rattle.oca_device.proofs.device.DeviceOf.datagram_within.Goals as goal
 

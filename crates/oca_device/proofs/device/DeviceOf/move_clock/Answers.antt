@@ -1,6 +1,4 @@
-use Rattle.std.proofs.Common.{ap, ◌∙◌}
-use Rattle.std.specs.Prelude.{max}
-use Rattle.oca_device.specs.States.{released_all, lapsed_at}
+use Rattle.oca_device.proofs.Words.{ap, ◌∙◌, max, released_all, lapsed_at}
 use Rattle.oca_device.proofs.Opened.{parts_in}
 use Rattle.oca_device.proofs.Steps.{clock_moved}
 use Rattle.oca_device.proofs.device.DeviceOf.move_clock.Goals as goal

@@ -1,9 +1,5 @@
-use Rattle.std.proofs.Common.{ap, ◌∙◌, subst, max}
-use Rattle.std.specs.Prelude.{◌||◌}
-use Rattle.oca_types.specs.Moments.{HoldsFrom}
-use Rattle.oca_session.specs.Lapses.{forgets}
-use Rattle.oca_device.specs.States.{state_after}
-use Rattle.oca_device.specs.PrivateLapses.{releases}
+use Rattle.oca_device.proofs.Words.{ap, ◌∙◌, subst, ◌||◌, HoldsFrom, forgets, state_after, releases}
+use Rattle.std.proofs.Common.{max}
 use Rattle.oca_device.proofs.Lapses.{next_some, next_none}
 use Rattle.oca_device.proofs.Opened.{parts_in}
 use Rattle.oca_device.proofs.device.DeviceOf.next_lapse.Goals as goal

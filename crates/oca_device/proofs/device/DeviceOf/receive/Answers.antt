@@ -1,16 +1,5 @@
-use Rattle.std.proofs.Common.{Bool, cond, List, [], length, ◌≤◌, arith, ◌∙◌, sym, subst}
-use Rattle.std.specs.List.{AllByRecursion}
-use Rattle.oca_pdu.specs.Messages.{Msg}
-use Rattle.oca_pdu.specs.Datagrams.{datagram_messages, messages_left, read_or_none}
-use Rattle.oca_pdu.specs.Limits.{is_response}
-use Rattle.std.specs.Prelude.{not, count_by, Result}
-use Rattle.oca_device.specs.Notes.{Admitted}
-use Rattle.oca_device.specs.States.{noted}
-use Rattle.oca_device.specs.Answers.{packets_of, answers_to_reading}
-use Rattle.oca_device.specs.Devices.{IsIn}
-use Rattle.oca_pdu.specs.declared.fault.PduFault.{PduFault}
-use Rattle.oca_device.specs.Rooms.{shortened_answers}
-use Rattle.oca_device.specs.PrivateServing.{ServesMessages, IsShort}
+use Rattle.oca_device.proofs.Words.{Bool, cond, List, [], length, ◌≤◌, arith, ◌∙◌, sym, subst, AllByRecursion, Msg, datagram_messages, messages_left, read_or_none, is_response, not, count_by, Result}
+use Rattle.oca_device.proofs.Words.{Admitted, noted, packets_of, answers_to_reading, IsIn, PduFault, shortened_answers, ServesMessages, IsShort}
 use Rattle.oca_device.proofs.Bounds.{most_answers, answers_counted, commands_counted, all_short, few_packets, no_packets}
 use Rattle.oca_device.proofs.Steps.{refused_whole, taken_whole, admitted_now}
 use Rattle.oca_device.proofs.device.DeviceOf.receive.Goals as goal

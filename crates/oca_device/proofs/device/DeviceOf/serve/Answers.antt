@@ -1,12 +1,5 @@
-use Rattle.std.proofs.Common.{ℕ, length, arith, ap, ◌∙◌, sym, subst, List, refl}
-use Rattle.std.specs.Prelude.{IsSome}
-use Rattle.oca_session.specs.Table.{session_of, with_sessions, with_changed, with_heartbeat}
-use Rattle.oca_device.specs.Devices.{DeviceState}
-use Rattle.oca_device.specs.States.{time_of}
-use Rattle.std.proofs.lemmas.List.{append-nil}
-use Rattle.oca_pdu.specs.Messages.{Msg, KeepAlive}
-use Rattle.oca_device.specs.Groups.{with_answers, encodings}
-use Rattle.oca_device.specs.Outboxes.{first_packets}
+use Rattle.oca_device.proofs.Words.{ℕ, length, arith, ap, ◌∙◌, sym, subst, List, refl, IsSome, session_of, with_sessions, with_changed, with_heartbeat, DeviceState, time_of, append-nil, Msg}
+use Rattle.oca_device.proofs.Words.{KeepAlive, with_answers, encodings, first_packets}
 use Rattle.oca_device.proofs.Rooms.{kept_alive}
 use Rattle.oca_device.proofs.Opened.{parts_in, written_in, effects_in}
 use Rattle.oca_device.proofs.Peers.{still_has_session}

@@ -1,30 +1,12 @@
-use Rattle.std.proofs.Common.{◌≡◌, ℕ, List, [], ◌∷◌, ◌++◌, length, Bool, true, false, cond, ap, ◌∙◌, refl, sym, subst, arith}
-use Rattle.std.specs.Prelude.{IsSome}
-use Rattle.std.proofs.lemmas.List.{append-nil, length-map}
+use Rattle.oca_device.proofs.Words.{◌≡◌, ℕ, List, [], ◌∷◌, ◌++◌, length, Bool, true, false, cond, ap, ◌∙◌, refl, sym, subst, arith, IsSome, append-nil, length-map, Peer, Reply, reply_in}
+use Rattle.oca_device.proofs.Words.{CommandFields, fields_of, DeviceSizes, Msg, Command, Pdu, Counts, with_answer, with_answers, encodings, Object, Entry, Judgement, Fresh, Duplicate, Reused, Old}
+use Rattle.oca_device.proofs.Words.{session_of, with_sessions, with_changed, with_accepted, AgreesAt, Table, Executed, accepted, run, is_noted, last_noted, State, judged_in, after_command, reply_of}
+use Rattle.oca_device.proofs.Words.{response, answer_to_command, plus, count_of_command, KeptPackets, first_packets, numbers_of, written_by_execution, written_by_command, Effect, effect_with}
+use Rattle.oca_device.proofs.Words.{outcome_of, DeviceState, IsIn, ServesMessage, shortened_reply, shortened_entries, shortened_answers}
 use Rattle.oca_types.specs.declared.words.Ono.{Ono}
-use Rattle.oca_types.specs.declared.words.Peer.{Peer}
-use Rattle.oca_types.specs.Replies.{Reply, reply_in}
-use Rattle.oca_types.specs.Peers.{CommandFields, fields_of}
-use Rattle.oca_types.specs.Sizes.{DeviceSizes}
-use Rattle.oca_pdu.specs.Messages.{Msg, Command, Pdu}
-use Rattle.oca_device.specs.declared.counts.Counts.{Counts}
-use Rattle.oca_device.specs.Groups.{with_answer, with_answers, encodings}
-use Rattle.oca_tree.specs.declared.object.Object.{Object}
 use Rattle.oca_tree.specs.Execution.{execution}
-use Rattle.oca_session.specs.Accepted.{Entry, Judgement, Fresh, Duplicate, Reused, Old}
-use Rattle.oca_session.specs.Table.{session_of, with_sessions, with_changed, with_accepted, AgreesAt, Table}
-use Rattle.oca_device.specs.Notes.{Executed, accepted, run, is_noted, last_noted}
-use Rattle.oca_device.specs.States.{State, judged_in, after_command, reply_of}
-use Rattle.oca_device.specs.Answers.{response, answer_to_command, plus, count_of_command}
-use Rattle.oca_device.specs.Outboxes.{KeptPackets, first_packets}
-use Rattle.oca_device.specs.Written.{numbers_of, written_by_execution, written_by_command}
-use Rattle.oca_device.specs.declared.effect.Effect.{Effect}
 use Rattle.oca_device.specs.declared.effect.CommandOutcome.{CommandOutcome}
 use Rattle.oca_device.specs.declared.effect.CommandOutcome.TheVariants as outcome
-use Rattle.oca_device.specs.Effects.{effect_with, outcome_of}
-use Rattle.oca_device.specs.Devices.{DeviceState, IsIn}
-use Rattle.oca_device.specs.PrivateServing.{ServesMessage}
-use Rattle.oca_device.specs.Rooms.{shortened_reply, shortened_entries, shortened_answers}
 use Rattle.oca_device.proofs.Rooms.{none_answered, one_answered, judged_short, was_fresh, was_duplicate, was_reused, was_old}
 use Rattle.oca_device.proofs.Opened.{device_with, parts_in, written_in, effects_in}
 use Rattle.oca_device.proofs.Steps.{executed_there, agrees_there, known_there, one_executed, one_kept, one_old, one_reused}

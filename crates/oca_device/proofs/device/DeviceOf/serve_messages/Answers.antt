@@ -1,9 +1,4 @@
-use Rattle.std.proofs.Common.{rules, ℕ, ◌≡◌, List, ◌∷◌, length, refl, ◌∙◌, sym, ap, arith, subst}
-use Rattle.std.specs.List.{AllByRecursion}
-use Rattle.oca_pdu.specs.Messages.{Msg}
-use Rattle.oca_device.specs.PrivateServing.{IsShort, all_commands}
-use Rattle.oca_pdu.specs.Datagrams.{messages_left}
-use Rattle.oca_device.specs.Answers.{counts}
+use Rattle.oca_device.proofs.Words.{rules, ℕ, ◌≡◌, List, ◌∷◌, length, refl, ◌∙◌, sym, ap, arith, subst, AllByRecursion, Msg, IsShort, all_commands, messages_left, counts}
 use Rattle.oca_device.proofs.Steps.{IsHalfway, one_further, none_served, all_served}
 use Rattle.oca_device.proofs.device.DeviceOf.serve_messages.Goals as goal
 

@@ -1,13 +1,4 @@
-use Rattle.std.proofs.Common.{◌≡◌, ◌+◌, ◌≤◌, length}
-use Rattle.std.specs.Prelude.{IsSome}
-use Rattle.std.specs.List.{AllByRecursion}
-use Rattle.oca_types.specs.Sizes.{DeviceSizes}
-use Rattle.oca_pdu.specs.Datagrams.{messages_left}
-use Rattle.oca_session.specs.Table.{session_of}
-use Rattle.oca_device.specs.Notes.{run, last_noted}
-use Rattle.oca_device.specs.States.{State}
-use Rattle.oca_device.specs.Devices.{IsIn}
-use Rattle.oca_device.specs.PrivateServing.{AreGrouped, IsShort, all_commands}
+use Rattle.oca_device.proofs.Words.{◌≡◌, ◌+◌, ◌≤◌, length, IsSome, AllByRecursion, DeviceSizes, messages_left, session_of, run, last_noted, State, IsIn, AreGrouped, IsShort, all_commands}
 use Rattle.oca_device.proofs.Steps.{IsHalfway}
 use Rattle.oca_device.proofs.device.DeviceOf.serve_messages.Given as goal
 

@@ -1,25 +1,14 @@
-use Rattle.std.proofs.Common.{◌≡◌, ℕ, Bool, cond, refl, ap, ◌∙◌, List}
-use Rattle.std.specs.Prelude.{Option, Some, None, is_none}
+use Rattle.oca_device.proofs.Words.{◌≡◌, ℕ, Bool, cond, refl, ap, ◌∙◌, List, Option, Some, None, is_none, Object, front_fault_in, ToFailing, object_of, DeviceState}
 use Rattle.std.specs.Option.{option_map}
 use Rattle.oca_model.specs.declared.request.Request.TheVariants as asked
 use Rattle.oca_tree.specs.declared.front.FrontFault.TheVariants as faults
-use Rattle.oca_tree.specs.declared.object.Object.{Object}
-use Rattle.oca_tree.specs.LocalChanges.{after_change, front_fault, front_fault_in, ToFailing}
+use Rattle.oca_tree.specs.LocalChanges.{front_fault}
 use Rattle.oca_tree.specs.Readers.{failing_at}
-use Rattle.oca_tree.specs.Objects.{object_of}
-use Rattle.oca_device.specs.Devices.{DeviceState}
-use Rattle.oca_device.specs.States.{state_after}
-use Rattle.oca_device.proofs.Opened.{parts_in, written_in, effects_in}
+use Rattle.oca_device.proofs.Opened.{local_in}
 use Rattle.oca_device.proofs.device.DeviceOf.set_failing.Goals as goal
 
 pub returns-clause-represents : goal.returns-clause-represents
-returns-clause-represents g c = λ w T E h.
-    let was = parts_in c.self.inside.tree c.self.inside.sessions c.args.self.now w (state_after w T E) c.self.view_is h.state in
-    record {
-      state = record { tree = c.set_failing.ensures.tree ∙ ap (λ (t : List Object). after_change t c.args.ono.0 (ToFailing c.args.failing)) was.tree; sessions = was.sessions };
-      written = written_in c.self.view_is ∙ h.written;
-      effects = effects_in c.self.view_is ∙ h.effects;
-    }
+returns-clause-represents g c = local_in _ c.self.inside.tree _ c.self.inside.sessions c.args.self.now c.args.ono.0 (ToFailing c.args.failing) c.self.view_is c.set_failing.ensures.tree
 
 missing_in : (o : Option Object) (truth : Bool) →
     front_fault_in o (asked.SetEnabled truth) ≡ cond (is_none (option_map (λ (x : Object). x.failing) o)) (Some faults.NoObject) None

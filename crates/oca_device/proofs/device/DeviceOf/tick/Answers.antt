@@ -1,4 +1,4 @@
-use Rattle.std.proofs.Common.{◌∙◌}
+use Rattle.oca_device.proofs.Words.{◌∙◌}
 use Rattle.oca_device.proofs.device.DeviceOf.tick.Goals as goal
 
 pub returns : goal.returns

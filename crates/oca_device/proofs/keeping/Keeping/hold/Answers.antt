@@ -1,5 +1,4 @@
-use Rattle.std.proofs.Common.{ℕ, ap, ◌∙◌, arith}
-use Rattle.arrayvec.specs.ArrayVec.{ArrayVec}
+use Rattle.oca_device.proofs.Words.{ℕ, ap, ◌∙◌, arith, ArrayVec}
 use Rattle.oca_device.proofs.Keepings.{held_next, room_next}
 use Rattle.oca_device.proofs.keeping.Keeping.hold.Goals as goal
 

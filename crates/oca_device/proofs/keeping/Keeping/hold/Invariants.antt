@@ -1,5 +1,4 @@
-use Rattle.std.proofs.Common.{◌≡◌, ◌+◌, ◌≤◌, ◌++◌, length}
-use Rattle.oca_device.specs.Outboxes.{bytes_of_packets}
+use Rattle.oca_device.proofs.Words.{◌≡◌, ◌+◌, ◌≤◌, ◌++◌, length, bytes_of_packets}
 use Rattle.oca_device.proofs.Turns.{first_sent}
 use Rattle.oca_device.proofs.keeping.Keeping.hold.Given as goal
 

@@ -1,6 +1,5 @@
-use Rattle.std.proofs.Common.{◌≡◌, ℕ, ◌+◌, Bool, cond, ap, ◌∙◌, sym, arith}
+use Rattle.oca_device.proofs.Words.{◌≡◌, ℕ, ◌+◌, Bool, cond, ap, ◌∙◌, sym, arith, Answer}
 use Rattle.oca_net.proofs.Sending.{sends_none}
-use Rattle.oca_device.specs.declared.keeping.Answer.{Answer}
 use Rattle.oca_device.proofs.Keepings.{held_further}
 use Rattle.oca_device.proofs.keeping.Keeping.send_held.Goals as goal
 use Rattle.oca_device.proofs.keeping.Keeping.send_held.Goals.{then-not-send, else-not-send}

@@ -1,7 +1,4 @@
-use Rattle.std.proofs.Common.{◌≤◌, length}
-use Rattle.std.specs.Prelude.{take}
-use Rattle.oca_net.specs.EndStates.{SendsAllBut}
-use Rattle.oca_device.specs.PrivateKeeping.{packets_held}
+use Rattle.oca_device.proofs.Words.{◌≤◌, length, take, SendsAllBut, packets_held}
 use Rattle.oca_device.proofs.keeping.Keeping.send_held.Given as goal
 
 abbrev pub invariant-loop-answer : goal.invariant-loop-answer
