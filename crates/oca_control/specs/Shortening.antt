@@ -4,7 +4,7 @@ use Rattle.std.specs.Option.{option_map}
 use Rattle.oca_types.specs.Sizes.{most_parameter_bytes}
 use Rattle.oca_types.specs.Status.{status_number}
 use Rattle.oca_types.specs.declared.status.Status.TheVariants as status
-use Rattle.oca_pdu.specs.Messages.{Msg, Command, Response, KeepAlive, ResponseFields}
+use Rattle.oca_pdu.specs.Messages.{Msg, Command, Response, KeepAlive}
 use Rattle.oca_control.specs.Answers.{AnswerFields, answer_of_response}
 
 -- An answer with more than so many bytes of parameters becomes BufferOverflow (AES70-2, OcaStatus) without parameters.

@@ -1,4 +1,4 @@
-use Rattle.oca_control.proofs.Words.{◌≡◌, ◌+◌, ◌-◌, ◌<◌, ◌≤◌, ap, ◌∙◌, sym, arith, Bool, true, false, ℕ, length, nat_eq, nat_lt, IsTrue, nat_tests, eq-eqb, ne_eqb}
+use Rattle.oca_control.proofs.Words.{◌≡◌, ◌+◌, ◌-◌, ◌<◌, ◌≤◌, ap, ◌∙◌, sym, arith, Bool, ℕ, length, nat_eq, nat_lt, IsTrue, nat_tests, eq-eqb, ne_eqb}
 use Rattle.std.specs.Prelude.{◌||◌}
 use Rattle.oca_control.specs.PrivateSlots.{untaken_from}
 use Rattle.oca_control.proofs.Places.{room_by_lowest, length_from}
