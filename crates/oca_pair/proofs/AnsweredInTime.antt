@@ -1,48 +1,30 @@
 -- Where a link and the network are in time, each command in flight is answered.
-use Rattle.std.proofs.Common.{append-nil, ◌≡◌, ℕ, ◌+◌, ◌*◌, ◌<◌, ◌≤◌, ◌≢◌, Bool, true, false, cond, List, [], ◌∷◌, ◌++◌, length, Option, Some, None, refl, sym, ap, ◌∙◌, subst, arith, ◌⊎◌, inl, inr}
-use Rattle.std.specs.Prelude.{nat_eq, nat_lt, nat_le, max, ◌-◌, ◌&&◌, map, is_some, Result, Ok, Err}
-use Rattle.std.specs.List.{AllByRecursion, slice_get, IsDistinct}
-use Rattle.std.proofs.Math.Dec.{eqb}
-use Rattle.oca_types.specs.declared.words.Peer.{Peer}
-use Rattle.oca_types.specs.declared.words.Handle.{Handle}
-use Rattle.oca_types.specs.Peers.{same_peer, CommandFields}
-use Rattle.oca_types.specs.Sizes.{DeviceSizes}
-use Rattle.oca_pdu.specs.declared.fault.PduFault.{PduFault}
-use Rattle.oca_pdu.specs.declared.message.Form.{Form}
-use Rattle.oca_pdu.specs.declared.message.Form.TheVariants.{Seconds}
-use Rattle.oca_pdu.specs.Messages.{Msg, Command, KeepAlive}
-use Rattle.oca_pdu.specs.Reading.{read_datagram}
-use Rattle.oca_pdu.specs.Laws.{WrittenIsReadBack}
-use Rattle.oca_tree.specs.declared.object.Object.{Object}
-use Rattle.oca_session.specs.Accepted.{Entry}
-use Rattle.oca_device.specs.Events.{Event, Datagram}
+use Rattle.oca_pair.proofs.Words.{append-nil, ◌≡◌, ℕ, ◌+◌, ◌*◌, ◌<◌, ◌≤◌, ◌≢◌, Bool, true, false, cond, List, [], ◌∷◌, ◌++◌, length, Option, Some, None, refl, sym, ap, ◌∙◌, subst, arith, ◌⊎◌, inl}
+use Rattle.oca_pair.proofs.Words.{inr, nat_eq, nat_lt, nat_le, max, ◌&&◌, map, is_some, Result, Ok, Err, AllByRecursion, slice_get, eqb, le-max_left, Peer, Handle, same_peer, CommandFields, end_after}
+use Rattle.oca_pair.proofs.Words.{DeviceSizes, PduFault, Form, Seconds, Msg, Command, KeepAlive, read_datagram, WrittenIsReadBack, Object, Entry, Event, Datagram, ControlFault, AnswerFields, Untaken}
+use Rattle.oca_pair.proofs.Words.{new_untaken, first_due, marked_sent, answer_under, without_handle, IsAskedEvery, LinkState, Request, command_under, submission, after_submission, handle_after}
+use Rattle.oca_pair.proofs.Words.{Decision, GivesCommand, GivesKeepAlive, GivesNothing, IsLost, decision_among, decision, after_due, gone_on, received, taken, present_moment, Start, Network, PeerLink}
+use Rattle.oca_pair.proofs.Words.{SentDatagram, Renewal, Setup, started, opening, zero_after, zero_of, left_by, all_left_out, device_zero_of, Step, Submit, Due, ToDevice, ToLink, Other, Take, Renew}
+use Rattle.oca_pair.proofs.Words.{Beside, has_link, given_by, on_link, submit_outcome, after_submit, after_due_step, after_delivery, content_read, hears_datagram, after_reception, after_take, on_bool}
+use Rattle.oca_pair.proofs.Words.{after_beside, with_link, is_no_lower, renewed_link, renewal_of, after_renewal, after_step, after_steps, outcome_of_step, are_apart, StepFits, Fit, FindsRoom, end_of}
+use Rattle.oca_pair.proofs.Words.{CarriesUntaken, RenewsNothing, calls_in, copy_of, GetsThrough, Departure, leaving, leaving_beside, departures_in, clock_at, ArrivesInTime, longest_delay, same_turned}
+use Rattle.oca_pair.proofs.Words.{StepIsInTime, AreInTime, left_off, left_since, SpanFitsSince, AnswersUntakenInTime, RoundTripsInTime, ComesWithRoom, each_map, each_append, equal_self, same_is}
+use Rattle.std.specs.Prelude.{◌-◌}
+use Rattle.std.specs.List.{IsDistinct}
 use Rattle.oca_device.specs.Events as events
-use Rattle.oca_control.specs.declared.fault.ControlFault.{ControlFault}
-use Rattle.oca_control.specs.Answers.{AnswerFields}
-use Rattle.oca_control.specs.Untaken.{Untaken, new_untaken, first_due, marked_sent, answer_under, without_handle}
-use Rattle.oca_control.specs.Answering.{IsAskedEvery}
-use Rattle.oca_control.specs.Links.{LinkState, Request, command_under, submission, after_submission, handle_after, Decision, GivesCommand, GivesKeepAlive, GivesNothing, IsLost, decision_among, decision, after_due, gone_on, received, taken, present_moment}
 use Rattle.oca_pair.specs.declared.outcome.Outcome.TheVariants as outcomes
-use Rattle.oca_pair.specs.declared.start.Start.{Start}
-use Rattle.oca_pair.specs.Networks.{Network, PeerLink, SentDatagram, Renewal, Setup, started, opening, zero_after, zero_of, left_by, all_left_out, device_zero_of}
-use Rattle.oca_pair.specs.Steps.{Step, Submit, Due, ToDevice, ToLink, Other, Take, Renew, Beside, has_link, given_by, on_link, submit_outcome, after_submit, after_due_step, after_delivery, content_read, hears_datagram, after_reception, after_take, after_beside, with_link, is_no_lower, renewed_link, renewal_of, after_renewal, after_step, after_steps, outcome_of_step}
 use Rattle.oca_pair.specs.Steps as steps
-use Rattle.oca_pair.specs.Premises.{are_apart, StepFits, Fit, FindsRoom}
-use Rattle.oca_pair.specs.Laws.{CarriesUntaken}
-use Rattle.oca_pair.specs.RoundTrip.{RenewsNothing}
-use Rattle.oca_pair.specs.GettingThrough.{calls_in, copy_of, GetsThrough}
-use Rattle.oca_pair.specs.InTime.{Departure, leaving, leaving_beside, departures_in, clock_at, ArrivesInTime, longest_delay, StepIsInTime, AreInTime}
-use Rattle.oca_pair.specs.AnsweredInTime.{left_off, left_since, SpanFitsSince, AnswersUntakenInTime, RoundTripsInTime, ComesWithRoom}
 use Rattle.oca_pair.proofs.Fixed.{sizes_kept}
-use Rattle.oca_pair.proofs.Core.{Trails, each_map, each_append, none_passes}
-use Rattle.oca_pair.proofs.Lists.{IsIn, contains_in, each_at, each_in, equal_self, same_is, same_turned, other_is, mapped_at, differs}
+use Rattle.oca_pair.proofs.Core.{Trails, none_passes}
+use Rattle.oca_pair.proofs.EachStep.{after_each}
+use Rattle.oca_pair.proofs.Lists.{IsIn, contains_in, each_at, each_in, other_is, mapped_at, differs}
 use Rattle.oca_pair.proofs.Wire.{IsSendable, read_command, read_keep_alive}
 use Rattle.oca_pair.proofs.Clocks.{moment_reading}
 use Rattle.oca_pair.proofs.Truths.{past, and_then, state_of}
 use Rattle.oca_pair.proofs.Arrivals.{looked_at}
-use Rattle.oca_pair.proofs.Fair.{end_of, IsOut}
+use Rattle.oca_pair.proofs.Fair.{IsOut}
 use Rattle.oca_pair.proofs.Renewing.{nothing_in_parts, not_its_renewal, same_renewals}
-use Rattle.oca_pair.proofs.Delivering.{granted, end_after}
+use Rattle.oca_pair.proofs.Delivering.{granted}
 use Rattle.oca_pair.proofs.Keeping.{handles_for, accepted_by, IsGrown, grows_once, accepted_other}
 use Rattle.oca_pair.proofs.Span.{GoodSince, below_next, low_handles}
 use Rattle.oca_pair.proofs.Networks.{one_or, LinkSound, Sound, out_read, sound_step, sound_opening, sound_after}
@@ -61,9 +43,6 @@ StragglingOf s left n l = Straggling s l.peer (zeros s n l.peer) l.link.moment (
 -- the link of this number is so
 abbrev StragglingAt : Setup → ℕ → List Departure → Network → Type 0
 StragglingAt s i left n = (l : PeerLink) → slice_get n.links i ≡ Some l → StragglingOf s left n l
-
-later_moment : (m now : ℕ) → m ≤ max m now
-later_moment m now = omega arith
 
 -- what is known of the link in time and of its span
 good_at : (s : Setup) (i : ℕ) (left : List Departure) (n : Network) → Sound s.span n → TimedAt s i left n → (l : PeerLink) → slice_get n.links i ≡ Some l →
@@ -108,7 +87,7 @@ step_submit s i k r now left n sound timed g (Some x) e =
             let was : end_of x.link.next ≡ h.0 = ap end_of (granted r x.link h q).0 in
             subst (λ (K : List (ℕ × ℕ)). Straggling s x.peer (zeros s n x.peer) t K n.renewed left (state_of (past n)).moment (accepted_by x.peer (past n)))
             (sym (stamps_more x.link.untaken (new_untaken t (command_under h.0 r))))
-            (straggling_submit s x.peer (zeros s n x.peer) x.link.moment t h.0 (stamps x.link.untaken) n.renewed left (state_of (past n)).moment (accepted_by x.peer (past n)) (later_moment x.link.moment now)
+            (straggling_submit s x.peer (zeros s n x.peer) x.link.moment t h.0 (stamps x.link.untaken) n.renewed left (state_of (past n)).moment (accepted_by x.peer (past n)) (le-max_left x.link.moment now)
             (each_map (λ d b same c read. rw was at (sent_below f.born (end_of x.link.next) x.peer d b same c read)) left f.departures)
             (rw was at (below_next (good_at s i left n sound timed x own))) (g x own))
 
@@ -117,7 +96,8 @@ step_submit s i k r now left n sound timed g (Some x) e =
 -- what a link gives now
 leaves_so : WrittenIsReadBack → (s : Setup) (i now : ℕ) (left : List Departure) (n : Network) → Sound s.span n → TimedAt s i left n → (x : PeerLink) → slice_get n.links i ≡ Some x →
     AllByRecursion (LeftSo s x.peer (zero_of s x.peer n) (present_moment now x.link) (stamps x.link.untaken) n.renewed) (leaving s n now (Some x))
-leaves_so law s i now left n sound timed x own = by_lost x.link.lost
+leaves_so law s i now left n sound timed x own = on_bool x.link.lost (λ b. Are (cond b IsLost (decision_among t x.link.sent (first_due t x.link.untaken))))
+    tt (by_first (first_due t x.link.untaken) refl)
   where
     t : ℕ
     t = present_moment now x.link
@@ -161,10 +141,6 @@ leaves_so law s i now left n sound timed x own = by_lost x.link.lost
     by_first None e = by_quiet (nat_le 2500 (t - x.link.sent))
     by_first (Some u) e = by_many u (first_due_in t x.link.untaken u e).0 (nat_lt u.times 20)
 
-    by_lost : (b : Bool) → Are (cond b IsLost (decision_among t x.link.sent (first_due t x.link.untaken)))
-    by_lost true = tt
-    by_lost false = by_first (first_due t x.link.untaken) refl
-
 -- what other peers sent is not asked of this one
 not_its : (s : Setup) (p q : Peer) (origin m at : ℕ) (K : List (ℕ × ℕ)) (rs : List Renewal) (packets : List (List ℕ)) → q ≢ p →
     AllByRecursion (LeftSo s p origin m K rs) (map (λ bytes. record { datagram = record { peer = q; bytes = bytes }; at = at }) packets)
@@ -191,7 +167,7 @@ step_due law s i k now left n sound timed g (Some x) e =
         with_same : (K : List (ℕ × ℕ)) → K ≡ stamps x.link.untaken → Straggling s x.peer (zeros s n x.peer) t K n.renewed (left ++ leaving s n now (Some x)) (state_of (past n)).moment (accepted_by x.peer (past n))
         with_same K same = rw same (straggling_more s x.peer (zeros s n x.peer) t (stamps x.link.untaken) n.renewed left (leaving s n now (Some x)) (state_of (past n)).moment (accepted_by x.peer (past n))
             (leaves_so law s i now left n sound timed x own)
-            (straggling_later s x.peer (zeros s n x.peer) x.link.moment t (stamps x.link.untaken) (stamps x.link.untaken) n.renewed left (state_of (past n)).moment (accepted_by x.peer (past n)) (later_moment x.link.moment now) refl (g x own)))
+            (straggling_later s x.peer (zeros s n x.peer) x.link.moment t (stamps x.link.untaken) (stamps x.link.untaken) n.renewed left (state_of (past n)).moment (accepted_by x.peer (past n)) (le-max_left x.link.moment now) refl (g x own)))
 
         by_decision : (d : Decision) → Of (after_due d t x.link)
         by_decision (GivesCommand c) = with_same (stamps (map (marked_sent t c.handle) x.link.untaken)) (stamps_marked_sent t c.handle x.link.untaken)
@@ -224,7 +200,10 @@ step_take s i k h left n g (Some x) e =
 step_renewal : (s : Setup) (i k first span now origin : ℕ) (left : List Departure) (n : Network) → Sound s.span n → StragglingAt s i left n → (o : Option PeerLink) → slice_get n.links k ≡ o →
     StragglingAt s i left (after_renewal k first span now origin o n)
 step_renewal s i k first span now origin left n sound g None e = g
-step_renewal s i k first span now origin left n sound g (Some x) e = by_test (is_no_lower first x.link.next)
+step_renewal s i k first span now origin left n sound g (Some x) e = on_bool (is_no_lower first x.link.next) (λ b. StragglingAt s i left (cond b m n))
+    (at_put (StragglingOf s left m) i k x y n.links e (λ is own. straggling_renewed s x.peer (zeros s n x.peer) (zeros s m x.peer) x.link.moment now x.link.untaken n.renewed left (state_of (past n)).moment
+    (accepted_by x.peer (past n)) (renewal_of x origin) refl refl (g x own)) others)
+    g
   where
     y : PeerLink
     y = record { peer = x.peer; link = renewed_link first span now x.link }
@@ -239,19 +218,13 @@ step_renewal s i k first span now origin left n sound g (Some x) e = by_test (is
         (sym (ap (λ c. cond c origin (zero_of s l.peer n)) apart))
         (straggling_other s l.peer (zeros s n l.peer) l.link.moment (stamps l.link.untaken) n.renewed left (state_of (past n)).moment (accepted_by l.peer (past n)) (renewal_of x origin) apart (g l own))
 
-    by_test : (b : Bool) → StragglingAt s i left (cond b m n)
-    by_test true = at_put (StragglingOf s left m) i k x y n.links e
-        (λ is own. straggling_renewed s x.peer (zeros s n x.peer) (zeros s m x.peer) x.link.moment now x.link.untaken n.renewed left (state_of (past n)).moment (accepted_by x.peer (past n)) (renewal_of x origin) refl refl (g x own))
-        others
-    by_test false = g
-
 step_reception : (s : Setup) (i now : ℕ) (left : List Departure) (n : Network) → StragglingAt s i left n → (o : Option SentDatagram) → StragglingAt s i left (after_reception now o n)
 step_reception s i now left n g None = g
 step_reception s i now left n g (Some d) = λ l own. let z = mapped_at (hears_datagram n.address d now) n.links i l own in subst (StragglingOf s left n) z.2 (one z.0 (same_peer z.0.peer d.peer) (g z.0 z.1))
   where
     one : (z : PeerLink) (b : Bool) → StragglingOf s left n z → let y : PeerLink = cond b (record { peer = z.peer; link = received n.address (content_read d.bytes) now z.link }) z in StragglingOf s left n y
     one z true f = straggling_later s z.peer (zeros s n z.peer) z.link.moment (present_moment now z.link) (stamps z.link.untaken) (stamps (received n.address (content_read d.bytes) now z.link).untaken) n.renewed left (state_of (past n)).moment
-        (accepted_by z.peer (past n)) (later_moment z.link.moment now) (stamps_received (same_peer n.address z.link.device) (content_read d.bytes) z.link.untaken) f
+        (accepted_by z.peer (past n)) (le-max_left z.link.moment now) (stamps_received (same_peer n.address z.link.device) (content_read d.bytes) z.link.untaken) f
     one z false f = f
 
 -- ---- a datagram comes to the device
@@ -276,15 +249,12 @@ elsewhere s left n q bytes now l other g = straggling_event s n l.peer (Datagram
     later t e = omega arith
 
 step_other : (s : Setup) (i : ℕ) (from : Peer) (bytes : List ℕ) (now : ℕ) (left : List Departure) (n : Network) → StragglingAt s i left n → StragglingAt s i left (after_step (Other from bytes now) n)
-step_other s i from bytes now left n g = by_test (has_link from n.links) refl
+step_other s i from bytes now left n g = on_bool (has_link from n.links) (λ b. has_link from n.links ≡ b → StragglingAt s i left (cond b n m))
+    (λ q. g)
+    (λ q. λ l own. elsewhere s left n from bytes now l (same_turned from l.peer ∙ each_at (λ (z : PeerLink). same_peer z.peer from ≡ false) n.links i l (none_passes (λ (z : PeerLink). same_peer z.peer from) n.links q) own) (g l own)) refl
   where
     m : Network
     m = record n { events = Datagram from bytes now ∷ n.events }
-
-    by_test : (b : Bool) → has_link from n.links ≡ b → StragglingAt s i left (cond b n m)
-    by_test true q = g
-    by_test false q = λ l own. elsewhere s left n from bytes now l
-        (same_turned from l.peer ∙ each_at (λ (z : PeerLink). same_peer z.peer from ≡ false) n.links i l (none_passes (λ (z : PeerLink). same_peer z.peer from) n.links q) own) (g l own)
 
 step_delivery : WrittenIsReadBack → (s : Setup) (i k now : ℕ) (left : List Departure) (n : Network) → Sound s.span n → StepIsInTime s i left (ToDevice k now) n → TimedAt s i left n → (o : Option SentDatagram) → slice_get n.to_device k ≡ o →
     TimedAt s i left (after_delivery now o n) → StragglingAt s i left n → StragglingAt s i left (after_delivery now o n)
@@ -362,7 +332,7 @@ step_straggling law s i left step n sound in_time timed then g = one step in_tim
 
     passes : (now : ℕ) (l : PeerLink) → StragglingOf s left n l → StragglingOf s left (after_step (steps.Tick now) n) l
     passes now l f = straggling_event s n l.peer (events.Tick now) l.link.moment (stamps l.link.untaken) left (max (state_of (past n)).moment now) (accepted_by l.peer (past n)) (straggling_passes s l.peer (zeros s n l.peer) l.link.moment (stamps l.link.untaken) n.renewed left (state_of (past n)).moment (max (state_of (past n)).moment now) (accepted_by l.peer (past n)) (accepted_by l.peer (past n))
-        (later_moment (state_of (past n)).moment now) refl f)
+        (le-max_left (state_of (past n)).moment now) refl f)
 
     one : (step : Step) → StepIsInTime s i left step n → TimedAt s i (left ++ departures_in s step n) (after_step step n) → StragglingAt s i (left ++ departures_in s step n) (after_step step n)
     one (Submit k r now) t then = none (after_step (Submit k r now) n) (step_submit s i k r now left n sound timed g (slice_get n.links k) refl)
@@ -449,66 +419,33 @@ stamped_taken h t x l None g = g.0
 stamped_taken h t x l (Some a) g = without_stamps _ x l.untaken g.0
 
 stamped_step : (i h t : ℕ) (p : Peer) (step : Step) (n : Network) → RenewsNothing p n (after_step step n) → StampedAt i p h t n → StampedAt i p h t (after_step step n)
-stamped_step i h t p step n never g = one step never
+stamped_step i h t p step n never g = after_each (λ _ m. RenewsNothing p n m → StampedAt i p h t m) n (record {
+  stays = λ _ _. g;
+  submits = λ k r now x e _. put k x (after_submission (submission r x.link) r now x.link) e (λ same f. stamped_submit h t now r x.link (submission r x.link) refl f);
+  asks = λ k now x e _. put k x (gone_on now x.link) e (λ same f. stamped_due h t (present_moment now x.link) x.link (decision now x.link) f);
+  delivers = λ _ _ _ _ _. again;
+  receives = λ _ now d _ _ l own. let z = mapped_at (hears_datagram n.address d now) n.links i l own in
+      subst (λ (y : PeerLink). y.peer ≡ p → Stamped h t y.link) z.2 (heard d now z.0 (same_peer z.0.peer d.peer) (g z.0 z.1));
+  hears = λ _ _ _ _ _. again;
+  ticks = λ _ _. again;
+  changes = λ _ _ _. again;
+  takes = λ k x z e _. put k z (taken x z.link) e (λ same f. (stamped_taken h t x z.link (answer_under x z.link.untaken) f, f.1));
+  renews = λ k first span now origin x e never.
+      put k x (renewed_link first span now x.link) e (λ same f. absurd (not_its_renewal p x.peer (renewal_of x origin) n.renewed refl never same));
+  keeps_alive = λ _ _ _ _ _. again;
+}) step never
   where
+    again : (l : PeerLink) → slice_get n.links i ≡ Some l → l.peer ≡ p → Stamped h t l.link
+    again l own same = let f = g l own same in f
+
     put : (k : ℕ) (x : PeerLink) (state : LinkState) → slice_get n.links k ≡ Some x → (x.peer ≡ p → Stamped h t x.link → Stamped h t state) →
         (l : PeerLink) → slice_get (with_link k x state n.links) i ≡ Some l → l.peer ≡ p → Stamped h t l.link
     put k x state e keeps = at_put (λ l. l.peer ≡ p → Stamped h t l.link) i k x (record { peer = x.peer; link = state }) n.links e (λ is own same. keeps same (g x own same)) (λ l other own. g l own)
 
-    by_submit : (k : ℕ) (r : Request) (now : ℕ) (o : Option PeerLink) → slice_get n.links k ≡ o → StampedAt i p h t (after_submit k r now o n)
-    by_submit k r now None e = g
-    by_submit k r now (Some x) e = put k x (after_submission (submission r x.link) r now x.link) e (λ same f. stamped_submit h t now r x.link (submission r x.link) refl f)
-
-    by_due : (k now : ℕ) (o : Option PeerLink) → slice_get n.links k ≡ o → StampedAt i p h t (after_due_step k now o n)
-    by_due k now None e = g
-    by_due k now (Some x) e = put k x (gone_on now x.link) e (λ same f. stamped_due h t (present_moment now x.link) x.link (decision now x.link) f)
-
-    by_delivery : (now : ℕ) (o : Option SentDatagram) → StampedAt i p h t (after_delivery now o n)
-    by_delivery now None = g
-    by_delivery now (Some d) = λ l own same. let f = g l own same in f
-
-    by_reception : (now : ℕ) (o : Option SentDatagram) → StampedAt i p h t (after_reception now o n)
-    by_reception now None = g
-    by_reception now (Some d) = λ l own. let z = mapped_at (hears_datagram n.address d now) n.links i l own in subst (λ (y : PeerLink). y.peer ≡ p → Stamped h t y.link) z.2 (heard z.0 (same_peer z.0.peer d.peer) (g z.0 z.1))
-      where
-        heard : (z : PeerLink) (b : Bool) → (z.peer ≡ p → Stamped h t z.link) → let y : PeerLink = cond b (record { peer = z.peer; link = received n.address (content_read d.bytes) now z.link }) z in y.peer ≡ p → Stamped h t y.link
-        heard z true f same = (rw (stamps_received (same_peer n.address z.link.device) (content_read d.bytes) z.link.untaken) (f same).0, (f same).1)
-        heard z false f same = f same
-
-    by_other : (from : Peer) (bytes : List ℕ) (now : ℕ) (b : Bool) → StampedAt i p h t (let m : Network = cond b n (record n { events = Datagram from bytes now ∷ n.events }) in m)
-    by_other from bytes now true = g
-    by_other from bytes now false = λ l own same. let f = g l own same in f
-
-    by_take : (k x : ℕ) (o : Option PeerLink) → slice_get n.links k ≡ o → StampedAt i p h t (after_take k x o n)
-    by_take k x None e = g
-    by_take k x (Some z) e = put k z (taken x z.link) e (λ same f. (stamped_taken h t x z.link (answer_under x z.link.untaken) f, f.1))
-
-    by_renewal : (k first span now origin : ℕ) (o : Option PeerLink) → slice_get n.links k ≡ o → RenewsNothing p n (after_renewal k first span now origin o n) → StampedAt i p h t (after_renewal k first span now origin o n)
-    by_renewal k first span now origin None e never = g
-    by_renewal k first span now origin (Some x) e never = by_test (is_no_lower first x.link.next) never
-      where
-        m : Network
-        m = record n { links = with_link k x (renewed_link first span now x.link) n.links; renewed = renewal_of x origin ∷ n.renewed }
-
-        by_test : (b : Bool) → RenewsNothing p n (cond b m n) → StampedAt i p h t (cond b m n)
-        by_test true never = put k x (renewed_link first span now x.link) e (λ same f. absurd (not_its_renewal p x.peer (renewal_of x origin) n.renewed refl never same))
-        by_test false never = g
-
-    by_beside : (o : Option PeerLink) → StampedAt i p h t (after_beside o n)
-    by_beside None = g
-    by_beside (Some x) = λ l own same. let f = g l own same in f
-
-    one : (step : Step) → RenewsNothing p n (after_step step n) → StampedAt i p h t (after_step step n)
-    one (Submit k r now) never = by_submit k r now (slice_get n.links k) refl
-    one (Due k now) never = by_due k now (slice_get n.links k) refl
-    one (ToDevice k now) never = by_delivery now (slice_get n.to_device k)
-    one (ToLink k now) never = by_reception now (slice_get n.to_links k)
-    one (Other from bytes now) never = by_other from bytes now (has_link from n.links)
-    one (steps.Tick now) never = λ l own same. let f = g l own same in f
-    one (steps.Local ono change) never = λ l own same. let f = g l own same in f
-    one (Take k x) never = by_take k x (slice_get n.links k) refl
-    one (Renew k first span now origin) never = by_renewal k first span now origin (slice_get n.links k) refl never
-    one (Beside k now) never = by_beside (slice_get n.links k)
+    heard : (d : SentDatagram) (now : ℕ) (z : PeerLink) (b : Bool) → (z.peer ≡ p → Stamped h t z.link) →
+        let y : PeerLink = cond b (record { peer = z.peer; link = received n.address (content_read d.bytes) now z.link }) z in y.peer ≡ p → Stamped h t y.link
+    heard d now z true f same = (rw (stamps_received (same_peer n.address z.link.device) (content_read d.bytes) z.link.untaken) (f same).0, (f same).1)
+    heard d now z false f same = f same
 
 stamped_steps : (i h t : ℕ) (p : Peer) (es : List Step) (n : Network) → RenewsNothing p n (after_steps es n) → StampedAt i p h t n → StampedAt i p h t (after_steps es n)
 stamped_steps i h t p [] n never g = g

@@ -1,22 +1,10 @@
 -- Where a peer keeps its session, the device knows it whenever one of its datagrams is admitted.
-use Rattle.std.proofs.Common.{◌≡◌, ℕ, ◌-◌, Bool, true, false, cond, List, [], ◌∷◌, ◌++◌, refl, sym, ap, ◌∙◌, subst, arith}
-use Rattle.std.specs.Prelude.{nat_le, max, not, Result, Ok, Err}
-use Rattle.std.proofs.lemmas.Bool.Decides.{nat_tests}
-use Rattle.oca_types.specs.declared.words.Peer.{Peer}
-use Rattle.oca_types.specs.Peers.{same_peer}
-use Rattle.oca_types.specs.Sizes.{DeviceSizes}
-use Rattle.oca_pdu.specs.declared.fault.PduFault.{PduFault}
-use Rattle.oca_pdu.specs.Messages.{Msg}
-use Rattle.oca_pdu.specs.Reading.{read_datagram}
-use Rattle.oca_device.specs.Events.{Event, Datagram, Tick, Local}
-use Rattle.oca_device.specs.Notes.{Note, is_recent}
-use Rattle.oca_device.specs.States.{State, moved_to, admits}
-use Rattle.oca_device.specs.LawByEvents.{Arrival, Happening, Passes, clock, admitted, session, last_moment, has_room}
+use Rattle.oca_pair.proofs.Words.{◌≡◌, ℕ, ◌-◌, Bool, true, false, cond, List, [], ◌∷◌, ◌++◌, refl, sym, ap, ◌∙◌, subst, arith, nat_le, max, not, Result, Ok, Err, nat_tests, Peer, same_peer}
+use Rattle.oca_pair.proofs.Words.{DeviceSizes, PduFault, Msg, read_datagram, Event, Datagram, Tick, Local, Note, is_recent, State, moved_to, admits, Arrival, Happening, Passes, clock, admitted}
+use Rattle.oca_pair.proofs.Words.{session, last_moment, has_room, sayings, happenings, arrivals_of, same_self, same_is, on_bool}
 use Rattle.oca_device.proofs.Sessions.{latest, within, session_latest, Bridged, same_room, arrival}
 use Rattle.oca_device.proofs.Standing.{Stands, passing}
-use Rattle.oca_pair.specs.Happenings.{sayings, happenings}
-use Rattle.oca_pair.specs.Premises.{arrivals_of}
-use Rattle.oca_pair.proofs.Lists.{same_self, same_is, differs}
+use Rattle.oca_pair.proofs.Lists.{differs}
 use Rattle.oca_pair.proofs.Truths.{Past, and_then, state_of}
 use Rattle.oca_pair.proofs.ByEvents.{stands_by}
 
@@ -30,20 +18,14 @@ no_time t = grind (arith, nat_tests)
 -- with no arrival the peer has no session
 no_latest : (p : Peer) (D : List Arrival) → arrivals_of p D ≡ [] → latest p D ≡ []
 no_latest p [] e = refl
-no_latest p (a ∷ D) e = by_test (same_peer a.from p) e (no_latest p D)
-  where
-    by_test : (b : Bool) → cond b (a ∷ arrivals_of p D) (arrivals_of p D) ≡ [] → (arrivals_of p D ≡ [] → latest p D ≡ []) →
-        cond (not b) (latest p D) (a ∷ session a.at p D) ≡ []
-    by_test true e h = cc
-    by_test false e h = h e
+no_latest p (a ∷ D) e =
+    on_bool (same_peer a.from p) (λ b. cond b (a ∷ arrivals_of p D) (arrivals_of p D) ≡ [] → (arrivals_of p D ≡ [] → latest p D ≡ []) → cond (not b) (latest p D) (a ∷ session a.at p D) ≡ [])
+    (λ e h. cc) (λ e h. h e) e (no_latest p D)
 
 -- a session that has an arrival is the latest, within the silence
 session_has : (t : ℕ) (p : Peer) (D own : List Arrival) (a : Arrival) → session t p D ≡ a ∷ own → (within t (latest p D) ≡ true) × (latest p D ≡ a ∷ own)
-session_has t p D own a e = by_test (within t (latest p D)) refl (sym (session_latest t p D) ∙ e)
-  where
-    by_test : (b : Bool) → within t (latest p D) ≡ b → cond b (latest p D) [] ≡ a ∷ own → (within t (latest p D) ≡ true) × (latest p D ≡ a ∷ own)
-    by_test true q h = (q, h)
-    by_test false q h = cc
+session_has t p D own a e = on_bool (within t (latest p D)) (λ b. within t (latest p D) ≡ b → cond b (latest p D) [] ≡ a ∷ own → (within t (latest p D) ≡ true) × (latest p D ≡ a ∷ own))
+    (λ q h. (q, h)) (λ q h. cc) refl (sym (session_latest t p D) ∙ e)
 
 -- the peer has one session where it has one at some moment
 one_at : (t : ℕ) (p : Peer) (D : List Arrival) → session t p D ≡ arrivals_of p D → HasOneSession p D

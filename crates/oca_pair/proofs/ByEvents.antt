@@ -1,19 +1,9 @@
 -- What happened to the device says of it what its notes say.
-use Rattle.std.proofs.Common.{◌≡◌, List, [], ◌∷◌, ◌++◌, refl, sym, ◌∙◌, subst}
-use Rattle.std.specs.Prelude.{max, Result, Ok, Err}
-use Rattle.std.specs.List.{flat_map}
-use Rattle.oca_types.specs.Sizes.{DeviceSizes}
-use Rattle.oca_pdu.specs.declared.fault.PduFault.{PduFault}
-use Rattle.oca_pdu.specs.Messages.{Msg, messages_of}
-use Rattle.oca_pdu.specs.Reading.{read_datagram}
-use Rattle.oca_pdu.specs.Laws.{ReadingIsExact}
-use Rattle.oca_tree.specs.declared.object.Object.{Object}
-use Rattle.oca_device.specs.Events.{Event, Datagram, Tick, Local}
-use Rattle.oca_device.specs.States.{State, moved_to, after_reading, state_after}
-use Rattle.oca_device.specs.LawByEvents.{Happening, Passes, Says, Happened, nothing, tick, local, malformed, datagram, EventsAreBytes, clock, admitted, changes}
+use Rattle.oca_pair.proofs.Words.{◌≡◌, List, [], ◌∷◌, ◌++◌, refl, sym, ◌∙◌, subst, max, Result, Ok, Err, flat_map, DeviceSizes, PduFault, Msg, messages_of, read_datagram, ReadingIsExact, Object}
+use Rattle.oca_pair.proofs.Words.{Event, Datagram, Tick, Local, State, moved_to, after_reading, state_after, Happening, Passes, Says, Happened, nothing, tick, local, malformed, datagram}
+use Rattle.oca_pair.proofs.Words.{EventsAreBytes, clock, admitted, changes, sayings, happenings}
 use Rattle.oca_device.proofs.Sessions.{none_bridged}
 use Rattle.oca_device.proofs.Standing.{Stands, passing, setting, saying, read_messages}
-use Rattle.oca_pair.specs.Happenings.{sayings, happenings}
 
 -- ---- these happened
 

@@ -1,16 +1,7 @@
 -- What one datagram notes.
-use Rattle.std.proofs.Common.{◌≡◌, ℕ, Bool, true, false, cond, List, [], ◌∷◌, ◌++◌, refl, sym, ap, ◌∙◌, append_assoc}
-use Rattle.std.specs.Prelude.{Result, Ok, Err}
-use Rattle.std.specs.List.{AllByRecursion}
-use Rattle.oca_types.specs.declared.words.Peer.{Peer}
-use Rattle.oca_types.specs.Peers.{same_peer, CommandFields}
-use Rattle.oca_types.specs.Sizes.{DeviceSizes}
-use Rattle.oca_pdu.specs.declared.fault.PduFault.{PduFault}
-use Rattle.oca_pdu.specs.Messages.{Msg, Command, Response, KeepAlive}
-use Rattle.oca_session.specs.Accepted.{Judgement, Fresh, Duplicate, Reused, Old}
-use Rattle.oca_device.specs.Notes.{Noted, Admitted, Heartbeat, Executed, Note, notes_of}
-use Rattle.oca_device.specs.States.{State, noted, admits, judged_in, reply_of, after_command, after_message, after_messages, after_reading, time_of}
-use Rattle.oca_pair.proofs.Core.{each_append}
+use Rattle.oca_pair.proofs.Words.{◌≡◌, ℕ, false, cond, List, [], ◌∷◌, ◌++◌, refl, sym, ap, ◌∙◌, append_assoc, Result, Ok, Err, AllByRecursion, Peer, same_peer, CommandFields, DeviceSizes, PduFault}
+use Rattle.oca_pair.proofs.Words.{Msg, Command, Response, KeepAlive, Judgement, Fresh, Duplicate, Reused, Old, Noted, Admitted, Heartbeat, Executed, Note, notes_of, State, noted, admits, judged_in}
+use Rattle.oca_pair.proofs.Words.{reply_of, after_command, after_message, after_messages, after_reading, time_of, each_append, on_bool}
 
 -- ---- a message leaves the clock
 
@@ -31,11 +22,8 @@ moment_messages w p (m ∷ ms) s = moment_messages w p ms (after_message w p m s
 
 pub moment_reading : (w : DeviceSizes) (p : Peer) (r : Result (List Msg) PduFault) (s : State) → (after_reading w p r s).moment ≡ s.moment
 moment_reading w p (Err fault) s = refl
-moment_reading w p (Ok ms) s = by_room (admits w s p)
-  where
-    by_room : (b : Bool) → (let x : State = cond b (after_messages w p ms (noted p (Admitted ms) s)) s in x).moment ≡ s.moment
-    by_room true = moment_messages w p ms (noted p (Admitted ms) s)
-    by_room false = refl
+moment_reading w p (Ok ms) s = on_bool (admits w s p) (λ b. (let x : State = cond b (after_messages w p ms (noted p (Admitted ms) s)) s in x).moment ≡ s.moment)
+    (moment_messages w p ms (noted p (Admitted ms) s)) refl
 
 -- ---- what one datagram notes
 
@@ -77,12 +65,9 @@ grows_messages w q t (m ∷ ms) s e =
 
 pub grows_reading : (w : DeviceSizes) (q : Peer) (r : Result (List Msg) PduFault) (s : State) → Grows q s.moment s.notes (after_reading w q r s).notes
 grows_reading w q (Err fault) s = grows_not q s.moment s.notes
-grows_reading w q (Ok ms) s = by_room (admits w s q)
-  where
-    by_room : (b : Bool) → Grows q s.moment s.notes (let x : State = cond b (after_messages w q ms (noted q (Admitted ms) s)) s in x).notes
-    by_room true = grows_on q s.moment s.notes (noted q (Admitted ms) s).notes (after_messages w q ms (noted q (Admitted ms) s)).notes
-        (grows_noted q s.moment (Admitted ms) s refl) (grows_messages w q s.moment ms (noted q (Admitted ms) s) refl)
-    by_room false = grows_not q s.moment s.notes
+grows_reading w q (Ok ms) s = on_bool (admits w s q) (λ b. Grows q s.moment s.notes (let x : State = cond b (after_messages w q ms (noted q (Admitted ms) s)) s in x).notes)
+    (grows_on q s.moment s.notes (noted q (Admitted ms) s).notes (after_messages w q ms (noted q (Admitted ms) s)).notes (grows_noted q s.moment (Admitted ms) s refl) (grows_messages w q s.moment ms (noted q (Admitted ms) s) refl))
+    (grows_not q s.moment s.notes)
 
 -- notes of another peer are not those of this one
 pub notes_of_grown : (p q : Peer) (t : ℕ) (ns ms : List Note) → same_peer q p ≡ false → Grows q t ns ms → notes_of p ms ≡ notes_of p ns

@@ -1,37 +1,16 @@
 -- Accepted commands whose handles come in nearly rising order: what is still in the reply window of them.
-use Rattle.std.proofs.Common.{◌≡◌, ℕ, ◌+◌, ◌-◌, ◌*◌, ◌<◌, ◌≤◌, Bool, true, false, cond, List, [], ◌∷◌, ◌++◌, length, take, Some, refl, sym, ap, ◌∙◌, arith, zero, suc, ◌⊎◌, inl, inr}
-use Rattle.std.specs.Prelude.{nat_eq, nat_lt, not, ◌&&◌, ◌||◌, map}
-use Rattle.std.specs.List.{list_any, list_all, AllByRecursion, IsDistinct}
-use Rattle.std.proofs.Math.Dec.{eqb}
-use Rattle.std.proofs.lemmas.List.{take-append-drop, length-map}
-use Rattle.std.proofs.lemmas.List.Folds.{list_any-append}
-use Rattle.std.proofs.lemmas.Bool.{eqb-true}
-use Rattle.std.proofs.lemmas.Bool.Decides.{nat_tests}
+use Rattle.oca_pair.proofs.Words.{◌≡◌, ℕ, ◌+◌, ◌-◌, ◌*◌, ◌<◌, ◌≤◌, Bool, true, false, cond, List, [], ◌∷◌, ◌++◌, length, take, Some, refl, sym, ap, ◌∙◌, arith, zero, suc, ◌⊎◌, inl, inr, nat_eq}
+use Rattle.oca_pair.proofs.Words.{nat_lt, not, ◌&&◌, ◌||◌, map, list_any, list_all, AllByRecursion, eqb, take-append-drop, length-map, list_any-append, eqb-true, or_parts, cases_lt, and_from, lt-ltb}
+use Rattle.oca_pair.proofs.Words.{and_parts, or_from, nat_tests, Entry, window, outside, has_handle, entry_under, Judgement, Fresh, Duplicate, Reused, Old, asks_the_same, duplicate_or_reused}
+use Rattle.oca_pair.proofs.Words.{judge_unaccepted, judgement, CommandFields, each_map, each_both, on_bool}
+use Rattle.std.specs.List.{IsDistinct}
 use Rattle.std.proofs.lemmas.Map.Steps.{length-le_from_distinct_below}
-use Rattle.oca_session.specs.Accepted.{Entry, window, outside, has_handle, entry_under, Judgement, Fresh, Duplicate, Reused, Old, asks_the_same, duplicate_or_reused, judge_unaccepted, judgement}
-use Rattle.oca_types.specs.Peers.{CommandFields}
 use Rattle.oca_pair.proofs.Lists.{IsIn}
-
-pub each_map : {X : Type 0} {P Q : X → Type 0} → ((x : X) → P x → Q x) → (xs : List X) → AllByRecursion P xs → AllByRecursion Q xs
-each_map f [] e = tt
-each_map f (x ∷ xs) e = (f x e.0, each_map f xs e.1)
-
-pub each_both : {X : Type 0} {P Q R : X → Type 0} → ((x : X) → P x → Q x → R x) → (xs : List X) → AllByRecursion P xs → AllByRecursion Q xs → AllByRecursion R xs
-each_both f [] p q = tt
-each_both f (x ∷ xs) p q = (f x p.0 q.0, each_both f xs p.1 q.1)
-
-pub each_append : {X : Type 0} (P : X → Type 0) (xs ys : List X) → AllByRecursion P xs → AllByRecursion P ys → AllByRecursion P (xs ++ ys)
-each_append P [] ys p q = q
-each_append P (x ∷ xs) ys p q = (p.0, each_append P xs ys p.1 q)
 
 -- a test that none of the list passes
 pub none_passes : {X : Type 0} (test : X → Bool) (xs : List X) → list_any test xs ≡ false → AllByRecursion (λ x. test x ≡ false) xs
 none_passes test [] e = tt
-none_passes test (x ∷ xs) e = let p = parts (test x) (list_any test xs) e in (p.0, none_passes test xs p.1)
-  where
-    parts : (a b : Bool) → (a || b) ≡ false → (a ≡ false) × (b ≡ false)
-    parts true b q = (q, cc)
-    parts false b q = (refl, q)
+none_passes test (x ∷ xs) e = let p = or_parts (test x) (list_any test xs) e in (p.0, none_passes test xs p.1)
 
 -- numbers that differ, in an interval of k numbers, are at most k
 pub crowd : (k lo : ℕ) (xs : List ℕ) → IsDistinct eqb xs → AllByRecursion (λ z. (lo ≤ z) × (z < lo + k)) xs → length xs ≤ k
@@ -71,14 +50,10 @@ Ordered f s before [] = Unit {0}
 Ordered f s before (e ∷ es) =
     (has e.command.handle before ≡ false) × ((x : ℕ) → f ≤ x → x + s ≤ e.command.handle → has x before ≡ true) × Ordered f s (before ++ e ∷ []) es
 
-pub either_false : (a b : Bool) → (a || b) ≡ false → (a ≡ false) × (b ≡ false)
-either_false true b q = (q, cc)
-either_false false b q = (refl, q)
-
 one_more : (h : ℕ) (before : List Entry) (e : Entry) → has h (before ++ e ∷ []) ≡ false → (has h before ≡ false) × (eqb e.command.handle h ≡ false)
 one_more h before e q =
-    let p = either_false (has h before) (has h (e ∷ [])) (sym (list_any-append (has_handle h) before (e ∷ [])) ∙ q) in
-    (p.0, (either_false (eqb e.command.handle h) false p.1).0)
+    let p = or_parts (has h before) (has h (e ∷ [])) (sym (list_any-append (has_handle h) before (e ∷ [])) ∙ q) in
+    (p.0, (or_parts (eqb e.command.handle h) false p.1).0)
 
 -- what comes later is not before
 pub later_new : (f s : ℕ) (before es : List Entry) → Ordered f s before es → AllByRecursion (λ e. has e.command.handle before ≡ false) es
@@ -102,9 +77,6 @@ distinct f s before (e ∷ es) o = (
   distinct f s (before ++ e ∷ []) es o.2,
 )
 
-pub lt_or_le : (a b : ℕ) → (a < b) ⊎ (b ≤ a)
-lt_or_le a b = grind arith
-
 -- the list without this number
 abbrev without : ℕ → List ℕ → List ℕ
 without y [] = []
@@ -112,34 +84,27 @@ without y (x ∷ xs) = cond (eqb x y) (without y xs) (x ∷ without y xs)
 
 each_without : (P : ℕ → Type 0) (y : ℕ) (xs : List ℕ) → AllByRecursion P xs → AllByRecursion P (without y xs)
 each_without P y [] p = tt
-each_without P y (x ∷ xs) p = by_test (eqb x y) (each_without P y xs p.1)
-  where
-    by_test : (b : Bool) → AllByRecursion P (without y xs) → AllByRecursion P (cond b (without y xs) (x ∷ without y xs))
-    by_test true rest = rest
-    by_test false rest = (p.0, rest)
+each_without P y (x ∷ xs) p = on_bool (eqb x y) (λ b. AllByRecursion P (without y xs) → AllByRecursion P (cond b (without y xs) (x ∷ without y xs)))
+    (λ rest. rest) (λ rest. (p.0, rest)) (each_without P y xs p.1)
 
 not_in_without : (y : ℕ) (xs : List ℕ) → AllByRecursion (λ z. eqb z y ≡ false) (without y xs)
 not_in_without y [] = tt
-not_in_without y (x ∷ xs) = by_test (eqb x y) refl (not_in_without y xs)
-  where
-    by_test : (b : Bool) → eqb x y ≡ b → AllByRecursion (λ z. eqb z y ≡ false) (without y xs) → AllByRecursion (λ z. eqb z y ≡ false) (cond b (without y xs) (x ∷ without y xs))
-    by_test true e rest = rest
-    by_test false e rest = (e, rest)
+not_in_without y (x ∷ xs) =
+    on_bool (eqb x y) (λ b. eqb x y ≡ b → AllByRecursion (λ z. eqb z y ≡ false) (without y xs) → AllByRecursion (λ z. eqb z y ≡ false) (cond b (without y xs) (x ∷ without y xs)))
+    (λ e rest. rest) (λ e rest. (e, rest)) refl (not_in_without y xs)
 
 distinct_without : (y : ℕ) (xs : List ℕ) → IsDistinct eqb xs → IsDistinct eqb (without y xs)
 unfolding IsDistinct
 distinct_without y [] d = tt
-distinct_without y (x ∷ xs) d = by_test (eqb x y) (distinct_without y xs d.1)
-  where
-    by_test : (b : Bool) → IsDistinct eqb (without y xs) → IsDistinct eqb (cond b (without y xs) (x ∷ without y xs))
-    by_test true rest = rest
-    by_test false rest = (each_without (λ z. eqb x z ≡ false) y xs d.0, rest)
+distinct_without y (x ∷ xs) d = on_bool (eqb x y) (λ b. IsDistinct eqb (without y xs) → IsDistinct eqb (cond b (without y xs) (x ∷ without y xs)))
+    (λ rest. rest) (λ rest. (each_without (λ z. eqb x z ≡ false) y xs d.0, rest)) (distinct_without y xs d.1)
 
 -- where no two are equal, it is at most one shorter
 one_fewer : (y : ℕ) (xs : List ℕ) → IsDistinct eqb xs → length xs ≤ suc (length (without y xs))
 unfolding IsDistinct
 one_fewer y [] d = omega arith
-one_fewer y (x ∷ xs) d = by_test (eqb x y) refl (one_fewer y xs d.1)
+one_fewer y (x ∷ xs) d = on_bool (eqb x y) (λ b. eqb x y ≡ b → length xs ≤ suc (length (without y xs)) → suc (length xs) ≤ suc (length (cond b (without y xs) (x ∷ without y xs))))
+    (λ e rest. let same : length (without y xs) ≡ length xs = all_left xs e d.0 in omega arith) (λ e rest. omega arith) refl (one_fewer y xs d.1)
   where
     unequal : (z : ℕ) → eqb x y ≡ true → eqb x z ≡ false → eqb z y ≡ false
     unequal z p q = grind (arith, nat_tests)
@@ -147,10 +112,6 @@ one_fewer y (x ∷ xs) d = by_test (eqb x y) refl (one_fewer y xs d.1)
     all_left : (zs : List ℕ) → eqb x y ≡ true → AllByRecursion (λ z. eqb x z ≡ false) zs → length (without y zs) ≡ length zs
     all_left [] e a = refl
     all_left (z ∷ zs) e a = ap (λ b. length (cond b (without y zs) (z ∷ without y zs))) (unequal z e a.0) ∙ ap suc (all_left zs e a.1)
-
-    by_test : (b : Bool) → eqb x y ≡ b → length xs ≤ suc (length (without y xs)) → suc (length xs) ≤ suc (length (cond b (without y xs) (x ∷ without y xs)))
-    by_test true e rest = let same : length (without y xs) ≡ length xs = all_left xs e d.0 in omega arith
-    by_test false e rest = omega arith
 
 -- numbers that differ, each in an interval of k numbers or one of these, are at most k and as many as these
 crowd_and : (k lo : ℕ) (late xs : List ℕ) → IsDistinct eqb xs → AllByRecursion (λ z. ((lo ≤ z) × (z < lo + k)) ⊎ IsIn z late) xs → length xs ≤ k + length late
@@ -197,7 +158,7 @@ few_after f s w n h late wide small near before e es below own o above =
 
     at_later : (z : ℕ) → z < n → (f ≤ z) ⊎ IsIn z late → has z before ≡ false → IsNear (suc h - s) z
     at_later z q (inr left) r = inr left
-    at_later z q (inl p) r = elim (lt_or_le e.command.handle (z + s)) [
+    at_later z q (inl p) r = elim (cases_lt e.command.handle (z + s)) [
       | inl later ↦ inl (omega arith, omega arith)
       | inr earlier ↦ let wrong : has z before ≡ true = o.1 z p earlier in let no : true ≡ false = sym wrong ∙ r in absurd (differs no)
     ]
@@ -230,24 +191,18 @@ trails_all h late (e ∷ es) = ((λ above. each es), trails_all h late es)
 abbrev pub AllBelow : ℕ → List Entry → Type 0
 AllBelow h es = list_all (λ (e : Entry). nat_lt e.command.handle h) es ≡ true
 
-both_below : (a b : Bool) → a ≡ true → b ≡ true → (a && b) ≡ true
-both_below a b p q = cc
-
-lower : (a b : ℕ) → a < b → nat_lt a b ≡ true
-lower a b p = grind (arith, nat_tests)
-
 none_below : (k h : ℕ) → AllBelow h (take k [])
 none_below zero h = refl
 none_below (suc k) h = refl
 
 -- the first of a list is outside the window where the others fill it
 below_first : (h w : ℕ) (e : Entry) (es : List Entry) → (w ≤ length es → nat_lt e.command.handle h ≡ true) → AllBelow h (take (length es - w) es) → AllBelow h (take (length (e ∷ es) - w) (e ∷ es))
-below_first h w e es head rest = elim (lt_or_le (length es) w) [
+below_first h w e es head rest = elim (cases_lt (length es) w) [
   | inl short ↦ let all : length (e ∷ es) - w ≡ 0 = omega arith in ap (λ k. list_all (λ (e : Entry). nat_lt e.command.handle h) (take k (e ∷ es))) all
   | inr long ↦
       let one : length (e ∷ es) - w ≡ suc (length es - w) = omega arith in
       ap (λ k. list_all (λ (e : Entry). nat_lt e.command.handle h) (take k (e ∷ es))) one
-      ∙ both_below (nat_lt e.command.handle h) _ (head long) rest
+      ∙ and_from (nat_lt e.command.handle h) _ (head long) rest
 ]
 
 -- Where h lies less than s below the next handle n, whatever is at or above h is among the last w.
@@ -261,8 +216,8 @@ below_all f s w n h late few wide small near before (e ∷ es) own o trails =
     of_few x q t = (q.0, elim q.1 [ inl mine ↦ inl mine | inr left ↦ inr (t left) ])
 
     head : w ≤ length es → nat_lt e.command.handle h ≡ true
-    head long = elim (lt_or_le e.command.handle h) [
-      | inl low ↦ lower e.command.handle h low
+    head long = elim (cases_lt e.command.handle h) [
+      | inl low ↦ lt-ltb e.command.handle h low
       | inr high ↦ absurd (contra (few_after f s w n h few wide small near before e es own.0.0 (each_both of_few es own.1 (trails.0 high)) o high) long)
     ]
       where
@@ -274,12 +229,12 @@ pub below_whole : (h w : ℕ) (earlier es : List Entry) → AllByRecursion (λ e
     AllBelow h (take (length (earlier ++ es) - w) (earlier ++ es))
 below_whole h w [] es low rest = rest
 below_whole h w (e ∷ earlier) es low rest =
-    below_first h w e (earlier ++ es) (λ long. lower e.command.handle h low.0) (below_whole h w earlier es low.1 rest)
+    below_first h w e (earlier ++ es) (λ long. lt-ltb e.command.handle h low.0) (below_whole h w earlier es low.1 rest)
 
 -- the same of the last of them
 pub below_last : (h w : ℕ) (before es : List Entry) → AllBelow h (take (length (before ++ es) - w) (before ++ es)) → AllBelow h (take (length es - w) es)
 below_last h w [] es low = low
-below_last h w (e ∷ before) es low = elim (lt_or_le (length (before ++ es)) w) [
+below_last h w (e ∷ before) es low = elim (cases_lt (length (before ++ es)) w) [
   | inl short ↦
       let fewer : length es ≤ length (before ++ es) = shorter before in
       let all : length es - w ≡ 0 = omega arith in
@@ -313,16 +268,9 @@ found h (e ∷ es) q = by_test (found h es) (has_handle h e) q
 pub none_has : (es : List Entry) (h : ℕ) → list_all (λ (e : Entry). nat_lt e.command.handle h) es ≡ true → has h es ≡ false
 none_has [] h p = refl
 none_has (e ∷ es) h p =
-    let parts = both (nat_lt e.command.handle h) (list_all (λ (x : Entry). nat_lt x.command.handle h) es) p in
-    neither (has_handle h e) (has h es) (other e.command.handle h parts.0) (none_has es h parts.1)
+    let parts = and_parts (nat_lt e.command.handle h) (list_all (λ (x : Entry). nat_lt x.command.handle h) es) p in
+    or_from (has_handle h e) (has h es) (other e.command.handle h parts.0) (none_has es h parts.1)
   where
-    both : (a b : Bool) → (a && b) ≡ true → (a ≡ true) × (b ≡ true)
-    both true b q = (refl, q)
-    both false b q = cc
-
-    neither : (a b : Bool) → a ≡ false → b ≡ false → (a || b) ≡ false
-    neither a b q r = cc
-
     other : (n k : ℕ) → nat_lt n k ≡ true → nat_eq n k ≡ false
     other n k q = grind (arith, nat_tests)
 
@@ -335,17 +283,15 @@ IsServed Old = ⊥
 
 -- what an accepted command under the same handle makes of a command that asks the same
 same_served : (e : Entry) (c : CommandFields) → asks_the_same e.command c ≡ true → IsServed (duplicate_or_reused e c)
-same_served e c same = by_test (asks_the_same e.command c) same
-  where
-    by_test : (b : Bool) → b ≡ true → IsServed (cond b (Duplicate e.reply) Reused)
-    by_test true q = tt
-    by_test false q = cc
+same_served e c same = on_bool (asks_the_same e.command c) (λ b. b ≡ true → IsServed (cond b (Duplicate e.reply) Reused)) (λ q. tt) (λ q. cc) same
 
 -- With nothing at or above its handle outside the window, a command is fresh, or a duplicate where what the window has under
 -- the handle asks the same.
 pub never_old : (w : ℕ) (c : CommandFields) (A : List Entry) → list_all (λ (e : Entry). nat_lt e.command.handle c.handle) (outside w A) ≡ true →
     ((e : Entry) → entry_under c.handle (window w A) ≡ Some e → asks_the_same e.command c ≡ true) → IsServed (judgement w A c)
-never_old w c A low same = by_has (has c.handle A) refl
+never_old w c A low same = on_bool (has c.handle A) (λ b. has c.handle A ≡ b → IsServed (judgement w A c))
+    (λ p. let r = found c.handle (window w A) (in_window p) in moved (judged true true p low ∙ ap (λ o. judge_unaccepted o c) r.1) (same_served r.0 c (same r.0 r.1)))
+    (λ p. moved (judged false true p low) tt) refl
   where
     whole : has c.handle A ≡ (has c.handle (outside w A) || has c.handle (window w A))
     whole = sym (ap (has c.handle) (take-append-drop (length A - w) A)) ∙ list_any-append (has_handle c.handle) (outside w A) (window w A)
@@ -360,9 +306,3 @@ never_old w c A low same = by_has (has c.handle A) refl
 
     moved : {j k : Judgement} → j ≡ k → IsServed k → IsServed j
     moved {j} {k} e p = rw e p
-
-    by_has : (b : Bool) → has c.handle A ≡ b → IsServed (judgement w A c)
-    by_has true p =
-        let r = found c.handle (window w A) (in_window p) in
-        moved (judged true true p low ∙ ap (λ o. judge_unaccepted o c) r.1) (same_served r.0 c (same r.0 r.1))
-    by_has false p = moved (judged false true p low) tt

@@ -1,43 +1,23 @@
 -- What holds of one link, when its own datagram comes to the device, and when the link does something.
-use Rattle.std.proofs.Common.{append-nil, ◌≡◌, ℕ, ◌+◌, ◌-◌, ◌^◌, ◌<◌, ◌≤◌, Bool, true, false, cond, List, [], ◌∷◌, ◌++◌, length, Option, Some, None, refl, sym, ap, ◌∙◌, subst, arith, inl, inr}
-use Rattle.std.specs.Prelude.{nat_eq, nat_lt, nat_le, not, ◌&&◌, map, filter, is_some, is_none, Result, Ok, Err}
-use Rattle.std.specs.List.{AllByRecursion}
-use Rattle.std.proofs.lemmas.Bool.Decides.{nat_tests}
-use Rattle.std.proofs.lemmas.List.{append_assoc, map-append}
-use Rattle.std.proofs.lemmas.List.Elements.{filter-append}
-use Rattle.oca_types.specs.declared.words.Peer.{Peer}
-use Rattle.oca_types.specs.declared.words.Handle.{Handle}
-use Rattle.oca_types.specs.Replies.{Reply}
-use Rattle.oca_types.specs.Peers.{same_peer, CommandFields}
-use Rattle.oca_types.specs.Sizes.{DeviceSizes, most_command_parameter_bytes}
-use Rattle.oca_pdu.specs.declared.message.Form.TheVariants.{Seconds}
-use Rattle.oca_pdu.specs.Messages.{ResponseFields, Msg, Command, Response, KeepAlive, Commands, OneKeepAlive}
-use Rattle.oca_pdu.specs.Encoding.{pdu_encoding, ResponseFits}
-use Rattle.oca_pdu.specs.Reading.{read_datagram}
-use Rattle.oca_pdu.specs.Laws.{WrittenIsReadBack}
-use Rattle.oca_tree.specs.declared.object.Object.{Object}
-use Rattle.oca_session.specs.Accepted.{Judgement, Fresh, Duplicate, Reused, Old}
-use Rattle.oca_device.specs.Events.{Event, Datagram}
-use Rattle.oca_device.specs.Notes.{Admitted, Heartbeat, Executed, Note, run, accepted}
-use Rattle.oca_device.specs.States.{State, noted, admits, judged_in, reply_of, after_command, after_message, after_reading, time_of}
-use Rattle.oca_device.specs.Answers.{response, answer_to_command, answers_to_messages, answers_to_reading, packets_of, packets}
-use Rattle.oca_control.specs.Answers.{AnswerFields, answer_of_response}
-use Rattle.oca_control.specs.Untaken.{Untaken, new_untaken, span_has_room, is_due, first_due, marked_sent, answered, answer_under, without_handle}
-use Rattle.oca_control.specs.declared.fault.ControlFault.{ControlFault}
+use Rattle.oca_pair.proofs.Words.{append-nil, ◌≡◌, ℕ, ◌+◌, ◌-◌, ◌^◌, ◌<◌, ◌≤◌, Bool, true, false, cond, List, [], ◌∷◌, ◌++◌, length, Option, Some, None, refl, sym, ap, ◌∙◌, subst, arith, inl, inr}
+use Rattle.oca_pair.proofs.Words.{nat_eq, nat_lt, nat_le, not, ◌&&◌, map, filter, is_some, is_none, Result, Ok, Err, AllByRecursion, nat_tests, map-append, filter-append, eqb-true, Peer, Handle}
+use Rattle.oca_pair.proofs.Words.{Reply, same_peer, CommandFields, DeviceSizes, most_command_parameter_bytes, Seconds, ResponseFields, Msg, Command, Response, KeepAlive, Commands, OneKeepAlive}
+use Rattle.oca_pair.proofs.Words.{pdu_encoding, ResponseFits, read_datagram, WrittenIsReadBack, Object, Judgement, Fresh, Duplicate, Reused, Old, Event, Datagram, Admitted, Heartbeat, Executed, Note}
+use Rattle.oca_pair.proofs.Words.{run, accepted, State, noted, admits, judged_in, reply_of, after_command, after_message, after_reading, time_of, response, answer_to_command, answers_to_messages}
+use Rattle.oca_pair.proofs.Words.{answers_to_reading, packets_of, packets, AnswerFields, answer_of_response, Untaken, new_untaken, span_has_room, is_due, first_due, marked_sent, answered, each_append}
+use Rattle.oca_pair.proofs.Words.{answer_under, without_handle, ControlFault, LinkState, Request, command_under, submission_under, submission, handle_after, after_submission, submitted, Decision}
+use Rattle.oca_pair.proofs.Words.{GivesCommand, GivesKeepAlive, GivesNothing, IsLost, decision_among, decision, after_due, gone_on, hears_content, received, taken, present_moment, SentDatagram}
+use Rattle.oca_pair.proofs.Words.{SubmittedCommand, TakenAnswer, sendings_in, submitted_by, given_by, content_read, taken_by, RequestFits, Execution, answer_of, handles_of, EachToNext, each_map}
+use Rattle.oca_pair.proofs.Words.{same_self, end_of, end_after, on_bool}
+use Rattle.std.proofs.lemmas.List.{append_assoc}
 use Rattle.oca_control.specs.declared.fault.ControlFault.TheVariants as faults
-use Rattle.oca_control.specs.Links.{LinkState, Request, command_under, submission_under, submission, handle_after, after_submission, submitted, Decision, GivesCommand, GivesKeepAlive, GivesNothing, IsLost, decision_among, decision, after_due, gone_on, hears_content, received, taken, present_moment}
-use Rattle.oca_pair.specs.Networks.{SentDatagram, SubmittedCommand, TakenAnswer}
-use Rattle.oca_pair.specs.Steps.{sendings_in, submitted_by, given_by, content_read, taken_by}
-use Rattle.oca_pair.specs.Premises.{RequestFits}
-use Rattle.oca_pair.specs.Laws.{Execution, answer_of, handles_of, EachToNext}
-use Rattle.oca_pair.proofs.Core.{each_map, each_append}
-use Rattle.oca_pair.proofs.Lists.{IsIn, in_parts, in_last, each_in, same_self, same_of, other_is, equal_is}
+use Rattle.oca_pair.proofs.Lists.{IsIn, in_parts, in_last, each_in, same_of, other_is}
 use Rattle.oca_pair.proofs.Executions.{executed_for}
 use Rattle.oca_pair.proofs.Arrivals.{looked_at}
 use Rattle.oca_pair.proofs.Wire.{IsSendable, read_command, read_keep_alive, read_response}
 use Rattle.oca_pair.proofs.Fitting.{response_to, reply_fits}
 use Rattle.oca_pair.proofs.Truths.{Past, and_then, and_submitted, state_of, IsSubmitted, IsHonest, IsTrueAnswer, window_executed}
-use Rattle.oca_pair.proofs.Fair.{end_of, NextFits, IsOut, IsBack, IsHeld, IsFair, AreSendable, AreUnique, AreOwn, Fair, fair_more, fair_then, owns_then, judged_duplicate}
+use Rattle.oca_pair.proofs.Fair.{none_for, NextFits, IsOut, IsBack, IsHeld, IsFair, AreSendable, AreUnique, AreOwn, Fair, fair_more, fair_then, owns_then, judged_duplicate}
 
 -- ---- a datagram of the link itself
 
@@ -48,14 +28,10 @@ let_in p m now g = noted p (Admitted (m ∷ [])) (looked_at now g)
 pub executed_now : (p : Peer) (at : ℕ) (objects : List Object) (c : CommandFields) (r : Reply) (ns : List Note) →
     let x : Execution = record { objects = objects; command = c; reply = r } in
     let n : Note = record { peer = p; at = at; what = Executed objects c r } in IsIn x (executed_for p (n ∷ ns))
-executed_now p at objects c r ns = by_same (same_peer p p) (same_self p)
+executed_now p at objects c r ns = on_bool (same_peer p p) (λ b. b ≡ true → IsIn x (cond b (x ∷ []) [] ++ executed_for p ns)) (λ q. inl refl) (λ q. cc) (same_self p)
   where
     x : Execution
     x = record { objects = objects; command = c; reply = r }
-
-    by_same : (b : Bool) → b ≡ true → IsIn x (cond b (x ∷ []) [] ++ executed_for p ns)
-    by_same true q = inl refl
-    by_same false q = cc
 
 -- what is sent back for these answers
 back_of : (law : WrittenIsReadBack) (p : Peer) (g : Past) (r : ResponseFields) → ResponseFits r → length r.params ≤ 1452 → IsTrueAnswer p r.handle (answer_of_response r) g →
@@ -100,7 +76,10 @@ pub fair_command : (law : WrittenIsReadBack) (p : Peer) (next : Option ℕ) (us 
     IsSendable c → IsSubmitted p c g.submitted → Fair p next us g out back handed →
     let e : Event = Datagram p (pdu_encoding (Commands true (c ∷ []))) now in
     Fair p next us (and_then e g) out (back ++ sendings_in p (packets g.sizes g.tree g.events e)) handed
-fair_command law p next us g out back handed c now sendable sub f = by_room (admits g.sizes (looked_at now g) p) refl
+fair_command law p next us g out back handed c now sendable sub f =
+    on_bool (admits g.sizes (looked_at now g) p) (λ b. admits g.sizes (looked_at now g) p ≡ b → Fair p next us g' out (back ++ sendings_in p (packets g.sizes g.tree g.events e)) handed)
+    (λ room. by_judgement (judged_in g.sizes s2 p c) refl room)
+    (λ room. settled p next us g out back handed bytes now (looked_at now g) [] (after_read g.sizes p m bytes now g false read room) (answers_read g.sizes p m bytes now g false read room) (owns_then p g e (state_of g).notes f.own) tt f) refl
   where
     bytes : List ℕ
     bytes = pdu_encoding (Commands true (c ∷ []))
@@ -160,7 +139,7 @@ fair_command law p next us g out back handed c now sendable sub f = by_room (adm
           execution = y;
           executed = rw state_is k.0.executed;
           honest = k.0.honest;
-          handle = equal_is d.0.command.handle c.handle k.1;
+          handle = eqb-true d.0.command.handle c.handle k.1;
           answer_is = ap answer_of (sym d.2);
         } in
         settled p next us g out back handed bytes now s2 (response c.handle r ∷ []) state_is answers_are own2
@@ -172,17 +151,15 @@ fair_command law p next us g out back handed c now sendable sub f = by_room (adm
         settled p next us g out back handed bytes now s2 [] (after_read g.sizes p m bytes now g true read room ∙ ap (λ j. after_command j p c s2) q)
         (answers_read g.sizes p m bytes now g true read room ∙ ap (λ j. answer_to_command j p c s2 ++ []) q) own2 tt f
 
-    by_room : (b : Bool) → admits g.sizes (looked_at now g) p ≡ b → Fair p next us g' out (back ++ sendings_in p (packets g.sizes g.tree g.events e)) handed
-    by_room true room = by_judgement (judged_in g.sizes s2 p c) refl room
-    by_room false room =
-        settled p next us g out back handed bytes now (looked_at now g) [] (after_read g.sizes p m bytes now g false read room)
-        (answers_read g.sizes p m bytes now g false read room) (owns_then p g e (state_of g).notes f.own) tt f
-
 pub fair_keep_alive : (law : WrittenIsReadBack) (p : Peer) (next : Option ℕ) (us : List Untaken) (g : Past) (out back : List SentDatagram) (handed : List TakenAnswer) (now : ℕ) →
     Fair p next us g out back handed →
     let e : Event = Datagram p (pdu_encoding (OneKeepAlive (Seconds 5))) now in
     Fair p next us (and_then e g) out (back ++ sendings_in p (packets g.sizes g.tree g.events e)) handed
-fair_keep_alive law p next us g out back handed now f = by_room (admits g.sizes (looked_at now g) p) refl
+fair_keep_alive law p next us g out back handed now f =
+    on_bool (admits g.sizes (looked_at now g) p) (λ b. admits g.sizes (looked_at now g) p ≡ b → Fair p next us (and_then e g) out (back ++ sendings_in p (packets g.sizes g.tree g.events e)) handed)
+    (λ room. settled p next us g out back handed bytes now (noted p (Heartbeat (time_of (Seconds 5))) (let_in p m now g)) (m ∷ []) (after_read g.sizes p m bytes now g true read room)
+    (answers_read g.sizes p m bytes now g true read room) ((λ same. tt), ((λ same. tt), owns_then p g e (state_of g).notes f.own)) ((λ same. inr read), tt) f)
+    (λ room. settled p next us g out back handed bytes now (looked_at now g) [] (after_read g.sizes p m bytes now g false read room) (answers_read g.sizes p m bytes now g false read room) (owns_then p g e (state_of g).notes f.own) tt f) refl
   where
     bytes : List ℕ
     bytes = pdu_encoding (OneKeepAlive (Seconds 5))
@@ -196,18 +173,12 @@ fair_keep_alive law p next us g out back handed now f = by_room (admits g.sizes 
     read : read_datagram bytes ≡ Ok (m ∷ [])
     read = read_keep_alive law
 
-    by_room : (b : Bool) → admits g.sizes (looked_at now g) p ≡ b → Fair p next us (and_then e g) out (back ++ sendings_in p (packets g.sizes g.tree g.events e)) handed
-    by_room true room =
-        settled p next us g out back handed bytes now (noted p (Heartbeat (time_of (Seconds 5))) (let_in p m now g)) (m ∷ []) (after_read g.sizes p m bytes now g true read room)
-        (answers_read g.sizes p m bytes now g true read room) ((λ same. tt), ((λ same. tt), owns_then p g e (state_of g).notes f.own)) ((λ same. inr read), tt) f
-    by_room false room =
-        settled p next us g out back handed bytes now (looked_at now g) [] (after_read g.sizes p m bytes now g false read room)
-        (answers_read g.sizes p m bytes now g false read room) (owns_then p g e (state_of g).notes f.own) tt f
-
 -- ---- the link's own steps
 
 pub granted : (r : Request) (l : LinkState) (h : Handle) → submission r l ≡ Ok h → (l.next ≡ Some h.0) × (span_has_room l.span h.0 l.untaken ≡ true) × (length r.params ≤ 1445)
-granted r l h e = by_lost l.lost e
+granted r l h e =
+    on_bool l.lost (λ b. cond b (Err faults.Lost) (submission_under most_command_parameter_bytes r l.next l) ≡ Ok h → (l.next ≡ Some h.0) × (span_has_room l.span h.0 l.untaken ≡ true) × (length r.params ≤ 1445))
+    (λ q. cc) (λ q. by_next l.next q) e
   where
     within : (n : ℕ) → nat_lt 1445 n ≡ false → n ≤ 1445
     within n q = grind (arith, nat_tests)
@@ -229,26 +200,11 @@ granted r l h e = by_lost l.lost e
     by_next None q = cc
     by_next (Some n) q = let a = by_room n (span_has_room l.span n l.untaken) refl q in (ap Some a.0, a.1, a.2)
 
-    by_lost : (b : Bool) → cond b (Err faults.Lost) (submission_under most_command_parameter_bytes r l.next l) ≡ Ok h → (l.next ≡ Some h.0) × (span_has_room l.span h.0 l.untaken ≡ true) × (length r.params ≤ 1445)
-    by_lost true q = cc
-    by_lost false q = by_next l.next q
-
-pub end_after : (h : ℕ) → end_of (handle_after h) ≡ h + 1
-end_after h = by_test (nat_eq h 4294967295) refl
-  where
-    by_test : (b : Bool) → nat_eq h 4294967295 ≡ b → end_of (cond b None (Some (h + 1))) ≡ h + 1
-    by_test true q = let e : h ≡ 4294967295 = equal_is h 4294967295 q in omega arith
-    by_test false q = refl
-
 next_fits : (h : ℕ) → h < 2 ^ 32 → NextFits (handle_after h)
-next_fits h low = by_test (nat_eq h 4294967295) refl
+next_fits h low = on_bool (nat_eq h 4294967295) (λ b. nat_eq h 4294967295 ≡ b → NextFits (cond b None (Some (h + 1)))) (λ q. tt) (λ q. higher q) refl
   where
     higher : nat_eq h 4294967295 ≡ false → h + 1 < 2 ^ 32
     higher q = grind (arith, nat_tests)
-
-    by_test : (b : Bool) → nat_eq h 4294967295 ≡ b → NextFits (cond b None (Some (h + 1)))
-    by_test true q = tt
-    by_test false q = higher q
 
 -- one command more
 next_more : (Is : ℕ → ℕ → Type 0) (xs : List ℕ) (h k : ℕ) → Is h k → EachToNext Is (xs ++ h ∷ []) → EachToNext Is (xs ++ h ∷ k ∷ [])
@@ -398,7 +354,8 @@ Outs p g d = AllByRecursion (λ (x : SentDatagram). x.peer ≡ p → IsOut p g.s
 
 marked_sent_is : (p : Peer) (now : ℕ) (l : LinkState) (g : Past) → AllByRecursion (IsFair p g) l.untaken →
     AllByRecursion (λ (d : SentDatagram). d.peer ≡ p → IsOut p g.submitted d.bytes) (sendings_in p (given_by (decision now l)))
-marked_sent_is p now l g a = by_lost l.lost
+marked_sent_is p now l g a = on_bool l.lost (λ b. Outs p g (cond b IsLost (decision_among (present_moment now l) l.sent (first_due (present_moment now l) l.untaken))))
+    tt (by_first (first_due (present_moment now l) l.untaken) refl)
   where
     by_many : (u : Untaken) → IsSubmitted p u.command g.submitted → (b : Bool) → Outs p g (cond b (GivesCommand u.command) IsLost)
     by_many u q true = ((λ same. inl (u.command, q, refl)), tt)
@@ -411,10 +368,6 @@ marked_sent_is p now l g a = by_lost l.lost
     by_first : (o : Option Untaken) → first_due (present_moment now l) l.untaken ≡ o → Outs p g (decision_among (present_moment now l) l.sent o)
     by_first None e = by_quiet (nat_le 2500 (present_moment now l - l.sent))
     by_first (Some u) e = by_many u (submitted_due p g (present_moment now l) l.untaken a u e) (nat_lt u.times 20)
-
-    by_lost : (b : Bool) → Outs p g (cond b IsLost (decision_among (present_moment now l) l.sent (first_due (present_moment now l) l.untaken)))
-    by_lost true = tt
-    by_lost false = by_first (first_due (present_moment now l) l.untaken) refl
 
 pub fair_gone_on : (p : Peer) (now : ℕ) (l : LinkState) (g : Past) (out back : List SentDatagram) (handed : List TakenAnswer) → Fair p l.next l.untaken g out back handed →
     Fair p (gone_on now l).next (gone_on now l).untaken g (out ++ sendings_in p (given_by (decision now l))) back handed
@@ -452,7 +405,7 @@ pub fair_sent : (p q : Peer) (next : Option ℕ) (us : List Untaken) (g : Past) 
 fair_sent p q next us g out back handed packets other f = record {
   fits = f.fits;
   own = f.own;
-  outgoing = each_append _ out (sendings_in q packets) f.outgoing (none packets);
+  outgoing = each_append _ out (sendings_in q packets) f.outgoing (none_for (IsOut p g.submitted) p q other packets);
   incoming = f.incoming;
   untaken = f.untaken;
   was_taken = f.was_taken;
@@ -460,10 +413,6 @@ fair_sent p q next us g out back handed packets other f = record {
   unique = f.unique;
   rising = f.rising;
 }
-  where
-    none : (packets : List (List ℕ)) → AllByRecursion (λ (d : SentDatagram). d.peer ≡ p → IsOut p g.submitted d.bytes) (sendings_in q packets)
-    none [] = tt
-    none (b ∷ bs) = ((λ same. absurd (other same)), none bs)
 
 -- ---- a datagram comes to the link
 
@@ -472,7 +421,7 @@ fair_answered p g h a t [] f = tt
 fair_answered p g h a t (u ∷ us) f = ((f.0.0, by_test (nat_eq u.command.handle h) (is_none u.answer) refl), fair_answered p g h a t us f.1)
   where
     by_test : (b c : Bool) → nat_eq u.command.handle h ≡ b → IsHeld p g u.command.handle (cond (b && c) (Some a) u.answer)
-    by_test true true q = let same : u.command.handle ≡ h = equal_is u.command.handle h q in rw same t
+    by_test true true q = let same : u.command.handle ≡ h = eqb-true u.command.handle h q in rw same t
     by_test true false q = f.0.1
     by_test false c q = f.0.1
 
@@ -511,19 +460,14 @@ fair_received from p bytes now l g out back handed b f = by_from (same_peer from
 
 fair_without : (p : Peer) (g : Past) (h : ℕ) (us : List Untaken) → AllByRecursion (IsFair p g) us → AllByRecursion (IsFair p g) (without_handle h us)
 fair_without p g h [] a = tt
-fair_without p g h (u ∷ us) a = by_test (nat_eq u.command.handle h) (fair_without p g h us a.1)
-  where
-    by_test : (b : Bool) → AllByRecursion (IsFair p g) (without_handle h us) → AllByRecursion (IsFair p g) (cond (not b) (u ∷ without_handle h us) (without_handle h us))
-    by_test true rest = rest
-    by_test false rest = (a.0, rest)
+fair_without p g h (u ∷ us) a =
+    on_bool (nat_eq u.command.handle h) (λ b. AllByRecursion (IsFair p g) (without_handle h us) → AllByRecursion (IsFair p g) (cond (not b) (u ∷ without_handle h us) (without_handle h us)))
+    (λ rest. rest) (λ rest. (a.0, rest)) (fair_without p g h us a.1)
 
 pub held_answer : (p : Peer) (g : Past) (h : ℕ) (us : List Untaken) → AllByRecursion (IsFair p g) us → IsHeld p g h (answer_under h us)
 held_answer p g h [] a = tt
-held_answer p g h (u ∷ us) a = by_test (nat_eq u.command.handle h) refl (held_answer p g h us a.1)
-  where
-    by_test : (b : Bool) → nat_eq u.command.handle h ≡ b → IsHeld p g h (answer_under h us) → IsHeld p g h (cond b u.answer (answer_under h us))
-    by_test true q rest = let same : u.command.handle ≡ h = equal_is u.command.handle h q in rw same at a.0.1
-    by_test false q rest = rest
+held_answer p g h (u ∷ us) a = on_bool (nat_eq u.command.handle h) (λ b. nat_eq u.command.handle h ≡ b → IsHeld p g h (answer_under h us) → IsHeld p g h (cond b u.answer (answer_under h us)))
+    (λ q rest. let same : u.command.handle ≡ h = eqb-true u.command.handle h q in rw same at a.0.1) (λ q rest. rest) refl (held_answer p g h us a.1)
 
 pub fair_taken : (p : Peer) (h : ℕ) (l : LinkState) (g : Past) (out back : List SentDatagram) (handed : List TakenAnswer) → Fair p l.next l.untaken g out back handed →
     Fair p l.next (taken h l).untaken g out back (handed ++ taken_by p h (answer_under h l.untaken))

@@ -1,26 +1,10 @@
 -- Schedules with loss, repeats and overtaking, of which the laws speak: they meet all that they ask.
-use Rattle.std.proofs.Common.{◌≡◌, ℕ, ◌^◌, ◌<◌, true, false, List, [], ◌∷◌, ◌++◌, Some, None, refl, sym, ap, subst, lit<, lit≤}
-use Rattle.std.specs.Prelude.{filter, length, Result, Ok}
-use Rattle.oca_types.specs.declared.words.Peer.{Peer}
-use Rattle.oca_types.specs.Peers.{CommandFields, same_peer}
-use Rattle.oca_types.specs.Sizes.{DeviceSizes}
-use Rattle.oca_pdu.specs.declared.fault.PduFault.{PduFault}
-use Rattle.oca_pdu.specs.declared.message.Form.TheVariants.{Seconds}
-use Rattle.oca_pdu.specs.Messages.{Msg, Command, Commands, OneKeepAlive}
-use Rattle.oca_pdu.specs.Encoding.{pdu_encoding}
-use Rattle.oca_pdu.specs.Reading.{read_datagram}
-use Rattle.oca_pdu.specs.Laws.{WrittenIsReadBack}
-use Rattle.oca_tree.specs.declared.object.Object.{Object}
-use Rattle.oca_device.specs.LawByEvents.{Happening, Passes, clock, admitted, has_room}
-use Rattle.oca_control.specs.Untaken.{Untaken}
-use Rattle.oca_control.specs.Links.{Request, new_link, command_under}
-use Rattle.oca_pair.specs.declared.start.Start.{Start}
-use Rattle.oca_pair.specs.Networks.{Network, PeerLink, SentDatagram, Renewal, Setup, device_address, run_setup, opening}
-use Rattle.oca_pair.specs.Steps.{Step, Submit, Due, ToDevice, Other, Take, Renew, Beside, after_step, after_steps}
-use Rattle.oca_pair.specs.Happenings.{sayings}
-use Rattle.oca_pair.specs.Premises.{RequestFits, Fit, KeepsItsSession}
-use Rattle.oca_pair.specs.Laws.{CarriesUntaken, IsAnswered}
-use Rattle.oca_pair.specs.RoundTrip.{HoldsUntaken, HoldsItsAnswer, meanwhile, come_back, RenewsNothing, ComesBack}
+use Rattle.oca_pair.proofs.Words.{◌≡◌, ℕ, ◌^◌, ◌<◌, true, false, List, [], ◌∷◌, ◌++◌, Some, None, refl, sym, ap, subst, lit<, lit≤, filter, Result, Ok, Peer, CommandFields, same_peer, DeviceSizes}
+use Rattle.oca_pair.proofs.Words.{PduFault, Seconds, Msg, Command, Commands, OneKeepAlive, pdu_encoding, read_datagram, WrittenIsReadBack, Object, Happening, Passes, clock, admitted, has_room}
+use Rattle.oca_pair.proofs.Words.{Untaken, Request, new_link, command_under, Start, Network, PeerLink, SentDatagram, Renewal, Setup, device_address, run_setup, opening, Step, Submit, Due, ToDevice}
+use Rattle.oca_pair.proofs.Words.{Other, Take, Renew, Beside, after_step, after_steps, sayings, RequestFits, Fit, KeepsItsSession, CarriesUntaken, IsAnswered, HoldsUntaken, HoldsItsAnswer, meanwhile}
+use Rattle.oca_pair.proofs.Words.{come_back, RenewsNothing, ComesBack}
+use Rattle.std.specs.Prelude.{length}
 use Rattle.oca_pair.proofs.Wire.{read_command, read_keep_alive}
 use Rattle.oca_pair.proofs.Arrivals.{HasOneSession}
 use Rattle.oca_pair.proofs.Renewing.{renew_nothing}

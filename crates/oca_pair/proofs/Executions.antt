@@ -1,27 +1,14 @@
 -- The executions by what happened are those that the device noted.
-use Rattle.std.proofs.Common.{◌≡◌, ℕ, Bool, true, false, cond, List, [], ◌∷◌, ◌++◌, refl, sym, ap, ◌∙◌}
-use Rattle.std.specs.Prelude.{map, max, if◌then◌else◌, Result, Ok, Err}
+use Rattle.oca_pair.proofs.Words.{◌≡◌, ℕ, Bool, true, false, cond, List, [], ◌∷◌, ◌++◌, refl, sym, ap, ◌∙◌, map, max, if◌then◌else◌, Result, Ok, Err, Peer, same_peer, CommandFields, DeviceSizes}
+use Rattle.oca_pair.proofs.Words.{PduFault, Msg, Command, Response, KeepAlive, read_datagram, Object, released, after_change, Event, Datagram, Tick, Local, Noted, Admitted, Heartbeat, Executed, Note}
+use Rattle.oca_pair.proofs.Words.{is_noted, State, noted, moved_to, admits, after_messages, after_reading, state_after, time_of, Happening, Passes, Sets, Change, Executes, Releases, clock, admitted}
+use Rattle.oca_pair.proofs.Words.{lapsed_peers, has_room, accepts_handle, accepted_of, accepted_by, changes, sayings, happenings, Execution, execution_of, executions_in}
 use Rattle.std.proofs.lemmas.List.{append_assoc, append-nil}
-use Rattle.oca_types.specs.declared.words.Peer.{Peer}
-use Rattle.oca_types.specs.Peers.{same_peer, CommandFields}
-use Rattle.oca_types.specs.Sizes.{DeviceSizes}
-use Rattle.oca_pdu.specs.declared.fault.PduFault.{PduFault}
-use Rattle.oca_pdu.specs.Messages.{Msg, Command, Response, KeepAlive}
-use Rattle.oca_pdu.specs.Reading.{read_datagram}
-use Rattle.oca_tree.specs.declared.object.Object.{Object}
 use Rattle.oca_tree.specs.Execution.{execution}
-use Rattle.oca_tree.specs.Locks.{released}
-use Rattle.oca_tree.specs.LocalChanges.{after_change}
-use Rattle.oca_device.specs.Events.{Event, Datagram, Tick, Local}
-use Rattle.oca_device.specs.Notes.{Noted, Admitted, Heartbeat, Executed, Note, is_noted}
-use Rattle.oca_device.specs.States.{State, noted, moved_to, admits, after_messages, after_reading, state_after, time_of}
-use Rattle.oca_device.specs.LawByEvents.{Happening, Passes, Says, Sets, Change, Executes, Releases, clock, admitted, lapsed_peers, has_room, accepts_handle, accepted_of, accepted_by, changes}
 use Rattle.oca_device.specs.LawByEvents as law
 use Rattle.oca_device.proofs.Messages.{executed_of, fresh_state, fresh_known, fresh_executed, after_judged, kept_alive, alive_known, alive_executed}
 use Rattle.oca_device.proofs.Sessions.{same_room, let_in, let_in_known, let_in_executed}
 use Rattle.oca_device.proofs.Standing.{Stands, passing}
-use Rattle.oca_pair.specs.Happenings.{sayings, happenings}
-use Rattle.oca_pair.specs.Laws.{Execution, execution_of, executions_in}
 use Rattle.oca_pair.proofs.ByEvents.{stands_by}
 
 -- what a note says of an execution

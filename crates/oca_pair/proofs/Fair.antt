@@ -1,37 +1,16 @@
 -- What holds of one link at any time: what it sent it had submitted, and each response that was sent to it carries the reply of an
 -- execution of its own command.
-use Rattle.std.proofs.Common.{◌≡◌, ℕ, ◌^◌, ◌<◌, ◌≢◌, Bool, true, false, cond, List, [], ◌∷◌, ◌++◌, Option, Some, None, refl, sym, ◌∙◌, ◌⊎◌, inl, inr}
-use Rattle.std.specs.Prelude.{max, not, ◌&&◌, Ok}
-use Rattle.std.specs.List.{list_all, AllByRecursion}
-use Rattle.oca_types.specs.declared.words.Peer.{Peer}
-use Rattle.oca_types.specs.Replies.{Reply}
-use Rattle.oca_types.specs.Peers.{CommandFields}
-use Rattle.oca_pdu.specs.declared.message.Form.TheVariants.{Seconds}
-use Rattle.oca_pdu.specs.Messages.{ResponseFields, Response, KeepAlive, Commands, OneKeepAlive}
-use Rattle.oca_pdu.specs.Encoding.{pdu_encoding}
-use Rattle.oca_pdu.specs.Reading.{read_datagram}
-use Rattle.oca_session.specs.Accepted.{Entry, window, outside, is_below, accepts, entry_under, asks_the_same, Fresh, Duplicate, Reused, judge_unaccepted, judgement}
-use Rattle.oca_tree.specs.LocalChanges.{LocalChange}
-use Rattle.oca_device.specs.Events.{Event, Datagram, Tick, Local}
-use Rattle.oca_device.specs.Notes.{Noted, Admitted, Heartbeat, Executed, Note}
-use Rattle.oca_device.specs.States.{State, moved_to, after_reading}
-use Rattle.oca_device.specs.Answers.{packets}
-use Rattle.oca_control.specs.Answers.{AnswerFields, answer_of_response}
-use Rattle.oca_control.specs.Untaken.{Untaken}
-use Rattle.oca_pair.specs.Networks.{SentDatagram, SubmittedCommand, TakenAnswer}
-use Rattle.oca_pair.specs.Steps.{sendings_in}
-use Rattle.oca_pair.specs.Laws.{handles_of}
+use Rattle.oca_pair.proofs.Words.{◌≡◌, ℕ, ◌^◌, ◌<◌, ◌≢◌, Bool, true, false, cond, List, [], ◌∷◌, ◌++◌, Option, Some, None, refl, sym, ◌∙◌, ◌⊎◌, inl, inr, max, not, ◌&&◌, Ok, list_all, AllByRecursion}
+use Rattle.oca_pair.proofs.Words.{Peer, Reply, CommandFields, Seconds, ResponseFields, Response, KeepAlive, Commands, OneKeepAlive, pdu_encoding, read_datagram, Entry, window, outside, is_below}
+use Rattle.oca_pair.proofs.Words.{accepts, entry_under, asks_the_same, Fresh, Duplicate, Reused, judge_unaccepted, judgement, LocalChange, Event, Datagram, Tick, Local, Noted, Admitted, Heartbeat}
+use Rattle.oca_pair.proofs.Words.{Executed, Note, State, moved_to, after_reading, packets, AnswerFields, answer_of_response, Untaken, SentDatagram, SubmittedCommand, TakenAnswer, sendings_in}
+use Rattle.oca_pair.proofs.Words.{handles_of, each_map, each_append, end_of}
 use Rattle.oca_pair.specs.Laws as laws
-use Rattle.oca_pair.proofs.Core.{each_map, each_append, has}
+use Rattle.oca_pair.proofs.Core.{has}
 use Rattle.oca_pair.proofs.Lists.{in_more}
 use Rattle.oca_pair.proofs.Wire.{IsSendable}
 use Rattle.oca_pair.proofs.Clocks.{Grows, grows_reading}
 use Rattle.oca_pair.proofs.Truths.{Past, and_then, and_submitted, state_of, IsSubmitted, IsTrueAnswer, honest_then, honest_submitted, true_then, true_submitted, IsOwn}
-
--- the handle that follows all that were given
-abbrev pub end_of : Option ℕ → ℕ
-end_of None = 4294967296
-end_of (Some n) = n
 
 abbrev pub NextFits : Option ℕ → Type 0
 NextFits None = Unit {0}
@@ -166,37 +145,30 @@ fair_other p q next us g out back handed bytes now packets other f =
     grown : (more ns : List Note) → ns ≡ more ++ (state_of g).notes → AllByRecursion (λ n. (n.peer ≡ q) × (n.at ≡ max (state_of g).moment now)) more → AreOwn p (and_then (Datagram q bytes now) g) ns
     grown more ns is own = rw is (each_append _ more (state_of g).notes (each_map (λ n h same. absurd (other (sym h.0 ∙ same))) more own) (owns_then p g (Datagram q bytes now) (state_of g).notes f.own))
 
--- The clock is read.
-pub fair_tick : (p : Peer) (next : Option ℕ) (us : List Untaken) (g : Past) (out back : List SentDatagram) (handed : List TakenAnswer) (now : ℕ) →
-    Fair p next us g out back handed → Fair p next us (and_then (Tick now) g) out back handed
-fair_tick p next us g out back handed now f = record {
+-- An event after which the notes are those of honest commands, and nothing is sent.
+fair_event : (p : Peer) (next : Option ℕ) (us : List Untaken) (g : Past) (out back : List SentDatagram) (handed : List TakenAnswer) (e : Event) → AreOwn p (and_then e g) (state_of (and_then e g)).notes →
+    Fair p next us g out back handed → Fair p next us (and_then e g) out back handed
+fair_event p next us g out back handed e own f = record {
   fits = f.fits;
-  own = owns_then p g (Tick now) (state_of g).notes f.own;
+  own = own;
   outgoing = f.outgoing;
-  incoming = each_map (λ d h same. back_then p g (Tick now) d.bytes (h same)) back f.incoming;
-  untaken = each_map (λ u h. (h.0, held_then p g (Tick now) u.command.handle u.answer h.1)) us f.untaken;
-  was_taken = each_map (λ t h same. true_then p t.handle t.answer g (Tick now) (h same)) handed f.was_taken;
+  incoming = each_map (λ d h same. back_then p g e d.bytes (h same)) back f.incoming;
+  untaken = each_map (λ u h. (h.0, held_then p g e u.command.handle u.answer h.1)) us f.untaken;
+  was_taken = each_map (λ t h same. true_then p t.handle t.answer g e (h same)) handed f.was_taken;
   sendable = f.sendable;
   unique = f.unique;
   rising = f.rising;
 }
 
+-- The clock is read.
+pub fair_tick : (p : Peer) (next : Option ℕ) (us : List Untaken) (g : Past) (out back : List SentDatagram) (handed : List TakenAnswer) (now : ℕ) →
+    Fair p next us g out back handed → Fair p next us (and_then (Tick now) g) out back handed
+fair_tick p next us g out back handed now f = fair_event p next us g out back handed (Tick now) (owns_then p g (Tick now) (state_of g).notes f.own) f
+
 -- A change at the front.
 pub fair_local : (p : Peer) (next : Option ℕ) (us : List Untaken) (g : Past) (out back : List SentDatagram) (handed : List TakenAnswer) (ono : ℕ) (change : LocalChange) →
     Fair p next us g out back handed → Fair p next us (and_then (Local ono change) g) out back handed
-fair_local p next us g out back handed ono change f =
-    let e : Event = Local ono change in
-    record {
-      fits = f.fits;
-      own = owns_then p g e (state_of g).notes f.own;
-      outgoing = f.outgoing;
-      incoming = each_map (λ d h same. back_then p g e d.bytes (h same)) back f.incoming;
-      untaken = each_map (λ u h. (h.0, held_then p g e u.command.handle u.answer h.1)) us f.untaken;
-      was_taken = each_map (λ t h same. true_then p t.handle t.answer g e (h same)) handed f.was_taken;
-      sendable = f.sendable;
-      unique = f.unique;
-      rising = f.rising;
-    }
+fair_local p next us g out back handed ono change f = fair_event p next us g out back handed (Local ono change) (owns_then p g (Local ono change) (state_of g).notes f.own) f
 
 -- ---- what a judgement says
 

@@ -1,29 +1,17 @@
 -- The reply of any execution fits a response.
-use Rattle.std.proofs.Common.{◌≡◌, ℕ, ◌+◌, ◌^◌, ◌<◌, ◌≤◌, Bool, true, false, cond, List, length, Option, Some, None, refl, arith, lit<, lit≤}
-use Rattle.std.specs.Prelude.{nat_lt, Result, Ok, Err}
-use Rattle.std.proofs.lemmas.Bool.Decides.{nat_tests}
-use Rattle.oca_types.specs.declared.words.Peer.{Peer}
-use Rattle.oca_types.specs.Replies.{Reply}
-use Rattle.oca_types.specs.declared.status.Status.{Status}
+use Rattle.oca_pair.proofs.Words.{◌≡◌, ℕ, ◌+◌, ◌^◌, ◌<◌, ◌≤◌, Bool, true, false, cond, List, length, Option, Some, None, refl, arith, lit<, lit≤, nat_lt, Result, Ok, Err, nat_tests, Peer, Reply}
+use Rattle.oca_pair.proofs.Words.{Status, status_number, CommandFields, ResponseFields, ResponseFits, Object, Reading, answer_count, answer_encoding, object_of, TreeAndReply, first_that_applies}
+use Rattle.oca_pair.proofs.Words.{status_lines, status_of, kind_at, asked_at, refused, by_status, reply_of}
 use Rattle.oca_types.specs.declared.status.Status.TheVariants as status
 use Rattle.oca_types.specs.declared.class.MethodKind.{MethodKind}
-use Rattle.oca_types.specs.Status.{status_number}
-use Rattle.oca_types.specs.Peers.{CommandFields}
-use Rattle.oca_pdu.specs.Messages.{ResponseFields}
-use Rattle.oca_pdu.specs.Encoding.{ResponseFits}
-use Rattle.oca_tree.specs.declared.object.Object.{Object}
 use Rattle.oca_model.specs.declared.answer.Answer.{Answer}
 use Rattle.oca_model.specs.declared.answer.Answer.TheVariants as answers
-use Rattle.oca_model.specs.declared.reading.Reading.{Reading}
 use Rattle.oca_model.specs.declared.reading.Reading.TheVariants as readings
 use Rattle.oca_model.specs.declared.request.Request.{Request}
 use Rattle.oca_model.specs.declared.value.ValueFault.{ValueFault}
-use Rattle.oca_model.specs.Answers.{answer_count, answer_encoding}
 use Rattle.oca_model.specs.Readings.{reading_count}
-use Rattle.oca_tree.specs.Objects.{object_of}
-use Rattle.oca_tree.specs.Execution.{TreeAndReply, first_that_applies, status_lines, status_of, kind_at, asked_at, refused, by_status, execution}
+use Rattle.oca_tree.specs.Execution.{execution}
 use Rattle.oca_tree.specs.Typed.{answer_given}
-use Rattle.oca_device.specs.States.{reply_of}
 
 -- the response with a reply, under a handle
 abbrev pub response_to : ℕ → Reply → ResponseFields

@@ -1,45 +1,31 @@
 -- Each link of a network has a history; and each command of a link that is asked often enough gets through.
-use Rattle.std.proofs.Common.{arith, append-nil, append_assoc, ◌≡◌, ℕ, ◌+◌, ◌*◌, ◌<◌, ◌≤◌, Bool, true, false, cond, max, List, [], ◌∷◌, ◌++◌, length, Option, Some, None, refl, sym, ap, ◌∙◌, subst, zero, suc, ◌⊎◌, inl, inr}
-use Rattle.std.specs.Prelude.{nat_eq, ◌||◌, map, filter, Result, Ok, Err}
-use Rattle.std.specs.List.{AllByRecursion, slice_get, slice_set}
-use Rattle.std.proofs.lemmas.Option.{slice_get-map, same_Some}
-use Rattle.std.specs.Option.{option_map}
-use Rattle.std.proofs.lemmas.Bool.Decides.{nat_tests}
-use Rattle.oca_types.specs.declared.words.Peer.{Peer}
-use Rattle.oca_types.specs.declared.words.Handle.{Handle}
-use Rattle.oca_types.specs.Peers.{same_peer, CommandFields}
-use Rattle.oca_types.specs.Sizes.{DeviceSizes}
-use Rattle.oca_pdu.specs.Messages.{Commands}
-use Rattle.oca_pdu.specs.Encoding.{pdu_encoding}
-use Rattle.oca_pdu.specs.Laws.{WrittenIsReadBack}
-use Rattle.oca_tree.specs.declared.object.Object.{Object}
-use Rattle.oca_device.specs.Events.{Datagram}
-use Rattle.oca_control.specs.declared.fault.ControlFault.{ControlFault}
-use Rattle.oca_control.specs.Answers.{AnswerFields}
-use Rattle.oca_control.specs.Untaken.{Untaken, answer_under, holds}
-use Rattle.oca_control.specs.Links.{LinkState, new_link, present_moment, after_due, Request, command_under, submission, after_submission, Decision, GivesCommand, GivesKeepAlive, GivesNothing, IsLost as LosesLink, decision, due_answer, due_bytes, gone_on, reception, received, taken}
+use Rattle.oca_pair.proofs.Words.{arith, append-nil, append_assoc, ◌≡◌, ℕ, ◌+◌, ◌*◌, ◌<◌, ◌≤◌, Bool, true, false, cond, List, [], ◌∷◌, ◌++◌, length, Option, Some, None, refl, sym, ap, ◌∙◌, subst}
+use Rattle.oca_pair.proofs.Words.{zero, suc, ◌⊎◌, inl, inr, nat_eq, ◌||◌, map, filter, Result, Ok, Err, AllByRecursion, slice_get, slice_set, slice_get-map, same_Some, option_map, nat_tests, or_right}
+use Rattle.oca_pair.proofs.Words.{eqb-true, Peer, Handle, same_peer, CommandFields, DeviceSizes, Commands, pdu_encoding, WrittenIsReadBack, Object, Datagram, ControlFault, AnswerFields, Untaken}
+use Rattle.oca_pair.proofs.Words.{answer_under, holds, LinkState, new_link, present_moment, after_due, Request, command_under, submission, after_submission, Decision, GivesCommand, GivesKeepAlive}
+use Rattle.oca_pair.proofs.Words.{GivesNothing, decision, due_answer, due_bytes, gone_on, reception, received, taken, IsAskedEvery, IsWaiting, Start, Network, PeerLink, SentDatagram, SubmittedCommand}
+use Rattle.oca_pair.proofs.Words.{TakenAnswer, Setup, Renewal, left_behind, started, opening, Step, Submit, Due, ToDevice, ToLink, Other, Take, has_link, with_link, submitted_by, after_submit}
+use Rattle.oca_pair.proofs.Words.{submit_outcome, given_by, after_due_step, after_delivery, content_read, hears_datagram, after_reception, after_take, Renew, Beside, after_beside, is_no_lower}
+use Rattle.oca_pair.proofs.Words.{renewal_of, renewed_link, after_renewal, after_step, after_steps, on_link, outcome_of_step, CarriesUntaken, are_apart, StepFits, Fit, SpanFits}
+use Rattle.oca_pair.proofs.Words.{KeepsItsSession, FindsRoom, IsAnswerTo, GotItsAnswer, ComesBack, asked, meanwhile, RenewsNothing, called, received_from, receiving, call_in, calls_in, copy_of}
+use Rattle.oca_pair.proofs.Words.{WasSent, WaitsInTime, GetsThrough, ComesInSession, each_map, equal_self, each_both, on_bool}
+use Rattle.std.proofs.Common.{max}
+use Rattle.oca_control.specs.Links.{IsLost as LosesLink}
 use Rattle.oca_control.specs.Histories.{Call, Submits, SendsDue, Receives, TakesAnswer, clock_of_calls, commands, command_accepted, Sending, sending_of, sendings, answers_to, first_of, is_untaken, is_lost, IsCopy}
-use Rattle.oca_control.specs.Answering.{IsAskedEvery, IsWaiting}
 use Rattle.oca_control.proofs.Calls.{answer_is}
-use Rattle.oca_control.proofs.Following.{each_both, IsSent}
+use Rattle.oca_control.proofs.Following.{IsSent}
 use Rattle.oca_control.proofs.Histories.{IsMade, IsMadeBy, HoldsAfter, holds_after_calls}
 use Rattle.oca_control.proofs.InTime.{clock_from, sent_from, in_time_made}
 use Rattle.oca_pair.specs.declared.outcome.Outcome.TheVariants as outcomes
-use Rattle.oca_pair.specs.declared.start.Start.{Start}
-use Rattle.oca_pair.specs.Networks.{Network, PeerLink, SentDatagram, SubmittedCommand, TakenAnswer, Setup, Renewal, left_behind, started, opening}
-use Rattle.oca_pair.specs.Steps.{Step, Submit, Due, ToDevice, ToLink, Other, Take, has_link, with_link, submitted_by, after_submit, submit_outcome, given_by, after_due_step, after_delivery, content_read, hears_datagram, after_reception, after_take, Renew, Beside, after_beside, is_no_lower, unanswered, renewal_of, renewed_link, after_renewal, after_step, after_steps, on_link, outcome_of_step}
 use Rattle.oca_pair.specs.Steps as steps
-use Rattle.oca_pair.specs.Laws.{IsNoRenewal, CarriesUntaken}
-use Rattle.oca_pair.specs.Premises.{are_apart, StepFits, Fit, SpanFits, KeepsItsSession, FindsRoom}
-use Rattle.oca_pair.specs.RoundTrip.{IsAnswerTo, GotItsAnswer, ComesBack, asked, meanwhile, RenewsNothing}
-use Rattle.oca_pair.specs.GettingThrough.{called, received_from, receiving, call_in, calls_in, IsLost, copy_of, WasSent, WaitsInTime, GetsThrough, ComesInSession}
-use Rattle.oca_pair.proofs.Lists.{IsIn, contains_in, in_contains, in_more, in_behind, in_last, each_at, each_in, equal_is, equal_self, mapped_at}
-use Rattle.oca_pair.proofs.Core.{each_map}
+use Rattle.oca_pair.specs.GettingThrough.{IsLost}
+use Rattle.oca_pair.proofs.EachStep.{renewed_at}
+use Rattle.oca_pair.proofs.Lists.{IsIn, contains_in, in_contains, in_more, in_behind, in_last, each_at, each_in, mapped_at}
 use Rattle.oca_pair.proofs.Truths.{past, IsSubmitted, IsTrueAnswer}
 use Rattle.oca_pair.proofs.Fair.{IsFair}
 use Rattle.oca_pair.proofs.Delivering.{held_answer}
 use Rattle.oca_pair.proofs.Networks.{LinkSound, Sound, sound_after}
-use Rattle.oca_pair.proofs.Renewing.{renews_nothing, nothing_in_parts, not_its_renewal, left_steps}
+use Rattle.oca_pair.proofs.Renewing.{by_renewal, renews_nothing, nothing_in_parts, not_its_renewal, left_steps}
 use Rattle.oca_pair.proofs.Fixed.{peers_steps, link_before}
 use Rattle.oca_pair.proofs.Lawful.{true_answer}
 use Rattle.oca_pair.proofs.RoundTrip.{grown_steps, IsKept, Stands, stands_steps, round_trip_law, AreToDevice, to_device_step, to_device_opening}
@@ -86,7 +72,16 @@ runs_link : (first born s i : ℕ) (p : Peer) (calls : List Call) (n m : Network
     slice_get n.links k ≡ Some l → m.address ≡ n.address → m.links ≡ with_link k l (state l.link) n.links → m.to_device ≡ n.to_device ++ more → IsMade l.link (call l.link) (state l.link) →
     (l.peer ≡ p → (h : ℕ) → AreSentBy p (n.to_device ++ more) (sendings born h calls) → AreSentBy p (n.to_device ++ more) (sendings born h (call l.link ∷ calls))) →
     Runs first born s i p calls n → Runs first born s i p (cond (nat_eq k i) (called call (slice_get n.links i)) [] ++ calls) m
-runs_link first born s i p calls n m k l call state more e address links out made sent g = by_test (nat_eq k i) refl
+runs_link first born s i p calls n m k l call state more e address links out made sent g =
+    on_bool (nat_eq k i) (λ b. nat_eq k i ≡ b → Runs first born s i p (cond b (called call (slice_get n.links i)) [] ++ calls) m)
+    (λ q. let is : k ≡ i = eqb-true k i q in subst (λ (o : Option PeerLink). Runs first born s i p (called call o ++ calls) m) (sym (ap (λ (j : ℕ). slice_get n.links j) (sym is) ∙ e)) (mine is))
+    (λ q. record {
+      link = g.link;
+      there = ap (λ (xs : List PeerLink). slice_get xs i) links ∙ put_elsewhere n.links k i y q ∙ g.there;
+      peer = g.peer;
+      made = subst (λ (q : Peer). IsMadeBy q first born s calls g.link.link) (sym address) g.made;
+      sent = λ h. subst (λ (xs : List SentDatagram). AreSentBy p xs (sendings born h calls)) (sym out) (sent_more p n.to_device more (sendings born h calls) (g.sent h));
+    }) refl
   where
     y : PeerLink
     y = record { peer = l.peer; link = state l.link }
@@ -105,27 +100,11 @@ runs_link first born s i p calls n m k l call state more e address links out mad
               (sent peer h (sent_more p n.to_device more (sendings born h calls) (g.sent h)));
         }
 
-    by_test : (b : Bool) → nat_eq k i ≡ b → Runs first born s i p (cond b (called call (slice_get n.links i)) [] ++ calls) m
-    by_test true q =
-        let is : k ≡ i = equal_is k i q in
-        subst (λ (o : Option PeerLink). Runs first born s i p (called call o ++ calls) m) (sym (ap (λ (j : ℕ). slice_get n.links j) (sym is) ∙ e)) (mine is)
-    by_test false q = record {
-      link = g.link;
-      there = ap (λ (xs : List PeerLink). slice_get xs i) links ∙ put_elsewhere n.links k i y q ∙ g.there;
-      peer = g.peer;
-      made = subst (λ (q : Peer). IsMadeBy q first born s calls g.link.link) (sym address) g.made;
-      sent = λ h. subst (λ (xs : List SentDatagram). AreSentBy p xs (sendings born h calls)) (sym out) (sent_more p n.to_device more (sendings born h calls) (g.sent h));
-    }
-
 -- a link that is not there is not this one
 runs_none : (first born s i : ℕ) (p : Peer) (calls : List Call) (n : Network) (k : ℕ) (call : LinkState → Call) → slice_get n.links k ≡ None → Runs first born s i p calls n →
     Runs first born s i p (cond (nat_eq k i) (called call (slice_get n.links i)) [] ++ calls) n
-runs_none first born s i p calls n k call e g = by_test (nat_eq k i) refl
-  where
-    by_test : (b : Bool) → nat_eq k i ≡ b → Runs first born s i p (cond b (called call (slice_get n.links i)) [] ++ calls) n
-    by_test true q =
-        subst (λ (o : Option PeerLink). Runs first born s i p (called call o ++ calls) n) (sym (ap (λ (j : ℕ). slice_get n.links j) (sym (equal_is k i q)) ∙ e)) g
-    by_test false q = g
+runs_none first born s i p calls n k call e g = on_bool (nat_eq k i) (λ b. nat_eq k i ≡ b → Runs first born s i p (cond b (called call (slice_get n.links i)) [] ++ calls) n)
+    (λ q. subst (λ (o : Option PeerLink). Runs first born s i p (called call o ++ calls) n) (sym (ap (λ (j : ℕ). slice_get n.links j) (sym (eqb-true k i q)) ∙ e)) g) (λ q. g) refl
 
 runs_step : (first born s i : ℕ) (p : Peer) (calls : List Call) (step : Step) (n : Network) → RenewsNothing p n (after_step step n) → Runs first born s i p calls n →
     Runs first born s i p (call_in i step n ++ calls) (after_step step n)
@@ -143,12 +122,10 @@ runs_step first born s i p calls step n never g = one step never
 
     gives : (l : PeerLink) (now : ℕ) (d : Decision) → l.peer ≡ p → (h : ℕ) → AreSentBy p (n.to_device ++ steps.sendings_in l.peer (given_by d)) (sendings born h calls) →
         AreSentBy p (n.to_device ++ steps.sendings_in l.peer (given_by d)) (sending_of h (due_answer d) (record { at = max (clock_of_calls born calls) now; bytes = due_bytes d }) (sendings born h calls))
-    gives l now (GivesCommand c) same h a = by_test (nat_eq h c.handle)
-      where
-        by_test : (b : Bool) → AreSentBy p (n.to_device ++ steps.sendings_in l.peer (given_by (GivesCommand c)))
-            (cond b ((let x : Sending = record { at = max (clock_of_calls born calls) now; bytes = due_bytes (GivesCommand c) } in x) ∷ sendings born h calls) (sendings born h calls))
-        by_test true = (in_behind _ n.to_device (steps.sendings_in l.peer (given_by (GivesCommand c))) (inl (ap (λ (q : Peer). let d : SentDatagram = record { peer = q; bytes = due_bytes (GivesCommand c) } in d) same)), a)
-        by_test false = a
+    gives l now (GivesCommand c) same h a =
+        on_bool (nat_eq h c.handle) (λ b. AreSentBy p (n.to_device ++ steps.sendings_in l.peer (given_by (GivesCommand c))) (cond b ((let x : Sending = record { at = max (clock_of_calls born calls) now; bytes = due_bytes (GivesCommand c) } in x) ∷ sendings born h calls) (sendings born h calls)))
+        ((in_behind _ n.to_device (steps.sendings_in l.peer (given_by (GivesCommand c))) (inl (ap (λ (q : Peer). let d : SentDatagram = record { peer = q; bytes = due_bytes (GivesCommand c) } in d) same)), a))
+        a
     gives l now GivesKeepAlive same h a = a
     gives l now GivesNothing same h a = a
     gives l now LosesLink same h a = a
@@ -165,7 +142,11 @@ runs_step first born s i p calls step n never g = one step never
     by_delivery now (Some d) = record { link = g.link; there = g.there; peer = g.peer; made = g.made; sent = g.sent }
 
     heard : (now : ℕ) (d : SentDatagram) → Runs first born s i p (received_from n.address now d g.link ++ calls) (after_reception now (Some d) n)
-    heard now d = by_test (same_peer g.link.peer d.peer) refl
+    heard now d =
+        on_bool (same_peer g.link.peer d.peer) (λ b. same_peer g.link.peer d.peer ≡ b → Runs first born s i p (cond b (Receives n.address d.bytes (content_read d.bytes) now (reception n.address
+        (content_read d.bytes) g.link.link) ∷ []) [] ++ calls) (after_reception now (Some d) n))
+        (λ q. record { link = y; there = there ∙ is true q; peer = g.peer; made = (g.link.link, g.made, refl); sent = g.sent })
+        (λ q. record { link = g.link; there = there ∙ is false q; peer = g.peer; made = g.made; sent = g.sent }) refl
       where
         there : slice_get (map (hears_datagram n.address d now) n.links) i ≡ Some (hears_datagram n.address d now g.link)
         there = slice_get-map (hears_datagram n.address d now) n.links i ∙ ap (λ (o : Option PeerLink). option_map (hears_datagram n.address d now) o) g.there
@@ -175,11 +156,6 @@ runs_step first born s i p calls step n never g = one step never
 
         is : (b : Bool) → same_peer g.link.peer d.peer ≡ b → Some (hears_datagram n.address d now g.link) ≡ Some (cond b y g.link)
         is b q = ap (λ (c : Bool). Some (cond c y g.link)) q
-
-        by_test : (b : Bool) → same_peer g.link.peer d.peer ≡ b →
-            Runs first born s i p (cond b (Receives n.address d.bytes (content_read d.bytes) now (reception n.address (content_read d.bytes) g.link.link) ∷ []) [] ++ calls) (after_reception now (Some d) n)
-        by_test true q = record { link = y; there = there ∙ is true q; peer = g.peer; made = (g.link.link, g.made, refl); sent = g.sent }
-        by_test false q = record { link = g.link; there = there ∙ is false q; peer = g.peer; made = g.made; sent = g.sent }
 
     by_reception : (now : ℕ) (o : Option SentDatagram) → Runs first born s i p (receiving n.address now o (slice_get n.links i) ++ calls) (after_reception now o n)
     by_reception now None = g
@@ -210,14 +186,12 @@ runs_step first born s i p calls step n never g = one step never
         m = record n { links = with_link k l (renewed_link f span now l.link) n.links; renewed = renewal_of l origin ∷ n.renewed }
 
         is_another : RenewsNothing p n m → nat_eq k i ≡ false
-        is_another never = by_number (nat_eq k i) refl
-          where
-            by_number : (b : Bool) → nat_eq k i ≡ b → b ≡ false
-            by_number true q =
-                let there : slice_get n.links i ≡ Some l = ap (λ (j : ℕ). slice_get n.links j) (sym (equal_is k i q)) ∙ e in
-                let same : l ≡ g.link = same_Some l g.link (sym there ∙ g.there) in
-                absurd (not_its_renewal p l.peer (renewal_of l origin) n.renewed refl never (ap (λ (z : PeerLink). z.peer) same ∙ g.peer))
-            by_number false q = refl
+        is_another never = on_bool (nat_eq k i) (λ b. nat_eq k i ≡ b → b ≡ false)
+            (λ q.
+            let there : slice_get n.links i ≡ Some l = ap (λ (j : ℕ). slice_get n.links j) (sym (eqb-true k i q)) ∙ e in
+            let same : l ≡ g.link = same_Some l g.link (sym there ∙ g.there) in
+            absurd (not_its_renewal p l.peer (renewal_of l origin) n.renewed refl never (ap (λ (z : PeerLink). z.peer) same ∙ g.peer)))
+            (λ q. refl) refl
 
         by_test : (b : Bool) → RenewsNothing p n (cond b m n) → Runs first born s i p calls (cond b m n)
         by_test true never = record {
@@ -277,68 +251,46 @@ record WasMade (i : ℕ) (p : Peer) (n : Network) : Type 0 where
   pub runs : Runs first born span i p calls n
 
 made_step : (i : ℕ) (p : Peer) (step : Step) (n : Network) → AreToDevice n → WasMade i p n → WasMade i p (after_step step n)
-made_step i p step n devices g = one step
+made_step i p step n devices g = by_renewal (λ _ m. WasMade i p m) n (λ e none. record {
+  first = g.first;
+  born = g.born;
+  span = g.span;
+  calls = call_in i e n ++ g.calls;
+  runs = runs_step g.first g.born g.span i p g.calls e n (ap (λ rs. length (filter (λ (x : Renewal). same_peer x.peer p) rs)) (renews_nothing e n none)) g.runs;
+}) (λ _. g) (λ k f span now origin l e. by_number k f span now origin l e (nat_eq k i) refl) step
   where
-    goes_on : (step : Step) → IsNoRenewal step → WasMade i p (after_step step n)
-    goes_on step none = record {
+    by_number : (k f span now origin : ℕ) (l : PeerLink) → slice_get n.links k ≡ Some l → (b : Bool) → nat_eq k i ≡ b → WasMade i p (renewed_at k f span now origin l n)
+    by_number k f span now origin l e true q =
+        let y : PeerLink = record { peer = l.peer; link = renewed_link f span now l.link } in
+        let there : slice_get n.links i ≡ Some l = ap (λ (j : ℕ). slice_get n.links j) (sym (eqb-true k i q)) ∙ e in
+        let same : l ≡ g.runs.link = same_Some l g.runs.link (sym there ∙ g.runs.there) in
+        let device : l.link.device ≡ n.address = each_at (λ (z : PeerLink). z.link.device ≡ n.address) n.links i l devices there in
+        record {
+          first = f;
+          born = now;
+          span = span;
+          calls = [];
+          runs = record {
+            link = y;
+            there = ap (λ (j : ℕ). slice_get (slice_set n.links j y) i) (eqb-true k i q) ∙ put_here n.links i y l there;
+            peer = ap (λ (z : PeerLink). z.peer) same ∙ g.runs.peer;
+            made = ap (λ (d : Peer). new_link d f now span) device;
+            sent = λ h. tt;
+          };
+        }
+    by_number k f span now origin l e false q = record {
       first = g.first;
       born = g.born;
       span = g.span;
-      calls = call_in i step n ++ g.calls;
-      runs = runs_step g.first g.born g.span i p g.calls step n (ap (λ rs. length (filter (λ (x : Renewal). same_peer x.peer p) rs)) (renews_nothing step n none)) g.runs;
+      calls = g.calls;
+      runs = record {
+        link = g.runs.link;
+        there = put_elsewhere n.links k i (record { peer = l.peer; link = renewed_link f span now l.link }) q ∙ g.runs.there;
+        peer = g.runs.peer;
+        made = g.runs.made;
+        sent = g.runs.sent;
+      };
     }
-
-    by_renewal : (k f span now origin : ℕ) (o : Option PeerLink) → slice_get n.links k ≡ o → WasMade i p (after_renewal k f span now origin o n)
-    by_renewal k f span now origin None e = g
-    by_renewal k f span now origin (Some l) e = by_test (is_no_lower f l.link.next)
-      where
-        y : PeerLink
-        y = record { peer = l.peer; link = renewed_link f span now l.link }
-
-        m : Network
-        m = record n { links = with_link k l (renewed_link f span now l.link) n.links; renewed = renewal_of l origin ∷ n.renewed }
-
-        by_number : (b : Bool) → nat_eq k i ≡ b → WasMade i p m
-        by_number true q =
-            let there : slice_get n.links i ≡ Some l = ap (λ (j : ℕ). slice_get n.links j) (sym (equal_is k i q)) ∙ e in
-            let same : l ≡ g.runs.link = same_Some l g.runs.link (sym there ∙ g.runs.there) in
-            let device : l.link.device ≡ n.address = each_at (λ (z : PeerLink). z.link.device ≡ n.address) n.links i l devices there in
-            record {
-              first = f;
-              born = now;
-              span = span;
-              calls = [];
-              runs = record {
-                link = y;
-                there = ap (λ (j : ℕ). slice_get (slice_set n.links j y) i) (equal_is k i q) ∙ put_here n.links i y l there;
-                peer = ap (λ (z : PeerLink). z.peer) same ∙ g.runs.peer;
-                made = ap (λ (d : Peer). new_link d f now span) device;
-                sent = λ h. tt;
-              };
-            }
-        by_number false q = record {
-          first = g.first;
-          born = g.born;
-          span = g.span;
-          calls = g.calls;
-          runs = record { link = g.runs.link; there = put_elsewhere n.links k i y q ∙ g.runs.there; peer = g.runs.peer; made = g.runs.made; sent = g.runs.sent };
-        }
-
-        by_test : (b : Bool) → WasMade i p (cond b m n)
-        by_test true = by_number (nat_eq k i) refl
-        by_test false = g
-
-    one : (step : Step) → WasMade i p (after_step step n)
-    one (Submit k r now) = goes_on (Submit k r now) tt
-    one (Due k now) = goes_on (Due k now) tt
-    one (ToDevice k now) = goes_on (ToDevice k now) tt
-    one (ToLink k now) = goes_on (ToLink k now) tt
-    one (Other from bytes now) = goes_on (Other from bytes now) tt
-    one (steps.Tick now) = goes_on (steps.Tick now) tt
-    one (steps.Local ono change) = goes_on (steps.Local ono change) tt
-    one (Take k j) = goes_on (Take k j) tt
-    one (Renew k f span now origin) = by_renewal k f span now origin (slice_get n.links k) refl
-    one (Beside k now) = goes_on (Beside k now) tt
 
 made_steps : (i : ℕ) (p : Peer) (es : List Step) (n : Network) → AreToDevice n → WasMade i p n → WasMade i p (after_steps es n)
 made_steps i p [] n devices g = g
@@ -393,12 +345,9 @@ took r h l e = by (submission r l) e
 -- who holds a handle holds a command under it
 held_one : (h : ℕ) (us : List Untaken) → holds h us ≡ true → (u : Untaken) × IsIn u us × (u.command.handle ≡ h)
 held_one h [] e = cc
-held_one h (u ∷ us) e = by_test (nat_eq u.command.handle h) refl e (held_one h us)
-  where
-    by_test : (b : Bool) → nat_eq u.command.handle h ≡ b → (b || holds h us) ≡ true → (holds h us ≡ true → (v : Untaken) × IsIn v us × (v.command.handle ≡ h)) →
-        (v : Untaken) × IsIn v (u ∷ us) × (v.command.handle ≡ h)
-    by_test true q e rest = (u, inl refl, equal_is u.command.handle h q)
-    by_test false q e rest = let t = rest e in (t.0, inr t.1, t.2)
+held_one h (u ∷ us) e =
+    on_bool (nat_eq u.command.handle h) (λ b. nat_eq u.command.handle h ≡ b → (b || holds h us) ≡ true → (holds h us ≡ true → (v : Untaken) × IsIn v us × (v.command.handle ≡ h)) → (v : Untaken) × IsIn v (u ∷ us) × (v.command.handle ≡ h))
+    (λ q e rest. (u, inl refl, eqb-true u.command.handle h q)) (λ q e rest. let t = rest e in (t.0, inr t.1, t.2)) refl e (held_one h us)
 
 is_its : (s : Peer → ℕ) (n : Network) (l : PeerLink) (c : CommandFields) (a : AnswerFields) → LinkSound s n l → IsSubmitted l.peer c n.submitted → IsTrueAnswer l.peer c.handle a (past n) →
     IsAnswerTo c l.peer a n
@@ -639,16 +588,12 @@ gets_through_by law Comes w s tree starts before later i l r now ms h own wide a
         at_least : (a b : ℕ) → b ≡ a → a ≤ b
         at_least a b e = omega arith
 
-    second : (a b : Bool) → b ≡ true → (a || b) ≡ true
-    second true b q = refl
-    second false b q = q
-
     stands : Stands i p h.0 n.links n.taken
     stands = stands_steps i h.0 p later new never_later (record {
       link = runs_new.link;
       there = runs_new.there;
       peer = runs_new.peer;
-      kept = inl (at_submit.now.held h.0 ∙ second (is_untaken h.0 earlier) (nat_eq h.0 h.0) (equal_self h.0));
+      kept = inl (at_submit.now.held h.0 ∙ or_right (is_untaken h.0 earlier) (nat_eq h.0 h.0) (equal_self h.0));
     })
 
     same_link : stands.link ≡ runs.link

@@ -1,48 +1,26 @@
 -- Where a link and the network are in time, no command is executed twice.
-use Rattle.std.proofs.Common.{append-nil, ◌≡◌, ℕ, ◌+◌, ◌<◌, ◌≤◌, ◌≢◌, Bool, true, false, cond, List, [], ◌∷◌, ◌++◌, Option, Some, None, refl, sym, ap, ◌∙◌, subst, arith, zero, suc, ◌⊎◌, inl, inr}
-use Rattle.std.specs.Prelude.{nat_eq, ◌||◌, map, Result, Ok}
-use Rattle.std.specs.List.{list_any, AllByRecursion, slice_get, slice_set, IsDistinct}
-use Rattle.std.proofs.Math.Dec.{eqb}
-use Rattle.std.proofs.lemmas.Bool.Decides.{nat_tests}
-use Rattle.oca_types.specs.declared.words.Peer.{Peer}
-use Rattle.oca_types.specs.Peers.{same_peer, CommandFields}
-use Rattle.oca_types.specs.Sizes.{DeviceSizes}
-use Rattle.oca_pdu.specs.declared.fault.PduFault.{PduFault}
-use Rattle.oca_pdu.specs.declared.message.Form.{Form}
-use Rattle.oca_pdu.specs.Messages.{Msg, Command, KeepAlive}
-use Rattle.oca_pdu.specs.Reading.{read_datagram}
-use Rattle.oca_pdu.specs.Laws.{WrittenIsReadBack}
-use Rattle.oca_tree.specs.declared.object.Object.{Object}
-use Rattle.oca_session.specs.Accepted.{Entry}
-use Rattle.oca_device.specs.Events.{Event, Datagram}
+use Rattle.oca_pair.proofs.Words.{append-nil, ◌≡◌, ℕ, ◌+◌, ◌<◌, ◌≤◌, ◌≢◌, Bool, true, false, cond, List, [], ◌∷◌, ◌++◌, Option, Some, None, refl, sym, ap, ◌∙◌, subst, arith, zero, suc, ◌⊎◌, inl, inr}
+use Rattle.oca_pair.proofs.Words.{nat_eq, ◌||◌, map, Result, Ok, list_any, AllByRecursion, slice_get, slice_set, eqb, nat_tests, eqb-true, same_Some, Peer, same_peer, CommandFields, DeviceSizes}
+use Rattle.oca_pair.proofs.Words.{PduFault, Form, Msg, Command, KeepAlive, read_datagram, WrittenIsReadBack, Object, Entry, Event, Datagram, Admitted, Note, run, accepted, State, noted, Passes}
+use Rattle.oca_pair.proofs.Words.{admitted, accepted_by, AnswerFields, longest_life, Untaken, answer_under, Request, submission, after_submission, decision, gone_on, received, taken, present_moment}
+use Rattle.oca_pair.proofs.Words.{Start, Network, PeerLink, SentDatagram, SubmittedCommand, TakenAnswer, Setup, started, opening, zero_of, all_left_out, device_zero_of, Step, Submit, Due, ToDevice}
+use Rattle.oca_pair.proofs.Words.{ToLink, Other, Take, has_link, after_submit, after_due_step, after_delivery, content_read, hears_datagram, after_reception, after_take, after_step, after_steps}
+use Rattle.oca_pair.proofs.Words.{Renew, Beside, after_beside, with_link, is_no_lower, renewal_of, renewed_link, after_renewal, happenings, are_apart, StepFits, Fit, Execution, executions_for}
+use Rattle.oca_pair.proofs.Words.{executions_under, WasSubmitted, WasTaken, copy_of, Departure, leaving, leaving_beside, departures_in, clock_at, ArrivesInTime, StepIsInTime, AreInTime}
+use Rattle.oca_pair.proofs.Words.{IsAnswerOfOneExecution, accepted_in_session, each_map, same_is, same_turned, same_self, end_of, on_bool}
+use Rattle.std.specs.List.{IsDistinct}
 use Rattle.oca_device.specs.Events as events
-use Rattle.oca_device.specs.Notes.{Admitted, Note, run, accepted}
-use Rattle.oca_device.specs.States.{State, noted}
-use Rattle.oca_device.specs.LawByEvents.{Passes, admitted, accepted_by}
 use Rattle.oca_device.proofs.Messages.{executed_of}
 use Rattle.oca_device.proofs.Sessions.{let_in_executed}
 use Rattle.oca_device.proofs.Standing.{Stands, passing}
-use Rattle.oca_control.specs.Answers.{AnswerFields}
-use Rattle.oca_control.specs.Limits.{longest_life}
-use Rattle.oca_control.specs.Untaken.{Untaken, answer_under}
-use Rattle.oca_control.specs.Links.{Request, submission, after_submission, decision, gone_on, received, taken, present_moment}
-use Rattle.oca_pair.specs.declared.start.Start.{Start}
-use Rattle.oca_pair.specs.Networks.{Network, PeerLink, SentDatagram, SubmittedCommand, TakenAnswer, Setup, started, opening, zero_of, all_left_out, device_zero_of}
-use Rattle.oca_pair.specs.Steps.{Step, Submit, Due, ToDevice, ToLink, Other, Take, has_link, after_submit, after_due_step, after_delivery, content_read, hears_datagram, after_reception, after_take, after_step, after_steps, Renew, Beside, after_beside, with_link, is_no_lower, renewal_of, renewed_link, after_renewal}
 use Rattle.oca_pair.specs.Steps as steps
-use Rattle.oca_pair.specs.Happenings.{happenings}
-use Rattle.oca_pair.specs.Premises.{are_apart, StepFits, Fit}
-use Rattle.oca_pair.specs.Laws.{Execution, executions_for, executions_under, WasSubmitted, WasTaken}
-use Rattle.oca_pair.specs.GettingThrough.{copy_of}
-use Rattle.oca_pair.specs.InTime.{Departure, leaving, leaving_beside, departures_in, clock_at, ArrivesInTime, StepIsInTime, AreInTime, IsAnswerOfOneExecution, accepted_in_session}
-use Rattle.oca_pair.proofs.Core.{each_map, none_passes}
-use Rattle.oca_pair.proofs.Lists.{contains_in, in_contains, each_at, each_in, equal_is, same_is, same_turned, same_self, other_is, same_some, mapped_at}
+use Rattle.oca_pair.proofs.Core.{none_passes}
+use Rattle.oca_pair.proofs.Lists.{contains_in, in_contains, each_at, each_in, other_is, mapped_at}
 use Rattle.oca_pair.proofs.Wire.{IsSendable, read_command}
 use Rattle.oca_pair.proofs.ByEvents.{stands_by}
 use Rattle.oca_pair.proofs.Executions.{executed_for, executions_are}
 use Rattle.oca_pair.proofs.Truths.{past, and_then, state_of, IsTrueAnswer}
 use Rattle.oca_pair.proofs.Arrivals.{looked_at}
-use Rattle.oca_pair.proofs.Fair.{end_of}
 use Rattle.oca_pair.proofs.Renewing.{above_next}
 use Rattle.oca_pair.proofs.Delivering.{held_answer}
 use Rattle.oca_pair.proofs.Keeping.{handles_for}
@@ -72,8 +50,8 @@ apart_at (y ∷ ys) zero zero x z a e f other = absurd (not_so other)
   where
     not_so : nat_eq 0 0 ≡ false → ⊥
     not_so q = cc
-apart_at (y ∷ ys) zero (suc i) x z a e f other = let same : y ≡ x = same_some y x e in λ h. each_at (λ (w : PeerLink). w.peer ≢ y.peer) ys i z a.0 f (sym h ∙ ap (λ (w : PeerLink). w.peer) (sym same))
-apart_at (y ∷ ys) (suc k) zero x z a e f other = let same : y ≡ z = same_some y z f in λ h. each_at (λ (w : PeerLink). w.peer ≢ y.peer) ys k x a.0 e (h ∙ ap (λ (w : PeerLink). w.peer) (sym same))
+apart_at (y ∷ ys) zero (suc i) x z a e f other = let same : y ≡ x = same_Some y x e in λ h. each_at (λ (w : PeerLink). w.peer ≢ y.peer) ys i z a.0 f (sym h ∙ ap (λ (w : PeerLink). w.peer) (sym same))
+apart_at (y ∷ ys) (suc k) zero x z a e f other = let same : y ≡ z = same_Some y z f in λ h. each_at (λ (w : PeerLink). w.peer ≢ y.peer) ys k x a.0 e (h ∙ ap (λ (w : PeerLink). w.peer) (sym same))
 apart_at (y ∷ ys) (suc k) (suc i) x z a e f other = apart_at ys k i x z a.1 e f (fewer k i other)
   where
     fewer : (a b : ℕ) → nat_eq (suc a) (suc b) ≡ false → nat_eq a b ≡ false
@@ -82,17 +60,12 @@ apart_at (y ∷ ys) (suc k) (suc i) x z a e f other = apart_at ys k i x z a.1 e 
 -- one link changes: what is so of it, and of the others
 pub at_put : (P : PeerLink → Type 0) (i k : ℕ) (x y : PeerLink) (links : List PeerLink) → slice_get links k ≡ Some x → (k ≡ i → slice_get links i ≡ Some x → P y) →
     ((l : PeerLink) → nat_eq k i ≡ false → slice_get links i ≡ Some l → P l) → (l : PeerLink) → slice_get (slice_set links k y) i ≡ Some l → P l
-at_put P i k x y links e mine others l own = by_test (nat_eq k i) refl
+at_put P i k x y links e mine others l own = on_bool (nat_eq k i) (λ b. nat_eq k i ≡ b → P l)
+    (λ q. let is : k ≡ i = eqb-true k i q in let same : y ≡ l = same_Some y l (sym (put_here links i y x (here is)) ∙ ap (λ (j : ℕ). slice_get (slice_set links j y) i) (sym is) ∙ own) in subst P same (mine is (here is)))
+    (λ q. others l q (sym (put_elsewhere links k i y q) ∙ own)) refl
   where
     here : k ≡ i → slice_get links i ≡ Some x
     here q = ap (λ (j : ℕ). slice_get links j) (sym q) ∙ e
-
-    by_test : (b : Bool) → nat_eq k i ≡ b → P l
-    by_test true q =
-        let is : k ≡ i = equal_is k i q in
-        let same : y ≡ l = same_some y l (sym (put_here links i y x (here is)) ∙ ap (λ (j : ℕ). slice_get (slice_set links j y) i) (sym is) ∙ own) in
-        subst P same (mine is (here is))
-    by_test false q = others l q (sym (put_elsewhere links k i y q) ∙ own)
 
 timed_put : (s : Setup) (i k : ℕ) (x y : PeerLink) (left : List Departure) (n m : Network) → slice_get n.links k ≡ Some x → m.links ≡ slice_set n.links k y →
     (k ≡ i → slice_get n.links i ≡ Some x → Timed (zeros s m y.peer) y.peer (end_of y.link.next) y.link.moment y.link.untaken left m.to_device (state_of (past m)).notes) →
@@ -119,7 +92,8 @@ timed_step_take s i k h left n g (Some x) e =
 timed_step_renewal : (s : Setup) (i k first span now origin : ℕ) (left : List Departure) (n : Network) → Sound s.span n → TimedAt s i left n → (o : Option PeerLink) → slice_get n.links k ≡ o →
     TimedAt s i left (after_renewal k first span now origin o n)
 timed_step_renewal s i k first span now origin left n sound g None e = g
-timed_step_renewal s i k first span now origin left n sound g (Some x) e = by_test (is_no_lower first x.link.next) refl
+timed_step_renewal s i k first span now origin left n sound g (Some x) e = on_bool (is_no_lower first x.link.next) (λ b. is_no_lower first x.link.next ≡ b → TimedAt s i left (cond b m n))
+    (λ q. timed_put s i k x y left n m e refl (λ is own. mine (above_next first x.link.next q) own) others) (λ q. g) refl
   where
     y : PeerLink
     y = record { peer = x.peer; link = renewed_link first span now x.link }
@@ -139,10 +113,6 @@ timed_step_renewal s i k first span now origin left n sound g (Some x) e = by_te
     others l other own =
         subst (λ (z : ℕ). Timed (record { link = z; device = device_zero_of s n }) l.peer (end_of l.link.next) l.link.moment l.link.untaken left n.to_device (state_of (past n)).notes)
         (sym (zero_by l.peer false (other_is x.peer l.peer (apart_at n.links k i x l sound.apart e own other)))) (g l own)
-
-    by_test : (b : Bool) → is_no_lower first x.link.next ≡ b → TimedAt s i left (cond b m n)
-    by_test true q = timed_put s i k x y left n m e refl (λ is own. mine (above_next first x.link.next q) own) others
-    by_test false q = g
 
 no_more : (zs : Zeros) (p : Peer) (end m : ℕ) (us : List Untaken) (left : List Departure) (out : List SentDatagram) (ns : List Note) → Timed zs p end m us left out ns → Timed zs p end m us (left ++ []) out ns
 no_more zs p end m us left out ns g = rw append-nil g
@@ -203,14 +173,12 @@ timed_step_delivery s i k now left n in_time g (Some d) e = λ l own. behind l (
     by_test l own false q = timed_elsewhere (zeros s n l.peer) l.peer d.peer (end_of l.link.next) l.link.moment l.link.untaken left n.to_device (past n) d.bytes now q (g l own)
 
 timed_step_other : (s : Setup) (i : ℕ) (from : Peer) (bytes : List ℕ) (now : ℕ) (left : List Departure) (n : Network) → TimedAt s i left n → TimedAt s i left (after_step (Other from bytes now) n)
-timed_step_other s i from bytes now left n g = by_test (has_link from n.links) refl
-  where
-    by_test : (b : Bool) → has_link from n.links ≡ b → TimedAt s i left (cond b n (record n { events = Datagram from bytes now ∷ n.events }))
-    by_test true q = g
-    by_test false q = λ l own. timed_behind (zeros s n l.peer) (s.device_zero + all_left_out s.left_out (Datagram from bytes now ∷ n.events)) l.peer (end_of l.link.next) l.link.moment l.link.untaken left n.to_device
-        (state_of (and_then (Datagram from bytes now) (past n))).notes (falls_behind s n (Datagram from bytes now))
-        (timed_elsewhere (zeros s n l.peer) l.peer from (end_of l.link.next) l.link.moment l.link.untaken left n.to_device (past n) bytes now
-        (same_turned from l.peer ∙ each_at (λ (z : PeerLink). same_peer z.peer from ≡ false) n.links i l (none_passes (λ (z : PeerLink). same_peer z.peer from) n.links q) own) (g l own))
+timed_step_other s i from bytes now left n g = on_bool (has_link from n.links) (λ b. has_link from n.links ≡ b → TimedAt s i left (cond b n (record n { events = Datagram from bytes now ∷ n.events })))
+    (λ q. g)
+    (λ q. λ l own. timed_behind (zeros s n l.peer) (s.device_zero + all_left_out s.left_out (Datagram from bytes now ∷ n.events)) l.peer (end_of l.link.next) l.link.moment l.link.untaken left n.to_device
+    (state_of (and_then (Datagram from bytes now) (past n))).notes (falls_behind s n (Datagram from bytes now)) (timed_elsewhere (zeros s n l.peer) l.peer from
+    (end_of l.link.next) l.link.moment l.link.untaken left n.to_device (past n) bytes now (same_turned from l.peer ∙ each_at (λ (z : PeerLink). same_peer z.peer from ≡ false) n.links i l (none_passes
+    (λ (z : PeerLink). same_peer z.peer from) n.links q) own) (g l own))) refl
 
 pub timed_step : WrittenIsReadBack → (s : Setup) (i : ℕ) (left : List Departure) (step : Step) (n : Network) → Sound s.span n → StepIsInTime s i left step n → TimedAt s i left n → TimedAt s i (left ++ departures_in s step n) (after_step step n)
 timed_step law s i left step n sound in_time g = one step in_time

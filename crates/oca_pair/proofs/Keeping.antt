@@ -1,25 +1,13 @@
 -- What is accepted of a peer: of one whose session is never forgotten, that its accepted commands are all that were ever executed for it,
 -- each once; and of one whose commands were executed once, how they grow.
-use Rattle.std.proofs.Common.{append-nil, append_assoc, ◌≡◌, ℕ, ◌-◌, Bool, true, false, cond, List, [], ◌∷◌, ◌++◌, refl, sym, ap, ◌∙◌, subst, arith, ◌⊎◌, inl, inr}
-use Rattle.std.specs.Prelude.{nat_le, ◌||◌, map, Ok}
-use Rattle.std.specs.List.{list_any, AllByRecursion, IsDistinct}
-use Rattle.std.proofs.Math.Dec.{eqb}
-use Rattle.std.proofs.lemmas.List.Folds.{list_any-append}
-use Rattle.std.proofs.lemmas.Bool.Decides.{nat_tests}
-use Rattle.oca_types.specs.declared.words.Peer.{Peer}
-use Rattle.oca_types.specs.Replies.{Reply}
-use Rattle.oca_types.specs.Peers.{same_peer, CommandFields}
-use Rattle.oca_pdu.specs.declared.message.Form.{Form}
-use Rattle.oca_pdu.specs.Messages.{Msg, Command, KeepAlive}
-use Rattle.oca_pdu.specs.Reading.{read_datagram}
-use Rattle.oca_session.specs.Accepted.{Entry, has_handle, Judgement, Fresh, Duplicate, Reused, Old}
-use Rattle.oca_device.specs.Events.{Event, Datagram, Tick, Local}
-use Rattle.oca_device.specs.Notes.{Noted, Admitted, Heartbeat, Executed, Note, notes_of, is_recent, unbroken, run, accepted, accepted_after}
-use Rattle.oca_device.specs.States.{State, noted, admits, judged_in, reply_of, after_command, after_message, after_reading, time_of}
-use Rattle.oca_device.specs.LawByEvents.{Arrival}
-use Rattle.oca_pair.specs.Laws.{Execution}
-use Rattle.oca_pair.proofs.Core.{each_map, has, none_passes}
-use Rattle.oca_pair.proofs.Lists.{IsIn, neither, same_self}
+use Rattle.oca_pair.proofs.Words.{append-nil, append_assoc, ◌≡◌, ℕ, ◌-◌, Bool, true, false, cond, List, [], ◌∷◌, ◌++◌, refl, sym, ap, ◌∙◌, subst, arith, ◌⊎◌, inl, inr, nat_le, ◌||◌, map, Ok, list_any}
+use Rattle.oca_pair.proofs.Words.{AllByRecursion, eqb, list_any-append, nat_tests, eq-eqb, or_left, or_right, or_from, Peer, Reply, same_peer, CommandFields, Form, Msg, Command, KeepAlive}
+use Rattle.oca_pair.proofs.Words.{read_datagram, Entry, has_handle, Judgement, Fresh, Duplicate, Reused, Old, Event, Datagram, Tick, Local, Noted, Admitted, Heartbeat, Executed, Note, notes_of}
+use Rattle.oca_pair.proofs.Words.{is_recent, unbroken, run, accepted, accepted_after, State, noted, admits, judged_in, reply_of, after_command, after_message, after_reading, time_of, Arrival}
+use Rattle.oca_pair.proofs.Words.{Execution, each_map, same_self}
+use Rattle.std.specs.List.{IsDistinct}
+use Rattle.oca_pair.proofs.Core.{has, none_passes}
+use Rattle.oca_pair.proofs.Lists.{IsIn, flipped}
 use Rattle.oca_pair.proofs.Clocks.{Grows, grows_reading, notes_of_grown}
 use Rattle.oca_pair.proofs.Executions.{executed_in, executed_for}
 use Rattle.oca_pair.proofs.Truths.{Past, and_then, state_of}
@@ -78,23 +66,13 @@ has_executed h p (n ∷ ns) = by_test (same_peer n.peer p) n.what (has_executed 
 pub executed_has : (h : ℕ) (p : Peer) (ns : List Note) (x : Execution) → IsIn x (executed_for p ns) → x.command.handle ≡ h → has h (accepted (notes_of p ns)) ≡ true
 executed_has h p ns x i e = has_executed h p ns ∙ any (executed_for p ns) i
   where
-    passes : (a b : ℕ) → a ≡ b → eqb a b ≡ true
-    passes a b q = grind (arith, nat_tests)
-
     handle_is : (y : Execution) → y ≡ x → y.command.handle ≡ h
     handle_is y q = ap (λ (z : Execution). z.command.handle) q ∙ e
 
-    first : (a b : Bool) → a ≡ true → (a || b) ≡ true
-    first a b q = cc
-
-    second : (a b : Bool) → b ≡ true → (a || b) ≡ true
-    second true b q = refl
-    second false b q = q
-
     any : (xs : List Execution) → IsIn x xs → list_any (λ y. eqb y h) (map (λ (y : Execution). y.command.handle) xs) ≡ true
     any [] i = absurd i
-    any (y ∷ ys) (inl q) = first (eqb y.command.handle h) (list_any (λ z. eqb z h) (map (λ (z : Execution). z.command.handle) ys)) (passes y.command.handle h (handle_is y q))
-    any (y ∷ ys) (inr i) = second (eqb y.command.handle h) (list_any (λ z. eqb z h) (map (λ (z : Execution). z.command.handle) ys)) (any ys i)
+    any (y ∷ ys) (inl q) = or_left (eqb y.command.handle h) (list_any (λ z. eqb z h) (map (λ (z : Execution). z.command.handle) ys)) (eq-eqb y.command.handle h (handle_is y q))
+    any (y ∷ ys) (inr i) = or_right (eqb y.command.handle h) (list_any (λ z. eqb z h) (map (λ (z : Execution). z.command.handle) ys)) (any ys i)
 
 -- ---- one more note of the peer
 
@@ -174,9 +152,6 @@ delivers p m bytes now g read kind keeps k = by_room (admits g.sizes s1 p) refl
         s2' : State
         s2' = record { tree = s2.tree; moment = s2.moment; notes = s2.notes }
 
-        flipped : (a b : ℕ) → eqb a b ≡ false → eqb b a ≡ false
-        flipped a b e = grind (arith, nat_tests)
-
         fresh : (h : ℕ) (ns : List Note) → has h (accepted (notes_of p ns)) ≡ false → AllByRecursion (λ y. eqb h y ≡ false) (handles_for p ns)
         fresh h ns e = each_map (λ y t. flipped y h t) (handles_for p ns) (none_passes (λ y. eqb y h) (handles_for p ns) (sym (has_executed h p ns) ∙ e))
     by_judgement c room (Duplicate r) q state_is = made s2 state_is (kept2 room)
@@ -230,12 +205,9 @@ grows_once p m bytes now g read kind once = by_room (admits g.sizes (looked_at n
         executed_are : executed_for p (noted p (Executed s2.tree c r) s2').notes ≡ x ∷ executed_for p (state_of g).notes
         executed_are = executed_noted p (Executed s2.tree c r) s2' ∙ ap (λ (xs : List Execution). x ∷ xs) (executed_noted p (Admitted (m ∷ [])) (looked_at now g))
 
-        flipped : (a b : ℕ) → eqb a b ≡ false → eqb b a ≡ false
-        flipped a b e = grind (arith, nat_tests)
-
         none : (xs : List ℕ) → AllByRecursion (λ y. eqb c.handle y ≡ false) xs → list_any (λ y. eqb y c.handle) xs ≡ false
         none [] a = refl
-        none (y ∷ ys) a = neither (eqb y c.handle) (list_any (λ y. eqb y c.handle) ys) (flipped c.handle y a.0) (none ys a.1)
+        none (y ∷ ys) a = or_from (eqb y c.handle) (list_any (λ y. eqb y c.handle) ys) (flipped c.handle y a.0) (none ys a.1)
 
         new : IsDistinct eqb (c.handle ∷ handles_for p (state_of g).notes) → has c.handle (accepted_by p g) ≡ false
         new d = has_executed c.handle p (state_of g).notes ∙ none (handles_for p (state_of g).notes) d.0

@@ -1,44 +1,24 @@
 -- The laws of networks.
-use Rattle.std.proofs.Common.{◌≡◌, ℕ, ◌+◌, ◌*◌, ◌<◌, ◌≤◌, true, false, cond, List, [], ◌∷◌, ◌++◌, length, Option, Some, refl, sym, ap, ◌∙◌, subst, arith, ◌⊎◌, inl, inr}
-use Rattle.std.specs.Prelude.{map, Ok}
-use Rattle.std.specs.List.{AllByRecursion, slice_get, list_any, IsDistinct}
-use Rattle.std.proofs.Math.Dec.{eqb}
-use Rattle.std.proofs.lemmas.Bool.Decides.{nat_tests}
-use Rattle.oca_types.specs.declared.words.Peer.{Peer}
-use Rattle.oca_types.specs.Replies.{Reply}
-use Rattle.oca_types.specs.Peers.{same_peer, CommandFields}
-use Rattle.oca_types.specs.Sizes.{DeviceSizes}
-use Rattle.oca_pdu.specs.Messages.{Msg, Command, Commands}
-use Rattle.oca_pdu.specs.Encoding.{pdu_encoding}
-use Rattle.oca_pdu.specs.Reading.{read_datagram}
-use Rattle.oca_pdu.specs.Laws.{WrittenIsReadBack}
-use Rattle.oca_tree.specs.declared.object.Object.{Object}
-use Rattle.oca_session.specs.Accepted.{Entry, window, outside, entry_under, Judgement, Fresh, Duplicate, Reused, Old}
-use Rattle.oca_device.specs.declared.verdict.Verdict.{Verdict}
+use Rattle.oca_pair.proofs.Words.{◌≡◌, ℕ, ◌+◌, ◌*◌, ◌<◌, ◌≤◌, true, false, cond, List, [], ◌∷◌, ◌++◌, length, Option, Some, refl, sym, ap, ◌∙◌, subst, arith, ◌⊎◌, inl, inr, map, Ok, AllByRecursion}
+use Rattle.oca_pair.proofs.Words.{slice_get, list_any, eqb, eq-eqb, eqb-true, Peer, Reply, same_peer, CommandFields, DeviceSizes, Msg, Command, Commands, pdu_encoding, read_datagram}
+use Rattle.oca_pair.proofs.Words.{WrittenIsReadBack, Object, Entry, window, outside, entry_under, Judgement, Fresh, Duplicate, Reused, Old, Verdict, Event, Datagram, Tick, changes, Admitted, Executed}
+use Rattle.oca_pair.proofs.Words.{run, accepted, State, admits, judged_in, reply_of, after_command, response, answer_to_command, answers_to_reading, packets_of, count_of_command, counts, plus, served}
+use Rattle.oca_pair.proofs.Words.{verdict_of_reading, verdict, AnswerFields, Untaken, Start, Network, PeerLink, SentDatagram, SubmittedCommand, TakenAnswer, Setup, Renewal, opening, left_by, Step}
+use Rattle.oca_pair.proofs.Words.{sendings_in, after_steps, happenings, are_apart, Fit, KeepsItsSession, FindsRoom, SpanFits, Execution, executions_in, executions_for, executions_under}
+use Rattle.oca_pair.proofs.Words.{IsAnswerOfItsCommand, handles_of, EachToNext, AnswersItsCommands, CarriesUntaken, IsAnswered, AnswersUntaken, ExecutesOnce, OnlyRenewalsRenew}
+use Rattle.oca_pair.proofs.Words.{EveryFirstLinkIsAsSetUp, end_of}
+use Rattle.std.specs.List.{IsDistinct}
 use Rattle.oca_device.specs.declared.verdict.Verdict.TheVariants as verdicts
-use Rattle.oca_device.specs.Events.{Event, Datagram, Tick}
-use Rattle.oca_device.specs.LawByEvents.{changes}
-use Rattle.oca_device.specs.Notes.{Admitted, Executed, run, accepted}
-use Rattle.oca_device.specs.States.{State, admits, judged_in, reply_of, after_command}
-use Rattle.oca_device.specs.Answers.{response, answer_to_command, answers_to_reading, packets_of, count_of_command, counts, plus, served, verdict_of_reading, verdict}
-use Rattle.oca_control.specs.Answers.{AnswerFields}
-use Rattle.oca_control.specs.Untaken.{Untaken}
 use Rattle.oca_pair.specs.declared.outcome.Outcome.TheVariants as outcomes
-use Rattle.oca_pair.specs.declared.start.Start.{Start}
-use Rattle.oca_pair.specs.Networks.{Network, PeerLink, SentDatagram, SubmittedCommand, TakenAnswer, Setup, Renewal, opening, left_by}
-use Rattle.oca_pair.specs.Steps.{Step, sendings_in, after_steps}
-use Rattle.oca_pair.specs.Happenings.{happenings}
-use Rattle.oca_pair.specs.Premises.{are_apart, Fit, KeepsItsSession, FindsRoom, SpanFits}
-use Rattle.oca_pair.specs.Laws.{Execution, executions_in, executions_for, executions_under, IsAnswerOfItsCommand, handles_of, EachToNext, AnswersItsCommands, CarriesUntaken, IsAnswered, AnswersUntaken, ExecutesOnce, OnlyRenewalsRenew, EveryFirstLinkIsAsSetUp}
 use Rattle.oca_pair.proofs.Fixed.{sizes_kept}
 use Rattle.oca_pair.proofs.Core.{AllBelow, Trails, trails_all, IsServed}
-use Rattle.oca_pair.proofs.Lists.{IsIn, contains_in, in_contains, each_at, each_in, equal_is}
+use Rattle.oca_pair.proofs.Lists.{IsIn, contains_in, in_contains, each_at, each_in, flipped}
 use Rattle.oca_pair.proofs.Arrivals.{Keeps, keeps_before, looked_at, found_room}
 use Rattle.oca_pair.proofs.ByEvents.{stands_by}
 use Rattle.oca_pair.proofs.Executions.{executed_for, executions_are}
 use Rattle.oca_pair.proofs.Wire.{IsSendable, read_command}
 use Rattle.oca_pair.proofs.Truths.{Past, past, and_then, state_of, IsSubmitted, IsTrueAnswer, window_executed}
-use Rattle.oca_pair.proofs.Fair.{end_of, IsFair, AreOwn, Fair, owns_then, judged_duplicate}
+use Rattle.oca_pair.proofs.Fair.{IsFair, AreOwn, Fair, owns_then, judged_duplicate}
 use Rattle.oca_pair.proofs.Delivering.{let_in, after_read, answers_read, held_answer}
 use Rattle.oca_pair.proofs.Keeping.{accepted_by, Kept, Once, executed_noted, accepted_let_in}
 use Rattle.oca_pair.proofs.Span.{GoodSince, untaken_low, untaken_served}
@@ -51,20 +31,14 @@ use Rattle.oca_pair.proofs.Networks.{one_or, LinkSound, Sound, sound_after}
 none_under : (h : ℕ) (xs : List Execution) → AllByRecursion (λ y. eqb h y ≡ false) (map (λ (x : Execution). x.command.handle) xs) → executions_under h xs ≡ []
 none_under h [] a = refl
 none_under h (x ∷ xs) a = ap (λ b. cond b (x ∷ executions_under h xs) (executions_under h xs)) (flipped h x.command.handle a.0) ∙ none_under h xs a.1
-  where
-    flipped : (a b : ℕ) → eqb a b ≡ false → eqb b a ≡ false
-    flipped a b e = grind (arith, nat_tests)
 
 pub only_one : (h : ℕ) (x : Execution) (xs : List Execution) → IsDistinct eqb (map (λ (y : Execution). y.command.handle) xs) → IsIn x xs → x.command.handle ≡ h → executions_under h xs ≡ x ∷ []
 unfolding IsDistinct
 only_one h x [] d i e = absurd i
 only_one h x (y ∷ ys) d (inl q) e =
     let his : y.command.handle ≡ h = ap (λ (z : Execution). z.command.handle) q ∙ e in
-    ap (λ b. cond b (y ∷ executions_under h ys) (executions_under h ys)) (passes y.command.handle h his)
+    ap (λ b. cond b (y ∷ executions_under h ys) (executions_under h ys)) (eq-eqb y.command.handle h his)
     ∙ ap (λ zs. y ∷ zs) (none_under h ys (rw his at d.0)) ∙ ap (λ z. z ∷ []) q
-  where
-    passes : (a b : ℕ) → a ≡ b → eqb a b ≡ true
-    passes a b q = grind (arith, nat_tests)
 only_one h x (y ∷ ys) d (inr i) e =
     let other : eqb y.command.handle h ≡ false = rw e at (member (λ z. eqb y.command.handle z ≡ false) ys d.0 i) in
     ap (λ b. cond b (y ∷ executions_under h ys) (executions_under h ys)) other ∙ only_one h x ys d.1 i e
@@ -185,7 +159,7 @@ answered_now law s late few n k now d next us u c wide there fair trails good he
     same_command : (x : Entry) → entry_under c.handle (window n.sizes.window A) ≡ Some x → x.command ≡ c
     same_command x q =
         let a = window_executed n.sizes p (and_then e g) c.handle x s2.notes own2 q in
-        fair.unique x.command c a.0.honest.submitted sub (equal_is x.command.handle c.handle a.1)
+        fair.unique x.command c a.0.honest.submitted sub (eqb-true x.command.handle c.handle a.1)
 
     low : AllBelow u.command.handle (outside n.sizes.window A)
     low = untaken_low n.sizes.window s late few p next us n.submitted in_session.0 A u wide (rw in_session.1 at trails) (rw in_session.1 at good) held
@@ -246,7 +220,7 @@ answered_now law s late few n k now d next us u c wide there fair trails good he
         (answers_read n.sizes p m d.bytes now g true read room ∙ ap (λ j. answer_to_command j p c s2 ++ []) q)
         (verdict_read ∙ ap (λ j. served (plus (count_of_command j) (counts 0 0 0 0))) q)
         (inr (refl, let_in_none, subst (λ (xs : List Execution). IsIn x xs) let_in_none a.0.executed))
-        (fair.unique f.0.command c a.0.honest.submitted sub (equal_is f.0.command.handle c.handle a.1)) (sym f.2)
+        (fair.unique f.0.command c a.0.honest.submitted sub (eqb-true f.0.command.handle c.handle a.1)) (sym f.2)
     by_judgement Reused q t = absurd t
     by_judgement Old q t = absurd t
 

@@ -1,4 +1,6 @@
+pub mod Words
 pub mod Lists
+pub mod EachStep
 pub mod Core
 pub mod Wire
 pub mod Fitting

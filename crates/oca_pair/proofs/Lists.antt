@@ -1,52 +1,16 @@
 -- Of lists and peers.
-use Rattle.std.proofs.Common.{◌≡◌, ℕ, ◌≢◌, Bool, true, false, List, [], ◌∷◌, ◌++◌, Some, refl, sym, ap, ◌∙◌, arith, zero, suc, ◌⊎◌, inl, inr}
-use Rattle.std.specs.Prelude.{nat_eq, not, ◌&&◌, ◌||◌, map}
-use Rattle.std.specs.List.{AllByRecursion, Contains, slice_get, slice_set}
-use Rattle.std.proofs.lemmas.Bool.Decides.{nat_tests}
-use Rattle.oca_types.specs.declared.words.Peer.{Peer}
-use Rattle.oca_types.specs.Peers.{same_peer}
+use Rattle.oca_pair.proofs.Words.{◌≡◌, ℕ, ◌≢◌, true, false, List, [], ◌∷◌, ◌++◌, Some, refl, sym, ap, ◌∙◌, arith, zero, suc, ◌⊎◌, inl, inr, nat_eq, map, AllByRecursion, Contains, slice_get, slice_set}
+use Rattle.oca_pair.proofs.Words.{nat_tests, same_Some, Peer, same_peer, same_self, same_is, on_bool}
 
 -- ---- tests
-
-pub both_true : (a b : Bool) → (a && b) ≡ true → (a ≡ true) × (b ≡ true)
-both_true true b q = (refl, q)
-both_true false b q = cc
-
-pub both_hold : (a b : Bool) → a ≡ true → b ≡ true → (a && b) ≡ true
-both_hold a b p q = cc
-
-pub neither : (a b : Bool) → a ≡ false → b ≡ false → (a || b) ≡ false
-neither a b p q = cc
-
-pub not_true : (b : Bool) → not b ≡ true → b ≡ false
-not_true true e = cc
-not_true false e = refl
 
 pub differs : {X : Type 0} → true ≡ false → X
 differs e = cc
 
+pub flipped : (a b : ℕ) → nat_eq a b ≡ false → nat_eq b a ≡ false
+flipped a b e = grind (arith, nat_tests)
+
 -- ---- peers
-
-pub equal_is : (a b : ℕ) → nat_eq a b ≡ true → a ≡ b
-equal_is a b h = grind (arith, nat_tests)
-
-pub equal_self : (a : ℕ) → nat_eq a a ≡ true
-equal_self a = grind (arith, nat_tests)
-
-equal_turned : (a b : ℕ) → nat_eq a b ≡ nat_eq b a
-equal_turned a b = grind (arith, nat_tests)
-
-pub same_self : (p : Peer) → same_peer p p ≡ true
-same_self p = ap (λ b. b && nat_eq p.port p.port) (equal_self p.ip) ∙ equal_self p.port
-
-pub same_is : (p q : Peer) → same_peer p q ≡ true → p ≡ q
-same_is p q h =
-    let parts = both_true (nat_eq p.ip q.ip) (nat_eq p.port q.port) h in
-    ap (λ (n : ℕ). let x : Peer = record { ip = n; port = p.port } in x) (equal_is p.ip q.ip parts.0)
-    ∙ ap (λ (n : ℕ). let x : Peer = record { ip = q.ip; port = n } in x) (equal_is p.port q.port parts.1)
-
-pub same_turned : (p q : Peer) → same_peer p q ≡ same_peer q p
-same_turned p q = ap (λ b. b && nat_eq p.port q.port) (equal_turned p.ip q.ip) ∙ ap (λ b. nat_eq q.ip p.ip && b) (equal_turned p.port q.port)
 
 pub same_of : (p q : Peer) → p ≡ q → same_peer p q ≡ true
 same_of p q e = ap (λ x. same_peer p x) (sym e) ∙ same_self p
@@ -55,11 +19,7 @@ pub other_of : (p q : Peer) → same_peer p q ≡ false → p ≢ q
 other_of p q e same = differs (sym (same_of p q same) ∙ e)
 
 pub other_is : (p q : Peer) → p ≢ q → same_peer p q ≡ false
-other_is p q other = by_test (same_peer p q) refl
-  where
-    by_test : (b : Bool) → same_peer p q ≡ b → b ≡ false
-    by_test true e = absurd (other (same_is p q e))
-    by_test false e = refl
+other_is p q other = on_bool (same_peer p q) (λ b. same_peer p q ≡ b → b ≡ false) (λ e. absurd (other (same_is p q e))) (λ e. refl) refl
 
 -- ---- members
 
@@ -112,11 +72,8 @@ each_set P [] k y q p = tt
 each_set P (x ∷ xs) zero y q p = (q, p.1)
 each_set P (x ∷ xs) (suc k) y q p = (p.0, each_set P xs k y q p.1)
 
-pub same_some : {X : Type 0} (x y : X) → Some x ≡ Some y → x ≡ y
-same_some x y e = cc
-
 -- what stands at a place of a list that a function was mapped over
 pub mapped_at : {X Y : Type 0} (f : X → Y) (xs : List X) (i : ℕ) (y : Y) → slice_get (map f xs) i ≡ Some y → (x : X) × (slice_get xs i ≡ Some x) × (f x ≡ y)
 mapped_at f [] i y e = cc
-mapped_at f (x ∷ xs) zero y e = (x, refl, same_some (f x) y e)
+mapped_at f (x ∷ xs) zero y e = (x, refl, same_Some (f x) y e)
 mapped_at f (x ∷ xs) (suc i) y e = mapped_at f xs i y e

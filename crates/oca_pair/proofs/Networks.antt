@@ -1,41 +1,25 @@
 -- What holds of each link of a network is kept by each step; and the laws.
-use Rattle.std.proofs.Common.{append-nil, ◌≡◌, ℕ, ◌+◌, ◌^◌, ◌<◌, ◌≤◌, ◌≢◌, Bool, true, false, cond, List, [], ◌∷◌, ◌++◌, Option, Some, None, refl, sym, ap, ◌∙◌, subst, arith, zero, suc, ◌⊎◌, inl, inr}
-use Rattle.std.specs.Prelude.{◌&&◌, map, max, is_none, is_some, Result, Ok, Err}
-use Rattle.std.specs.List.{list_all, AllByRecursion, slice_get, slice_set, IsDistinct}
-use Rattle.oca_types.specs.declared.words.Peer.{Peer}
-use Rattle.oca_types.specs.declared.words.Handle.{Handle}
-use Rattle.oca_types.specs.Peers.{same_peer, CommandFields}
-use Rattle.oca_types.specs.Sizes.{DeviceSizes}
-use Rattle.oca_pdu.specs.declared.message.Form.{Form}
-use Rattle.oca_pdu.specs.declared.message.Form.TheVariants.{Seconds}
-use Rattle.oca_pdu.specs.Messages.{Msg, Command, KeepAlive}
-use Rattle.oca_pdu.specs.Reading.{read_datagram}
-use Rattle.oca_pdu.specs.Laws.{WrittenIsReadBack}
-use Rattle.oca_tree.specs.declared.object.Object.{Object}
-use Rattle.oca_session.specs.Accepted.{Entry}
-use Rattle.oca_tree.specs.LocalChanges.{LocalChange}
-use Rattle.oca_device.specs.Events.{Datagram}
-use Rattle.oca_device.specs.Answers.{packets}
-use Rattle.oca_control.specs.declared.fault.ControlFault.{ControlFault}
-use Rattle.oca_control.specs.Answers.{AnswerFields, answer_of_response}
-use Rattle.oca_control.specs.Untaken.{Untaken, answer_under, without_handle}
-use Rattle.oca_control.specs.Links.{LinkState, Request, submission, after_submission, Decision, GivesCommand, GivesKeepAlive, GivesNothing, IsLost, decision, after_due, gone_on, hears_content, received, taken, present_moment}
-use Rattle.oca_pair.specs.declared.start.Start.{Start}
-use Rattle.oca_pair.specs.Networks.{Network, PeerLink, SentDatagram, SubmittedCommand, TakenAnswer, Setup, started, opening, is_renewed, left_by}
-use Rattle.oca_pair.specs.Laws.{handles_of, AreConsecutive}
-use Rattle.oca_pair.specs.Steps.{Step, Submit, Due, ToDevice, ToLink, Other, Take, Renew, Beside, after_beside, with_link, is_no_lower, unanswered, renewal_of, renewed_link, after_renewal, has_link, sendings_in, submitted_by, after_submit, given_by, after_due_step, after_delivery, content_read, hears_datagram, after_reception, after_take, after_step, after_steps}
+use Rattle.oca_pair.proofs.Words.{append-nil, ◌≡◌, ℕ, ◌+◌, ◌^◌, ◌<◌, ◌≤◌, ◌≢◌, Bool, true, false, cond, List, [], ◌∷◌, ◌++◌, Option, Some, None, refl, sym, ap, ◌∙◌, subst, arith, zero, suc, ◌⊎◌, inl}
+use Rattle.oca_pair.proofs.Words.{inr, ◌&&◌, map, max, is_none, is_some, Result, Ok, Err, list_all, AllByRecursion, slice_get, slice_set, and_parts, not-true, Peer, Handle, same_peer, CommandFields}
+use Rattle.oca_pair.proofs.Words.{DeviceSizes, Form, Seconds, Msg, Command, KeepAlive, read_datagram, WrittenIsReadBack, Object, Entry, LocalChange, Datagram, packets, ControlFault, AnswerFields}
+use Rattle.oca_pair.proofs.Words.{answer_of_response, Untaken, answer_under, without_handle, LinkState, Request, submission, after_submission, Decision, GivesCommand, GivesKeepAlive, GivesNothing}
+use Rattle.oca_pair.proofs.Words.{IsLost, decision, after_due, gone_on, hears_content, received, taken, present_moment, Start, Network, PeerLink, SentDatagram, SubmittedCommand, TakenAnswer, Setup}
+use Rattle.oca_pair.proofs.Words.{started, opening, is_renewed, left_by, handles_of, AreConsecutive, Step, Submit, Due, ToDevice, ToLink, Other, Take, Renew, Beside, after_beside, with_link, same_is}
+use Rattle.oca_pair.proofs.Words.{is_no_lower, unanswered, renewal_of, renewed_link, after_renewal, has_link, sendings_in, submitted_by, after_submit, given_by, after_due_step, after_delivery}
+use Rattle.oca_pair.proofs.Words.{content_read, hears_datagram, after_reception, after_take, after_step, after_steps, is_of_another_peer, are_apart, RequestFits, StepFits, StartFits, Fit, each_map}
+use Rattle.oca_pair.proofs.Words.{same_turned, same_self, end_of, room_each, on_bool}
+use Rattle.std.specs.List.{IsDistinct}
 use Rattle.oca_pair.specs.Steps as steps
-use Rattle.oca_pair.specs.Premises.{is_of_another_peer, are_apart, RequestFits, StepFits, StartFits, Fit}
-use Rattle.oca_pair.proofs.Core.{each_map, none_passes, has}
-use Rattle.oca_pair.proofs.Lists.{both_true, not_true, same_is, same_turned, other_of, each_at, each_in, each_set, IsIn, differs, other_is, same_self}
+use Rattle.oca_pair.proofs.Core.{none_passes, has}
+use Rattle.oca_pair.proofs.Lists.{other_of, each_at, each_in, each_set, IsIn, differs, other_is}
 use Rattle.oca_pair.proofs.Arrivals.{Keeps, keeps_before}
 use Rattle.oca_pair.proofs.Wire.{IsSendable, read_command, read_keep_alive}
 use Rattle.oca_pair.proofs.Truths.{Past, past, and_then, state_of, IsSubmitted, IsTrueAnswer}
-use Rattle.oca_pair.proofs.Fair.{end_of, IsOut, IsBack, IsHeld, Fair, fair_other, fair_tick, fair_local}
+use Rattle.oca_pair.proofs.Fair.{IsOut, IsBack, IsHeld, Fair, fair_other, fair_tick, fair_local}
 use Rattle.oca_pair.proofs.Renewing.{above_next, fair_renewed, now_renewed, other_renewed}
 use Rattle.oca_pair.proofs.Delivering.{granted, handles_submit, handles_submitted_by, fair_command, fair_keep_alive, fair_submit, fair_submitted_by, fair_gone_on, fair_sent, fair_alive, fair_received, fair_taken, fair_taken_by, held_answer}
 use Rattle.oca_pair.proofs.Keeping.{Kept, Once, accepted_by, IsGrown, delivers, grows_once, once_before, kept_other, accepted_other, executed_has}
-use Rattle.oca_pair.proofs.Span.{GoodSince, IsKnown, since_by, room_each, good_renewed, good_submit, good_submitted, good_marked_sent, good_answered, good_without, good_grown}
+use Rattle.oca_pair.proofs.Span.{GoodSince, IsKnown, since_by, good_renewed, good_submit, good_submitted, good_marked_sent, good_answered, good_without, good_grown}
 
 -- No two links have one peer.
 abbrev pub Apart : List PeerLink → Type 0
@@ -63,11 +47,8 @@ apart_put (x ∷ xs) (suc k) l y e s a =
     (each_set (λ z. z.peer ≢ x.peer) xs k y (λ h. other (sym s ∙ h)) a.0, apart_put xs k l y e s a.1)
 
 pub hears_peer : (from : Peer) (d : SentDatagram) (now : ℕ) (z : PeerLink) → (hears_datagram from d now z).peer ≡ z.peer
-hears_peer from d now z = by_test (same_peer z.peer d.peer)
-  where
-    by_test : (b : Bool) → (let y : PeerLink = cond b (record { peer = z.peer; link = received from (content_read d.bytes) now z.link }) z in y).peer ≡ z.peer
-    by_test true = refl
-    by_test false = refl
+hears_peer from d now z = on_bool (same_peer z.peer d.peer) (λ b. (let y : PeerLink = cond b (record { peer = z.peer; link = received from (content_read d.bytes) now z.link }) z in y).peer ≡ z.peer)
+    refl refl
 
 apart_hears : (from : Peer) (d : SentDatagram) (now : ℕ) (xs : List PeerLink) → Apart xs → Apart (map (hears_datagram from d now) xs)
 apart_hears from d now [] a = tt
@@ -332,7 +313,8 @@ sound_reception s now n g d k e = record { apart = apart_hears n.address d now n
     n' = after_reception now (Some d) n
 
     one : (z : PeerLink) → LinkSound s n z → LinkSound s n' (hears_datagram n.address d now z)
-    one z w = by_test (same_peer z.peer d.peer) refl
+    one z w = on_bool (same_peer z.peer d.peer) (λ b. same_peer z.peer d.peer ≡ b → LinkSound s n' (cond b y z))
+        (λ q. heard (each_at (λ (x : SentDatagram). x.peer ≡ z.peer → IsBack z.peer (past n) x.bytes) n.to_links k d w.fair.incoming e (sym (same_is z.peer d.peer q)))) (λ q. unheard) refl
       where
         y : PeerLink
         y = record { peer = z.peer; link = received n.address (content_read d.bytes) now z.link }
@@ -359,10 +341,6 @@ sound_reception s now n g d k e = record { apart = apart_hears n.address d now n
 
         unheard : LinkSound s n' z
         unheard = record { span = w.span; fair = w.fair; kept = w.kept; consecutive = w.consecutive; good = w.good }
-
-        by_test : (b : Bool) → same_peer z.peer d.peer ≡ b → LinkSound s n' (cond b y z)
-        by_test true q = heard (each_at (λ (x : SentDatagram). x.peer ≡ z.peer → IsBack z.peer (past n) x.bytes) n.to_links k d w.fair.incoming e (sym (same_is z.peer d.peer q)))
-        by_test false q = unheard
 
     each : (zs : List PeerLink) → AllByRecursion (LinkSound s n) zs → AllByRecursion (LinkSound s n') (map (hears_datagram n.address d now) zs)
     each [] a = tt
@@ -483,7 +461,8 @@ sound_delivery law s now n g d k e = record { apart = g.apart; each = each_map o
 
 -- other bytes come to the device
 sound_other : (s : Peer → ℕ) (from : Peer) (bytes : List ℕ) (now : ℕ) (n : Network) → Sound s n → Sound s (after_step (Other from bytes now) n)
-sound_other s from bytes now n g = by_test (has_link from n.links) refl
+sound_other s from bytes now n g = on_bool (has_link from n.links) (λ b. has_link from n.links ≡ b → Sound s (cond b n n'))
+    (λ q. g) (λ q. record { apart = g.apart; each = each n.links (none_passes (λ (l : PeerLink). same_peer l.peer from) n.links q) g.each }) refl
   where
     n' : Network
     n' = record n { events = Datagram from bytes now ∷ n.events }
@@ -501,10 +480,6 @@ sound_other s from bytes now n g = by_test (has_link from n.links) refl
     each : (zs : List PeerLink) → AllByRecursion (λ (l : PeerLink). same_peer l.peer from ≡ false) zs → AllByRecursion (LinkSound s n) zs → AllByRecursion (LinkSound s n') zs
     each [] a p = tt
     each (z ∷ zs) a p = (one z a.0 p.0, each zs a.1 p.1)
-
-    by_test : (b : Bool) → has_link from n.links ≡ b → Sound s (cond b n n')
-    by_test true q = g
-    by_test false q = record { apart = g.apart; each = each n.links (none_passes (λ (l : PeerLink). same_peer l.peer from) n.links q) g.each }
 
 sound_tick : (s : Peer → ℕ) (now : ℕ) (n : Network) → Sound s n → Sound s (after_step (steps.Tick now) n)
 sound_tick s now n g = record {
@@ -561,17 +536,17 @@ unfolding IsDistinct
 sound_opening w s tree starts a fits = record { apart = apart starts a; each = each starts fits }
   where
     other : (p : Peer) (x : Start) → is_of_another_peer p x ≡ true → x.peer ≢ p
-    other p x e = other_of x.peer p (not_true (same_peer x.peer p) e)
+    other p x e = other_of x.peer p (not-true (same_peer x.peer p) e)
 
     heads : (p : Peer) (xs : List Start) → list_all (is_of_another_peer p) xs ≡ true → AllByRecursion (λ (y : PeerLink). y.peer ≢ p) (map (started s) xs)
     heads p [] q = tt
-    heads p (x ∷ xs) q = let t = both_true (is_of_another_peer p x) (list_all (is_of_another_peer p) xs) q in (other p x t.0, heads p xs t.1)
+    heads p (x ∷ xs) q = let t = and_parts (is_of_another_peer p x) (list_all (is_of_another_peer p) xs) q in (other p x t.0, heads p xs t.1)
 
     apart : (xs : List Start) → are_apart s.address xs ≡ true → Apart (map (started s) xs)
     apart [] q = tt
     apart (x ∷ xs) q =
-        let t = both_true (is_of_another_peer s.address x && list_all (is_of_another_peer x.peer) xs) (are_apart s.address xs) q in
-        let u = both_true (is_of_another_peer s.address x) (list_all (is_of_another_peer x.peer) xs) t.0 in
+        let t = and_parts (is_of_another_peer s.address x && list_all (is_of_another_peer x.peer) xs) (are_apart s.address xs) q in
+        let u = and_parts (is_of_another_peer s.address x) (list_all (is_of_another_peer x.peer) xs) t.0 in
         (heads x.peer xs u.1, apart xs t.1)
 
     nothing : (f x : ℕ) → f ≤ x → x < f → false ≡ true

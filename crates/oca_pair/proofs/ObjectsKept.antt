@@ -1,17 +1,10 @@
 -- What holds of the device's objects at any time: they are a tree, their texts are texts, and the classes stay.
-use Rattle.std.proofs.Common.{◌≡◌, ℕ, ◌==◌, Bool, true, false, cond, List, [], ◌∷◌, Option, Some, None, refl, sym, ap, ◌∙◌}
-use Rattle.std.specs.Option.{option_map}
-use Rattle.oca_types.specs.declared.class.Class.{Class}
-use Rattle.oca_tree.specs.declared.object.Object.{Object}
-use Rattle.oca_tree.specs.LocalChanges.{after_change}
+use Rattle.oca_pair.proofs.Words.{◌≡◌, ℕ, ◌==◌, cond, List, [], ◌∷◌, Option, Some, None, refl, sym, ap, ◌∙◌, option_map, Class, Object, after_change, class_of, object_of, released, class_of_ono}
+use Rattle.oca_pair.proofs.Words.{Change, Executes, Releases, Sets, on_bool}
 use Rattle.oca_tree.specs.Places.{Place}
 use Rattle.oca_tree.specs.Execution.{execution}
-use Rattle.oca_tree.specs.Objects.{class_of, object_of}
-use Rattle.oca_tree.specs.Locks.{released}
-use Rattle.oca_tree.specs.Readers.{class_of_ono}
 use Rattle.oca_tree.proofs.Sound.{shapes}
 use Rattle.oca_tree.proofs.TypesKept.{IsGood, command_good, command_shapes, change_good, change_shapes, released_good, released_kept}
-use Rattle.oca_device.specs.LawByEvents.{Change, Executes, Releases, Sets}
 use Rattle.oca_device.specs.LawByEvents as law
 
 -- ---- all changes
@@ -36,12 +29,10 @@ class_in_shapes number (s ∷ ss) = cond (s.0.number == number) (Some s.1) (clas
 class_by_shape : (number : ℕ) (tree : List Object) → class_of_ono tree number ≡ class_in_shapes number (shapes tree)
 unfolding class_in_shapes
 class_by_shape number [] = refl
-class_by_shape number (o ∷ os) = by (o.ono.0 == number) (class_by_shape number os)
-  where
-    by : (b : Bool) → option_map (λ (x : Object). class_of x.value) (object_of os number) ≡ class_in_shapes number (shapes os) →
-        option_map (λ (x : Object). class_of x.value) (cond b (Some o) (object_of os number)) ≡ cond b (Some (class_of o.value)) (class_in_shapes number (shapes os))
-    by true rest = refl
-    by false rest = rest
+class_by_shape number (o ∷ os) =
+    on_bool (o.ono.0 == number) (λ b. option_map (λ (x : Object). class_of x.value) (object_of os number) ≡ class_in_shapes number (shapes os) → option_map (λ (x : Object). class_of x.value) (cond b
+    (Some o) (object_of os number)) ≡ cond b (Some (class_of o.value)) (class_in_shapes number (shapes os)))
+    (λ rest. refl) (λ rest. rest) (class_by_shape number os)
 
 pub class_stays : (tree : List Object) (C : List Change) (number : ℕ) → class_of_ono (law.objects tree C) number ≡ class_of_ono tree number
 class_stays tree C number =

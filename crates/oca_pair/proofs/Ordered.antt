@@ -1,22 +1,8 @@
 -- The notes of a device stand in the order of their moments. So what was noted at most 120,000 ms ago of a peer still belongs to its session.
-use Rattle.std.proofs.Common.{◌≡◌, ℕ, ◌+◌, ◌-◌, ◌≤◌, Bool, true, false, cond, List, [], ◌∷◌, ◌++◌, refl, ◌∙◌, arith, ◌⊎◌, inl, inr}
-use Rattle.std.specs.Prelude.{nat_eq, nat_le, ◌||◌, max}
-use Rattle.std.specs.List.{AllByRecursion}
-use Rattle.std.proofs.lemmas.List.Folds.{list_any-append}
-use Rattle.std.proofs.lemmas.Bool.Decides.{nat_tests}
-use Rattle.oca_types.specs.declared.words.Peer.{Peer}
-use Rattle.oca_types.specs.Replies.{Reply}
-use Rattle.oca_types.specs.Peers.{same_peer, CommandFields}
-use Rattle.oca_types.specs.Sizes.{DeviceSizes}
-use Rattle.oca_pdu.specs.Reading.{read_datagram}
-use Rattle.oca_tree.specs.declared.object.Object.{Object}
-use Rattle.oca_session.specs.Accepted.{Entry, has_handle}
-use Rattle.oca_session.specs.Limits.{longest_silence}
-use Rattle.oca_device.specs.Events.{Event, Datagram, Tick, Local}
-use Rattle.oca_device.specs.Notes.{Noted, Admitted, Heartbeat, Executed, Note, notes_of, is_recent, unbroken, accepted, accepted_after}
-use Rattle.oca_device.specs.States.{State, moved_to, after_reading, state_after}
+use Rattle.oca_pair.proofs.Words.{◌≡◌, ℕ, ◌+◌, ◌-◌, ◌≤◌, Bool, true, false, cond, List, [], ◌∷◌, ◌++◌, refl, ◌∙◌, arith, ◌⊎◌, inl, inr, nat_eq, nat_le, ◌||◌, max, AllByRecursion, list_any-append}
+use Rattle.oca_pair.proofs.Words.{nat_tests, or_left, Peer, Reply, same_peer, CommandFields, DeviceSizes, read_datagram, Object, Entry, has_handle, longest_silence, Event, Datagram, Tick, Local}
+use Rattle.oca_pair.proofs.Words.{Noted, Admitted, Heartbeat, Executed, Note, notes_of, is_recent, unbroken, accepted, accepted_after, State, moved_to, after_reading, state_after, equal_self, on_bool}
 use Rattle.oca_pair.proofs.Core.{has}
-use Rattle.oca_pair.proofs.Lists.{equal_self}
 use Rattle.oca_pair.proofs.Clocks.{Grows, grows_reading, moment_reading}
 
 -- each note is of no later moment than the one before it in the list, and the first of none later than t
@@ -65,11 +51,8 @@ ordered_after w tree (Datagram p bytes now ∷ E) =
 
 pub ordered_of : (p : Peer) (t : ℕ) (ns : List Note) → AreOrdered t ns → AreOrdered t (notes_of p ns)
 ordered_of p t [] o = tt
-ordered_of p t (n ∷ ns) o = by_test (same_peer n.peer p) (ordered_of p n.at ns o.1)
-  where
-    by_test : (b : Bool) → AreOrdered n.at (notes_of p ns) → AreOrdered t (cond b (n ∷ notes_of p ns) (notes_of p ns))
-    by_test true rest = (o.0, rest)
-    by_test false rest = ordered_till n.at t (notes_of p ns) o.0 rest
+ordered_of p t (n ∷ ns) o = on_bool (same_peer n.peer p) (λ b. AreOrdered n.at (notes_of p ns) → AreOrdered t (cond b (n ∷ notes_of p ns) (notes_of p ns)))
+    (λ rest. (o.0, rest)) (λ rest. ordered_till n.at t (notes_of p ns) o.0 rest) (ordered_of p n.at ns o.1)
 
 -- an execution under this handle was noted at this moment or later
 abbrev pub WasNoted : ℕ → ℕ → Note → Type 0
@@ -82,11 +65,7 @@ WereNoted h since (n ∷ ns) = WasNoted h since n ⊎ WereNoted h since ns
 accepted_one : (h : ℕ) (x : Noted) (A : List Entry) → has h A ≡ true → has h (accepted_after x A) ≡ true
 accepted_one h (Admitted ms) A e = e
 accepted_one h (Heartbeat ms) A e = e
-accepted_one h (Executed objects c r) A e = let d : Entry = record { command = c; reply = r } in list_any-append (has_handle h) A (d ∷ []) ∙ either (has h A) (has h (d ∷ [])) e
-  where
-    either : (a b : Bool) → a ≡ true → (a || b) ≡ true
-    either true b q = refl
-    either false b q = cc
+accepted_one h (Executed objects c r) A e = let d : Entry = record { command = c; reply = r } in list_any-append (has_handle h) A (d ∷ []) ∙ or_left (has h A) (has h (d ∷ [])) e
 
 accepted_here : (h : ℕ) (objects : List Object) (c : CommandFields) (r : Reply) (x : Noted) (A : List Entry) → x ≡ Executed objects c r → c.handle ≡ h → has h (accepted_after x A) ≡ true
 accepted_here h objects c r x A e q = rw (e, ← q) (let d : Entry = record { command = c; reply = r } in list_any-append (has_handle c.handle) A (d ∷ []) ∙ second (has c.handle A) (nat_eq c.handle c.handle) (equal_self c.handle))

@@ -1,16 +1,8 @@
 -- Where few peers speak there is room for each.
-use Rattle.std.proofs.Common.{◌≡◌, ℕ, ◌-◌, ◌<◌, ◌≤◌, Bool, true, false, cond, List, [], ◌∷◌, ◌++◌, length, refl, sym, ap, ◌∙◌, arith, suc}
-use Rattle.std.specs.Prelude.{nat_le, nat_lt, not, ◌||◌, filter}
-use Rattle.std.specs.List.{AllByRecursion}
-use Rattle.std.proofs.lemmas.Bool.Decides.{nat_tests}
-use Rattle.oca_types.specs.declared.words.Peer.{Peer}
-use Rattle.oca_types.specs.Peers.{same_peer}
-use Rattle.oca_types.specs.Sizes.{DeviceSizes}
-use Rattle.oca_device.specs.Notes.{peers_except}
-use Rattle.oca_device.specs.LawByEvents.{Happening, Passes, Says, Sets, Arrival, clock, session, is_open, is_known, opened, known, has_room, admitted}
-use Rattle.oca_pair.specs.Premises.{is_among_peers, SpeakLately, FewFindRoom}
-use Rattle.oca_pair.proofs.Core.{each_map, each_append}
-use Rattle.oca_pair.proofs.Lists.{same_is, same_turned, not_true, differs}
+use Rattle.oca_pair.proofs.Words.{◌≡◌, ℕ, ◌-◌, ◌<◌, ◌≤◌, Bool, true, false, cond, List, [], ◌∷◌, ◌++◌, length, refl, sym, ap, ◌∙◌, arith, suc, nat_le, nat_lt, not, ◌||◌, filter, AllByRecursion}
+use Rattle.oca_pair.proofs.Words.{nat_tests, lt-ltb, not-true, Peer, same_peer, DeviceSizes, peers_except, Happening, Passes, Says, Sets, Arrival, clock, session, is_open, is_known, opened, known}
+use Rattle.oca_pair.proofs.Words.{has_room, admitted, is_among_peers, SpeakLately, FewFindRoom, each_map, each_append, same_is, same_turned, on_bool}
+use Rattle.oca_pair.proofs.Lists.{differs}
 
 -- Lists of which no two are the same.
 abbrev pub Differ : List Peer → Type 0
@@ -19,27 +11,17 @@ Differ (x ∷ xs) = AllByRecursion (λ y. same_peer y x ≡ false) xs × Differ 
 
 each_filter : (P : Peer → Type 0) (t : Peer → Bool) (xs : List Peer) → AllByRecursion P xs → AllByRecursion P (filter t xs)
 each_filter P t [] p = tt
-each_filter P t (x ∷ xs) p = by_test (t x) (each_filter P t xs p.1)
-  where
-    by_test : (b : Bool) → AllByRecursion P (filter t xs) → AllByRecursion P (cond b (x ∷ filter t xs) (filter t xs))
-    by_test true r = (p.0, r)
-    by_test false r = r
+each_filter P t (x ∷ xs) p = on_bool (t x) (λ b. AllByRecursion P (filter t xs) → AllByRecursion P (cond b (x ∷ filter t xs) (filter t xs))) (λ r. (p.0, r)) (λ r. r) (each_filter P t xs p.1)
 
 passes : (t : Peer → Bool) (xs : List Peer) → AllByRecursion (λ x. t x ≡ true) (filter t xs)
 passes t [] = tt
-passes t (x ∷ xs) = by_test (t x) refl (passes t xs)
-  where
-    by_test : (b : Bool) → t x ≡ b → AllByRecursion (λ x. t x ≡ true) (filter t xs) → AllByRecursion (λ x. t x ≡ true) (cond b (x ∷ filter t xs) (filter t xs))
-    by_test true e r = (e, r)
-    by_test false e r = r
+passes t (x ∷ xs) = on_bool (t x) (λ b. t x ≡ b → AllByRecursion (λ x. t x ≡ true) (filter t xs) → AllByRecursion (λ x. t x ≡ true) (cond b (x ∷ filter t xs) (filter t xs)))
+    (λ e r. (e, r)) (λ e r. r) refl (passes t xs)
 
 differ_filter : (t : Peer → Bool) (xs : List Peer) → Differ xs → Differ (filter t xs)
 differ_filter t [] d = tt
-differ_filter t (x ∷ xs) d = by_test (t x) (differ_filter t xs d.1)
-  where
-    by_test : (b : Bool) → Differ (filter t xs) → Differ (cond b (x ∷ filter t xs) (filter t xs))
-    by_test true r = (each_filter (λ y. same_peer y x ≡ false) t xs d.0, r)
-    by_test false r = r
+differ_filter t (x ∷ xs) d = on_bool (t x) (λ b. Differ (filter t xs) → Differ (cond b (x ∷ filter t xs) (filter t xs)))
+    (λ r. (each_filter (λ y. same_peer y x ≡ false) t xs d.0, r)) (λ r. r) (differ_filter t xs d.1)
 
 turned : (a b : Peer) → same_peer a b ≡ false → same_peer b a ≡ false
 turned a b e = same_turned b a ∙ e
@@ -50,13 +32,10 @@ differ_last p (x ∷ xs) a d = (each_append (λ y. same_peer y x ≡ false) xs (
 
 opened_differ : (D : List Arrival) → Differ (opened D)
 opened_differ [] = tt
-opened_differ (a ∷ D) = by_known (is_known a.at a.from D) (opened_differ D)
-  where
-    by_known : (b : Bool) → Differ (opened D) → Differ (cond b (opened D) (peers_except a.from (opened D) ++ a.from ∷ []))
-    by_known true d = d
-    by_known false d = differ_last a.from (peers_except a.from (opened D))
-        (each_map (λ q e. not_true (same_peer q a.from) e) (peers_except a.from (opened D)) (passes (λ q. not (same_peer q a.from)) (opened D)))
-        (differ_filter (λ q. not (same_peer q a.from)) (opened D) d)
+opened_differ (a ∷ D) = on_bool (is_known a.at a.from D) (λ b. Differ (opened D) → Differ (cond b (opened D) (peers_except a.from (opened D) ++ a.from ∷ [])))
+    (λ d. d)
+    (λ d. differ_last a.from (peers_except a.from (opened D)) (each_map (λ q e. not-true (same_peer q a.from) e) (peers_except a.from (opened D)) (passes (λ q. not (same_peer q a.from)) (opened D)))
+    (differ_filter (λ q. not (same_peer q a.from)) (opened D) d)) (opened_differ D)
 
 -- Different ones among others are no more than those.
 none_out : (y : Peer) (xs : List Peer) → AllByRecursion (λ z. same_peer z y ≡ false) xs → peers_except y xs ≡ xs
@@ -65,14 +44,9 @@ none_out y (x ∷ xs) a = ap (λ b. cond (not b) (x ∷ peers_except y xs) (peer
 
 one_out : (y : Peer) (xs : List Peer) → Differ xs → length xs ≤ suc (length (peers_except y xs))
 one_out y [] d = omega arith
-one_out y (x ∷ xs) d = by_test (same_peer x y) refl (one_out y xs d.1)
-  where
-    by_test : (b : Bool) → same_peer x y ≡ b → length xs ≤ suc (length (peers_except y xs)) → length (x ∷ xs) ≤ suc (length (cond (not b) (x ∷ peers_except y xs) (peers_except y xs)))
-    by_test true e r =
-        let same : x ≡ y = same_is x y e in
-        let all : peers_except y xs ≡ xs = none_out y xs (rw same at d.0) in
-        rw all (omega arith)
-    by_test false e r = omega arith
+one_out y (x ∷ xs) d =
+    on_bool (same_peer x y) (λ b. same_peer x y ≡ b → length xs ≤ suc (length (peers_except y xs)) → length (x ∷ xs) ≤ suc (length (cond (not b) (x ∷ peers_except y xs) (peers_except y xs))))
+    (λ e r. let same : x ≡ y = same_is x y e in let all : peers_except y xs ≡ xs = none_out y xs (rw same at d.0) in rw all (omega arith)) (λ e r. omega arith) refl (one_out y xs d.1)
 
 few : (ys xs : List Peer) → Differ xs → AllByRecursion (λ x. is_among_peers ys x ≡ true) xs → length xs ≤ length ys
 few [] [] d a = omega arith
@@ -87,11 +61,9 @@ few (y ∷ ys) xs d a =
 
     others : (xs : List Peer) → AllByRecursion (λ x. is_among_peers (y ∷ ys) x ≡ true) xs → AllByRecursion (λ x. is_among_peers ys x ≡ true) (peers_except y xs)
     others [] a = tt
-    others (x ∷ xs) a = by_test (same_peer x y) refl (others xs a.1)
-      where
-        by_test : (b : Bool) → same_peer x y ≡ b → AllByRecursion (λ x. is_among_peers ys x ≡ true) (peers_except y xs) → AllByRecursion (λ x. is_among_peers ys x ≡ true) (cond (not b) (x ∷ peers_except y xs) (peers_except y xs))
-        by_test true e r = r
-        by_test false e r = (later_than x e a.0, r)
+    others (x ∷ xs) a =
+        on_bool (same_peer x y) (λ b. same_peer x y ≡ b → AllByRecursion (λ x. is_among_peers ys x ≡ true) (peers_except y xs) → AllByRecursion (λ x. is_among_peers ys x ≡ true) (cond (not b) (x ∷ peers_except y xs) (peers_except y xs)))
+        (λ e r. r) (λ e r. (later_than x e a.0, r)) refl (others xs a.1)
 
 -- An arrival of the 120,000 ms before t is of one of the peers.
 abbrev IsLatelyOf : List Peer → ℕ → Arrival → Type 0
@@ -101,12 +73,9 @@ arrive_lately : (w : DeviceSizes) (peers : List Peer) (t : ℕ) (H : List Happen
 arrive_lately w peers t [] s = tt
 arrive_lately w peers t (Passes now ∷ H) s = arrive_lately w peers t H s
 arrive_lately w peers t (Sets ono change ∷ H) s = arrive_lately w peers t H s
-arrive_lately w peers t (Says p ms ∷ H) s = by_room (has_room w (clock H) p (admitted w H)) (arrive_lately w peers t H s.1)
-  where
-    by_room : (b : Bool) → AllByRecursion (IsLatelyOf peers t) (admitted w H) →
-        AllByRecursion (IsLatelyOf peers t) (cond b ((record { from = p; messages = ms; at = clock H }) ∷ admitted w H) (admitted w H))
-    by_room true r = (s.0, r)
-    by_room false r = r
+arrive_lately w peers t (Says p ms ∷ H) s =
+    on_bool (has_room w (clock H) p (admitted w H)) (λ b. AllByRecursion (IsLatelyOf peers t) (admitted w H) → AllByRecursion (IsLatelyOf peers t) (cond b ((record { from = p; messages = ms; at = clock H }) ∷ admitted w H) (admitted w H)))
+    (λ r. (s.0, r)) (λ r. r) (arrive_lately w peers t H s.1)
 
 -- so each peer that is known at t is one of them
 known_among : (peers : List Peer) (t : ℕ) (q : Peer) (D : List Arrival) → AllByRecursion (IsLatelyOf peers t) D → is_known t q D ≡ true → is_among_peers peers q ≡ true
@@ -126,7 +95,8 @@ known_among peers t q (a ∷ D) l e = by_peer (λ h. known_among peers t q D l.1
     by_peer before true h e = by_time (nat_le (t - a.at) 120000) refl (same_is a.from q h) e
 
 pub few_find_room : FewFindRoom
-few_find_room w H peers p small lately among = by_known (is_known t p D) refl
+few_find_room w H peers p small lately among = on_bool (is_known t p D) (λ b. is_known t p D ≡ b → (b || nat_lt (length (known t D)) w.peers) ≡ true)
+    (λ e. refl) (λ e. lt-ltb (length (known t D)) w.peers (less e)) refl
   where
     t : ℕ
     t = clock H
@@ -135,14 +105,8 @@ few_find_room w H peers p small lately among = by_known (is_known t p D) refl
     D = admitted w H
 
     other_than : (q : Peer) → is_known t p D ≡ false → is_known t q D ≡ true → same_peer q p ≡ false
-    other_than q unknown sure = by_same (same_peer q p) refl
-      where
-        by_same : (b : Bool) → same_peer q p ≡ b → b ≡ false
-        by_same true e = let same : q ≡ p = same_is q p e in differs (sym (ap (λ (x : Peer). is_known t x D) (sym same) ∙ sure) ∙ unknown)
-        by_same false e = refl
-
-    lower : (a b : ℕ) → a < b → nat_lt a b ≡ true
-    lower a b h = grind (arith, nat_tests)
+    other_than q unknown sure = on_bool (same_peer q p) (λ b. same_peer q p ≡ b → b ≡ false)
+        (λ e. let same : q ≡ p = same_is q p e in differs (sym (ap (λ (x : Peer). is_known t x D) (sym same) ∙ sure) ∙ unknown)) (λ e. refl) refl
 
     knows : Peer → Bool
     knows q = is_known t q D
@@ -154,7 +118,3 @@ few_find_room w H peers p small lately among = by_known (is_known t p D) refl
         (each_map (λ q e. other_than q unknown e) (known t D) all, differ_filter knows (opened D) (opened_differ D))
         (among, each_map (λ q e. known_among peers t q D (arrive_lately w peers t H lately) e) (known t D) all) in
         omega arith
-
-    by_known : (b : Bool) → is_known t p D ≡ b → (b || nat_lt (length (known t D)) w.peers) ≡ true
-    by_known true e = refl
-    by_known false e = lower (length (known t D)) w.peers (less e)

@@ -1,42 +1,25 @@
 -- A command that came to the device comes back to its link as an answer.
-use Rattle.std.proofs.Common.{append-nil, append_assoc, ◌≡◌, ℕ, ◌<◌, ◌^◌, Bool, true, false, cond, List, [], ◌∷◌, ◌++◌, length, Option, Some, None, refl, sym, ap, ◌∙◌, subst, zero, suc, ◌⊎◌, inl, inr}
-use Rattle.std.specs.Prelude.{nat_eq, ◌&&◌, ◌||◌, map, is_some, is_none, Result, Ok, Err}
-use Rattle.std.specs.List.{AllByRecursion, slice_get, slice_set}
-use Rattle.std.proofs.lemmas.List.Folds.{list_any-append}
-use Rattle.std.proofs.lemmas.Option.{slice_get-map, same_Some}
-use Rattle.std.specs.Option.{option_map}
-use Rattle.oca_types.specs.declared.words.Peer.{Peer}
-use Rattle.oca_types.specs.declared.words.Handle.{Handle}
-use Rattle.oca_types.specs.Peers.{same_peer, CommandFields}
-use Rattle.oca_types.specs.Sizes.{DeviceSizes}
-use Rattle.oca_pdu.specs.Messages.{Msg, Response, KeepAlive, Command, ResponseFields}
-use Rattle.oca_pdu.specs.Encoding.{pdu_encoding}
-use Rattle.oca_pdu.specs.Laws.{WrittenIsReadBack}
-use Rattle.oca_tree.specs.declared.object.Object.{Object}
-use Rattle.oca_device.specs.Events.{Datagram}
+use Rattle.oca_pair.proofs.Words.{append-nil, append_assoc, ◌≡◌, ℕ, ◌<◌, ◌^◌, Bool, true, false, cond, List, [], ◌∷◌, ◌++◌, length, Option, Some, None, refl, sym, ap, ◌∙◌, subst, zero, suc, ◌⊎◌, inl}
+use Rattle.oca_pair.proofs.Words.{inr, nat_eq, ◌&&◌, ◌||◌, map, is_some, is_none, Result, Ok, Err, AllByRecursion, slice_get, slice_set, list_any-append, slice_get-map, same_Some, option_map, or_left}
+use Rattle.oca_pair.proofs.Words.{or_right, Peer, Handle, same_peer, CommandFields, DeviceSizes, Response, ResponseFields, pdu_encoding, WrittenIsReadBack, Object, Datagram, Noted, Admitted}
+use Rattle.oca_pair.proofs.Words.{Heartbeat, Executed, Note, packets, response, ControlFault, AnswerFields, answer_of_response, Untaken, new_untaken, answered, answer_under, without_handle, holds}
+use Rattle.oca_pair.proofs.Words.{LinkState, Request, command_under, submission, after_submission, Decision, GivesCommand, GivesKeepAlive, GivesNothing, IsLost, decision, after_due, gone_on}
+use Rattle.oca_pair.proofs.Words.{hears_content, received, taken, present_moment, Start, Network, PeerLink, SentDatagram, SubmittedCommand, TakenAnswer, Setup, started, opening, Step, ToDevice}
+use Rattle.oca_pair.proofs.Words.{ToLink, sendings_in, with_link, submitted_by, messages_read, content_read, hears_datagram, after_reception, taken_by, renewal_of, equal_self, renewed_link}
+use Rattle.oca_pair.proofs.Words.{after_step, after_steps, are_apart, StepFits, Fit, SpanFits, Execution, executions_under, executions_for, answer_of, IsExecutedNow, WasExecuted, end_of}
+use Rattle.oca_pair.proofs.Words.{CarriesUntaken, IsAnswered, HoldsUntaken, IsAnswerTo, HoldsItsAnswer, GotItsAnswer, asked, meanwhile, come_back, ComesBack, RoundTrips, RenewsNothing, same_is}
+use Rattle.oca_pair.proofs.Words.{holds_marked_sent, holds_received, on_bool}
 use Rattle.oca_device.specs.Events as event
-use Rattle.oca_device.specs.Notes.{Noted, Admitted, Heartbeat, Executed, Note}
 use Rattle.oca_device.specs.Groups.{pdu_of}
-use Rattle.oca_device.specs.Answers.{packets, response}
-use Rattle.oca_control.specs.declared.fault.ControlFault.{ControlFault}
-use Rattle.oca_control.specs.Answers.{AnswerFields, answer_of_response}
-use Rattle.oca_control.specs.Untaken.{Untaken, new_untaken, answered, hears_all, answer_under, without_handle, holds}
-use Rattle.oca_control.specs.Links.{LinkState, Request, command_under, submission, after_submission, Decision, GivesCommand, GivesKeepAlive, GivesNothing, IsLost, decision, after_due, gone_on, hears_content, received, taken, present_moment}
-use Rattle.oca_pair.specs.declared.start.Start.{Start}
-use Rattle.oca_pair.specs.Networks.{Network, PeerLink, SentDatagram, SubmittedCommand, TakenAnswer, Setup, started, opening}
-use Rattle.oca_pair.specs.Steps.{Step, Submit, Due, ToDevice, ToLink, Other, Take, has_link, sendings_in, with_link, submitted_by, after_submit, after_due_step, after_delivery, messages_read, content_read, hears_datagram, after_reception, taken_by, after_take, Renew, Beside, after_beside, is_no_lower, renewal_of, renewed_link, after_renewal, after_step, after_steps}
-use Rattle.oca_pair.specs.Steps as steps
-use Rattle.oca_pair.specs.Premises.{are_apart, StepFits, Fit, SpanFits}
-use Rattle.oca_pair.specs.Laws.{Execution, executions_under, executions_for, answer_of, IsExecutedNow, WasExecuted, CarriesUntaken, IsAnswered}
-use Rattle.oca_pair.specs.RoundTrip.{HoldsUntaken, IsAnswerTo, HoldsItsAnswer, GotItsAnswer, asked, meanwhile, come_back, ComesBack, RoundTrips, RenewsNothing}
-use Rattle.oca_pair.proofs.Lists.{IsIn, contains_in, in_contains, in_more, in_last, each_at, each_in, each_set, same_of, same_is, equal_self}
+use Rattle.oca_pair.proofs.EachStep.{after_each}
+use Rattle.oca_pair.proofs.Lists.{IsIn, contains_in, in_contains, in_more, in_last, each_at, each_in, each_set, same_of}
 use Rattle.oca_pair.proofs.Wire.{IsSendable, read_response}
 use Rattle.oca_pair.proofs.Fitting.{response_to, reply_fits}
 use Rattle.oca_pair.proofs.Executions.{executed_in, executed_for, executions_are}
 use Rattle.oca_pair.proofs.Truths.{Past, past, state_of, IsSubmitted, IsHonest, IsTrueAnswer, IsOwn, executed_then}
-use Rattle.oca_pair.proofs.Fair.{end_of, IsFair, AreOwn}
+use Rattle.oca_pair.proofs.Fair.{IsFair, AreOwn}
 use Rattle.oca_pair.proofs.Delivering.{held_answer}
-use Rattle.oca_pair.proofs.Span.{holds_marked_sent, holds_answered, holds_without}
+use Rattle.oca_pair.proofs.Span.{holds_without}
 use Rattle.oca_pair.proofs.Networks.{LinkSound, Sound, hears_peer, sound_step, sound_steps, sound_after}
 use Rattle.oca_pair.proofs.Renewing.{nothing_in_parts, not_its_renewal}
 use Rattle.oca_pair.proofs.Lawful.{true_answer, never_old_law}
@@ -53,7 +36,19 @@ grown_not : (n : Network) → Grown n n
 grown_not n = record { sent = []; to_links = sym (append-nil n.to_links); more = []; submitted = sym (append-nil n.submitted) }
 
 grown_step : (step : Step) (n : Network) → Grown n (after_step step n)
-grown_step step n = one step
+grown_step step n = after_each (λ _ m. Grown n m) n (record {
+  stays = λ _. grown_not n;
+  submits = λ _ r _ l _. record { sent = []; to_links = none_sent; more = submitted_by l.peer r (submission r l.link); submitted = refl };
+  asks = λ _ _ _ _. none _ refl refl;
+  delivers = λ _ now d _. record { sent = sendings_in d.peer (packets n.sizes n.tree n.events (Datagram d.peer d.bytes now)); to_links = refl; more = []; submitted = none_more };
+  receives = λ _ _ _ _. none _ refl refl;
+  hears = λ _ _ _ _. none _ refl refl;
+  ticks = λ _. none _ refl refl;
+  changes = λ _ _. none _ refl refl;
+  takes = λ _ _ _ _. none _ refl refl;
+  renews = λ _ _ _ _ _ _ _. none _ refl refl;
+  keeps_alive = λ _ _ _ _. none _ refl refl;
+}) step
   where
     none_sent : n.to_links ≡ n.to_links ++ []
     none_sent = sym (append-nil n.to_links)
@@ -61,53 +56,8 @@ grown_step step n = one step
     none_more : n.submitted ≡ n.submitted ++ []
     none_more = sym (append-nil n.submitted)
 
-    by_submit : (i : ℕ) (r : Request) (now : ℕ) (o : Option PeerLink) → Grown n (after_submit i r now o n)
-    by_submit i r now None = grown_not n
-    by_submit i r now (Some l) = record { sent = []; to_links = none_sent; more = submitted_by l.peer r (submission r l.link); submitted = refl }
-
-    by_due : (i now : ℕ) (o : Option PeerLink) → Grown n (after_due_step i now o n)
-    by_due i now None = grown_not n
-    by_due i now (Some l) = record { sent = []; to_links = none_sent; more = []; submitted = none_more }
-
-    by_delivery : (now : ℕ) (o : Option SentDatagram) → Grown n (after_delivery now o n)
-    by_delivery now None = grown_not n
-    by_delivery now (Some d) = record { sent = sendings_in d.peer (packets n.sizes n.tree n.events (Datagram d.peer d.bytes now)); to_links = refl; more = []; submitted = none_more }
-
-    by_reception : (now : ℕ) (o : Option SentDatagram) → Grown n (after_reception now o n)
-    by_reception now None = grown_not n
-    by_reception now (Some d) = record { sent = []; to_links = none_sent; more = []; submitted = none_more }
-
-    by_other : (from : Peer) (bytes : List ℕ) (now : ℕ) (b : Bool) → (let m : Network = cond b n (record n { events = Datagram from bytes now ∷ n.events }) in Grown n m)
-    by_other from bytes now true = grown_not n
-    by_other from bytes now false = record { sent = []; to_links = none_sent; more = []; submitted = none_more }
-
-    by_take : (i h : ℕ) (o : Option PeerLink) → Grown n (after_take i h o n)
-    by_take i h None = grown_not n
-    by_take i h (Some l) = record { sent = []; to_links = none_sent; more = []; submitted = none_more }
-
-    by_renewal : (i first span now origin : ℕ) (o : Option PeerLink) → Grown n (after_renewal i first span now origin o n)
-    by_renewal i first span now origin None = grown_not n
-    by_renewal i first span now origin (Some l) = by_test (is_no_lower first l.link.next)
-      where
-        by_test : (b : Bool) → Grown n (cond b (record n { links = with_link i l (renewed_link first span now l.link) n.links; renewed = renewal_of l origin ∷ n.renewed }) n)
-        by_test true = record { sent = []; to_links = none_sent; more = []; submitted = none_more }
-        by_test false = grown_not n
-
-    by_beside : (o : Option PeerLink) → Grown n (after_beside o n)
-    by_beside None = grown_not n
-    by_beside (Some l) = record { sent = []; to_links = none_sent; more = []; submitted = none_more }
-
-    one : (step : Step) → Grown n (after_step step n)
-    one (Submit i r now) = by_submit i r now (slice_get n.links i)
-    one (Due i now) = by_due i now (slice_get n.links i)
-    one (ToDevice k now) = by_delivery now (slice_get n.to_device k)
-    one (ToLink k now) = by_reception now (slice_get n.to_links k)
-    one (Other from bytes now) = by_other from bytes now (has_link from n.links)
-    one (steps.Tick now) = record { sent = []; to_links = none_sent; more = []; submitted = none_more }
-    one (steps.Local ono change) = record { sent = []; to_links = none_sent; more = []; submitted = none_more }
-    one (Take i h) = by_take i h (slice_get n.links i)
-    one (Renew i first span now origin) = by_renewal i first span now origin (slice_get n.links i)
-    one (Beside i now) = by_beside (slice_get n.links i)
+    none : (m : Network) → m.to_links ≡ n.to_links → m.submitted ≡ n.submitted → Grown n m
+    none m a b = record { sent = []; to_links = a ∙ none_sent; more = []; submitted = b ∙ none_more }
 
 grown_on : (n m o : Network) → Grown n m → Grown m o → Grown n o
 grown_on n m o a b = record {
@@ -138,7 +88,19 @@ abbrev pub AreToDevice : Network → Type 0
 AreToDevice n = AreTo n.address n.links
 
 pub to_device_step : (step : Step) (n : Network) → AreToDevice n → AreToDevice (after_step step n)
-to_device_step step n a = one step
+to_device_step step n a = after_each (λ _ m. AreToDevice m) n (record {
+  stays = λ _. a;
+  submits = λ i r now l e. put i l (after_submission (submission r l.link) r now l.link) e (by_answer l.link r now (submission r l.link));
+  asks = λ i now l e. put i l (gone_on now l.link) e (by_decision l.link (present_moment now l.link) (decision now l.link));
+  delivers = λ _ _ _ _. a;
+  receives = λ _ now d _. hear d now n.links a;
+  hears = λ _ _ _ _. a;
+  ticks = λ _. a;
+  changes = λ _ _. a;
+  takes = λ i h l e. put i l (taken h l.link) e refl;
+  renews = λ i first span now _ l e. put i l (renewed_link first span now l.link) e refl;
+  keeps_alive = λ _ _ _ _. a;
+}) step
   where
     by_answer : (l : LinkState) (r : Request) (now : ℕ) (x : Result Handle ControlFault) → (after_submission x r now l).device ≡ l.device
     by_answer l r now (Ok h) = refl
@@ -154,64 +116,14 @@ to_device_step step n a = one step
     put i l state e same = each_set (λ (x : PeerLink). x.link.device ≡ n.address) n.links i (record { peer = l.peer; link = state })
         (same ∙ each_at (λ (x : PeerLink). x.link.device ≡ n.address) n.links i l a e) a
 
-    by_submit : (i : ℕ) (r : Request) (now : ℕ) (o : Option PeerLink) → slice_get n.links i ≡ o → AreToDevice (after_submit i r now o n)
-    by_submit i r now None e = a
-    by_submit i r now (Some l) e = put i l (after_submission (submission r l.link) r now l.link) e (by_answer l.link r now (submission r l.link))
-
-    by_due : (i now : ℕ) (o : Option PeerLink) → slice_get n.links i ≡ o → AreToDevice (after_due_step i now o n)
-    by_due i now None e = a
-    by_due i now (Some l) e = put i l (gone_on now l.link) e (by_decision l.link (present_moment now l.link) (decision now l.link))
-
-    by_delivery : (now : ℕ) (o : Option SentDatagram) → AreToDevice (after_delivery now o n)
-    by_delivery now None = a
-    by_delivery now (Some d) = a
-
     hearing : (d : SentDatagram) (now : ℕ) (l : PeerLink) → l.link.device ≡ n.address → (hears_datagram n.address d now l).link.device ≡ n.address
-    hearing d now l q = by_test (same_peer l.peer d.peer)
-      where
-        by_test : (b : Bool) → (let y : PeerLink = cond b (record { peer = l.peer; link = received n.address (content_read d.bytes) now l.link }) l in y).link.device ≡ n.address
-        by_test true = q
-        by_test false = q
+    hearing d now l q =
+        on_bool (same_peer l.peer d.peer) (λ b. (let y : PeerLink = cond b (record { peer = l.peer; link = received n.address (content_read d.bytes) now l.link }) l in y).link.device ≡ n.address)
+        q q
 
     hear : (d : SentDatagram) (now : ℕ) (ls : List PeerLink) → AreTo n.address ls → AreTo n.address (map (hears_datagram n.address d now) ls)
     hear d now [] q = tt
     hear d now (l ∷ ls) q = (hearing d now l q.0, hear d now ls q.1)
-
-    by_reception : (now : ℕ) (o : Option SentDatagram) → AreToDevice (after_reception now o n)
-    by_reception now None = a
-    by_reception now (Some d) = hear d now n.links a
-
-    by_other : (from : Peer) (bytes : List ℕ) (now : ℕ) (b : Bool) → AreToDevice (let m : Network = cond b n (record n { events = Datagram from bytes now ∷ n.events }) in m)
-    by_other from bytes now true = a
-    by_other from bytes now false = a
-
-    by_take : (i h : ℕ) (o : Option PeerLink) → slice_get n.links i ≡ o → AreToDevice (after_take i h o n)
-    by_take i h None e = a
-    by_take i h (Some l) e = put i l (taken h l.link) e refl
-
-    by_renewal : (i first span now origin : ℕ) (o : Option PeerLink) → slice_get n.links i ≡ o → AreToDevice (after_renewal i first span now origin o n)
-    by_renewal i first span now origin None e = a
-    by_renewal i first span now origin (Some l) e = by_test (is_no_lower first l.link.next)
-      where
-        by_test : (b : Bool) → AreToDevice (cond b (record n { links = with_link i l (renewed_link first span now l.link) n.links; renewed = renewal_of l origin ∷ n.renewed }) n)
-        by_test true = put i l (renewed_link first span now l.link) e refl
-        by_test false = a
-
-    by_beside : (o : Option PeerLink) → AreToDevice (after_beside o n)
-    by_beside None = a
-    by_beside (Some l) = a
-
-    one : (step : Step) → AreToDevice (after_step step n)
-    one (Submit i r now) = by_submit i r now (slice_get n.links i) refl
-    one (Due i now) = by_due i now (slice_get n.links i) refl
-    one (ToDevice k now) = by_delivery now (slice_get n.to_device k)
-    one (ToLink k now) = by_reception now (slice_get n.to_links k)
-    one (Other from bytes now) = by_other from bytes now (has_link from n.links)
-    one (steps.Tick now) = a
-    one (steps.Local ono change) = a
-    one (Take i h) = by_take i h (slice_get n.links i) refl
-    one (Renew i first span now origin) = by_renewal i first span now origin (slice_get n.links i) refl
-    one (Beside i now) = by_beside (slice_get n.links i)
 
 pub to_device_steps : (es : List Step) (n : Network) → AreToDevice n → AreToDevice (after_steps es n)
 to_device_steps [] n a = a
@@ -270,27 +182,37 @@ stands_put i k h p l state links handed more e f g = elim (put_at links k i l y 
 as_before : (i h : ℕ) (p : Peer) (links : List PeerLink) (handed : List TakenAnswer) → Stands i p h links (handed ++ []) → Stands i p h links handed
 as_before i h p links handed g = rw append-nil at g
 
-holds_heard : (ms : List Msg) (x : ℕ) (us : List Untaken) → holds x (hears_all ms us) ≡ holds x us
-holds_heard [] x us = refl
-holds_heard (Response r ∷ ms) x us = holds_heard ms x (map (answered r.handle (answer_of_response r)) us) ∙ holds_answered r.handle x (answer_of_response r) us
-holds_heard (KeepAlive form ∷ ms) x us = holds_heard ms x us
-holds_heard (Command respond c ∷ ms) x us = holds_heard ms x us
-
-holds_received : (b : Bool) (content : Option (List Msg)) (x : ℕ) (us : List Untaken) → holds x (cond b (hears_content content us) us) ≡ holds x us
-holds_received true None x us = refl
-holds_received true (Some ms) x us = holds_heard ms x us
-holds_received false content x us = refl
-
-either : (a b : Bool) → a ≡ true → (a || b) ≡ true
-either a b q = cc
-
 stands_step : (i h : ℕ) (p : Peer) (step : Step) (n : Network) → RenewsNothing p n (after_step step n) → Stands i p h n.links n.taken → Stands i p h (after_step step n).links (after_step step n).taken
-stands_step i h p step n never g = one step never
+stands_step i h p step n never g = after_each (λ _ m. RenewsNothing p n m → Stands i p h m.links m.taken) n (record {
+  stays = λ _ _. g;
+  submits = λ k r now l e _. put k l (after_submission (submission r l.link) r now l.link) e (λ q s. inl (by_answer l.link r now (submission r l.link) q));
+  asks = λ k now l e _. put k l (gone_on now l.link) e (λ q s. inl (by_decision l.link (present_moment now l.link) (decision now l.link) q));
+  delivers = λ _ _ _ _ _. g;
+  receives = λ _ now d _ _. record {
+    link = hears_datagram n.address d now g.link;
+    there = slice_get-map (hears_datagram n.address d now) n.links i ∙ ap (λ o. option_map (hears_datagram n.address d now) o) g.there;
+    peer = hears_peer n.address d now g.link ∙ g.peer;
+    kept = heard d now g.kept;
+  };
+  hears = λ _ _ _ _ _. g;
+  ticks = λ _ _. g;
+  changes = λ _ _ _. g;
+  takes = λ k j l e _.
+      stands_put i k h p l (taken j l.link) n.links n.taken (taken_by l.peer j (answer_under j l.link.untaken)) e
+      (λ q same. by_taken j l (answer_under j l.link.untaken) q same) g;
+  renews = λ k first span now origin l e never.
+      put k l (renewed_link first span now l.link) e (λ q same. absurd (not_its_renewal p l.peer (renewal_of l origin) n.renewed refl never same));
+  keeps_alive = λ _ _ _ _ _. g;
+}) step never
   where
+    put : (k : ℕ) (l : PeerLink) (state : LinkState) → slice_get n.links k ≡ Some l → (holds h l.link.untaken ≡ true → l.peer ≡ p → IsKept p h state.untaken (n.taken ++ [])) →
+        Stands i p h (with_link k l state n.links) n.taken
+    put k l state e f = as_before i h p (with_link k l state n.links) n.taken (stands_put i k h p l state n.links n.taken [] e f g)
+
     by_answer : (l : LinkState) (r : Request) (now : ℕ) (x : Result Handle ControlFault) → holds h l.untaken ≡ true → holds h (after_submission x r now l).untaken ≡ true
     by_answer l r now (Ok k) q =
         let new = new_untaken (present_moment now l) (command_under k.0 r) in
-        list_any-append (λ (u : Untaken). nat_eq u.command.handle h) l.untaken (new ∷ []) ∙ either (holds h l.untaken) (holds h (new ∷ [])) q
+        list_any-append (λ (u : Untaken). nat_eq u.command.handle h) l.untaken (new ∷ []) ∙ or_left (holds h l.untaken) (holds h (new ∷ [])) q
     by_answer l r now (Err fault) q = q
 
     by_decision : (l : LinkState) (now : ℕ) (d : Decision) → holds h l.untaken ≡ true → holds h (after_due d now l).untaken ≡ true
@@ -299,46 +221,14 @@ stands_step i h p step n never g = one step never
     by_decision l now GivesNothing q = q
     by_decision l now IsLost q = q
 
-    by_submit : (k : ℕ) (r : Request) (now : ℕ) (o : Option PeerLink) → slice_get n.links k ≡ o → Stands i p h (after_submit k r now o n).links (after_submit k r now o n).taken
-    by_submit k r now None e = g
-    by_submit k r now (Some l) e =
-        let state = after_submission (submission r l.link) r now l.link in
-        as_before i h p (with_link k l state n.links) n.taken (stands_put i k h p l state n.links n.taken [] e (λ q s. inl (by_answer l.link r now (submission r l.link) q)) g)
-
-    by_due : (k now : ℕ) (o : Option PeerLink) → slice_get n.links k ≡ o → Stands i p h (after_due_step k now o n).links (after_due_step k now o n).taken
-    by_due k now None e = g
-    by_due k now (Some l) e =
-        let state = gone_on now l.link in
-        as_before i h p (with_link k l state n.links) n.taken (stands_put i k h p l state n.links n.taken [] e (λ q s. inl (by_decision l.link (present_moment now l.link) (decision now l.link) q)) g)
-
-    by_delivery : (now : ℕ) (o : Option SentDatagram) → Stands i p h (after_delivery now o n).links (after_delivery now o n).taken
-    by_delivery now None = g
-    by_delivery now (Some d) = record { link = g.link; there = g.there; peer = g.peer; kept = g.kept }
-
     hearing : (d : SentDatagram) (now : ℕ) (l : PeerLink) → holds h (hears_datagram n.address d now l).link.untaken ≡ holds h l.link.untaken
-    hearing d now l = by_test (same_peer l.peer d.peer)
-      where
-        by_test : (b : Bool) → (let y : PeerLink = cond b (record { peer = l.peer; link = received n.address (content_read d.bytes) now l.link }) l in holds h y.link.untaken) ≡ holds h l.link.untaken
-        by_test true = holds_received (same_peer n.address l.link.device) (content_read d.bytes) h l.link.untaken
-        by_test false = refl
+    hearing d now l =
+        on_bool (same_peer l.peer d.peer) (λ b. (let y : PeerLink = cond b (record { peer = l.peer; link = received n.address (content_read d.bytes) now l.link }) l in holds h y.link.untaken) ≡ holds h l.link.untaken)
+        (holds_received (same_peer n.address l.link.device) (content_read d.bytes) h l.link.untaken) refl
 
     heard : (d : SentDatagram) (now : ℕ) → IsKept p h g.link.link.untaken n.taken → IsKept p h (hears_datagram n.address d now g.link).link.untaken n.taken
     heard d now (inl held) = inl (hearing d now g.link ∙ held)
     heard d now (inr t) = inr t
-
-    by_reception : (now : ℕ) (o : Option SentDatagram) → Stands i p h (after_reception now o n).links (after_reception now o n).taken
-    by_reception now None = g
-    by_reception now (Some d) = record {
-      link = hears_datagram n.address d now g.link;
-      there = slice_get-map (hears_datagram n.address d now) n.links i ∙ ap (λ o. option_map (hears_datagram n.address d now) o) g.there;
-      peer = hears_peer n.address d now g.link ∙ g.peer;
-      kept = heard d now g.kept;
-    }
-
-    by_other : (from : Peer) (bytes : List ℕ) (now : ℕ) (b : Bool) →
-        (let m : Network = cond b n (record n { events = Datagram from bytes now ∷ n.events }) in Stands i p h m.links m.taken)
-    by_other from bytes now true = g
-    by_other from bytes now false = g
 
     -- an answer is taken from the link that holds the command
     without : (k : ℕ) (us : List Untaken) (b : Bool) → holds h (without_handle k us) ≡ b → holds h us ≡ true → (a : AnswerFields) → IsKept p h (without_handle k us) (n.taken ++ taken_by p k (Some a))
@@ -353,41 +243,6 @@ stands_step i h p step n never g = one step never
     by_taken k l None q same = inl q
     by_taken k l (Some a) q same = rw same (without k l.link.untaken (holds h (without_handle k l.link.untaken)) refl q a)
 
-    by_take : (k j : ℕ) (o : Option PeerLink) → slice_get n.links k ≡ o → Stands i p h (after_take k j o n).links (after_take k j o n).taken
-    by_take k j None e = g
-    by_take k j (Some l) e =
-        stands_put i k h p l (taken j l.link) n.links n.taken (taken_by l.peer j (answer_under j l.link.untaken)) e
-        (λ q same. by_taken j l (answer_under j l.link.untaken) q same) g
-
-    by_renewal : (k first span now origin : ℕ) (o : Option PeerLink) → slice_get n.links k ≡ o → RenewsNothing p n (after_renewal k first span now origin o n) →
-        Stands i p h (after_renewal k first span now origin o n).links (after_renewal k first span now origin o n).taken
-    by_renewal k first span now origin None e never = g
-    by_renewal k first span now origin (Some l) e never = by_test (is_no_lower first l.link.next) never
-      where
-        m : Network
-        m = record n { links = with_link k l (renewed_link first span now l.link) n.links; renewed = renewal_of l origin ∷ n.renewed }
-
-        by_test : (b : Bool) → RenewsNothing p n (cond b m n) → (let x : Network = cond b m n in Stands i p h x.links x.taken)
-        by_test true never = as_before i h p (with_link k l (renewed_link first span now l.link) n.links) n.taken
-            (stands_put i k h p l (renewed_link first span now l.link) n.links n.taken [] e (λ q same. absurd (not_its_renewal p l.peer (renewal_of l origin) n.renewed refl never same)) g)
-        by_test false never = g
-
-    by_beside : (o : Option PeerLink) → Stands i p h (after_beside o n).links (after_beside o n).taken
-    by_beside None = g
-    by_beside (Some l) = record { link = g.link; there = g.there; peer = g.peer; kept = g.kept }
-
-    one : (step : Step) → RenewsNothing p n (after_step step n) → Stands i p h (after_step step n).links (after_step step n).taken
-    one (Submit k r now) never = by_submit k r now (slice_get n.links k) refl
-    one (Due k now) never = by_due k now (slice_get n.links k) refl
-    one (ToDevice k now) never = by_delivery now (slice_get n.to_device k)
-    one (ToLink k now) never = by_reception now (slice_get n.to_links k)
-    one (Other from bytes now) never = by_other from bytes now (has_link from n.links)
-    one (steps.Tick now) never = record { link = g.link; there = g.there; peer = g.peer; kept = g.kept }
-    one (steps.Local ono change) never = record { link = g.link; there = g.there; peer = g.peer; kept = g.kept }
-    one (Take k j) never = by_take k j (slice_get n.links k) refl
-    one (Renew k first span now origin) never = by_renewal k first span now origin (slice_get n.links k) refl never
-    one (Beside k now) never = by_beside (slice_get n.links k)
-
 pub stands_steps : (i h : ℕ) (p : Peer) (es : List Step) (n : Network) → RenewsNothing p n (after_steps es n) → Stands i p h n.links n.taken → Stands i p h (after_steps es n).links (after_steps es n).taken
 stands_steps i h p [] n never g = g
 stands_steps i h p (e ∷ es) n never g = let parts = nothing_in_parts p e es n never in stands_steps i h p es (after_step e n) parts.1 (stands_step i h p e n parts.0 g)
@@ -395,12 +250,8 @@ stands_steps i h p (e ∷ es) n never g = let parts = nothing_in_parts p e es n 
 -- a member's handle is held
 holds_in : (h : ℕ) (u : Untaken) (us : List Untaken) → IsIn u us → u.command.handle ≡ h → holds h us ≡ true
 holds_in h u [] i e = absurd i
-holds_in h u (x ∷ us) (inl q) e = let same : x.command.handle ≡ h = ap (λ (z : Untaken). z.command.handle) q ∙ e in either (nat_eq x.command.handle h) (holds h us) (rw same (equal_self h))
-holds_in h u (x ∷ us) (inr i) e = second (nat_eq x.command.handle h) (holds h us) (holds_in h u us i e)
-  where
-    second : (a b : Bool) → b ≡ true → (a || b) ≡ true
-    second true b q = refl
-    second false b q = q
+holds_in h u (x ∷ us) (inl q) e = let same : x.command.handle ≡ h = ap (λ (z : Untaken). z.command.handle) q ∙ e in or_left (nat_eq x.command.handle h) (holds h us) (rw same (equal_self h))
+holds_in h u (x ∷ us) (inr i) e = or_right (nat_eq x.command.handle h) (holds h us) (holds_in h u us i e)
 
 -- ---- a response comes to the link
 
@@ -417,19 +268,17 @@ has_answer h a (u ∷ us) q = by_test (nat_eq u.command.handle h) u.answer q (ha
 
 -- ---- what was executed was executed honestly
 
-honest_of : (p : Peer) (g : Past) (x : Execution) (ns : List Note) → AreOwn p g ns → IsIn x (executed_for p ns) → IsHonest p x g
+pub honest_of : (p : Peer) (g : Past) (x : Execution) (ns : List Note) → AreOwn p g ns → IsIn x (executed_for p ns) → IsHonest p x g
 honest_of p g x [] own i = absurd i
-honest_of p g x (n ∷ ns) own i = by_test (same_peer n.peer p) refl i (honest_of p g x ns own.1)
+honest_of p g x (n ∷ ns) own i =
+    on_bool (same_peer n.peer p) (λ b. same_peer n.peer p ≡ b → IsIn x (cond b (executed_in n.what) [] ++ executed_for p ns) → (IsIn x (executed_for p ns) → IsHonest p x g) → IsHonest p x g)
+    (λ q i rest. by_what n.what (own.0 (same_is n.peer p q)) i rest) (λ q i rest. rest i) refl i (honest_of p g x ns own.1)
   where
     by_what : (what : Noted) → IsOwn p g what → IsIn x (executed_in what ++ executed_for p ns) → (IsIn x (executed_for p ns) → IsHonest p x g) → IsHonest p x g
     by_what (Admitted ms) o i rest = rest i
     by_what (Heartbeat ms) o i rest = rest i
     by_what (Executed objects c r) o (inl q) rest = rw q at o
     by_what (Executed objects c r) o (inr i) rest = rest i
-
-    by_test : (b : Bool) → same_peer n.peer p ≡ b → IsIn x (cond b (executed_in n.what) [] ++ executed_for p ns) → (IsIn x (executed_for p ns) → IsHonest p x g) → IsHonest p x g
-    by_test true q i rest = by_what n.what (own.0 (same_is n.peer p q)) i rest
-    by_test false q i rest = rest i
 
 -- so the response with its reply is read as what it is
 read_sent : WrittenIsReadBack → (p : Peer) (h : ℕ) (x : Execution) (g : Past) → h < 2 ^ 32 → IsHonest p x g →
@@ -498,58 +347,19 @@ arrives s i later m x r l c sound there device peer content handle sub = record 
 
 executed_steps : (p : Peer) (x : Execution) (es : List Step) (n : Network) → IsIn x (executed_for p (state_of (past n)).notes) → IsIn x (executed_for p (state_of (past (after_steps es n))).notes)
 executed_steps p x [] n i = i
-executed_steps p x (e ∷ es) n i = executed_steps p x es (after_step e n) (one e)
-  where
-    Has : Network → Type 0
-    Has m = IsIn x (executed_for p (state_of (past m)).notes)
-
-    by_submit : (i : ℕ) (r : Request) (now : ℕ) (o : Option PeerLink) → Has (after_submit i r now o n)
-    by_submit k r now None = i
-    by_submit k r now (Some l) = i
-
-    by_due : (i now : ℕ) (o : Option PeerLink) → Has (after_due_step i now o n)
-    by_due k now None = i
-    by_due k now (Some l) = i
-
-    by_delivery : (now : ℕ) (o : Option SentDatagram) → Has (after_delivery now o n)
-    by_delivery now None = i
-    by_delivery now (Some d) = executed_then p x (past n) (Datagram d.peer d.bytes now) i
-
-    by_reception : (now : ℕ) (o : Option SentDatagram) → Has (after_reception now o n)
-    by_reception now None = i
-    by_reception now (Some d) = i
-
-    by_other : (from : Peer) (bytes : List ℕ) (now : ℕ) (b : Bool) → Has (let m : Network = cond b n (record n { events = Datagram from bytes now ∷ n.events }) in m)
-    by_other from bytes now true = i
-    by_other from bytes now false = executed_then p x (past n) (Datagram from bytes now) i
-
-    by_take : (i h : ℕ) (o : Option PeerLink) → Has (after_take i h o n)
-    by_take k h None = i
-    by_take k h (Some l) = i
-
-    by_renewal : (k first span now origin : ℕ) (o : Option PeerLink) → Has (after_renewal k first span now origin o n)
-    by_renewal k first span now origin None = i
-    by_renewal k first span now origin (Some l) = by_test (is_no_lower first l.link.next)
-      where
-        by_test : (b : Bool) → Has (cond b (record n { links = with_link k l (renewed_link first span now l.link) n.links; renewed = renewal_of l origin ∷ n.renewed }) n)
-        by_test true = i
-        by_test false = i
-
-    by_beside : (o : Option PeerLink) → Has (after_beside o n)
-    by_beside None = i
-    by_beside (Some l) = i
-
-    one : (step : Step) → Has (after_step step n)
-    one (Submit k r now) = by_submit k r now (slice_get n.links k)
-    one (Due k now) = by_due k now (slice_get n.links k)
-    one (ToDevice k now) = by_delivery now (slice_get n.to_device k)
-    one (ToLink k now) = by_reception now (slice_get n.to_links k)
-    one (Other from bytes now) = by_other from bytes now (has_link from n.links)
-    one (steps.Tick now) = executed_then p x (past n) (event.Tick now) i
-    one (steps.Local ono change) = executed_then p x (past n) (event.Local ono change) i
-    one (Take k h) = by_take k h (slice_get n.links k)
-    one (Renew k first span now origin) = by_renewal k first span now origin (slice_get n.links k)
-    one (Beside k now) = by_beside (slice_get n.links k)
+executed_steps p x (e ∷ es) n i = executed_steps p x es (after_step e n) (after_each (λ _ m. IsIn x (executed_for p (state_of (past m)).notes)) n (record {
+  stays = λ _. i;
+  submits = λ _ _ _ _ _. i;
+  asks = λ _ _ _ _. i;
+  delivers = λ _ now d _. executed_then p x (past n) (Datagram d.peer d.bytes now) i;
+  receives = λ _ _ _ _. i;
+  hears = λ from bytes now _. executed_then p x (past n) (Datagram from bytes now) i;
+  ticks = λ now. executed_then p x (past n) (event.Tick now) i;
+  changes = λ ono change. executed_then p x (past n) (event.Local ono change) i;
+  takes = λ _ _ _ _. i;
+  renews = λ _ _ _ _ _ _ _. i;
+  keeps_alive = λ _ _ _ _. i;
+}) e)
 
 -- what a delivery is answered with was executed then or before
 executed_by : (k now : ℕ) (p : Peer) (x : Execution) (n : Network) → IsExecutedNow k now p x n ⊎ WasExecuted k now p x n →

@@ -1,41 +1,24 @@
 -- What each step of a network that runs leads to.
-use Rattle.std.proofs.Common.{◌≡◌, ℕ, ◌+◌, ◌<◌, ◌≤◌, Bool, true, false, List, [], ◌∷◌, ◌++◌, length, take, drop, get_or, Option, Some, None, Result, Ok, Err, refl, sym, ap, ◌∙◌, subst, arith, zero, suc, append-nil, append_assoc, take_all}
-use Rattle.std.specs.Prelude.{map, not, ◌&&◌, ◌||◌, is_some, if◌then◌else◌}
-use Rattle.std.specs.List.{slice_get, slice_set, list_any, list_all, flat_map}
-use Rattle.std.specs.Option.{option_or}
-use Rattle.std.proofs.lemmas.List.{get_or_at, set_at, drop_more, drop_all, map_more, length-map, length-take-le}
-use Rattle.std.proofs.lemmas.Option.{slice_get-get_or}
-use Rattle.oca_types.specs.declared.words.Peer.{Peer}
-use Rattle.oca_types.specs.declared.words.Handle.{Handle}
-use Rattle.oca_types.specs.Peers.{same_peer}
-use Rattle.oca_types.specs.Sizes.{DeviceSizes}
-use Rattle.oca_pdu.specs.declared.fault.PduFault.{PduFault}
-use Rattle.oca_pdu.specs.Messages.{Msg, messages_of}
-use Rattle.oca_pdu.specs.Reading.{read_datagram}
-use Rattle.oca_pdu.specs.Laws.{AreBytes, ReadsExactly, ReadingIsExact}
-use Rattle.oca_tree.specs.declared.object.Object.{Object}
-use Rattle.oca_device.specs.declared.verdict.Verdict.{Verdict}
+use Rattle.oca_pair.proofs.Words.{◌≡◌, ℕ, ◌+◌, ◌<◌, ◌≤◌, Bool, true, false, List, [], ◌∷◌, ◌++◌, length, take, drop, get_or, Option, Some, None, refl, sym, ap, ◌∙◌, subst, arith, zero, suc}
+use Rattle.oca_pair.proofs.Words.{append-nil, append_assoc, take_all, map, not, ◌&&◌, ◌||◌, is_some, if◌then◌else◌, slice_get, slice_set, list_any, list_all, flat_map, option_or, get_or_at, set_at}
+use Rattle.oca_pair.proofs.Words.{drop_more, drop_all, map_more, length-map, length-take-le, slice_get-get_or, or_right, Peer, Handle, same_peer, DeviceSizes, PduFault, Msg, messages_of}
+use Rattle.oca_pair.proofs.Words.{read_datagram, AreBytes, ReadsExactly, ReadingIsExact, Object, Verdict, Event, Datagram, packets, verdict, answer_under, ControlFault, LinkState, Request, submission}
+use Rattle.oca_pair.proofs.Words.{after_submission, submitted, Decision, GivesCommand, GivesKeepAlive, GivesNothing, IsLost, decision, due_bytes, after_due, gone_on, present_moment, reception}
+use Rattle.oca_pair.proofs.Words.{received, taken, Start, Network, PeerLink, SentDatagram, device_address, is_of_another_peer, Step, Submit, Due, ToDevice, ToLink, Take, has_link, sendings_in}
+use Rattle.oca_pair.proofs.Words.{with_link, submit_outcome, after_submit, given_by, due_outcome, after_due_step, after_delivery, delivery_outcome, content_read, messages_read, hears_datagram}
+use Rattle.oca_pair.proofs.Words.{after_reception, reception_outcomes, reception_outcome, take_outcome, after_take, Renew, is_no_lower, renewed_link, after_renewal, renewal_outcome, Beside}
+use Rattle.oca_pair.proofs.Words.{after_beside, after_step, after_steps, on_link, outcomes_of, one_later, first_missing, IsTranscript, AreOfLinks, Shows, Took, in_its_place, is_of_peer, heard}
+use Rattle.oca_pair.proofs.Words.{first_heard, same_self}
+use Rattle.std.proofs.Common.{Result, Ok, Err}
 use Rattle.oca_device.specs.Devices.{Represents}
-use Rattle.oca_device.specs.Events.{Event, Datagram}
-use Rattle.oca_device.specs.Answers.{packets, verdict}
 use Rattle.oca_control.specs.declared.reception.Reception.{Reception}
 use Rattle.oca_control.specs.Contents.{IsContent}
-use Rattle.oca_control.specs.Untaken.{answer_under}
-use Rattle.oca_control.specs.declared.fault.ControlFault.{ControlFault}
-use Rattle.oca_control.specs.Links.{LinkState, Request, submission, after_submission, submitted, Decision, GivesCommand, GivesKeepAlive, GivesNothing, IsLost, decision, due_bytes, after_due, gone_on, present_moment, reception, received, taken}
 use Rattle.oca_pair.specs.declared.outcome.Outcome.{Outcome}
 use Rattle.oca_pair.specs.declared.outcome.Outcome.TheVariants as outcomes
 use Rattle.oca_pair.specs.declared.running.Running.{Running}
 use Rattle.oca_pair.specs.declared.running.StepFault.{StepFault}
 use Rattle.oca_pair.specs.declared.running.StepFault.TheVariants as faults
 use Rattle.oca_pair.specs.declared.pair.Transcript.{Transcript}
-use Rattle.oca_pair.specs.declared.start.Start.{Start}
-use Rattle.oca_pair.specs.Networks.{Network, PeerLink, SentDatagram, device_address}
-use Rattle.oca_pair.specs.Premises.{is_of_another_peer, are_apart}
-use Rattle.oca_pair.specs.Steps.{Step, Submit, Due, ToDevice, ToLink, Take, has_link, sendings_in, with_link, submit_outcome, after_submit, given_by, due_outcome, after_due_step, after_delivery, delivery_outcome, content_read, messages_read, hears_datagram, after_reception, reception_outcomes, reception_outcome, take_outcome, after_take, Renew, is_no_lower, renewed_link, after_renewal, renewal_outcome, Beside, after_beside, after_step, after_steps, on_link, outcomes_of, one_later, first_missing}
-use Rattle.oca_pair.proofs.Lists.{same_self}
-use Rattle.oca_pair.specs.Transcripts.{IsTranscript}
-use Rattle.oca_pair.specs.PrivateRunning.{AreOfLinks, Shows, Took, in_its_place, is_of_peer, heard, first_heard}
 
 -- ---- bytes
 
@@ -264,11 +247,7 @@ sent_outcome number IsLost bytes e = cc
 one_of : (l : PeerLink) (links : List PeerLink) (i : ℕ) → slice_get links i ≡ Some l → has_link l.peer links ≡ true
 one_of l [] i e = cc
 one_of l (x ∷ xs) zero e = let same : x ≡ l = cc in ap (λ (y : PeerLink). same_peer y.peer l.peer || has_link l.peer xs) same ∙ ap (λ (b : Bool). b || has_link l.peer xs) (same_self l.peer)
-one_of l (x ∷ xs) (suc i) e = later (same_peer x.peer l.peer) (has_link l.peer xs) (one_of l xs i e)
-  where
-    later : (a b : Bool) → b ≡ true → (a || b) ≡ true
-    later true b e = refl
-    later false b e = e
+one_of l (x ∷ xs) (suc i) e = or_right (same_peer x.peer l.peer) (has_link l.peer xs) (one_of l xs i e)
 
 -- what `due` did: the outcome, and the datagrams that were sent
 pub took_due : (old new : Running) (n : Network) (i now : ℕ) (l : PeerLink) (o : Outcome) → Shows old n → slice_get old.links.items i ≡ Some l →
@@ -424,12 +403,6 @@ pub apart_is : (p : Peer) (later : List Start) (b : Bool) → same_peer p device
     not b ≡ (not (same_peer p device_address) && list_all (is_of_another_peer p) later)
 apart_is p later b device is =
     ap not is ∙ none_of_peer p later ∙ ap (λ (a : Bool). not a && list_all (is_of_another_peer p) later) (sym device)
-
-pub apart_so_far : (starts : List Start) (i : ℕ) (x : Start) (b : Bool) → i < length starts → x ≡ get_or starts i x →
-    b ≡ (not (same_peer x.peer device_address) && list_all (is_of_another_peer x.peer) (drop (i + 1) starts)) → are_apart device_address (drop i starts) ≡ (b && are_apart device_address (drop (i + 1) starts))
-apart_so_far starts i x b h at is =
-    ap (are_apart device_address) (drop_more starts i x h) ∙ ap (λ (y : Start). are_apart device_address (y ∷ drop (i + 1) starts)) (sym at)
-    ∙ ap (λ (c : Bool). c && are_apart device_address (drop (i + 1) starts)) (sym is)
 
 -- ---- schedules
 

@@ -1,57 +1,29 @@
 -- Each answer that is in time is that of an execution after the call.
-use Rattle.std.proofs.Common.{◌≡◌, ℕ, ◌<◌, ◌≢◌, Bool, true, false, cond, List, [], ◌∷◌, ◌++◌, Option, Some, None, refl, sym, ap, ◌∙◌, subst, arith, ◌⊎◌, inl, inr}
-use Rattle.std.specs.Prelude.{nat_eq, Ok}
-use Rattle.std.specs.List.{AllByRecursion, slice_get}
-use Rattle.std.specs.Option.{option_map}
-use Rattle.std.proofs.lemmas.Option.{slice_get-map}
-use Rattle.oca_types.specs.declared.words.Peer.{Peer}
-use Rattle.oca_types.specs.declared.words.Handle.{Handle}
-use Rattle.oca_types.specs.Status.{status_number}
-use Rattle.oca_types.specs.Peers.{same_peer, CommandFields}
-use Rattle.oca_types.specs.Sizes.{DeviceSizes}
-use Rattle.oca_pdu.specs.declared.message.Form.TheVariants.{Seconds}
-use Rattle.oca_pdu.specs.Messages.{Msg, Command, KeepAlive}
-use Rattle.oca_pdu.specs.Reading.{read_datagram}
-use Rattle.oca_pdu.specs.Laws.{WrittenIsReadBack}
-use Rattle.oca_tree.specs.declared.object.Object.{Object}
-use Rattle.oca_tree.specs.Objects.{object_of}
-use Rattle.oca_tree.specs.Execution.{status_of}
-use Rattle.oca_tree.specs.Readers.{class_of_ono}
-use Rattle.oca_session.specs.Accepted.{Judgement, Fresh, Duplicate, Reused, Old}
+use Rattle.oca_pair.proofs.Words.{◌≡◌, ℕ, ◌<◌, ◌≢◌, Bool, true, false, cond, List, [], ◌∷◌, ◌++◌, Option, Some, None, refl, sym, ap, ◌∙◌, subst, arith, ◌⊎◌, inl, inr, nat_eq, Ok, AllByRecursion}
+use Rattle.oca_pair.proofs.Words.{slice_get, option_map, slice_get-map, same_Some, eqb-true, Peer, Handle, status_number, same_peer, CommandFields, DeviceSizes, Seconds, Msg, Command, KeepAlive}
+use Rattle.oca_pair.proofs.Words.{read_datagram, WrittenIsReadBack, Object, object_of, status_of, class_of_ono, Judgement, Fresh, Duplicate, Reused, Old, Event, Datagram, Tick, Local, Admitted}
+use Rattle.oca_pair.proofs.Words.{Heartbeat, Executed, Note, changes, State, noted, admits, judged_in, reply_of, after_command, time_of, count_of_command, counts, plus, served, verdict_of_reading}
+use Rattle.oca_pair.proofs.Words.{verdict, AnswerFields, Untaken, answer_under, Request, command_under, submission, Start, Network, PeerLink, SentDatagram, SubmittedCommand, Setup, opening, Step}
+use Rattle.oca_pair.proofs.Words.{Submit, ToDevice, submitted_by, submit_outcome, after_submit, after_delivery, after_step, after_steps, on_link, delivery_outcome, outcome_of_step, happenings}
+use Rattle.oca_pair.proofs.Words.{are_apart, StepFits, Fit, Execution, executions_for, executions_under, WasTaken, copy_of, AreInTime, IsAnswerOfOneExecution, objects_held, HappensWith, HappensIn}
+use Rattle.oca_pair.proofs.Words.{IsOfOneExecutionSince, RefusalsChangeNothing, ClassesStay, OfEachAnswer, same_is, same_turned, end_of, on_bool}
 use Rattle.oca_device.specs.declared.verdict.Verdict.TheVariants as verdicts
-use Rattle.oca_device.specs.Events.{Event, Datagram, Tick, Local}
-use Rattle.oca_device.specs.Notes.{Noted, Admitted, Heartbeat, Executed, Note}
-use Rattle.oca_device.specs.LawByEvents.{changes}
-use Rattle.oca_device.specs.States.{State, noted, admits, judged_in, reply_of, after_command, time_of}
-use Rattle.oca_device.specs.Answers.{count_of_command, counts, plus, served, verdict_of_reading, verdict}
-use Rattle.oca_control.specs.Answers.{AnswerFields}
-use Rattle.oca_control.specs.Untaken.{Untaken, answer_under}
-use Rattle.oca_control.specs.Links.{Request, command_under, submission}
 use Rattle.oca_pair.specs.declared.outcome.Outcome.TheVariants as outcomes
-use Rattle.oca_pair.specs.declared.start.Start.{Start}
-use Rattle.oca_pair.specs.Networks.{Network, PeerLink, SentDatagram, SubmittedCommand, Setup, opening}
-use Rattle.oca_pair.specs.Steps.{Step, Submit, Due, ToDevice, ToLink, Other, Take, has_link, submitted_by, submit_outcome, after_submit, after_due_step, after_delivery, after_reception, after_take, after_step, after_steps, on_link, delivery_outcome, outcome_of_step, Renew, Beside, after_beside, with_link, is_no_lower, renewal_of, renewed_link, after_renewal}
-use Rattle.oca_pair.specs.Steps as steps
-use Rattle.oca_pair.specs.Happenings.{happenings}
-use Rattle.oca_pair.specs.Premises.{are_apart, StepFits, Fit}
-use Rattle.oca_pair.specs.Laws.{Execution, executions_for, executions_under, WasTaken}
-use Rattle.oca_pair.specs.GettingThrough.{copy_of}
-use Rattle.oca_pair.specs.InTime.{AreInTime, IsAnswerOfOneExecution}
-use Rattle.oca_pair.specs.Saying.{objects_held, HappensWith, HappensIn, IsOfOneExecutionSince, RefusalsChangeNothing, ClassesStay, OfEachAnswer}
 use Rattle.oca_pair.proofs.Fixed.{tree_kept, peers_of, peers_step, peers_steps, link_before}
 use Rattle.oca_pair.proofs.Core.{none_passes}
-use Rattle.oca_pair.proofs.Lists.{IsIn, contains_in, in_more, in_last, in_parts, each_at, each_in, same_is, same_turned, equal_is, same_some, mapped_at}
+use Rattle.oca_pair.proofs.EachStep.{after_each}
+use Rattle.oca_pair.proofs.Lists.{IsIn, contains_in, in_more, in_last, each_at, each_in, mapped_at}
 use Rattle.oca_pair.proofs.Wire.{IsSendable, read_command, read_keep_alive}
 use Rattle.oca_pair.proofs.Clocks.{Grows, grows_reading}
 use Rattle.oca_pair.proofs.ByEvents.{stands_by}
 use Rattle.oca_pair.proofs.Executions.{executed_in, executed_for, executions_are}
-use Rattle.oca_pair.proofs.Truths.{Past, past, and_then, state_of, IsSubmitted, IsHonest, IsOwn}
-use Rattle.oca_pair.proofs.Fair.{end_of, IsOut, AreOwn, Fair}
+use Rattle.oca_pair.proofs.Truths.{Past, past, and_then, state_of, IsSubmitted}
+use Rattle.oca_pair.proofs.Fair.{IsOut, Fair}
 use Rattle.oca_pair.proofs.Arrivals.{looked_at}
 use Rattle.oca_pair.proofs.Delivering.{let_in, after_read, granted}
 use Rattle.oca_pair.proofs.Keeping.{executed_noted}
 use Rattle.oca_pair.proofs.Networks.{LinkSound, Sound, sound_step, sound_steps, sound_opening}
-use Rattle.oca_pair.proofs.RoundTrip.{grown_steps}
+use Rattle.oca_pair.proofs.RoundTrip.{grown_steps, honest_of}
 use Rattle.oca_pair.proofs.GettingThrough.{after_more, took}
 use Rattle.oca_pair.proofs.InTime.{answers_in_time}
 use Rattle.oca_tree.proofs.TypesKept.{execution_status, execution_refuses}
@@ -169,35 +141,26 @@ abbrev Does : Peer → Step → Network → Network → Type 0
 Does p step n m = (executions_for p m ≡ executions_for p n) ⊎ Happens p step n
 
 does_step : WrittenIsReadBack → (s : Peer → ℕ) (i : ℕ) (l : PeerLink) (step : Step) (n : Network) → Sound s n → slice_get n.links i ≡ Some l → Does l.peer step n (after_step step n)
-does_step law s i l step n sound own = one step
+does_step law s i l step n sound own = after_each (λ e m. Does p e n m) n (record {
+  stays = λ _. inl refl;
+  submits = λ _ _ _ _ _. inl refl;
+  asks = λ _ _ _ _. inl refl;
+  delivers = λ k now d there. by_peer k now d there (same_peer d.peer p) refl;
+  receives = λ _ _ _ _. inl refl;
+  hears = λ from bytes now q.
+      inl (elsewhere p from bytes now n (same_turned from p ∙ each_at (λ (z : PeerLink). same_peer z.peer from ≡ false) n.links i l (none_passes (λ (z : PeerLink). same_peer z.peer from) n.links q) own));
+  ticks = λ now. inl (executions_are n.sizes p n.tree (Tick now ∷ n.events) ∙ sym (executions_are n.sizes p n.tree n.events));
+  changes = λ ono change. inl (executions_are n.sizes p n.tree (Local ono change ∷ n.events) ∙ sym (executions_are n.sizes p n.tree n.events));
+  takes = λ _ _ _ _. inl refl;
+  renews = λ _ _ _ _ _ _ _. inl refl;
+  keeps_alive = λ _ _ _ _. inl refl;
+}) step
   where
     p : Peer
     p = l.peer
 
     of : LinkSound s n l
     of = each_at (LinkSound s n) n.links i l sound.each own
-
-    by_submit : (k : ℕ) (r : Request) (now : ℕ) (o : Option PeerLink) → Does p (Submit k r now) n (after_submit k r now o n)
-    by_submit k r now None = inl refl
-    by_submit k r now (Some z) = inl refl
-
-    by_due : (k now : ℕ) (o : Option PeerLink) → Does p (Due k now) n (after_due_step k now o n)
-    by_due k now None = inl refl
-    by_due k now (Some z) = inl refl
-
-    by_reception : (k now : ℕ) (o : Option SentDatagram) → Does p (ToLink k now) n (after_reception now o n)
-    by_reception k now None = inl refl
-    by_reception k now (Some d) = inl refl
-
-    by_take : (k h : ℕ) (o : Option PeerLink) → Does p (Take k h) n (after_take k h o n)
-    by_take k h None = inl refl
-    by_take k h (Some z) = inl refl
-
-    by_other : (from : Peer) (bytes : List ℕ) (now : ℕ) (b : Bool) → has_link from n.links ≡ b →
-        Does p (Other from bytes now) n (let m : Network = cond b n (record n { events = Datagram from bytes now ∷ n.events }) in m)
-    by_other from bytes now true q = inl refl
-    by_other from bytes now false q =
-        inl (elsewhere p from bytes now n (same_turned from p ∙ each_at (λ (z : PeerLink). same_peer z.peer from ≡ false) n.links i l (none_passes (λ (z : PeerLink). same_peer z.peer from) n.links q) own))
 
     delivered : (k now : ℕ) (m : Network) → Delivers k now p n m → Does p (ToDevice k now) n m
     delivered k now m (inl same) = inl same
@@ -210,34 +173,6 @@ does_step law s i l step n sound own = one step
         delivered k now (after_delivery now (Some d) n)
         (subst (λ (x : Peer). Delivers k now x n (after_delivery now (Some d) n)) same (delivers_own law n k now d l.link.next l.link.untaken there (subst FairAs (sym same) of.fair)))
     by_peer k now d there false q = inl (elsewhere p d.peer d.bytes now n q)
-
-    by_sent : (k now : ℕ) (o : Option SentDatagram) → slice_get n.to_device k ≡ o → Does p (ToDevice k now) n (after_delivery now o n)
-    by_sent k now None there = inl refl
-    by_sent k now (Some d) there = by_peer k now d there (same_peer d.peer p) refl
-
-    by_renewal : (k first span now origin : ℕ) (o : Option PeerLink) → Does p (Renew k first span now origin) n (after_renewal k first span now origin o n)
-    by_renewal k first span now origin None = inl refl
-    by_renewal k first span now origin (Some z) = by_test (is_no_lower first z.link.next)
-      where
-        by_test : (b : Bool) → Does p (Renew k first span now origin) n (cond b (record n { links = with_link k z (renewed_link first span now z.link) n.links; renewed = (renewal_of z origin) ∷ n.renewed }) n)
-        by_test true = inl refl
-        by_test false = inl refl
-
-    by_beside : (k now : ℕ) (o : Option PeerLink) → Does p (Beside k now) n (after_beside o n)
-    by_beside k now None = inl refl
-    by_beside k now (Some z) = inl refl
-
-    one : (step : Step) → Does p step n (after_step step n)
-    one (Submit k r now) = by_submit k r now (slice_get n.links k)
-    one (Due k now) = by_due k now (slice_get n.links k)
-    one (ToDevice k now) = by_sent k now (slice_get n.to_device k) refl
-    one (ToLink k now) = by_reception k now (slice_get n.to_links k)
-    one (Other from bytes now) = by_other from bytes now (has_link from n.links) refl
-    one (steps.Tick now) = inl (executions_are n.sizes p n.tree (Tick now ∷ n.events) ∙ sym (executions_are n.sizes p n.tree n.events))
-    one (steps.Local ono change) = inl (executions_are n.sizes p n.tree (Local ono change ∷ n.events) ∙ sym (executions_are n.sizes p n.tree n.events))
-    one (Take k h) = by_take k h (slice_get n.links k)
-    one (Renew k first span now origin) = by_renewal k first span now origin (slice_get n.links k)
-    one (Beside k now) = by_beside k now (slice_get n.links k)
 
 -- what is among the executions after steps was before them, or happens in one of them
 executed_in_steps : WrittenIsReadBack → (s : Peer → ℕ) (i : ℕ) (p : Peer) (es : List Step) (n : Network) → AllByRecursion StepFits es → Sound s n →
@@ -282,32 +217,14 @@ in_under h x (y ∷ ys) i = by_test (nat_eq y.command.handle h) refl i (in_under
   where
     by_test : (b : Bool) → nat_eq y.command.handle h ≡ b → IsIn x (cond b (y ∷ executions_under h ys) (executions_under h ys)) → (IsIn x (executions_under h ys) → IsIn x ys × (x.command.handle ≡ h)) →
         IsIn x (y ∷ ys) × (x.command.handle ≡ h)
-    by_test true q (inl same) rest = (inl same, ap (λ (z : Execution). z.command.handle) (sym same) ∙ equal_is y.command.handle h q)
+    by_test true q (inl same) rest = (inl same, ap (λ (z : Execution). z.command.handle) (sym same) ∙ eqb-true y.command.handle h q)
     by_test true q (inr i) rest = let r = rest i in (inr r.0, r.1)
     by_test false q i rest = let r = rest i in (inr r.0, r.1)
 
 none_is_under : (h : ℕ) (xs : List Execution) → ((x : Execution) → IsIn x xs → x.command.handle ≢ h) → executions_under h xs ≡ []
 none_is_under h [] none = refl
-none_is_under h (y ∷ ys) none = by_test (nat_eq y.command.handle h) refl (none_is_under h ys (λ x i. none x (inr i)))
-  where
-    by_test : (b : Bool) → nat_eq y.command.handle h ≡ b → executions_under h ys ≡ [] → cond b (y ∷ executions_under h ys) (executions_under h ys) ≡ []
-    by_test true q rest = absurd (none y (inl refl) (equal_is y.command.handle h q))
-    by_test false q rest = rest
-
--- what is executed for a peer is honest
-honest_of : (p : Peer) (g : Past) (x : Execution) (ns : List Note) → AreOwn p g ns → IsIn x (executed_for p ns) → IsHonest p x g
-honest_of p g x [] own i = absurd i
-honest_of p g x (n ∷ ns) own i = by_test (same_peer n.peer p) refl i (honest_of p g x ns own.1)
-  where
-    by_what : (what : Noted) → IsOwn p g what → IsIn x (executed_in what) → IsHonest p x g
-    by_what (Admitted ms) its i = absurd i
-    by_what (Heartbeat ms) its i = absurd i
-    by_what (Executed objects c r) its (inl same) = subst (λ (y : Execution). IsHonest p y g) same its
-    by_what (Executed objects c r) its (inr i) = absurd i
-
-    by_test : (b : Bool) → same_peer n.peer p ≡ b → IsIn x (cond b (executed_in n.what) [] ++ executed_for p ns) → (IsIn x (executed_for p ns) → IsHonest p x g) → IsHonest p x g
-    by_test true q i rest = elim (in_parts x (executed_in n.what) (executed_for p ns) i) [ inl a ↦ by_what n.what (own.0 (same_is n.peer p q)) a | inr b ↦ rest b ]
-    by_test false q i rest = rest i
+none_is_under h (y ∷ ys) none = on_bool (nat_eq y.command.handle h) (λ b. nat_eq y.command.handle h ≡ b → executions_under h ys ≡ [] → cond b (y ∷ executions_under h ys) (executions_under h ys) ≡ [])
+    (λ q rest. absurd (none y (inl refl) (eqb-true y.command.handle h q))) (λ q rest. rest) refl (none_is_under h ys (λ x i. none x (inr i)))
 
 each_parts : {X : Type 0} (P : X → Type 0) (xs ys : List X) → AllByRecursion P (xs ++ ys) → AllByRecursion P xs × AllByRecursion P ys
 each_parts P [] ys a = (tt, a)
@@ -392,7 +309,7 @@ module _ (law : WrittenIsReadBack) (w : DeviceSizes) (s : Setup) (tree : List Ob
     at_old = link_before i old end l (peers_steps later called ∙ peers_step call old) own
 
     its_peer : its.link.peer ≡ l.peer
-    its_peer = ap (λ (z : PeerLink). z.peer) (same_some its.link at_old.0 (sym its.there ∙ at_old.1)) ∙ at_old.2
+    its_peer = ap (λ (z : PeerLink). z.peer) (same_Some its.link at_old.0 (sym its.there ∙ at_old.1)) ∙ at_old.2
 
     -- the call executes nothing
     quiet : executions_for l.peer called ≡ executions_for l.peer old

@@ -1,52 +1,31 @@
 -- What an answer with status OK says of the object that was asked.
-use Rattle.std.proofs.Common.{◌≡◌, ℕ, ◌≤◌, ◌==◌, Bool, true, false, cond, List, [], ◌∷◌, length, Option, Some, None, refl, sym, ap, ◌∙◌, subst, eqb-true, inl, inr}
-use Rattle.std.specs.Prelude.{Ok}
-use Rattle.std.specs.List.{All}
-use Rattle.std.specs.Option.{option_map, option_map_or}
-use Rattle.std.proofs.lemmas.Bool.{both_ways, eq-eqb}
-use Rattle.std.proofs.lemmas.List.Elements.{recursion_from_All}
-use Rattle.oca_types.specs.declared.class.Class.{Class}
+use Rattle.oca_pair.proofs.Words.{◌≡◌, ℕ, ◌≤◌, ◌==◌, Bool, true, false, cond, List, [], ◌∷◌, length, Option, Some, None, refl, sym, ap, ◌∙◌, subst, inl, inr, Ok, All, option_map, option_map_or}
+use Rattle.oca_pair.proofs.Words.{both_ways, eq-eqb, recursion_from_All, same_Some, Class, Status, Peer, CommandFields, status_number, WrittenIsReadBack, Reading, answer_in, answer_count}
+use Rattle.oca_pair.proofs.Words.{answer_encoding, IsAnswer, AnswersAreRead, Object, class_of, object_of, with_object, TreeAndReply, carried_out, status_of, class_of_ono, Tick, changes, reply_of}
+use Rattle.oca_pair.proofs.Words.{AnswerFields, Network, Step, after_steps, happenings, Execution, answer_of, HappensIn, IsOfOneExecutionSince, objects_left, is_of_every_class, CommandAsks}
+use Rattle.oca_pair.proofs.Words.{AnswersTyped, IsAnsweredByItsObject, OksSayWhatIsHeld, ReadingsWereHeld, SettingsWereMade, ClassesMetAreThoseAtFirst, OfEachAnswer}
+use Rattle.std.proofs.Common.{eqb-true}
 use Rattle.oca_types.specs.declared.class.Class.TheVariants as class
 use Rattle.oca_types.specs.declared.class.Method.{Method}
 use Rattle.oca_types.specs.declared.class.Method.TheVariants as methods
 use Rattle.oca_types.specs.declared.class.MethodKind.TheVariants.{Known}
-use Rattle.oca_types.specs.declared.status.Status.{Status}
 use Rattle.oca_types.specs.declared.status.Status.TheVariants as statuses
 use Rattle.oca_types.specs.declared.words.MethodId.{MethodId}
-use Rattle.oca_types.specs.declared.words.Peer.{Peer}
 use Rattle.oca_types.specs.Methods.{method_kind, access, kind_from, row_at, own_methods, class_methods, is_left_out}
-use Rattle.oca_types.specs.Peers.{CommandFields}
-use Rattle.oca_types.specs.Status.{status_number}
-use Rattle.oca_pdu.specs.Laws.{WrittenIsReadBack}
 use Rattle.oca_model.specs.declared.answer.Answer.TheVariants as answers
-use Rattle.oca_model.specs.declared.reading.Reading.{Reading}
 use Rattle.oca_model.specs.declared.request.Request.{Request as Asked}
 use Rattle.oca_model.specs.declared.request.Request.TheVariants as asked
 use Rattle.oca_model.specs.declared.value.Value.{Value}
-use Rattle.oca_model.specs.Answers.{answer_in, answer_count, answer_encoding, IsAnswer, AnswersAreRead}
 use Rattle.oca_model.specs.Requests.{AskedBy, IsRequest, request_in, count_of, parameters_of, RequestsAreUnderstood}
 use Rattle.oca_model.specs.Values.{class_of_value}
-use Rattle.oca_tree.specs.declared.object.Object.{Object}
-use Rattle.oca_tree.specs.Objects.{class_of, object_of, with_object}
-use Rattle.oca_tree.specs.Execution.{TreeAndReply, execution, carried_out, status_of}
-use Rattle.oca_tree.specs.Readers.{class_of_ono}
+use Rattle.oca_tree.specs.Execution.{execution}
 use Rattle.oca_tree.specs.Trees.{IsTree, IsSound}
 use Rattle.oca_tree.specs.Typed.{reading_held, answer_given, changed_by, held_set_to}
 use Rattle.oca_tree.specs.TypedLaws.{IsOfItsTypes, IsRight, CommandDid, AnswersAreRight, SettingsAreRead}
-use Rattle.oca_device.specs.Events.{Tick}
-use Rattle.oca_device.specs.LawByEvents.{changes}
-use Rattle.oca_device.specs.States.{reply_of}
-use Rattle.oca_control.specs.Answers.{AnswerFields}
-use Rattle.oca_pair.specs.Networks.{Network}
-use Rattle.oca_pair.specs.Steps.{Step, after_steps}
-use Rattle.oca_pair.specs.Happenings.{happenings}
-use Rattle.oca_pair.specs.Laws.{Execution, answer_of}
-use Rattle.oca_pair.specs.Saying.{HappensIn, IsOfOneExecutionSince, objects_left, is_of_every_class, CommandAsks, AnswersTyped, IsAnsweredByItsObject, OksSayWhatIsHeld, ReadingsWereHeld, SettingsWereMade, ClassesMetAreThoseAtFirst, OfEachAnswer}
 use Rattle.oca_tree.proofs.TypesKept.{found_in, number_of, IsGood, ok_found, execution_status}
 use Rattle.oca_pair.proofs.ObjectsKept.{objects_good, class_stays}
 use Rattle.oca_pair.proofs.Fixed.{tree_kept}
 use Rattle.oca_pair.proofs.Saying.{between_law}
-use Rattle.oca_pair.proofs.Lists.{same_some}
 
 -- ---- what every class answers alike
 
@@ -148,7 +127,7 @@ common_answer of other tree o _ e a = absurd (cc)
 
 -- a request is asked by one method
 one_method : (of : Class) (r : Asked) (m n : Method) → AskedBy of r m → AskedBy of r n → m ≡ n
-one_method of asked.Get m n a b = same_some m n (sym a ∙ b)
+one_method of asked.Get m n a b = same_Some m n (sym a ∙ b)
 one_method of (asked.Set value) m n a b = a.1 ∙ sym b.1
 one_method of _ m n a b = a ∙ sym b
 
@@ -283,7 +262,7 @@ module _ (understood : RequestsAreUnderstood) (read : AnswersAreRead)
       ap (λ (t : List Object). class_of_ono t number) at.happens.met ∙ class_stays m.tree (changes m.sizes (happenings (Tick at.now ∷ m.events))) number ∙ ap (λ (t : List Object). class_of_ono t number) (tree_kept at.first n)
 
   object_class : (tree : List Object) (number : ℕ) (o : Object) (of : Class) → object_of tree number ≡ Some o → class_of_ono tree number ≡ Some of → class_of o.value ≡ of
-  object_class tree number o of there e = same_some (class_of o.value) of (sym (ap (λ (x : Option Object). option_map (λ (y : Object). class_of y.value) x) there) ∙ e)
+  object_class tree number o of there e = same_Some (class_of o.value) of (sym (ap (λ (x : Option Object). option_map (λ (y : Object). class_of y.value) x) there) ∙ e)
 
   ok_said : (p : Peer) (c : CommandFields) (answer : AnswerFields) (later : List Step) (called : Network) → OksSayWhatIsHeld p c answer later called
   ok_said p c answer later called of r tree typed asks ok said =
@@ -316,7 +295,7 @@ module _ (understood : RequestsAreUnderstood) (read : AnswersAreRead)
         steps_are = said.between.steps_are;
         object = by.object;
         there = subst (λ (t : List Object). object_of t c.target ≡ Some by.object) said.between.happens.met by.there;
-        reads = reading_is said.execution.objects by.object reading (same_some (answer_given said.execution.objects by.object asked.Get) (answers.Reading reading) (sym (its.said m asked_by) ∙ read_is));
+        reads = reading_is said.execution.objects by.object reading (same_Some (answer_given said.execution.objects by.object asked.Get) (answers.Reading reading) (sym (its.said m asked_by) ∙ read_is));
       }
 
   pub reads_law : WrittenIsReadBack → OfEachAnswer ReadingsWereHeld

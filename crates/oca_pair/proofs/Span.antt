@@ -1,24 +1,13 @@
 -- What holds of one link whose commands were executed once: what it holds lies within the span, and its commands were accepted in nearly
 -- rising order.
-use Rattle.std.proofs.Common.{append-nil, ◌≡◌, ℕ, ◌+◌, ◌*◌, ◌<◌, ◌≤◌, ◌≢◌, Bool, true, false, cond, List, [], ◌∷◌, ◌++◌, length, Option, Some, refl, sym, ap, ◌∙◌, arith, append_assoc, ◌⊎◌, inl, inr}
-use Rattle.std.specs.Prelude.{nat_eq, nat_lt, not, ◌&&◌, ◌||◌, map, filter, is_none}
-use Rattle.std.specs.List.{AllByRecursion}
-use Rattle.std.proofs.Math.Dec.{eqb}
-use Rattle.std.proofs.lemmas.List.Folds.{list_any-append}
-use Rattle.std.proofs.lemmas.Bool.Decides.{nat_tests}
+use Rattle.oca_pair.proofs.Words.{append-nil, ◌≡◌, ℕ, ◌+◌, ◌*◌, ◌<◌, ◌≤◌, ◌≢◌, Bool, true, false, cond, List, [], ◌∷◌, ◌++◌, length, Option, Some, refl, sym, ap, ◌∙◌, arith, append_assoc, ◌⊎◌, inl}
+use Rattle.oca_pair.proofs.Words.{inr, nat_eq, not, ◌&&◌, ◌||◌, map, filter, is_none, AllByRecursion, eqb, list_any-append, nat_tests, eqb-false, or_parts, or_from, eqb-true, Peer, CommandFields}
+use Rattle.oca_pair.proofs.Words.{Entry, window, outside, has_handle, entry_under, asks_the_same, judgement, AnswerFields, Untaken, new_untaken, end_of, marked_sent, answered, without_handle, holds}
+use Rattle.oca_pair.proofs.Words.{Request, command_under, handle_after, SubmittedCommand, unanswered, each_map, each_both, each_append, equal_self, end_after, holds_marked_sent, holds_answered}
+use Rattle.oca_pair.proofs.Words.{on_bool}
 use Rattle.std.specs.Cmp.Lexicographic.{pointwise}
-use Rattle.oca_types.specs.declared.words.Peer.{Peer}
-use Rattle.oca_types.specs.Peers.{CommandFields}
-use Rattle.oca_session.specs.Accepted.{Entry, window, outside, has_handle, entry_under, asks_the_same, judgement}
-use Rattle.oca_control.specs.Answers.{AnswerFields}
-use Rattle.oca_control.specs.Untaken.{Untaken, new_untaken, span_has_room, marked_sent, answered, without_handle, holds}
-use Rattle.oca_control.specs.Links.{Request, command_under, handle_after}
-use Rattle.oca_pair.specs.Networks.{SubmittedCommand}
-use Rattle.oca_pair.specs.Steps.{unanswered}
-use Rattle.oca_pair.proofs.Core.{has, Ordered, IsOfLink, AllBelow, Trails, trails_behind, each_map, each_both, each_append, either_false, below_all, below_whole, below_last, never_old, IsServed}
-use Rattle.oca_pair.proofs.Lists.{IsIn, in_more, in_behind, neither, equal_is, equal_self}
-use Rattle.oca_pair.proofs.Fair.{end_of}
-use Rattle.oca_pair.proofs.Delivering.{end_after}
+use Rattle.oca_pair.proofs.Core.{has, Ordered, IsOfLink, AllBelow, Trails, trails_behind, below_all, below_whole, below_last, never_old, IsServed}
+use Rattle.oca_pair.proofs.Lists.{IsIn, in_more, in_behind}
 
 pub record Near (s f n : ℕ) (u : Untaken) : Type 0 where
   pub from : f ≤ u.command.handle
@@ -55,17 +44,6 @@ since_by go g = record { first = g.first; good = go g.first g.good }
 
 -- ---- the link submits
 
-pub room_each : (s h : ℕ) (us : List Untaken) → span_has_room s h us ≡ true → AllByRecursion (λ u. h < u.command.handle + s) us
-room_each s h [] e = tt
-room_each s h (u ∷ us) e = let p = parts (nat_lt h (u.command.handle + s)) (span_has_room s h us) e in (lower h (u.command.handle + s) p.0, room_each s h us p.1)
-  where
-    parts : (a b : Bool) → (a && b) ≡ true → (a ≡ true) × (b ≡ true)
-    parts true b q = (refl, q)
-    parts false b q = cc
-
-    lower : (a b : ℕ) → nat_lt a b ≡ true → a < b
-    lower a b p = grind (arith, nat_tests)
-
 pub good_submit : (s f : ℕ) (late : List ℕ) (p : Peer) (next : Option ℕ) (us : List Untaken) (submitted : List SubmittedCommand) (A : List Entry) (h at : ℕ) (r : Request) → 0 < s →
     next ≡ Some h → AllByRecursion (λ u. h < u.command.handle + s) us → Good s f late p next us submitted A →
     let new : SubmittedCommand = record { peer = p; command = command_under h r } in
@@ -86,8 +64,8 @@ good_submit s f late p next us submitted A h at r some next_is room g =
           (record { from = omega arith; below = omega arith; near = omega arith }, tt);
       taken = λ x from below free.
           let free' : (holds x us ≡ false) × (holds x (u' ∷ []) ≡ false) =
-          either_false (holds x us) (holds x (u' ∷ [])) (sym (list_any-append (λ (u : Untaken). eqb u.command.handle x) us (u' ∷ [])) ∙ free) in
-          let other : h ≢ x = unequal h x (either_false (eqb h x) false free'.1).0 in
+          or_parts (holds x us) (holds x (u' ∷ [])) (sym (list_any-append (λ (u : Untaken). eqb u.command.handle x) us (u' ∷ [])) ∙ free) in
+          let other : h ≢ x = eqb-false h x (or_parts (eqb h x) false free'.1).0 in
           g.taken x from (omega arith) free'.0;
       earlier = g.earlier;
       since = g.since;
@@ -106,9 +84,6 @@ good_submit s f late p next us submitted A h at r some next_is room g =
 
     starts : (f h n : ℕ) → f ≤ n → n ≡ h → f ≤ h
     starts f h n p q = omega arith
-
-    unequal : (a b : ℕ) → eqb a b ≡ false → a ≢ b
-    unequal a b p = grind (arith, nat_tests)
 
 -- the link of another peer submits
 pub good_submitted : (s f : ℕ) (late : List ℕ) (p : Peer) (next : Option ℕ) (us : List Untaken) (submitted more : List SubmittedCommand) (A : List Entry) →
@@ -146,10 +121,6 @@ good_same s f late p next us vs submitted A near same g = record {
   from = g.from;
 }
 
-pub holds_marked_sent : (t h x : ℕ) (us : List Untaken) → holds x (map (marked_sent t h) us) ≡ holds x us
-holds_marked_sent t h x [] = refl
-holds_marked_sent t h x (u ∷ us) = ap (λ b. eqb u.command.handle x || b) (holds_marked_sent t h x us)
-
 near_marked_sent : (s f n t h : ℕ) (us : List Untaken) → AllByRecursion (Near s f n) us → AllByRecursion (Near s f n) (map (marked_sent t h) us)
 near_marked_sent s f n t h [] g = tt
 near_marked_sent s f n t h (u ∷ us) g = (record { from = g.0.from; below = g.0.below; near = g.0.near }, near_marked_sent s f n t h us g.1)
@@ -158,10 +129,6 @@ pub good_marked_sent : (s f : ℕ) (late : List ℕ) (p : Peer) (next : Option �
     Good s f late p next us submitted A → Good s f late p next (map (marked_sent t h) us) submitted A
 good_marked_sent s f late p next us submitted A t h g =
     good_same s f late p next us (map (marked_sent t h) us) submitted A (near_marked_sent s f (end_of next) t h us g.untaken) (λ x. holds_marked_sent t h x us) g
-
-pub holds_answered : (h x : ℕ) (a : AnswerFields) (us : List Untaken) → holds x (map (answered h a) us) ≡ holds x us
-holds_answered h x a [] = refl
-holds_answered h x a (u ∷ us) = ap (λ b. eqb u.command.handle x || b) (holds_answered h x a us)
 
 near_answered : (s f n h : ℕ) (a : AnswerFields) (us : List Untaken) → AllByRecursion (Near s f n) us → AllByRecursion (Near s f n) (map (answered h a) us)
 near_answered s f n h a [] g = tt
@@ -175,11 +142,9 @@ good_answered s f late p next us submitted A h a g =
 -- an answered command is taken, which was executed
 near_without : (s f n h : ℕ) (us : List Untaken) → AllByRecursion (Near s f n) us → AllByRecursion (Near s f n) (without_handle h us)
 near_without s f n h [] g = tt
-near_without s f n h (u ∷ us) g = by_test (eqb u.command.handle h) (near_without s f n h us g.1)
-  where
-    by_test : (b : Bool) → AllByRecursion (Near s f n) (without_handle h us) → AllByRecursion (Near s f n) (cond (not b) (u ∷ without_handle h us) (without_handle h us))
-    by_test true rest = rest
-    by_test false rest = (g.0, rest)
+near_without s f n h (u ∷ us) g =
+    on_bool (eqb u.command.handle h) (λ b. AllByRecursion (Near s f n) (without_handle h us) → AllByRecursion (Near s f n) (cond (not b) (u ∷ without_handle h us) (without_handle h us)))
+    (λ rest. rest) (λ rest. (g.0, rest)) (near_without s f n h us g.1)
 
 pub holds_without : (h x : ℕ) (us : List Untaken) → holds x (without_handle h us) ≡ false → (h ≡ x) ⊎ (holds x us ≡ false)
 holds_without h x [] e = inr refl
@@ -192,11 +157,11 @@ holds_without h x (u ∷ us) e = by_test (eqb u.command.handle h) refl e (holds_
         (holds x (without_handle h us) ≡ false → (h ≡ x) ⊎ (holds x us ≡ false)) → (h ≡ x) ⊎ ((eqb u.command.handle x || holds x us) ≡ false)
     by_test true q free rest = elim (same_then u.command.handle h x q) [
       | inl same ↦ inl same
-      | inr other ↦ elim (rest free) [ inl same ↦ inl same | inr none ↦ inr (neither (eqb u.command.handle x) (holds x us) other none) ]
+      | inr other ↦ elim (rest free) [ inl same ↦ inl same | inr none ↦ inr (or_from (eqb u.command.handle x) (holds x us) other none) ]
     ]
     by_test false q free rest =
-        let p = either_false (eqb u.command.handle x) (holds x (without_handle h us)) free in
-        elim (rest p.1) [ inl same ↦ inl same | inr none ↦ inr (neither (eqb u.command.handle x) (holds x us) p.0 none) ]
+        let p = or_parts (eqb u.command.handle x) (holds x (without_handle h us)) free in
+        elim (rest p.1) [ inl same ↦ inl same | inr none ↦ inr (or_from (eqb u.command.handle x) (holds x us) p.0 none) ]
 
 pub good_without : (s f : ℕ) (late : List ℕ) (p : Peer) (next : Option ℕ) (us : List Untaken) (submitted : List SubmittedCommand) (A : List Entry) (h : ℕ) → has h A ≡ true →
     Good s f late p next us submitted A → Good s f late p next (without_handle h us) submitted A
@@ -257,7 +222,7 @@ good_grown s f late p next us submitted A e own new g = record {
 
     far : (x : ℕ) (us : List Untaken) → AllByRecursion (Near s f (end_of next)) us → x + s ≤ e.command.handle → holds x us ≡ false
     far x [] q b = refl
-    far x (u ∷ us) q b = neither (eqb u.command.handle x) (holds x us) (apart x u.command.handle b q.0.near own.0) (far x us q.1 b)
+    far x (u ∷ us) q b = or_from (eqb u.command.handle x) (holds x us) (apart x u.command.handle b q.0.near own.0) (far x us q.1 b)
 
 -- ---- the link is renewed
 
@@ -269,8 +234,8 @@ held_or_left A x (u ∷ us) own e = by_test (held_or_left A x us own.1) (eqb u.c
   where
     by_test : (holds x us ≡ true → (has x A ≡ true) ⊎ IsIn x (unanswered us)) → (b : Bool) → eqb u.command.handle x ≡ b → (b || holds x us) ≡ true → (c : Bool) → is_none u.answer ≡ c →
         (has x A ≡ true) ⊎ IsIn x (map (λ (u : Untaken). u.command.handle) (cond c (u ∷ filter (λ (u : Untaken). is_none u.answer) us) (filter (λ (u : Untaken). is_none u.answer) us)))
-    by_test rest true same e true none = inr (inl (equal_is u.command.handle x same))
-    by_test rest true same e false some = let there : has u.command.handle A ≡ true = own.0 some in inl (rw (equal_is u.command.handle x same) at there)
+    by_test rest true same e true none = inr (inl (eqb-true u.command.handle x same))
+    by_test rest true same e false some = let there : has u.command.handle A ≡ true = own.0 some in inl (rw (eqb-true u.command.handle x same) at there)
     by_test rest false other e true none = elim (rest e) [ inl there ↦ inl there | inr left ↦ inr (inr left) ]
     by_test rest false other e false some = rest e
 
@@ -311,12 +276,10 @@ good_renewed s s' late p next us submitted A first above taken_in low g = record
 
     left_low : (us : List Untaken) → AllByRecursion (Near s g.first (end_of next)) us → AllByRecursion (λ h. h < first) (unanswered us)
     left_low [] a = tt
-    left_low (u ∷ us) a = by_test (is_none u.answer) (left_low us a.1)
-      where
-        by_test : (b : Bool) → AllByRecursion (λ h. h < first) (unanswered us) →
-            AllByRecursion (λ h. h < first) (map (λ (u : Untaken). u.command.handle) (cond b (u ∷ filter (λ (u : Untaken). is_none u.answer) us) (filter (λ (u : Untaken). is_none u.answer) us)))
-        by_test true rest = (higher u.command.handle a.0.below, rest)
-        by_test false rest = rest
+    left_low (u ∷ us) a =
+        on_bool (is_none u.answer) (λ b. AllByRecursion (λ h. h < first) (unanswered us) → AllByRecursion (λ h. h < first) (map (λ (u : Untaken). u.command.handle) (cond b (u ∷ filter (λ
+        (u : Untaken). is_none u.answer) us) (filter (λ (u : Untaken). is_none u.answer) us))))
+        (λ rest. (higher u.command.handle a.0.below, rest)) (λ rest. rest) (left_low us a.1)
 
     by_held : (h : ℕ) → g.first ≤ h → h < end_of next → (b : Bool) → holds h us ≡ b → IsKnown first (unanswered us ++ late) A h
     by_held h a b true q = elim (held_or_left A h us taken_in q) [ inl there ↦ inr (inl there) | inr left ↦ inr (inr (in_more h (unanswered us) late left)) ]

@@ -1,24 +1,12 @@
 -- What earlier links of a peer left behind comes to the device at most 100,000 ms after its link left off, where the link is in time. So
 -- few of it stands behind a command that was submitted later.
-use Rattle.std.proofs.Common.{◌≡◌, ℕ, ◌+◌, ◌<◌, ◌≤◌, Bool, true, false, cond, List, [], ◌∷◌, ◌++◌, length, Option, Some, None, refl, sym, ap, ◌∙◌, subst, arith, inl, inr}
-use Rattle.std.specs.Prelude.{nat_eq, nat_le, not, ◌&&◌, map, filter, is_none, Ok}
-use Rattle.std.specs.List.{AllByRecursion}
-use Rattle.std.proofs.lemmas.List.{length-append}
-use Rattle.std.proofs.lemmas.Bool.Decides.{nat_tests}
-use Rattle.oca_types.specs.declared.words.Peer.{Peer}
-use Rattle.oca_types.specs.Peers.{same_peer, CommandFields}
-use Rattle.oca_pdu.specs.Messages.{Msg, Command, Response, KeepAlive}
-use Rattle.oca_pdu.specs.Reading.{read_datagram}
-use Rattle.oca_session.specs.Accepted.{Entry}
-use Rattle.oca_control.specs.Answers.{AnswerFields, answer_of_response}
-use Rattle.oca_control.specs.Untaken.{Untaken, marked_sent, answered, hears_all, without_handle}
-use Rattle.oca_control.specs.Links.{hears_content}
-use Rattle.oca_pair.specs.Networks.{Network, PeerLink, Renewal, Setup, zero_after, zero_of, left_by}
-use Rattle.oca_pair.specs.Steps.{Renew, with_link, renewed_link, unanswered, renewal_of, after_renewal, after_step}
-use Rattle.oca_pair.specs.InTime.{Departure, longest_delay}
-use Rattle.oca_pair.specs.AnsweredInTime.{left_off, left_since, FewerMayStillCome, EveryRenewalIsNoted}
-use Rattle.oca_pair.proofs.Core.{Trails, each_map, each_both, each_append}
-use Rattle.oca_pair.proofs.Lists.{IsIn, in_more, in_behind, in_parts, differs, same_self}
+use Rattle.oca_pair.proofs.Words.{◌≡◌, ℕ, ◌+◌, ◌<◌, ◌≤◌, Bool, true, false, cond, List, [], ◌∷◌, ◌++◌, length, Option, Some, None, refl, sym, ap, ◌∙◌, subst, arith, inl, inr, nat_eq, nat_le, not}
+use Rattle.oca_pair.proofs.Words.{◌&&◌, map, filter, is_none, Ok, AllByRecursion, length-append, nat_tests, Peer, same_peer, CommandFields, Msg, Command, Response, KeepAlive, read_datagram, Entry}
+use Rattle.oca_pair.proofs.Words.{AnswerFields, answer_of_response, Untaken, marked_sent, answered, hears_all, without_handle, hears_content, Network, PeerLink, Renewal, Setup, zero_after, zero_of}
+use Rattle.oca_pair.proofs.Words.{left_by, Renew, with_link, renewed_link, unanswered, renewal_of, after_renewal, after_step, Departure, longest_delay, left_off, left_since, FewerMayStillCome}
+use Rattle.oca_pair.proofs.Words.{EveryRenewalIsNoted, each_map, each_both, each_append, same_self, on_bool}
+use Rattle.oca_pair.proofs.Core.{Trails}
+use Rattle.oca_pair.proofs.Lists.{IsIn, in_more, in_behind, in_parts, differs}
 use Rattle.oca_pair.proofs.Timed.{Zeros}
 
 -- ---- untaken commands by their handles and their submits
@@ -60,11 +48,9 @@ each_stamp P (u ∷ us) a = (a.0, each_stamp P us a.1)
 
 pub without_stamps : (P : ℕ × ℕ → Type 0) (h : ℕ) (us : List Untaken) → AllByRecursion P (stamps us) → AllByRecursion P (stamps (without_handle h us))
 without_stamps P h [] a = tt
-without_stamps P h (u ∷ us) a = by_test (nat_eq u.command.handle h) (without_stamps P h us a.1)
-  where
-    by_test : (b : Bool) → AllByRecursion P (stamps (without_handle h us)) → AllByRecursion P (stamps (cond (not b) (u ∷ without_handle h us) (without_handle h us)))
-    by_test true rest = rest
-    by_test false rest = (a.0, rest)
+without_stamps P h (u ∷ us) a =
+    on_bool (nat_eq u.command.handle h) (λ b. AllByRecursion P (stamps (without_handle h us)) → AllByRecursion P (stamps (cond (not b) (u ∷ without_handle h us) (without_handle h us))))
+    (λ rest. rest) (λ rest. (a.0, rest)) (without_stamps P h us a.1)
 
 -- ---- what is known of commands that left, by when they left
 
@@ -115,7 +101,11 @@ still_comes s t p at h (x ∷ rs) off soon i = by_peer (same_peer x.peer p) refl
 -- a handle above all that was left behind was not left behind
 never_left : (s : Setup) (p : Peer) (at h : ℕ) (rs : List Renewal) → AllByRecursion (λ x. x < h) (left_by rs p) → LeftOff s p at h rs
 never_left s p at h [] low = tt
-never_left s p at h (x ∷ rs) low = by_peer (same_peer x.peer p) refl low (λ a. never_left s p at h rs a)
+never_left s p at h (x ∷ rs) low =
+    on_bool (same_peer x.peer p) (λ b. same_peer x.peer p ≡ b → AllByRecursion (λ z. z < h) (cond b (x.left ++ left_by rs p) (left_by rs p)) → (AllByRecursion (λ z. z < h)
+    (left_by rs p) → LeftOff s p at h rs) → (same_peer x.peer p ≡ true → IsIn h x.left → at ≤ left_off s p x rs) × LeftOff s p at h rs)
+    (λ q a rest. ((λ same i. absurd (first_part x.left (left_by rs p) a i)), rest (second_part x.left (left_by rs p) a)))
+    (λ q a rest. ((λ same i. differs (sym same ∙ q)), rest a)) refl low (λ a. never_left s p at h rs a)
   where
     contra : h < h → ⊥
     contra q = omega arith
@@ -128,11 +118,6 @@ never_left s p at h (x ∷ rs) low = by_peer (same_peer x.peer p) refl low (λ a
     second_part : (xs ys : List ℕ) → AllByRecursion (λ z. z < h) (xs ++ ys) → AllByRecursion (λ z. z < h) ys
     second_part [] ys a = a
     second_part (z ∷ xs) ys a = second_part xs ys a.1
-
-    by_peer : (b : Bool) → same_peer x.peer p ≡ b → AllByRecursion (λ z. z < h) (cond b (x.left ++ left_by rs p) (left_by rs p)) → (AllByRecursion (λ z. z < h) (left_by rs p) → LeftOff s p at h rs) →
-        (same_peer x.peer p ≡ true → IsIn h x.left → at ≤ left_off s p x rs) × LeftOff s p at h rs
-    by_peer true q a rest = ((λ same i. absurd (first_part x.left (left_by rs p) a i)), rest (second_part x.left (left_by rs p) a))
-    by_peer false q a rest = ((λ same i. differs (sym same ∙ q)), rest a)
 
 -- ---- the link's own steps
 

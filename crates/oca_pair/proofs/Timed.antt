@@ -1,44 +1,24 @@
 -- What is known of one link that is in time: when its commands were submitted, left and were executed; and that each of its own
 -- steps and each datagram keeps it.
-use Rattle.std.proofs.Common.{◌≡◌, ℕ, ◌+◌, ◌-◌, ◌<◌, ◌≤◌, ◌≢◌, Bool, true, false, cond, List, [], ◌∷◌, ◌++◌, Option, Some, None, refl, sym, ap, ◌∙◌, subst, arith, ◌⊎◌, inl, inr}
-use Rattle.std.specs.Prelude.{nat_eq, nat_lt, nat_le, max, not, ◌&&◌, ◌||◌, map, is_none, is_some, Result, Ok, Err}
-use Rattle.std.specs.List.{list_any, AllByRecursion, IsDistinct}
-use Rattle.std.proofs.Math.Dec.{eqb}
-use Rattle.std.proofs.lemmas.Bool.Decides.{nat_tests}
-use Rattle.oca_types.specs.declared.words.Peer.{Peer}
-use Rattle.oca_types.specs.declared.words.Handle.{Handle}
-use Rattle.oca_types.specs.Replies.{Reply}
-use Rattle.oca_types.specs.Peers.{same_peer, CommandFields}
-use Rattle.oca_pdu.specs.declared.message.Form.{Form}
-use Rattle.oca_pdu.specs.declared.message.Form.TheVariants.{Seconds}
-use Rattle.oca_pdu.specs.Messages.{Msg, Command, Response, KeepAlive}
-use Rattle.oca_pdu.specs.Reading.{read_datagram}
-use Rattle.oca_pdu.specs.Laws.{WrittenIsReadBack}
-use Rattle.oca_tree.specs.declared.object.Object.{Object}
-use Rattle.oca_session.specs.Accepted.{Judgement, Fresh, Duplicate, Reused, Old}
-use Rattle.oca_session.specs.Limits.{longest_silence}
-use Rattle.oca_device.specs.Events.{Datagram}
-use Rattle.oca_device.specs.Notes.{Noted, Admitted, Heartbeat, Executed, Note, notes_of, unbroken, run, accepted}
-use Rattle.oca_device.specs.States.{State, noted, admits, judged_in, reply_of, after_command, after_message, time_of}
-use Rattle.oca_control.specs.declared.fault.ControlFault.{ControlFault}
-use Rattle.oca_control.specs.Answers.{AnswerFields, answer_of_response}
-use Rattle.oca_control.specs.Limits.{longest_life}
-use Rattle.oca_control.specs.Untaken.{Untaken, new_untaken, is_due, is_late, first_due, marked_sent, answered, hears_all, answer_under, without_handle}
-use Rattle.oca_control.specs.Links.{LinkState, Request, command_under, submission, handle_after, after_submission, Decision, GivesCommand, GivesKeepAlive, GivesNothing, IsLost, decision_among, decision, after_due, gone_on, hears_content, received, taken, present_moment, late_at}
-use Rattle.oca_pair.specs.Networks.{SentDatagram}
-use Rattle.oca_pair.specs.Steps.{sendings_in, given_by}
-use Rattle.oca_pair.specs.Laws.{Execution}
-use Rattle.oca_pair.specs.InTime.{Departure, longest_delay, ArrivesInTime}
-use Rattle.oca_pair.proofs.Core.{each_map, each_append, has, none_passes}
-use Rattle.oca_pair.proofs.Lists.{IsIn, both_true, each_in, equal_is, same_is, other_of}
+use Rattle.oca_pair.proofs.Words.{◌≡◌, ℕ, ◌+◌, ◌-◌, ◌<◌, ◌≤◌, ◌≢◌, Bool, true, false, cond, List, [], ◌∷◌, ◌++◌, Option, Some, None, refl, sym, ap, ◌∙◌, subst, arith, ◌⊎◌, inl, inr, nat_eq, nat_lt}
+use Rattle.oca_pair.proofs.Words.{nat_le, not, ◌&&◌, ◌||◌, map, is_none, is_some, Result, Ok, Err, list_any, AllByRecursion, eqb, nat_tests, le-max_left, le_refl, and_parts, eqb-true, Peer, Handle}
+use Rattle.oca_pair.proofs.Words.{Reply, same_peer, CommandFields, Form, Seconds, Msg, Command, Response, KeepAlive, read_datagram, WrittenIsReadBack, Object, Judgement, Fresh, Duplicate, Reused, Old}
+use Rattle.oca_pair.proofs.Words.{longest_silence, Datagram, Noted, Admitted, Heartbeat, Executed, Note, notes_of, unbroken, run, accepted, State, noted, admits, judged_in, reply_of, after_command}
+use Rattle.oca_pair.proofs.Words.{after_message, time_of, ControlFault, AnswerFields, answer_of_response, longest_life, Untaken, new_untaken, is_due, is_late, first_due, marked_sent, answered}
+use Rattle.oca_pair.proofs.Words.{hears_all, answer_under, without_handle, LinkState, Request, command_under, submission, handle_after, after_submission, Decision, GivesCommand, GivesKeepAlive}
+use Rattle.oca_pair.proofs.Words.{GivesNothing, IsLost, decision_among, decision, after_due, gone_on, hears_content, received, taken, present_moment, late_at, SentDatagram, sendings_in, given_by}
+use Rattle.oca_pair.proofs.Words.{Execution, Departure, longest_delay, ArrivesInTime, each_map, each_append, same_is, end_of, end_after, on_bool}
+use Rattle.std.specs.List.{IsDistinct}
+use Rattle.oca_pair.proofs.Core.{has, none_passes}
+use Rattle.oca_pair.proofs.Lists.{IsIn, each_in, other_of, flipped}
 use Rattle.oca_pair.proofs.Wire.{IsSendable, read_command, read_keep_alive}
 use Rattle.oca_pair.proofs.Clocks.{Grows, grows_reading}
 use Rattle.oca_pair.proofs.Executions.{executed_in, executed_for}
 use Rattle.oca_pair.proofs.Truths.{Past, and_then, state_of}
 use Rattle.oca_pair.proofs.Ordered.{AreOrdered, ordered_till, ordered_after, ordered_of, WasNoted, WereNoted, still_accepted}
 use Rattle.oca_pair.proofs.Arrivals.{looked_at}
-use Rattle.oca_pair.proofs.Fair.{end_of, judged_fresh}
-use Rattle.oca_pair.proofs.Delivering.{let_in, after_read, granted, end_after}
+use Rattle.oca_pair.proofs.Fair.{judged_fresh}
+use Rattle.oca_pair.proofs.Delivering.{let_in, after_read, granted}
 use Rattle.oca_pair.proofs.Keeping.{handles_for, notes_noted, executed_noted}
 
 -- ---- what is known of when commands were submitted: `born` says it of each handle, by the common clock, and the handles
@@ -131,11 +111,9 @@ untaken_heard origin born end m (Command respond c ∷ ms) us a = untaken_heard 
 
 untaken_without : (origin : ℕ) (born : ℕ → ℕ) (end m h : ℕ) (us : List Untaken) → AllByRecursion (TimedUntaken origin born end m) us → AllByRecursion (TimedUntaken origin born end m) (without_handle h us)
 untaken_without origin born end m h [] a = tt
-untaken_without origin born end m h (u ∷ us) a = by_test (nat_eq u.command.handle h) (untaken_without origin born end m h us a.1)
-  where
-    by_test : (b : Bool) → AllByRecursion (TimedUntaken origin born end m) (without_handle h us) → AllByRecursion (TimedUntaken origin born end m) (cond (not b) (u ∷ without_handle h us) (without_handle h us))
-    by_test true rest = rest
-    by_test false rest = (a.0, rest)
+untaken_without origin born end m h (u ∷ us) a =
+    on_bool (nat_eq u.command.handle h) (λ b. AllByRecursion (TimedUntaken origin born end m) (without_handle h us) → AllByRecursion (TimedUntaken origin born end m) (cond (not b) (u ∷ without_handle h us) (without_handle h us)))
+    (λ rest. rest) (λ rest. (a.0, rest)) (untaken_without origin born end m h us a.1)
 
 -- ---- the link's own steps
 
@@ -192,7 +170,7 @@ leaves_in_time origin born end m t us u later a none first =
     let i = first_due_in t us u first in
     let its : TimedUntaken origin born end m u = each_in (TimedUntaken origin born end m) u us a i.0 in
     let not_late : is_late t u ≡ false = each_in (λ x. is_late t x ≡ false) u us (none_passes (is_late t) us none) i.0 in
-    let unanswered : is_none u.answer ≡ true = (both_true (is_none u.answer) _ i.1).0 in
+    let unanswered : is_none u.answer ≡ true = (and_parts (is_none u.answer) _ i.1).0 in
     let young : nat_lt longest_life (t - u.submitted) ≡ false = second (is_none u.answer) (nat_lt longest_life (t - u.submitted)) unanswered not_late in
     record { not_before = at_least u.submitted (born u.command.handle) its.0 its.1; not_late = at_most u.submitted (born u.command.handle) its.0 young; below = its.2 }
   where
@@ -207,7 +185,7 @@ leaves_in_time origin born end m t us u later a none first =
 
 timed_leaving : WrittenIsReadBack → (p : Peer) (origin now : ℕ) (l : LinkState) (born : ℕ → ℕ) (end : ℕ) → AllByRecursion (TimedUntaken origin born end l.moment) l.untaken → AllByRecursion (λ (u : Untaken). IsSendable u.command) l.untaken →
     late_at now l ≡ false → AllByRecursion (TimedDeparture born end p) (of_decision p (origin + present_moment now l) (decision now l))
-timed_leaving law p origin now l born end a sendable none = by_lost l.lost
+timed_leaving law p origin now l born end a sendable none = on_bool l.lost (λ b. AreTimed (cond b IsLost (decision_among t l.sent (first_due t l.untaken)))) tt (by_first (first_due t l.untaken) refl)
   where
     t : ℕ
     t = present_moment now l
@@ -220,13 +198,10 @@ timed_leaving law p origin now l born end a sendable none = by_lost l.lost
       (λ same. inl (
         u.command,
         read_command law u.command (each_in (λ (x : Untaken). IsSendable x.command) u l.untaken sendable (first_due_in t l.untaken u first).0),
-        leaves_in_time origin born end l.moment t l.untaken u (past_moment l.moment now) a none first,
+        leaves_in_time origin born end l.moment t l.untaken u (le-max_left l.moment now) a none first,
       )),
       tt,
     )
-      where
-        past_moment : (m now : ℕ) → m ≤ max m now
-        past_moment m now = omega arith
     by_many u first false = tt
 
     by_quiet : (b : Bool) → AreTimed (cond b GivesKeepAlive GivesNothing)
@@ -237,10 +212,6 @@ timed_leaving law p origin now l born end a sendable none = by_lost l.lost
     by_first None e = by_quiet (nat_le 2500 (t - l.sent))
     by_first (Some u) e = by_many u e (nat_lt u.times 20)
 
-    by_lost : (b : Bool) → AreTimed (cond b IsLost (decision_among t l.sent (first_due t l.untaken)))
-    by_lost true = tt
-    by_lost false = by_first (first_due t l.untaken) refl
-
 -- the link is asked what is due
 pub timed_due : WrittenIsReadBack → (zs : Zeros) (p : Peer) (now : ℕ) (l : LinkState) (left : List Departure) (out : List SentDatagram) (ns : List Note) → AllByRecursion (λ (u : Untaken). IsSendable u.command) l.untaken →
     late_at now l ≡ false → Timed zs p (end_of l.next) l.moment l.untaken left out ns →
@@ -250,23 +221,20 @@ timed_due law zs p now l left out ns sendable none g = by_decision (decision now
     t : ℕ
     t = present_moment now l
 
-    later : (m now : ℕ) → m ≤ max m now
-    later m now = omega arith
-
     by_decision : (d : Decision) → AllByRecursion (TimedDeparture g.born (end_of l.next) p) (of_decision p (zs.link + t) d) →
         Timed zs p (end_of (after_due d t l).next) (after_due d t l).moment (after_due d t l).untaken (left ++ of_decision p (zs.link + t) d) (out ++ sendings_in p (given_by d)) ns
     by_decision (GivesCommand c) new =
-        timed_link zs p (end_of l.next) l.moment t l.untaken (map (marked_sent t c.handle) l.untaken) (left ++ of_decision p (zs.link + t) (GivesCommand c)) (out ++ sendings_in p (given_by (GivesCommand c))) ns (later l.moment now)
+        timed_link zs p (end_of l.next) l.moment t l.untaken (map (marked_sent t c.handle) l.untaken) (left ++ of_decision p (zs.link + t) (GivesCommand c)) (out ++ sendings_in p (given_by (GivesCommand c))) ns (le-max_left l.moment now)
         (λ born a. untaken_marked_sent zs.link born (end_of l.next) t t c.handle l.untaken a)
         (timed_more zs p (end_of l.next) l.moment l.untaken left (of_decision p (zs.link + t) (GivesCommand c)) out (sendings_in p (given_by (GivesCommand c))) ns refl g new)
     by_decision GivesKeepAlive new =
-        timed_link zs p (end_of l.next) l.moment t l.untaken l.untaken (left ++ of_decision p (zs.link + t) GivesKeepAlive) (out ++ sendings_in p (given_by GivesKeepAlive)) ns (later l.moment now) (λ born a. a)
+        timed_link zs p (end_of l.next) l.moment t l.untaken l.untaken (left ++ of_decision p (zs.link + t) GivesKeepAlive) (out ++ sendings_in p (given_by GivesKeepAlive)) ns (le-max_left l.moment now) (λ born a. a)
         (timed_more zs p (end_of l.next) l.moment l.untaken left (of_decision p (zs.link + t) GivesKeepAlive) out (sendings_in p (given_by GivesKeepAlive)) ns refl g new)
     by_decision GivesNothing new =
-        timed_link zs p (end_of l.next) l.moment t l.untaken l.untaken (left ++ []) (out ++ []) ns (later l.moment now) (λ born a. a)
+        timed_link zs p (end_of l.next) l.moment t l.untaken l.untaken (left ++ []) (out ++ []) ns (le-max_left l.moment now) (λ born a. a)
         (timed_more zs p (end_of l.next) l.moment l.untaken left [] out [] ns refl g new)
     by_decision IsLost new =
-        timed_link zs p (end_of l.next) l.moment t l.untaken l.untaken (left ++ []) (out ++ []) ns (later l.moment now) (λ born a. a)
+        timed_link zs p (end_of l.next) l.moment t l.untaken l.untaken (left ++ []) (out ++ []) ns (le-max_left l.moment now) (λ born a. a)
         (timed_more zs p (end_of l.next) l.moment l.untaken left [] out [] ns refl g new)
 
 -- another link is asked
@@ -367,12 +335,9 @@ timed_submit zs p r now l left out ns g = by_answer (submission r l) refl
 pub timed_received : (from : Peer) (zs : Zeros) (p : Peer) (content : Option (List Msg)) (now : ℕ) (l : LinkState) (left : List Departure) (out : List SentDatagram) (ns : List Note) → Timed zs p (end_of l.next) l.moment l.untaken left out ns →
     Timed zs p (end_of (received from content now l).next) (received from content now l).moment (received from content now l).untaken left out ns
 timed_received from zs p content now l left out ns g =
-    timed_link zs p (end_of l.next) l.moment (present_moment now l) l.untaken (received from content now l).untaken left out ns (later l.moment now)
+    timed_link zs p (end_of l.next) l.moment (present_moment now l) l.untaken (received from content now l).untaken left out ns (le-max_left l.moment now)
     (λ born a. by_from born (same_peer from l.device) content a) g
   where
-    later : (m now : ℕ) → m ≤ max m now
-    later m now = omega arith
-
     by_from : (born : ℕ → ℕ) (b : Bool) (content : Option (List Msg)) → AllByRecursion (TimedUntaken zs.link born (end_of l.next) (present_moment now l)) l.untaken →
         AllByRecursion (TimedUntaken zs.link born (end_of l.next) (present_moment now l)) (cond b (hears_content content l.untaken) l.untaken)
     by_from born true (Some ms) a = untaken_heard zs.link born (end_of l.next) (present_moment now l) ms l.untaken a
@@ -382,11 +347,8 @@ timed_received from zs p content now l left out ns g =
 pub timed_taken : (zs : Zeros) (p : Peer) (h : ℕ) (l : LinkState) (left : List Departure) (out : List SentDatagram) (ns : List Note) → Timed zs p (end_of l.next) l.moment l.untaken left out ns →
     Timed zs p (end_of (taken h l).next) (taken h l).moment (taken h l).untaken left out ns
 timed_taken zs p h l left out ns g =
-    timed_link zs p (end_of l.next) l.moment l.moment l.untaken (taken h l).untaken left out ns (same l.moment) (λ born a. by_answer born (answer_under h l.untaken) a) g
+    timed_link zs p (end_of l.next) l.moment l.moment l.untaken (taken h l).untaken left out ns (le_refl l.moment) (λ born a. by_answer born (answer_under h l.untaken) a) g
   where
-    same : (m : ℕ) → m ≤ m
-    same m = omega arith
-
     by_answer : (born : ℕ → ℕ) (o : Option AnswerFields) → AllByRecursion (TimedUntaken zs.link born (end_of l.next) l.moment) l.untaken →
         AllByRecursion (TimedUntaken zs.link born (end_of l.next) l.moment) (cond (is_some o) (without_handle h l.untaken) l.untaken)
     by_answer born (Some x) a = untaken_without zs.link born (end_of l.next) l.moment h l.untaken a
@@ -447,11 +409,14 @@ timed_elsewhere zs p q end m us left out g bytes now other f =
 -- what was executed under a handle was noted since its submit
 were_noted : (born : ℕ → ℕ) (end : ℕ) (p : Peer) (h : ℕ) (ns : List Note) → AllByRecursion (TimedNote born end p) ns → list_any (λ y. eqb y h) (handles_for p ns) ≡ true → WereNoted h (born h) (notes_of p ns)
 were_noted born end p h [] a e = cc
-were_noted born end p h (n ∷ ns) a e = by_test (same_peer n.peer p) refl e (were_noted born end p h ns a.1)
+were_noted born end p h (n ∷ ns) a e =
+    on_bool (same_peer n.peer p) (λ b. same_peer n.peer p ≡ b → list_any (λ y. eqb y h) (map (λ (z : Execution). z.command.handle) (cond b (executed_in n.what) [] ++ executed_for p ns)) ≡ true → (list_any
+    (λ y. eqb y h) (handles_for p ns) ≡ true → WereNoted h (born h) (notes_of p ns)) → WereNoted h (born h) (cond b (n ∷ notes_of p ns) (notes_of p ns)))
+    (λ q e rest. by_what n.what refl (a.0 (same_is n.peer p q)) e rest) (λ q e rest. rest e) refl e (were_noted born end p h ns a.1)
   where
     by_handle : (objects : List Object) (c : CommandFields) (r : Reply) (b : Bool) → n.what ≡ Executed objects c r → born c.handle ≤ n.at → eqb c.handle h ≡ b → (b || list_any (λ y. eqb y h) (handles_for p ns)) ≡ true →
         (list_any (λ y. eqb y h) (handles_for p ns) ≡ true → WereNoted h (born h) (notes_of p ns)) → WasNoted h (born h) n ⊎ WereNoted h (born h) (notes_of p ns)
-    by_handle objects c r true what since same e rest = let is : c.handle ≡ h = equal_is c.handle h same in inl (objects, c, r, what, is, rw is at since)
+    by_handle objects c r true what since same e rest = let is : c.handle ≡ h = eqb-true c.handle h same in inl (objects, c, r, what, is, rw is at since)
     by_handle objects c r false what since same e rest = inr (rest e)
 
     by_what : (x : Noted) → n.what ≡ x → TimedNoted born end n.at x → list_any (λ y. eqb y h) (map (λ (z : Execution). z.command.handle) (executed_in x ++ executed_for p ns)) ≡ true →
@@ -459,11 +424,6 @@ were_noted born end p h (n ∷ ns) a e = by_test (same_peer n.peer p) refl e (we
     by_what (Admitted ms) what t e rest = inr (rest e)
     by_what (Heartbeat ms) what t e rest = inr (rest e)
     by_what (Executed objects c r) what t e rest = by_handle objects c r (eqb c.handle h) what t.0 refl e rest
-
-    by_test : (b : Bool) → same_peer n.peer p ≡ b → list_any (λ y. eqb y h) (map (λ (z : Execution). z.command.handle) (cond b (executed_in n.what) [] ++ executed_for p ns)) ≡ true →
-        (list_any (λ y. eqb y h) (handles_for p ns) ≡ true → WereNoted h (born h) (notes_of p ns)) → WereNoted h (born h) (cond b (n ∷ notes_of p ns) (notes_of p ns))
-    by_test true q e rest = by_what n.what refl (a.0 (same_is n.peer p q)) e rest
-    by_test false q e rest = rest e
 
 -- What was executed for the peer under the handle of a copy that is in time is accepted in the session that the peer has.
 pub accepted_then : (zs : Zeros) (p : Peer) (end m : ℕ) (us : List Untaken) (left : List Departure) (out : List SentDatagram) (g : Past) (now at h : ℕ) (ms : List Msg) → (f : Timed zs p end m us left out (state_of g).notes) →
@@ -534,21 +494,14 @@ timed_own zs p end m us left out g bytes now at f kind arrives = elim kind [
         since : (b : ℕ) → b ≤ at → at ≤ zs.device + s1.moment → by_device zs b ≤ s1.moment
         since b p q = omega arith
 
-        flipped : (a b : ℕ) → eqb a b ≡ false → eqb b a ≡ false
-        flipped a b e = grind (arith, nat_tests)
-
         same_handles : handles_for p (let_in p (Command true c) now g).notes ≡ handles_for p (state_of g).notes
         same_handles = ap (λ (xs : List Execution). map (λ (y : Execution). y.command.handle) xs) (executed_noted p (Admitted (Command true c ∷ [])) s1)
 
         -- under its handle nothing was executed before: else it were accepted
         new : list_any (λ y. eqb y c.handle) (handles_for p (state_of g).notes) ≡ false
-        new = by_before (list_any (λ y. eqb y c.handle) (handles_for p (state_of g).notes)) refl
-          where
-            by_before : (b : Bool) → list_any (λ y. eqb y c.handle) (handles_for p (state_of g).notes) ≡ b → b ≡ false
-            by_before true e =
-                sym (accepted_then zs p end m us left out g now at c.handle (Command true c ∷ []) f i.not_late arrives.not_late e)
-                ∙ judged_fresh g.sizes.window (accepted (run p (let_in p (Command true c) now g).notes)) c q
-            by_before false e = refl
+        new = on_bool (list_any (λ y. eqb y c.handle) (handles_for p (state_of g).notes)) (λ b. list_any (λ y. eqb y c.handle) (handles_for p (state_of g).notes) ≡ b → b ≡ false)
+            (λ e. sym (accepted_then zs p end m us left out g now at c.handle (Command true c ∷ []) f i.not_late arrives.not_late e) ∙ judged_fresh g.sizes.window (accepted (run p (let_in p (Command true c) now g).notes)) c q)
+            (λ e. refl) refl
     by_judgement c read i room (Duplicate r) q = made (Command true c) read room (let_in p (Command true c) now g) (ap (λ j. after_command j p c (let_in p (Command true c) now g)) q) (executed2 (Command true c)) (once2 (Command true c))
     by_judgement c read i room Reused q = made (Command true c) read room (let_in p (Command true c) now g) (ap (λ j. after_command j p c (let_in p (Command true c) now g)) q) (executed2 (Command true c)) (once2 (Command true c))
     by_judgement c read i room Old q = made (Command true c) read room (let_in p (Command true c) now g) (ap (λ j. after_command j p c (let_in p (Command true c) now g)) q) (executed2 (Command true c)) (once2 (Command true c))

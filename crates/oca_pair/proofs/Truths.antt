@@ -1,23 +1,10 @@
 -- What is true of an answer stays true while more happens and more is submitted.
-use Rattle.std.proofs.Common.{◌≡◌, ℕ, ◌-◌, Bool, true, false, cond, List, [], ◌∷◌, ◌++◌, length, drop, Some, refl, sym, ap, ◌∙◌, zero, suc, ◌⊎◌, inl, inr}
-use Rattle.std.specs.Prelude.{nat_eq, max}
-use Rattle.std.specs.List.{AllByRecursion}
-use Rattle.oca_types.specs.declared.words.Peer.{Peer}
-use Rattle.oca_types.specs.Peers.{same_peer, CommandFields}
-use Rattle.oca_types.specs.Sizes.{DeviceSizes}
-use Rattle.oca_pdu.specs.Messages.{Commands}
-use Rattle.oca_pdu.specs.Encoding.{pdu_encoding}
-use Rattle.oca_pdu.specs.Reading.{read_datagram}
-use Rattle.oca_tree.specs.declared.object.Object.{Object}
-use Rattle.oca_session.specs.Accepted.{Entry, window, has_handle, entry_under}
-use Rattle.oca_device.specs.Events.{Event, Datagram, Tick, Local}
-use Rattle.oca_device.specs.Notes.{Noted, Admitted, Heartbeat, Executed, Note, notes_of, is_recent, unbroken, run, accepted, accepted_after}
-use Rattle.oca_device.specs.States.{State, moved_to, reply_of, after_reading, state_after}
-use Rattle.oca_control.specs.Answers.{AnswerFields}
-use Rattle.oca_pair.specs.Networks.{Network, SubmittedCommand}
-use Rattle.oca_pair.specs.Laws.{Execution, answer_of}
+use Rattle.oca_pair.proofs.Words.{◌≡◌, ℕ, ◌-◌, Bool, true, false, cond, List, [], ◌∷◌, ◌++◌, length, drop, Some, refl, sym, ap, ◌∙◌, zero, suc, ◌⊎◌, inl, inr, nat_eq, max, AllByRecursion, Peer}
+use Rattle.oca_pair.proofs.Words.{same_peer, CommandFields, DeviceSizes, Commands, pdu_encoding, read_datagram, Object, Entry, window, has_handle, entry_under, Event, Datagram, Tick, Local, Noted}
+use Rattle.oca_pair.proofs.Words.{Admitted, Heartbeat, Executed, Note, notes_of, is_recent, unbroken, run, accepted, accepted_after, State, moved_to, reply_of, after_reading, state_after}
+use Rattle.oca_pair.proofs.Words.{AnswerFields, Network, SubmittedCommand, Execution, answer_of, same_is}
 use Rattle.oca_pair.proofs.Executions.{executed_in, executed_for}
-use Rattle.oca_pair.proofs.Lists.{IsIn, in_more, in_behind, in_parts, same_is}
+use Rattle.oca_pair.proofs.Lists.{IsIn, in_more, in_behind, in_parts}
 use Rattle.oca_pair.proofs.Clocks.{Grows, grows_reading}
 
 -- what happened and was submitted
@@ -86,12 +73,6 @@ executed_more p x (n ∷ more) ns i = in_behind x (cond (same_peer n.peer p) (ex
 
 pub executed_grown : (p q : Peer) (t : ℕ) (x : Execution) (ns ms : List Note) → Grows q t ns ms → IsIn x (executed_for p ns) → IsIn x (executed_for p ms)
 executed_grown p q t x ns ms g i = rw g.is (executed_more p x g.more ns i)
-
--- what an event notes
-pub event_peer : Event → Peer → Peer
-event_peer (Datagram from bytes now) p = from
-event_peer (Tick now) p = p
-event_peer (Local ono change) p = p
 
 pub executed_then : (p : Peer) (x : Execution) (g : Past) (e : Event) → IsIn x (executed_for p (state_of g).notes) → IsIn x (executed_for p (state_of (and_then e g)).notes)
 executed_then p x g (Tick now) i = i

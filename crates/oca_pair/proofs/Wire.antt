@@ -1,12 +1,7 @@
 -- What is read of the datagrams that a link and a device send.
-use Rattle.std.proofs.Common.{append-nil, ◌≡◌, ◌≤◌, true, [], ◌∷◌, length, sym, arith, length-append, lit<, lit≤}
-use Rattle.std.specs.Prelude.{Ok}
-use Rattle.oca_types.specs.Peers.{CommandFields}
-use Rattle.oca_pdu.specs.declared.message.Form.TheVariants.{Seconds}
-use Rattle.oca_pdu.specs.Messages.{ResponseFields, Command, Response, KeepAlive, Pdu, Commands, Responses, OneKeepAlive, messages_of}
-use Rattle.oca_pdu.specs.Encoding.{pdu_encoding, CommandFits, ResponseFits, PduFits}
-use Rattle.oca_pdu.specs.Reading.{read_datagram}
-use Rattle.oca_pdu.specs.Laws.{WrittenIsReadBack}
+use Rattle.oca_pair.proofs.Words.{append-nil, ◌≡◌, ◌≤◌, true, [], ◌∷◌, length, sym, arith, lit<, lit≤, Ok, CommandFields, Seconds, ResponseFields, Command, Response, KeepAlive, Pdu, Commands}
+use Rattle.oca_pair.proofs.Words.{Responses, OneKeepAlive, messages_of, pdu_encoding, CommandFits, ResponseFits, PduFits, read_datagram, WrittenIsReadBack}
+use Rattle.std.proofs.Common.{length-append}
 
 read_one : WrittenIsReadBack → (p : Pdu) → PduFits p → length (pdu_encoding p) ≤ 1472 → read_datagram (pdu_encoding p) ≡ Ok (messages_of p)
 read_one law p fits short = law [] p (pdu_encoding p) (record { nonempty = lit< tt; well_formed = (fits, tt); bytes_are = sym (append-nil (pdu_encoding p)); within_limit = short })

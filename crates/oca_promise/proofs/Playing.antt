@@ -15,7 +15,8 @@ use Rattle.oca_pair.specs.declared.outcome.Outcome.TheVariants as outcomes
 use Rattle.oca_pair.specs.Steps.{Step, Submit, Due, ToDevice, ToLink, Other, Take, has_link, content_read, hears_datagram, after_submit, after_due_step, after_delivery, after_reception, taken_by, after_take, after_step, after_steps, on_link, submit_outcome, outcome_of_step, Renew, Beside, after_beside, with_link, is_no_lower, renewal_of, renewed_link, after_renewal}
 use Rattle.oca_pair.specs.Steps as steps
 use Rattle.oca_pair.specs.InTime.{leaving_beside}
-use Rattle.oca_pair.proofs.Lists.{same_self, IsIn, in_more, in_last, each_at}
+use Rattle.oca_pair.proofs.Words.{same_self}
+use Rattle.oca_pair.proofs.Lists.{IsIn, in_more, in_last, each_at}
 use Rattle.oca_pair.proofs.RoundTrip.{AreToDevice, to_device_step}
 use Rattle.oca_device.specs.Events.{Datagram}
 use Rattle.oca_panel.specs.Panels.{PanelState}

@@ -1,6 +1,4 @@
-use Rattle.std.proofs.Common.{◌≡◌, drop}
-use Rattle.oca_pair.specs.Networks.{device_address}
-use Rattle.oca_pair.specs.Premises.{are_apart}
+use Rattle.oca_pair.proofs.Words.{◌≡◌, drop, device_address, are_apart}
 use Rattle.oca_pair.proofs.pair.are_apart.Given as goal
 
 abbrev pub invariant-loop-i : goal.invariant-loop-i

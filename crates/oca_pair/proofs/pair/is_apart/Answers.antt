@@ -1,4 +1,4 @@
-use Rattle.std.proofs.Common.{sym, ◌∙◌}
+use Rattle.oca_pair.proofs.Words.{sym, ◌∙◌}
 use Rattle.oca_pair.proofs.Runs.{apart_is}
 use Rattle.oca_pair.proofs.pair.is_apart.Goals as goal
 

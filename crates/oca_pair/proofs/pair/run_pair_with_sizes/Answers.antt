@@ -1,8 +1,4 @@
-use Rattle.std.proofs.Common.{◌<◌, ◌≤◌, length, refl, sym, ◌∙◌, arith}
-use Rattle.std.specs.Prelude.{map}
-use Rattle.oca_types.specs.Sizes.{sizes_of, span_size}
-use Rattle.oca_pair.specs.Networks.{Network, run_setup, opening}
-use Rattle.oca_pair.specs.Transcripts.{step_of}
+use Rattle.oca_pair.proofs.Words.{◌<◌, ◌≤◌, length, refl, sym, ◌∙◌, arith, map, sizes_of, span_size, Network, run_setup, opening, step_of}
 use Rattle.oca_pair.proofs.Runs.{begun_at, goes_on_at, stops_at, ended_at, all_there, all_done}
 use Rattle.oca_pair.proofs.pair.run_pair_with_sizes.Goals as goal
 

@@ -1,8 +1,4 @@
-use Rattle.std.proofs.Common.{drop}
-use Rattle.std.specs.Prelude.{map}
-use Rattle.oca_types.specs.Sizes.{sizes_of, span_size}
-use Rattle.oca_pair.specs.Networks.{run_setup, opening}
-use Rattle.oca_pair.specs.Transcripts.{step_of}
+use Rattle.oca_pair.proofs.Words.{drop, map, sizes_of, span_size, run_setup, opening, step_of}
 use Rattle.oca_pair.proofs.Runs.{IsHalfway}
 use Rattle.oca_pair.proofs.pair.run_pair_with_sizes.Given as goal
 

@@ -1,6 +1,4 @@
-use Rattle.std.proofs.Common.{◌≡◌, ◌<◌, ◌≤◌, length, get_or, arith}
-use Rattle.oca_pair.specs.Networks.{SentDatagram, device_address}
-use Rattle.oca_pair.specs.Steps.{hears_datagram}
+use Rattle.oca_pair.proofs.Words.{◌≡◌, ◌<◌, ◌≤◌, length, get_or, arith, SentDatagram, device_address, hears_datagram}
 use Rattle.oca_pair.proofs.Runs.{unchanged_at, changed_next, changed_all, heard_next, heard_all}
 use Rattle.oca_pair.proofs.running.hear.Goals as goal
 

@@ -1,9 +1,4 @@
-use Rattle.std.proofs.Common.{◌≡◌, ◌++◌, take, drop}
-use Rattle.std.specs.Prelude.{map}
-use Rattle.std.specs.Option.{option_or}
-use Rattle.oca_pair.specs.Networks.{SentDatagram, device_address}
-use Rattle.oca_pair.specs.Steps.{hears_datagram}
-use Rattle.oca_pair.specs.PrivateRunning.{first_heard}
+use Rattle.oca_pair.proofs.Words.{◌≡◌, ◌++◌, take, drop, map, option_or, SentDatagram, device_address, hears_datagram, first_heard}
 use Rattle.oca_pair.proofs.running.hear.Given as goal
 
 abbrev pub invariant-loop-i : goal.invariant-loop-i

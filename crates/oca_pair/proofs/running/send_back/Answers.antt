@@ -1,5 +1,4 @@
-use Rattle.std.proofs.Common.{◌<◌, ℕ, List, [], ◌∷◌, ◌++◌, length, ap, ◌∙◌, arith}
-use Rattle.oca_pair.specs.Networks.{SentDatagram}
+use Rattle.oca_pair.proofs.Words.{◌<◌, ℕ, List, [], ◌∷◌, ◌++◌, length, ap, ◌∙◌, arith, SentDatagram}
 use Rattle.oca_pair.proofs.Runs.{sent_next, missing_at}
 use Rattle.oca_pair.proofs.running.send_back.Goals as goal
 use Rattle.oca_pair.proofs.running.send_back.Goals.{in-Some+in_ok-add-in-Some, in-None}

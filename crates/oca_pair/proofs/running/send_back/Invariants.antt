@@ -1,5 +1,4 @@
-use Rattle.std.proofs.Common.{◌≡◌, ◌++◌, take}
-use Rattle.oca_pair.specs.Steps.{sendings_in}
+use Rattle.oca_pair.proofs.Words.{◌≡◌, ◌++◌, take, sendings_in}
 use Rattle.oca_pair.proofs.running.send_back.Given as goal
 
 abbrev pub invariant-loop-i : goal.invariant-loop-i

@@ -1,7 +1,4 @@
-use Rattle.std.proofs.Common.{arith, ap, ◌∙◌}
-use Rattle.oca_control.specs.Links.{LinkState, reception, received}
-use Rattle.oca_pair.specs.Networks.{PeerLink, device_address}
-use Rattle.oca_pair.specs.Steps.{content_read}
+use Rattle.oca_pair.proofs.Words.{arith, ap, ◌∙◌, LinkState, reception, received, PeerLink, device_address, content_read}
 use Rattle.oca_pair.proofs.Runs.{content_is}
 use Rattle.oca_pair.proofs.running.PeerLink.datagram.Goals as goal
 

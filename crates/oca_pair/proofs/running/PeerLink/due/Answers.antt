@@ -1,5 +1,4 @@
-use Rattle.std.proofs.Common.{ap, ◌∙◌}
-use Rattle.oca_control.specs.Links.{LinkState}
+use Rattle.oca_pair.proofs.Words.{ap, ◌∙◌, LinkState}
 use Rattle.oca_pair.proofs.Runs.{device_gone_on}
 use Rattle.oca_pair.proofs.running.PeerLink.due.Goals as goal
 

@@ -1,4 +1,4 @@
-use Rattle.std.proofs.Common.{refl}
+use Rattle.oca_pair.proofs.Words.{refl}
 use Rattle.oca_pair.proofs.running.Running.tick.Goals as goal
 
 pub returns : goal.returns
