@@ -1,4 +1,5 @@
 -- What the calls of a panel do with its link.
+use Rattle.oca_pair.proofs.Words.{on_bool}
 use Rattle.std.proofs.Common.{◌≡◌, ℕ, ◌+◌, ◌<◌, ◌≤◌, ◌⊎◌, Bool, true, false, List, [], ◌∷◌, ◌++◌, length, Option, Some, None, Result, Ok, Err, refl, sym, ap, ◌∙◌, subst, arith, zero, suc, inl, inr, append_assoc, append-nil}
 use Rattle.std.specs.Prelude.{IsTrue, nat_le, if◌then◌else◌}
 use Rattle.std.specs.List.{filter, flat_map, list_any}
@@ -181,19 +182,15 @@ sends now (suc n) l = Sends now ∷ (if goes_on (decision now l) then sends now 
 pub all_sent : (now n : ℕ) (l : LinkState) → link_from now n l ≡ all_done (sends now n l) l
 unfolding all_done link_from
 all_sent now zero l = refl
-all_sent now (suc n) l = by_test (goes_on (decision now l)) (all_sent now n (gone_on now l))
-  where
-    by_test : (b : Bool) → link_from now n (gone_on now l) ≡ all_done (sends now n (gone_on now l)) (gone_on now l) → (if b then link_from now n (gone_on now l) else gone_on now l) ≡ all_done (if b then sends now n (gone_on now l) else []) (gone_on now l)
-    by_test true e = e
-    by_test false e = refl
+all_sent now (suc n) l =
+    on_bool (goes_on (decision now l)) (λ b. link_from now n (gone_on now l) ≡ all_done (sends now n (gone_on now l)) (gone_on now l) → (if b then link_from now n
+    (gone_on now l) else gone_on now l) ≡ all_done (if b then sends now n (gone_on now l) else []) (gone_on now l))
+    (λ e. e) (λ e. refl) (all_sent now n (gone_on now l))
 
 pub none_heard : (now n : ℕ) (l : LinkState) → hearings (sends now n l) ≡ []
 none_heard now zero l = refl
-none_heard now (suc n) l = by_test (goes_on (decision now l)) (none_heard now n (gone_on now l))
-  where
-    by_test : (b : Bool) → hearings (sends now n (gone_on now l)) ≡ [] → hearings (if b then sends now n (gone_on now l) else []) ≡ []
-    by_test true e = e
-    by_test false e = refl
+none_heard now (suc n) l = on_bool (goes_on (decision now l)) (λ b. hearings (sends now n (gone_on now l)) ≡ [] → hearings (if b then sends now n (gone_on now l) else []) ≡ [])
+    (λ e. e) (λ e. refl) (none_heard now n (gone_on now l))
 
 -- what is sent is what was decided
 all_given : (now n : ℕ) (l : LinkState) → sent_by (sends now n l) l ≡ all_given_to l.device (decisions_from now n l)
@@ -208,11 +205,8 @@ all_given now (suc n) l = ap (λ zs. given_to l.device (decision now l) ++ zs) (
 
 only_sends : (now n : ℕ) (l : LinkState) → asked_in (sends now n l) ≡ []
 only_sends now zero l = refl
-only_sends now (suc n) l = by_test (goes_on (decision now l)) (only_sends now n (gone_on now l))
-  where
-    by_test : (b : Bool) → asked_in (sends now n (gone_on now l)) ≡ [] → asked_in (if b then sends now n (gone_on now l) else []) ≡ []
-    by_test true e = e
-    by_test false e = refl
+only_sends now (suc n) l = on_bool (goes_on (decision now l)) (λ b. asked_in (sends now n (gone_on now l)) ≡ [] → asked_in (if b then sends now n (gone_on now l) else []) ≡ [])
+    (λ e. e) (λ e. refl) (only_sends now n (gone_on now l))
 
 calm_sends : (now n : ℕ) (l : LinkState) → late_at now l ≡ false → AreSentInTime (sends now n l) l
 unfolding AreSentInTime
@@ -228,40 +222,23 @@ sends_in_time now l = if late_at now l then [] else sends now (l.span + 1) l
 
 sent_in_time : (now : ℕ) (l : LinkState) → link_in_time now l ≡ all_done (sends_in_time now l) l
 unfolding all_done
-sent_in_time now l = by_test (late_at now l)
-  where
-    by_test : (b : Bool) → (if b then l else link_from now (l.span + 1) l) ≡ all_done (if b then [] else sends now (l.span + 1) l) l
-    by_test true = refl
-    by_test false = all_sent now (l.span + 1) l
+sent_in_time now l = on_bool (late_at now l) (λ b. (if b then l else link_from now (l.span + 1) l) ≡ all_done (if b then [] else sends now (l.span + 1) l) l) refl (all_sent now (l.span + 1) l)
 
 none_in_time : (now : ℕ) (l : LinkState) → hearings (sends_in_time now l) ≡ []
-none_in_time now l = by_test (late_at now l)
-  where
-    by_test : (b : Bool) → hearings (if b then [] else sends now (l.span + 1) l) ≡ []
-    by_test true = refl
-    by_test false = none_heard now (l.span + 1) l
+none_in_time now l = on_bool (late_at now l) (λ b. hearings (if b then [] else sends now (l.span + 1) l) ≡ []) refl (none_heard now (l.span + 1) l)
 
 taken_in_time_by_end : (now : ℕ) (l : LinkState) → sent_by (sends_in_time now l) l ≡ all_given_to l.device (decisions_in_time now l)
 unfolding sent_by
-taken_in_time_by_end now l = by_test (late_at now l)
-  where
-    by_test : (b : Bool) → sent_by (if b then [] else sends now (l.span + 1) l) l ≡ all_given_to l.device (if b then IsLost ∷ [] else decisions_from now (l.span + 1) l)
-    by_test true = refl
-    by_test false = all_given now (l.span + 1) l
+taken_in_time_by_end now l =
+    on_bool (late_at now l) (λ b. sent_by (if b then [] else sends now (l.span + 1) l) l ≡ all_given_to l.device (if b then IsLost ∷ [] else decisions_from now (l.span + 1) l))
+    refl (all_given now (l.span + 1) l)
 
 only_in_time : (now : ℕ) (l : LinkState) → asked_in (sends_in_time now l) ≡ []
-only_in_time now l = by_test (late_at now l)
-  where
-    by_test : (b : Bool) → asked_in (if b then [] else sends now (l.span + 1) l) ≡ []
-    by_test true = refl
-    by_test false = only_sends now (l.span + 1) l
+only_in_time now l = on_bool (late_at now l) (λ b. asked_in (if b then [] else sends now (l.span + 1) l) ≡ []) refl (only_sends now (l.span + 1) l)
 
 calm_in_time : (now : ℕ) (l : LinkState) → AreSentInTime (sends_in_time now l) l
-calm_in_time now l = by_test (late_at now l) refl
-  where
-    by_test : (b : Bool) → late_at now l ≡ b → AreSentInTime (if b then [] else sends now (l.span + 1) l) l
-    by_test true e = none_in_time_sent l
-    by_test false e = calm_sends now (l.span + 1) l e
+calm_in_time now l = on_bool (late_at now l) (λ b. late_at now l ≡ b → AreSentInTime (if b then [] else sends now (l.span + 1) l) l)
+    (λ e. none_in_time_sent l) (λ e. calm_sends now (l.span + 1) l e) refl
 
 -- what is sent after a delivery
 abbrev sends_after : Delivery → LinkState → List Doing
@@ -322,11 +299,7 @@ hears law (Quiet now) old new answered h is = h.0
 hears law Failed old new answered h is = h.0
 
 all_heard : (d : Delivery) → hearings (hearing_of d) ≡ hearing_of d
-all_heard (Datagram from bytes now) = by_test (nat_le (length bytes) 1472)
-  where
-    by_test : (b : Bool) → hearings (if b then Hears bytes now ∷ [] else []) ≡ (if b then Hears bytes now ∷ [] else [])
-    by_test true = refl
-    by_test false = refl
+all_heard (Datagram from bytes now) = on_bool (nat_le (length bytes) 1472) (λ b. hearings (if b then Hears bytes now ∷ [] else []) ≡ (if b then Hears bytes now ∷ [] else [])) refl refl
 all_heard (Quiet now) = refl
 all_heard Failed = refl
 
@@ -342,11 +315,7 @@ one_delivery d old between new decisions answered law heard gives are =
 -- hearing sends nothing
 none_sent : (d : Delivery) (l : LinkState) → sent_by (hearing_of d) l ≡ []
 unfolding sent_by
-none_sent (Datagram from bytes now) l = by_test (nat_le (length bytes) 1472)
-  where
-    by_test : (b : Bool) → sent_by (if b then Hears bytes now ∷ [] else []) l ≡ []
-    by_test true = refl
-    by_test false = refl
+none_sent (Datagram from bytes now) l = on_bool (nat_le (length bytes) 1472) (λ b. sent_by (if b then Hears bytes now ∷ [] else []) l ≡ []) refl refl
 none_sent (Quiet now) l = refl
 none_sent Failed l = refl
 
@@ -365,21 +334,13 @@ heard_in_turn d old between =
     hearings_both (hearing_of d) (sends_after d between) ∙ ap (λ zs. zs ++ hearings (sends_after d between)) (all_heard d) ∙ ap (λ zs. hearing_of d ++ zs) (none_after d between)
 
 only_hearing : (d : Delivery) → asked_in (hearing_of d) ≡ []
-only_hearing (Datagram from bytes now) = by_test (nat_le (length bytes) 1472)
-  where
-    by_test : (b : Bool) → asked_in (if b then Hears bytes now ∷ [] else []) ≡ []
-    by_test true = refl
-    by_test false = refl
+only_hearing (Datagram from bytes now) = on_bool (nat_le (length bytes) 1472) (λ b. asked_in (if b then Hears bytes now ∷ [] else []) ≡ []) refl refl
 only_hearing (Quiet now) = refl
 only_hearing Failed = refl
 
 calm_hearing : (d : Delivery) (l : LinkState) → AreSentInTime (hearing_of d) l
 unfolding AreSentInTime
-calm_hearing (Datagram from bytes now) l = by_test (nat_le (length bytes) 1472)
-  where
-    by_test : (b : Bool) → AreSentInTime (if b then Hears bytes now ∷ [] else []) l
-    by_test true = tt
-    by_test false = tt
+calm_hearing (Datagram from bytes now) l = on_bool (nat_le (length bytes) 1472) (λ b. AreSentInTime (if b then Hears bytes now ∷ [] else []) l) tt tt
 calm_hearing (Quiet now) l = tt
 calm_hearing Failed l = tt
 
@@ -474,18 +435,10 @@ looks_do law (asking.OneTaken {l = l} {new = new} {e = e} {f = f} before none go
 -- ---- a command is begun
 
 submission_of : (request : RequestFields) (now : ℕ) (l : LinkState) (h : Handle) → Ok h ≡ beginning request now l → submission request l ≡ Ok h
-submission_of request now l h e = by_test (late_at now l) e
-  where
-    by_test : (b : Bool) → Ok h ≡ (if b then Err faults.Lost else submission request l) → submission request l ≡ Ok h
-    by_test true e = cc
-    by_test false e = sym e
+submission_of request now l h e = on_bool (late_at now l) (λ b. Ok h ≡ (if b then Err faults.Lost else submission request l) → submission request l ≡ Ok h) (λ e. cc) (λ e. sym e) e
 
 not_late : (request : RequestFields) (now : ℕ) (l : LinkState) (h : Handle) → Ok h ≡ beginning request now l → late_at now l ≡ false
-not_late request now l h e = by_test (late_at now l) refl e
-  where
-    by_test : (b : Bool) → late_at now l ≡ b → Ok h ≡ (if b then Err faults.Lost else submission request l) → late_at now l ≡ false
-    by_test true q e = cc
-    by_test false q e = q
+not_late request now l h e = on_bool (late_at now l) (λ b. late_at now l ≡ b → Ok h ≡ (if b then Err faults.Lost else submission request l) → late_at now l ≡ false) (λ q e. cc) (λ q e. q) refl e
 
 abbrev begin_doings : RequestFields → ℕ → LinkState → List Doing
 begin_doings request now l = sends now ((submitted request now l).span + 1) (submitted request now l)

@@ -1,4 +1,5 @@
 -- No other call takes the answer that a call takes: each answer is taken once, and no handle is given twice.
+use Rattle.oca_pair.proofs.Words.{on_bool}
 use Rattle.std.proofs.Common.{◌≡◌, ℕ, ◌+◌, ◌<◌, Bool, true, false, cond, not, ◌||◌, List, [], ◌∷◌, ◌++◌, map, Option, Some, None, Result, Ok, Err, is_some, refl, sym, ap, ◌∙◌, subst, arith}
 use Rattle.std.specs.List.{AllByRecursion, filter, list_any}
 use Rattle.std.proofs.Math.Dec.{eqb}
@@ -60,11 +61,7 @@ IsAbove h None = Unit {0}
 IsAbove h (Some n) = h < n
 
 above_after : (h k : ℕ) → h < k + 1 → IsAbove h (handle_after k)
-above_after h k less = by (eqb k 4294967295)
-  where
-    by : (b : Bool) → IsAbove h (cond b None (Some (k + 1)))
-    by true = tt
-    by false = less
+above_after h k less = on_bool (eqb k 4294967295) (λ b. IsAbove h (cond b None (Some (k + 1)))) tt less
 
 pub above_own : (request : RequestFields) (now h : ℕ) (l : LinkState) → submission request l ≡ Ok (record { 0 = h }) → IsAbove h (submitted request now l).next
 above_own request now h l e =
@@ -147,21 +144,16 @@ none_under h (u ∷ us) a = ap (λ b. cond b u.answer (answer_under h us)) a.0 �
 -- an answer that is taken is gone
 none_without : (h : ℕ) (us : List Untaken) → NoneHeld h (without_handle h us)
 none_without h [] = tt
-none_without h (u ∷ us) = by (eqb u.command.handle h) refl (none_without h us)
-  where
-    by : (b : Bool) → eqb u.command.handle h ≡ b → NoneHeld h (without_handle h us) → NoneHeld h (cond (not b) (u ∷ without_handle h us) (without_handle h us))
-    by true e rest = rest
-    by false e rest = (e, rest)
+none_without h (u ∷ us) =
+    on_bool (eqb u.command.handle h) (λ b. eqb u.command.handle h ≡ b → NoneHeld h (without_handle h us) → NoneHeld h (cond (not b) (u ∷ without_handle h us) (without_handle h us)))
+    (λ e rest. rest) (λ e rest. (e, rest)) refl (none_without h us)
 
 none_taken : (h k : ℕ) (l : LinkState) → eqb k h ≡ true → is_some (answer_under k l.untaken) ≡ true → NoneHeld h (taken k l).untaken
-none_taken h k l same held = by (is_some (answer_under k l.untaken)) held
+none_taken h k l same held = on_bool (is_some (answer_under k l.untaken)) (λ b. b ≡ true → NoneHeld h (cond b (without_handle k l.untaken) l.untaken))
+    (λ e. subst (λ (x : ℕ). NoneHeld h (without_handle x l.untaken)) (sym is) (none_without h l.untaken)) (λ e. cc) held
   where
     is : k ≡ h
     is = eqb-true k h same
-
-    by : (b : Bool) → b ≡ true → NoneHeld h (cond b (without_handle k l.untaken) l.untaken)
-    by true e = subst (λ (x : ℕ). NoneHeld h (without_handle x l.untaken)) (sym is) (none_without h l.untaken)
-    by false e = cc
 
 -- ---- the whole
 
@@ -172,11 +164,9 @@ none_took h a [] l above held e = refl
 none_took h a (Submits request now ∷ xs) l above held e = none_took h a xs (submitted request now l) (above_done h (Submits request now) l above) held e
 none_took h a (Sends now ∷ xs) l above held e = none_took h a xs (gone_on now l) (above_done h (Sends now) l above) held e
 none_took h a (Hears bytes now ∷ xs) l above held e = none_took h a xs (received l.device (content_read bytes) now l) (above_done h (Hears bytes now) l above) held e
-none_took h a (Takes k ∷ xs) l above held e = by (eqb k h) refl (none_took h a xs (taken k l) (above_done h (Takes k) l above) held.1 e)
+none_took h a (Takes k ∷ xs) l above held e =
+    on_bool (eqb k h) (λ b. eqb k h ≡ b → list_any (is_taking h) (filter is_begun_or_taken xs) ≡ false → (b || list_any (is_taking h) (filter is_begun_or_taken xs)) ≡ false)
+    (λ same rest. let no : None ≡ Some a = gone same in absurd (cc)) (λ same rest. rest) refl (none_took h a xs (taken k l) (above_done h (Takes k) l above) held.1 e)
   where
     gone : eqb k h ≡ true → None ≡ Some a
     gone same = sym (none_under h (all_done xs (taken k l)).untaken (none_all_done h xs (taken k l) (above_done h (Takes k) l above) (none_taken h k l same held.0))) ∙ e
-
-    by : (b : Bool) → eqb k h ≡ b → list_any (is_taking h) (filter is_begun_or_taken xs) ≡ false → (b || list_any (is_taking h) (filter is_begun_or_taken xs)) ≡ false
-    by true same rest = let no : None ≡ Some a = gone same in absurd (cc)
-    by false same rest = rest

@@ -1,8 +1,9 @@
 -- What holds where a schedule plays what was done with a link.
-use Rattle.std.proofs.Common.{◌≡◌, ℕ, ◌≤◌, Bool, true, false, List, [], ◌∷◌, ◌++◌, Option, Some, None, Result, Ok, refl, sym, ap, ◌∙◌, subst, zero, suc, inl, inr, arith}
-use Rattle.std.specs.Prelude.{map, nat_le, if◌then◌else◌}
-use Rattle.std.proofs.lemmas.Bool.Decides.{nat_tests}
+use Rattle.oca_pair.proofs.Words.{same_self, on_bool}
+use Rattle.std.proofs.Common.{◌≡◌, ℕ, Bool, true, List, [], ◌∷◌, ◌++◌, Option, Some, Result, Ok, refl, sym, ap, ◌∙◌, subst, zero, suc, inl, inr}
+use Rattle.std.specs.Prelude.{map, if◌then◌else◌}
 use Rattle.std.specs.List.{slice_get, slice_set}
+use Rattle.std.proofs.lemmas.Bool.{le-leb}
 use Rattle.oca_types.specs.declared.words.Peer.{Peer}
 use Rattle.oca_types.specs.declared.words.Handle.{Handle}
 use Rattle.oca_types.specs.Peers.{same_peer}
@@ -12,13 +13,11 @@ use Rattle.oca_control.specs.Untaken.{answer_under}
 use Rattle.oca_control.specs.Links.{LinkState, Request, submission, submitted, gone_on, received, taken, GivesKeepAlive, due_bytes}
 use Rattle.oca_pair.specs.Networks.{Network, PeerLink, SentDatagram, TakenAnswer}
 use Rattle.oca_pair.specs.declared.outcome.Outcome.TheVariants as outcomes
-use Rattle.oca_pair.specs.Steps.{Step, Submit, Due, ToDevice, ToLink, Other, Take, has_link, content_read, hears_datagram, after_submit, after_due_step, after_delivery, after_reception, taken_by, after_take, after_step, after_steps, on_link, submit_outcome, outcome_of_step, Renew, Beside, after_beside, with_link, is_no_lower, renewal_of, renewed_link, after_renewal}
-use Rattle.oca_pair.specs.Steps as steps
+use Rattle.oca_pair.specs.Steps.{Step, Submit, Due, ToLink, Take, content_read, hears_datagram, after_submit, after_due_step, after_reception, taken_by, after_take, after_step, after_steps, on_link, submit_outcome, outcome_of_step, Renew, after_beside, with_link, is_no_lower, renewal_of, renewed_link, after_renewal}
 use Rattle.oca_pair.specs.InTime.{leaving_beside}
-use Rattle.oca_pair.proofs.Words.{same_self}
+use Rattle.oca_pair.proofs.EachStep.{after_each}
 use Rattle.oca_pair.proofs.Lists.{IsIn, in_more, in_last, each_at}
 use Rattle.oca_pair.proofs.RoundTrip.{AreToDevice, to_device_step}
-use Rattle.oca_device.specs.Events.{Datagram}
 use Rattle.oca_panel.specs.Panels.{PanelState}
 use Rattle.oca_promise.specs.Renewals.{EveryRenewalIsAStep, EveryKeepAliveIsAStep, EveryCallBesideIsAStep}
 use Rattle.oca_promise.specs.Doings.{Doing, Submits, Sends, Hears, Takes, done, all_done, IsStepFor, GoesOnWith, Plays}
@@ -63,13 +62,10 @@ renew_there i p l first span now origin n above e =
     ∙ ap (λ (b : Bool). let y : Network = if b then m else n in slice_get y.links i) above
     ∙ set_there n.links i x (record { peer = p; link = renewed_link first span now l }) e
 
-no_lower : (a b : ℕ) → a ≤ b → nat_le a b ≡ true
-no_lower a b q = grind (arith, nat_tests)
-
 -- so a renewed panel's link is that of its number
 pub renewals_are_steps : EveryRenewalIsAStep
 renewals_are_steps first span old new renewed n i p origin next is above e =
-    renew_there i p old.link first span renewed.now origin n (ap (is_no_lower first) is ∙ no_lower next first above) e
+    renew_there i p old.link first span renewed.now origin n (ap (is_no_lower first) is ∙ le-leb next first above) e
     ∙ ap (λ (s : PanelState). let y : PeerLink = record { peer = p; link = s.link } in Some y) (sym renewed.panel)
 
 -- a keep-alive for the device of a link is sent beside it
@@ -90,12 +86,9 @@ calls_beside_are_steps heard old new calls n i now p e =
     (keep_alives_are_steps old.end_state calls.between old.link n i now p calls.keeps e, ap (λ (s : PanelState). s.link) calls.same)
 
 heard_there : (from p : Peer) (bytes : List ℕ) (now : ℕ) (l : LinkState) → hears_datagram from (record { peer = p; bytes = bytes }) now (record { peer = p; link = l }) ≡ record { peer = p; link = received from (content_read bytes) now l }
-heard_there from p bytes now l = by_test (same_peer p p) (same_self p)
-  where
-    by_test : (b : Bool) → b ≡ true →
-        (let y : PeerLink = if b then record { peer = p; link = received from (content_read bytes) now l } else record { peer = p; link = l } in y) ≡ record { peer = p; link = received from (content_read bytes) now l }
-    by_test true e = refl
-    by_test false e = cc
+heard_there from p bytes now l =
+    on_bool (same_peer p p) (λ b. b ≡ true → (let y : PeerLink = if b then record { peer = p; link = received from (content_read bytes) now l } else record { peer = p; link = l } in y) ≡ record { peer = p; link = received from (content_read bytes) now l })
+    (λ e. refl) (λ e. cc) (same_self p)
 
 hear_there : (i k : ℕ) (p : Peer) (l : LinkState) (bytes : List ℕ) (now : ℕ) (n : Network) → AreToDevice n → slice_get n.to_links k ≡ Some (record { peer = p; bytes = bytes }) → IsLinkOf i p l n →
     IsLinkOf i p (received l.device (content_read bytes) now l) (after_step (ToLink k now) n)
@@ -167,55 +160,19 @@ HasTaken p h a n = let it : TakenAnswer = record { peer = p; handle = h; answer 
 
 -- what was taken stays so
 taken_stays : (p : Peer) (h : ℕ) (a : AnswerFields) (step : Step) (n : Network) → HasTaken p h a n → HasTaken p h a (after_step step n)
-taken_stays p h a step n is = one step
-  where
-    by_submit : (i : ℕ) (r : Request) (now : ℕ) (o : Option PeerLink) → HasTaken p h a (after_submit i r now o n)
-    by_submit i r now None = is
-    by_submit i r now (Some l) = is
-
-    by_due : (i now : ℕ) (o : Option PeerLink) → HasTaken p h a (after_due_step i now o n)
-    by_due i now None = is
-    by_due i now (Some l) = is
-
-    by_delivery : (now : ℕ) (o : Option SentDatagram) → HasTaken p h a (after_delivery now o n)
-    by_delivery now None = is
-    by_delivery now (Some d) = is
-
-    by_reception : (now : ℕ) (o : Option SentDatagram) → HasTaken p h a (after_reception now o n)
-    by_reception now None = is
-    by_reception now (Some d) = is
-
-    by_other : (from : Peer) (bytes : List ℕ) (now : ℕ) (b : Bool) → HasTaken p h a (let m : Network = if b then n else record n { events = Datagram from bytes now ∷ n.events } in m)
-    by_other from bytes now true = is
-    by_other from bytes now false = is
-
-    by_take : (i k : ℕ) (o : Option PeerLink) → HasTaken p h a (after_take i k o n)
-    by_take i k None = is
-    by_take i k (Some l) = in_more _ n.taken (taken_by l.peer k (answer_under k l.link.untaken)) is
-
-    by_beside : (o : Option PeerLink) → HasTaken p h a (after_beside o n)
-    by_beside None = is
-    by_beside (Some l) = is
-
-    by_renewal : (i first span now origin : ℕ) (o : Option PeerLink) → HasTaken p h a (after_renewal i first span now origin o n)
-    by_renewal i first span now origin None = is
-    by_renewal i first span now origin (Some l) = by_test (is_no_lower first l.link.next)
-      where
-        by_test : (b : Bool) → HasTaken p h a (let m : Network = if b then record n { links = with_link i l (renewed_link first span now l.link) n.links; renewed = renewal_of l origin ∷ n.renewed } else n in m)
-        by_test true = is
-        by_test false = is
-
-    one : (step : Step) → HasTaken p h a (after_step step n)
-    one (Submit i r now) = by_submit i r now (slice_get n.links i)
-    one (Due i now) = by_due i now (slice_get n.links i)
-    one (ToDevice k now) = by_delivery now (slice_get n.to_device k)
-    one (ToLink k now) = by_reception now (slice_get n.to_links k)
-    one (Other from bytes now) = by_other from bytes now (has_link from n.links)
-    one (steps.Tick now) = is
-    one (steps.Local ono change) = is
-    one (Take i k) = by_take i k (slice_get n.links i)
-    one (Renew i first span now origin) = by_renewal i first span now origin (slice_get n.links i)
-    one (Beside i now) = by_beside (slice_get n.links i)
+taken_stays p h a step n is = after_each (λ _ m. HasTaken p h a m) n (record {
+  stays = λ _. is;
+  submits = λ _ _ _ _ _. is;
+  asks = λ _ _ _ _. is;
+  delivers = λ _ _ _ _. is;
+  receives = λ _ _ _ _. is;
+  hears = λ _ _ _ _. is;
+  ticks = λ _. is;
+  changes = λ _ _. is;
+  takes = λ _ k l _. in_more _ n.taken (taken_by l.peer k (answer_under k l.link.untaken)) is;
+  renews = λ _ _ _ _ _ _ _. is;
+  keeps_alive = λ _ _ _ _. is;
+}) step
 
 taken_stays_on : (p : Peer) (h : ℕ) (a : AnswerFields) (steps : List Step) (n : Network) → HasTaken p h a n → HasTaken p h a (after_steps steps n)
 taken_stays_on p h a [] n is = is

@@ -1,4 +1,5 @@
 -- What a panel says is so.
+use Rattle.oca_pair.proofs.Words.{on_bool}
 use Rattle.std.proofs.Common.{◌≡◌, ℕ, ◌==◌, Bool, true, false, List, [], ◌∷◌, ◌++◌, Option, Some, None, Result, Ok, Err, refl, sym, ap, ◌∙◌, subst, inl, inr, eqb-true, append_assoc, ◌≢◌, ◌⊎◌}
 use Rattle.std.specs.Prelude.{if◌then◌else◌, map}
 use Rattle.std.specs.List.{slice_get, AllByRecursion}
@@ -96,18 +97,14 @@ pub record IsOk (o : Outcome) (params : List ℕ) : Type 0 where
   pub params_are : answer.params.items ≡ params
 
 answered_ok : (a : Answer) (params : List ℕ) → parameters_answered (outcomes.Answered a) ≡ Ok params → a.status ≡ 0
-answered_ok a params e = by (a.status == 0) refl e
-  where
-    by : (b : Bool) → (a.status == 0) ≡ b → (let x : Result (List ℕ) Trouble = if b then Ok a.params.items else Err (trouble.Refused a.status) in x) ≡ Ok params → a.status ≡ 0
-    by true t q = eqb-true a.status 0 t
-    by false t q = absurd (cc)
+answered_ok a params e =
+    on_bool (a.status == 0) (λ b. (a.status == 0) ≡ b → (let x : Result (List ℕ) Trouble = if b then Ok a.params.items else Err (trouble.Refused a.status) in x) ≡ Ok params → a.status ≡ 0)
+    (λ t q. eqb-true a.status 0 t) (λ t q. absurd (cc)) refl e
 
 answered_parameters : (a : Answer) (params : List ℕ) → parameters_answered (outcomes.Answered a) ≡ Ok params → a.params.items ≡ params
-answered_parameters a params e = by (a.status == 0) e
-  where
-    by : (b : Bool) → (let x : Result (List ℕ) Trouble = if b then Ok a.params.items else Err (trouble.Refused a.status) in x) ≡ Ok params → a.params.items ≡ params
-    by true q = cc
-    by false q = absurd (cc)
+answered_parameters a params e =
+    on_bool (a.status == 0) (λ b. (let x : Result (List ℕ) Trouble = if b then Ok a.params.items else Err (trouble.Refused a.status) in x) ≡ Ok params → a.params.items ≡ params)
+    (λ q. cc) (λ q. absurd (cc)) e
 
 ok_parameters : (o : Outcome) (params : List ℕ) → parameters_answered o ≡ Ok params → IsOk o params
 ok_parameters (outcomes.Answered a) params e = record { answer = a; is = refl; ok = answered_ok a params e; params_are = answered_parameters a params e }
@@ -510,11 +507,9 @@ members_read bytes numbers e = by (members_at bytes) e
 
 number_of_found : (tree : List Object) (number : ℕ) (o : Object) → object_of tree number ≡ Some o → o.ono.0 ≡ number
 number_of_found [] number o e = absurd (cc)
-number_of_found (x ∷ xs) number o e = by (x.ono.0 == number) refl (number_of_found xs number o) e
-  where
-    by : (b : Bool) → (x.ono.0 == number) ≡ b → (object_of xs number ≡ Some o → o.ono.0 ≡ number) → (let r : Option Object = if b then Some x else object_of xs number in r) ≡ Some o → o.ono.0 ≡ number
-    by true t later q = let same : x ≡ o = cc in ap (λ (y : Object). y.ono.0) (sym same) ∙ eqb-true x.ono.0 number t
-    by false t later q = later q
+number_of_found (x ∷ xs) number o e =
+    on_bool (x.ono.0 == number) (λ b. (x.ono.0 == number) ≡ b → (object_of xs number ≡ Some o → o.ono.0 ≡ number) → (let r : Option Object = if b then Some x else object_of xs number in r) ≡ Some o → o.ono.0 ≡ number)
+    (λ t later q. let same : x ≡ o = cc in ap (λ (y : Object). y.ono.0) (sym same) ∙ eqb-true x.ono.0 number t) (λ t later q. later q) refl (number_of_found xs number o) e
 
 had_members : (target : ℕ) (numbers : List ℕ) (request : RequestFields) (a : Answer) → IsRequestTo target class.Block asked.GetMembers request → a.status ≡ 0 → members_in a.params.items ≡ Some numbers →
     (h : ℕ) (p : Peer) (later : List Step) (called : Network) → ClassAll p (command_under h request) (answer_fields a) later called → HadMembers target numbers p (command_under h request) (answer_fields a) later called
@@ -595,15 +590,14 @@ descriptions_keep between oks met law target fields role old new (read, mid, ask
 
 -- an answer that is read has status OK
 model_ok : (of : Class) (m : Method) (a : Answer) (typed : Typed) → model_answered of m (outcomes.Answered a) ≡ Ok typed → (a.status ≡ 0) × (answer_in of m a.count a.params.items ≡ Some typed)
-model_ok of m a typed e = by (a.status == 0) refl e
+model_ok of m a typed e =
+    on_bool (a.status == 0) (λ b. (a.status == 0) ≡ b → (let x : Result Typed Trouble = if b then readable (answer_in of m a.count a.params.items) else Err (trouble.Refused a.status) in x) ≡ Ok typed →
+    (a.status ≡ 0) × (answer_in of m a.count a.params.items ≡ Some typed))
+    (λ t q. (eqb-true a.status 0 t, read (answer_in of m a.count a.params.items) q)) (λ t q. absurd (cc)) refl e
   where
     read : (o : Option Typed) → readable o ≡ Ok typed → o ≡ Some typed
     read None q = absurd (cc)
     read (Some x) q = let same : x ≡ typed = cc in ap Some same
-
-    by : (b : Bool) → (a.status == 0) ≡ b → (let x : Result Typed Trouble = if b then readable (answer_in of m a.count a.params.items) else Err (trouble.Refused a.status) in x) ≡ Ok typed → (a.status ≡ 0) × (answer_in of m a.count a.params.items ≡ Some typed)
-    by true t q = (eqb-true a.status 0 t, read (answer_in of m a.count a.params.items) q)
-    by false t q = absurd (cc)
 
 same_typed : (a b : Typed) → Some a ≡ Some b → a ≡ b
 same_typed a b e = cc
