@@ -113,9 +113,8 @@ trait Agrees<T> {
     fn agrees(&self, on: &mut T, said: &mut Said) -> bool;
 }
 
-/// Whether each step of the script of this name comes out as it says.
-fn plays<T, S: Agrees<T>>(on: &mut T, script: &'static str, steps: &[S], said: &mut Said) -> bool {
-    said.script = script;
+/// Whether each step comes out as it says.
+fn agree_in_turn<T, S: Agrees<T>>(on: &mut T, steps: &[S], said: &mut Said) -> bool {
     for (at, step) in steps.iter().enumerate() {
         said.step = at;
         if !step.agrees(on, said) {
@@ -123,6 +122,12 @@ fn plays<T, S: Agrees<T>>(on: &mut T, script: &'static str, steps: &[S], said: &
         }
     }
     true
+}
+
+/// The same of the script of this name.
+fn plays<T, S: Agrees<T>>(on: &mut T, script: &'static str, steps: &[S], said: &mut Said) -> bool {
+    said.script = script;
+    agree_in_turn(on, steps, said)
 }
 
 /// A value, and the words that it prints.

@@ -6,7 +6,7 @@ mod refusals;
 mod sockets;
 mod stale;
 
-use crate::tests::{Agrees, Said, fail, plays};
+use crate::tests::{Agrees, Said, agree_in_turn, fail};
 use oca_net::{End, Heard, UdpEnd};
 use oca_types::{Packet, Peer};
 use std::net::{Ipv4Addr, UdpSocket};
@@ -107,22 +107,30 @@ fn bound(rt: &HostRuntime) -> Option<Machine<'_>> {
 }
 
 /// Calls of new sockets, by their name.
-struct AtSockets<'a, C>(&'static str, &'a [C]);
+struct AtSockets<'s, C>(&'s str, &'s [C]);
+
+/// Whether each call is answered so at new sockets; there must be some.
+fn agree_at_sockets<'a, C: Agrees<Machine<'a>>>(
+    rt: &'a HostRuntime,
+    calls: &[C],
+    said: &mut Said,
+) -> bool {
+    match bound(rt) {
+        Some(mut on) => agree_in_turn(&mut on, calls, said),
+        None => false,
+    }
+}
 
 /// Plays scripts: each call is answered as they say.
-fn play<'a, C: Agrees<Machine<'a>>>(
+fn play<'a, 's, C: Agrees<Machine<'a>>>(
     abort: &impl Abort,
     rt: &'a HostRuntime,
-    scripts: &[AtSockets<'_, C>],
+    scripts: &[AtSockets<'s, C>],
 ) {
     let mut said = Said::new(rt.alloc());
-    for (at, script) in scripts.iter().enumerate() {
-        let agrees = match bound(rt) {
-            Some(mut on) => plays(&mut on, script.0, script.1, &mut said),
-            None => false,
-        };
-        if !agrees {
-            fail(abort, "sockets", at, &said);
+    for script in scripts {
+        if !agree_at_sockets(rt, script.1, &mut said) {
+            fail(abort, script.0, said.step, &said);
         }
     }
 }
