@@ -86,9 +86,7 @@ impl Answer {
         }
     }
 
-    /// Returns the answer for an object or a root that was to be made with what was stored of it, and was refused with
-    /// this fault. `BadText` for `BadLabel`, and `BadRange` for `BadFlags`. For `Add` it is the answer for the fault in
-    /// it ([`of_add`](Answer::of_add)).
+    /// Returns the answer for an object or a root that was to be made with what was stored of it, and was refused so.
     pub fn of_start(fault: StartFault) -> Answer
         ensures { result ≡ start_answer fault }
     {
@@ -99,8 +97,7 @@ impl Answer {
         }
     }
 
-    /// Returns the answer for a setting at the local front panel that was refused with this fault: the answer of the
-    /// same name, which is `NoObject`, `NoSetting`, `OtherKind` or `OutOfRange`.
+    /// Returns the answer for a setting at the local front panel that was refused with this fault: of the same name.
     pub fn of_set(fault: SetFault) -> Answer
         ensures { result ≡ set_answer fault }
     {
@@ -112,9 +109,7 @@ impl Answer {
         }
     }
 
-    /// Returns the answer for a change at the local front panel that was refused with this fault: a change of a label,
-    /// of whether an object is enabled, or of its lock. `NoObject` for `NoObject`, `BadText` for `BadLabel` (more than
-    /// 64 bytes), and `Nothing` for `NotLocked`.
+    /// Returns the answer for a label, or for whether an object is enabled or locked, that was refused with this fault.
     pub fn of_front(fault: FrontFault) -> Answer
         ensures { result ≡ front_answer fault }
     {
@@ -125,8 +120,7 @@ impl Answer {
         }
     }
 
-    /// Returns the answer for a command that the link refused with this fault: the answer of the same name, which is
-    /// `Lost`, `HandlesSpent`, `SpanFull` or `TooLong`.
+    /// Returns the answer for a command that the link refused with this fault: the answer of the same name.
     pub fn of_submission(fault: ControlFault) -> Answer
         ensures { result ≡ submission_answer fault }
     {

@@ -45,9 +45,8 @@ impl DeviceHandle {
         drop(self.take(alloc));
     }
 
-    /// Puts back a device (`behind`) after a try to start it; `answer` is how the try ended. The struct must be closed
-    /// (a premise). If the answer is `NoMemory`, the objects are lost: the device is dropped, and the struct stays
-    /// closed. Otherwise the struct is then open.
+    /// Puts back a device after a try to start it, which ended with `answer`, into a closed struct (a premise). After
+    /// `NoMemory` the objects are lost: the device is dropped, and the struct stays closed.
     pub fn put_started(&mut self, behind: Box<DeviceBehind>, answer: Answer)
         requires { self.old.slot.inner ≡ None }
         ensures { self.new.slot.inner ≡ left_by_start answer behind.value }

@@ -5,7 +5,6 @@
 pub mod answer;
 pub mod answer_words;
 pub mod any_device;
-mod calling;
 pub mod device;
 pub mod device_handle;
 pub mod device_slot;

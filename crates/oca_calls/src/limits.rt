@@ -16,10 +16,8 @@ fn ranged<N: Copy>(setting: N, least: N, greatest: N) -> Ranged<N>
     }
 }
 
-/// Returns the reading that the words of a struct for C hold. `None` if the words of the value hold no value
-/// ([`ValueWords::value`]). `None` also if the value is an integer, and its least or its greatest is not a value of the
-/// same class. For other classes the limits in the words are ignored; a switch's reading has the position as its least
-/// and as its greatest. Whether an integer lies within its limits is not checked.
+/// Returns the reading that the words of a struct for C hold: a value, and of an integer a least and a greatest of its
+/// class. `None` if they hold none. Whether an integer lies within its limits is not checked.
 pub fn reading_of(words: &ReadingWords) -> Option<Reading>
     ensures { AreReadingOf words.now result }
 {

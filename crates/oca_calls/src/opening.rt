@@ -8,9 +8,8 @@ use crate::device_handle::DeviceHandle;
 use oca_tree::TreeBuilder;
 use std::alloc::Global;
 
-/// Opens the struct `handle` over a device that is not started, with the objects of this builder. The struct must be
-/// closed (a premise). The call takes memory for the device. Returns the number of `Done`. The number of `NoMemory` if
-/// memory was refused: then the struct stays closed, and the objects are lost.
+/// Opens the struct `handle`, which must be closed (a premise), over a device that is not started, with the objects of
+/// this builder. The call takes memory for the device; if that was refused the struct stays closed.
 pub fn open_over(alloc: Global, handle: &mut DeviceHandle, builder: TreeBuilder) -> u32
     requires { handle.old.slot.inner ≡ None }
     ensures { OpensOver result handle.new.slot.inner builder }

@@ -12,14 +12,7 @@ use crate::value_words::{ReadingWords, ValueWords};
 use oca_model::Reading;
 
 /// Changes `spec`, the description of an object, to what was stored of the object (`stored`): the value, the label, and
-/// whether it is enabled. For a switch also the names of its positions and which are enabled. The role, the limits and
-/// whether it can be locked stay.
-///
-/// Returns `Done`. Otherwise the first of these that applies, and then nothing is changed. `BadSize` if one of the two
-/// structs is of another version ([`is_of_this_version`](SpecWords::is_of_this_version)). `OtherKind` if the two differ
-/// in their class or in their number of positions. `BadRange` if there are more than 16 positions. `BadText` if a
-/// stored label or name has more than 64 bytes or is not UTF-8. `OutOfRange` if the object is no block, and `stored`
-/// holds no value of its class or a value that the limits in `spec` do not allow.
+/// whether it is enabled.
 pub fn restore(spec: &mut SpecWords, stored: &SpecWords) -> Answer
     ensures { RestoresSpec result spec.old stored.now spec.new }
 {

@@ -13,11 +13,7 @@ use oca_tree::{Spec, Start, TreeBuilder};
 use oca_types::Ono;
 
 /// Adds the object that `words` describe, under the number `ono`, to the block with the number `container` of a
-/// builder. Returns `Done`. Otherwise the first of these that applies, and then nothing is added. `BadSize` if `words`
-/// are of another version ([`is_of_this_version`](SpecWords::is_of_this_version)). `BadRange` if there are more than 16
-/// positions. `BadText` if a text has more than 64 bytes or is not UTF-8. `NoValue` if `words.reading` is one that no
-/// object can have. Then the answer for the builder's fault ([`Answer::of_start`]): `Full`, `Reserved`, `Taken`,
-/// `NoSuchBlock`, `TooDeep`, `BadText` or `BadRange`.
+/// builder.
 pub fn add_spec(builder: &mut TreeBuilder, container: u32, ono: u32, words: &SpecWords) -> Answer
     ensures { SpecAddedBy result builder.old builder.new container ono words.now }
 {

@@ -180,9 +180,7 @@ fn spec_of(tree: &Tree, object: &ObjectInfo) -> Option<SpecWords>
     })
 }
 
-/// Writes to `out` the description of the object with this index, by which it can be added again. `index` counts from 0
-/// for the root, in the order of adding. Returns `Done`. Otherwise nothing is written: `BadSize` if `out.size` is not
-/// 1,248 (the size of the struct in bytes), and `Nothing` if there are `index` objects or fewer.
+/// Writes to `out` the description of the object with this index, by which it can be added again.
 pub fn read_spec(tree: &Tree, index: usize, out: &mut SpecWords) -> Answer
     ensures writes { WritesSpec tree.now (info_at tree.now index) out.old out.new (answer_number result) }
     ensures unwritten { (result ≡ Done) ⊎ (out.new ≡ out.old) }
@@ -190,9 +188,7 @@ pub fn read_spec(tree: &Tree, index: usize, out: &mut SpecWords) -> Answer
     write_spec(tree, tree.object_at(index), out)
 }
 
-/// Writes to `out` the description of the object with the number `ono`, by which it can be added again. Returns `Done`.
-/// Otherwise nothing is written: `BadSize` if `out.size` is not 1,248 (the size of the struct in bytes), and `Nothing`
-/// if no object has the number.
+/// Writes to `out` the description of the object with the number `ono`, by which it can be added again.
 pub fn read_spec_of(tree: &Tree, ono: Ono, out: &mut SpecWords) -> Answer
     ensures writes { WritesSpec tree.now (info_of_ono tree.now ono.0) out.old out.new (answer_number result) }
     ensures unwritten { (result ≡ Done) ⊎ (out.new ≡ out.old) }

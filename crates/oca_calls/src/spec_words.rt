@@ -100,9 +100,8 @@ fn kind_with<'a>(reading: Reading, names: &'a [&'a str]) -> Kind<'a>
     with_integers!(kind)
 }
 
-/// Returns the kind of object that `words` hold: its class, its value and its limits. `names` are the names of a
-/// switch's positions; other kinds ignore them. If the class number is 1, it is a block, and the rest of `words` is not
-/// looked at. Otherwise `None` if `words` hold no reading.
+/// Returns the kind of object that `words` hold, a switch with these names of positions. For a block only the class is
+/// looked at. `None` if `words` hold no reading.
 pub fn kind_of<'a>(words: &ReadingWords, names: &'a [&'a str]) -> Option<Kind<'a>>
     ensures { GivesKind words.now (map (λ name. name.now) names.now) result }
 {

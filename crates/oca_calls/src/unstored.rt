@@ -25,8 +25,7 @@ impl Unstored {
     }
 
     /// Returns the state after a datagram that wrote to an object or not (`wrote`), and that had `duplicates`
-    /// duplicates. The answers wait if the datagram wrote. They also wait if it had a duplicate while something that
-    /// was written is not stored.
+    /// duplicates.
     pub fn after(self, wrote: bool, duplicates: u32) -> Unstored
         ensures { result ≡ unstored_after self wrote duplicates }
     {

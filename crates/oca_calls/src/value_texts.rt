@@ -12,8 +12,6 @@ use oca_types::Class;
 use std::str;
 
 /// Writes the word for a value, such as `muted` or `-60`, to the front of `out`, and its size, 1 to 20 bytes, to `len`.
-/// Returns `Done`. `NoValue` if `words` hold no value: then nothing is written. `TooSmall` if `out` has fewer bytes
-/// than the word: then only `len` is written.
 pub fn put_word(words: ValueWords, out: &mut [u8], len: &mut usize) -> Answer
     ensures writes { WritesWordOf words out.old out.new len.new (answer_number result) }
     ensures untold { (result ≡ NoValue) → (len.new ≡ len.old) }
@@ -25,8 +23,7 @@ pub fn put_word(words: ValueWords, out: &mut [u8], len: &mut usize) -> Answer
 }
 
 /// Writes to `out` the value that a word such as `muted` or `-60` means for an object of the class with the number
-/// `class_number`. Returns `Done`. `NoValue` if no class has the number, it is the number of a block, or the word means
-/// no value of the class: then nothing is written.
+/// `class_number`.
 pub fn read_word(class_number: u32, word: &[u8], out: &mut ValueWords) -> Answer
     ensures { WritesNamed class_number word.now out.old out.new (answer_number result) }
 {
