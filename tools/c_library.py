@@ -123,7 +123,7 @@ def each_call(checks, made, prefix):
         checks.counted(f"each call ({language})", *said_by([made / f"calls-{language}"]))
     calls, core = made / "c_library.c", prefix / "lib/liboca_c.a"
     for what, words in (("under the sanitizers", [*SANITIZED, calls, *(TOP / f"c/{name}.c" for name in PARTS), prefix / "lib/liboca.a"]),
-                        ("over an arena", ["-DARENA=(6u<<20)", calls, TOP / "examples/c/heap.c", core]),
+                        ("over an arena", ["-DARENA=(7u<<20)", calls, TOP / "examples/c/heap.c", core]),
                         ("whose blocks of memory are given back", ["-DCOUNTS_BLOCKS", calls, core])):
         checks.counted(f"each call {what}", *said_by([compiled(made / "calls", f"-I{prefix}/include", *words)]))
     if not shutil.which("qemu-x86_64"):
