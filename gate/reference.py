@@ -4,7 +4,8 @@
 Usage: reference.py FOLDER     writes NAME.3 for each call into FOLDER
 
 A comment stands for the declarations that follow it, up to the next empty line. A page has the declaration of its call, the
-enums and structs that are declared beside it or named in it, what the comment says, and what the header says of all calls."""
+enums and structs that are declared beside it or named in it, the enums that the comment names, what the comment says, and
+what the header says of all calls."""
 import re
 import sys
 from pathlib import Path
@@ -83,7 +84,8 @@ def pages(header):
     for said, calls, _ in read:
         for name, declared in calls.items():
             of_functions = " ".join(of for it, (_, of) in types.items() if of.startswith("typedef") and re.search(rf"\b{it}\b", declared))
-            named = [types[it] for it in types if re.search(rf"\b{it}\b", declared + of_functions) and it not in NAMED_ANYWAY]
+            names = " ".join([declared, of_functions, *re.findall(r"enum oca_\w+", said)])
+            named = [types[it] for it in types if re.search(rf"\b{it}\b", names) and it not in NAMED_ANYWAY]
             more = [about for about, _ in named if about != said]
             found[name] = ("\n.PP\n".join([said, *more]), declared, [of for _, of in named])
     return found, general

@@ -81,7 +81,7 @@ static uint64_t behind; /* by how much its clock is behind now_ms */
 static bool stood_still(uint64_t since, uint64_t now) {
     if (now <= since + 1000) return false;
     if (now - since <= 60000) behind += now - since - 1000;
-    while (has_byte()) (void)receive(0);
+    for (int left = OCA_DROPPED_AT_MOST; left > 0 && has_byte(); left--) (void)receive(0);
     return true;
 }
 
