@@ -42,10 +42,10 @@ outcome_line outcomes.Unanswered = codes "no answer\n"
 abbrev pub line_wait : ℕ
 line_wait = 4294967295
 
--- The device and the span of each link; the present link, what the end that it is driven over says of itself, the
--- handles of the commands in flight in the order of their lines, how many may be, and whether a command got no answer
--- so far; the end's descriptor, where it has one that is awaited beside input; whether a command was submitted; and,
--- where the next line was read, since when it is at hand.
+-- The device and the span of each link that replaces one; the present link, what the end that it is driven over says of
+-- itself, the handles of the commands in flight in the order of their lines, how many may be, and whether a command got
+-- no answer so far; the end's descriptor, where it has one that is awaited beside input; whether a command was
+-- submitted; and, where the next line was read, since when it is at hand.
 pub record SessionState : Type 0 where
   pub device : Peer
   pub span : ℕ

@@ -1,5 +1,5 @@
 //! A file in which a device keeps its objects.
-ghost use Rattle.std.specs.Prelude.{◌≡◌};
+ghost use Rattle.std.specs.Prelude.{◌≡◌, IfOk, false};
 
 use super::disk::{Claim, Disk, FileDisk, write_over};
 use super::log::Log;
@@ -31,7 +31,9 @@ impl<'a, 'l, N: Files<File = File>> Kept<'a, FileDisk<'l, 'a, N>> {
         system: &'l N,
         path: &'a str,
         claim: Claim,
-    ) -> Result<Kept<'a, FileDisk<'l, 'a, N>>, NoMemory> {
+    ) -> Result<Kept<'a, FileDisk<'l, 'a, N>>, NoMemory>
+        ensures { IfOk result (λ kept. kept.waiting.is_behind ≡ false) }
+    {
         Ok(Kept {
             path,
             disk: FileDisk::new(alloc, system, path, claim)?,
