@@ -194,11 +194,11 @@ fn entry<'a>(fields: &mut Fields<'a>) -> Option<Timed<'a>> {
     }
     let now = fields.moment(first);
     let second = fields.next();
-    Some(timed(now, second, fields))
+    Some(timed_event(now, second, fields))
 }
 
 /// What happens at this moment, of which this field and others tell.
-fn timed<'a>(now: u64, second: &[u8], fields: &mut Fields<'a>) -> Timed<'a> {
+fn timed_event<'a>(now: u64, second: &[u8], fields: &mut Fields<'a>) -> Timed<'a> {
     if second == b"quiet".as_slice() {
         return Timed::Quiet(now);
     }
@@ -217,7 +217,7 @@ fn at_moment<'a>(now: u64, fields: &mut Fields<'a>) -> Event<'a> {
             Event::Step(placed(now, text_of(word), place), NO_BYTES)
         }
         _ if word.contains(&b':') || word == b"quiet".as_slice() => {
-            Event::Timed(timed(now, word, fields))
+            Event::Timed(timed_event(now, word, fields))
         }
         _ => {
             fields.refuse(LineFault::Form);
