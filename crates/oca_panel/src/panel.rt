@@ -26,7 +26,8 @@ mod renewal;
 ///
 /// ```
 /// let end = UdpEnd::bind_towards(rt.alloc(), rt, device, 0)?;
-/// let mut panel = Panel::open(device, end, Handle(1), Span::default(), 10_500);
+/// let first = OwnPort::now(rt).first_handle;
+/// let mut panel = Panel::open(device, end, first, Span::default(), 10_500);
 /// // ...
 /// match panel.get(gain) {
 ///     Ok(value) => println!(rt; "gain: {} dB/10", word_of(value).as_str())?,
