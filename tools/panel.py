@@ -357,7 +357,7 @@ class Desk(Bench):
         self.panel, self.other, self.ahead, self.ends, self.wrong = None, None, Ahead(), {}, []
         known = lambda ono, name="value": self.panel.known(ono, name)
         link = lambda name: self.panel.look()["link"][name]
-        about_it = lambda: [handle for handle, what in list(self.device.asked.items()) if what == self.device.what]
+        about_it = lambda: [handle for handle, what in self.device.asked.copy().items() if what == self.device.what]
         super().__init__({
             "second device": lambda how: self.begins(Noting(**how)),
             "device that only answers": lambda channels: self.begins(Served(oca.bench(channels))),
