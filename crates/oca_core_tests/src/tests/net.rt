@@ -109,15 +109,18 @@ fn bound(rt: &HostRuntime) -> Option<Machine<'_>> {
 /// Calls of new sockets, by their name.
 struct AtSockets<'s, C>(&'s str, &'s [C]);
 
-/// Whether each call is answered so at new sockets; there must be some.
-fn agree_at_sockets<'a, C: Agrees<Machine<'a>>>(
-    rt: &'a HostRuntime,
-    calls: &[C],
-    said: &mut Said,
-) -> bool {
+/// The first call that is answered otherwise at new sockets; the last number where there are no sockets.
+fn wrong_call<'a, C: Agrees<Machine<'a>>>(rt: &'a HostRuntime, calls: &[C]) -> Option<usize> {
+    let mut said = Said::new(rt.alloc());
     match bound(rt) {
-        Some(mut on) => agree_in_turn(&mut on, calls, said),
-        None => false,
+        Some(mut on) => {
+            if agree_in_turn(&mut on, calls, &mut said) {
+                None
+            } else {
+                Some(said.step)
+            }
+        }
+        None => Some(usize::MAX),
     }
 }
 
@@ -127,10 +130,9 @@ fn play<'a, 's, C: Agrees<Machine<'a>>>(
     rt: &'a HostRuntime,
     scripts: &[AtSockets<'s, C>],
 ) {
-    let mut said = Said::new(rt.alloc());
     for script in scripts {
-        if !agree_at_sockets(rt, script.1, &mut said) {
-            fail(abort, script.0, said.step, &said);
+        if let Some(step) = wrong_call(rt, script.1) {
+            fail(abort, script.0, step, &Said::new(rt.alloc()));
         }
     }
 }
