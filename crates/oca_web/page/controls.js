@@ -17,13 +17,13 @@ function fillDialog() {
   popUp.replaceChildren(head, make("p", "", asked.text), options, acts);
   asked.drawn = asked.look();
   const answer = (words, look, then) => {
-    const button = make("button", look, words);
-    button.onclick = () => {
+    const buttonElement = make("button", look, words);
+    buttonElement.onclick = () => {
       popUp.close();
       if (then) then();
     };
-    acts.append(button);
-    return button;
+    acts.append(buttonElement);
+    return buttonElement;
   };
   answer("Cancel");
   asked.fill(options, answer);
@@ -37,7 +37,7 @@ const tabStops = () => popUp.lastElementChild ? [...popUp.children[2].children, 
 function greyDialog() {
   const [, text, options, acts] = popUp.children;
   options.inert = !isOpen();
-  [...acts.children].slice(1).forEach(button => button.inert = !isOpen());
+  [...acts.children].slice(1).forEach(buttonElement => buttonElement.inert = !isOpen());
   put(text, (isOpen() || acts.children.length < 2 && !options.children.length ? "" : "What stands here is old: " + stateWord(program.state) + ". ") + asked.text);
 }
 
@@ -49,47 +49,47 @@ function drawDialog() {
 
 // A press that is held for 0.8 s acts. A click without pointer or key, as assistive tools make it, is asked about; `plain`
 // says whether a click acts at once, and acts.
-function onHold(button, act, { early, title, plain }) {
+function onHold(buttonElement, act, { early, title, plain }) {
   let timer = 0, fired = false;
   const isPress = event => event.key === " " || event.key === "Enter";
   const up = () => {
     if (!timer) return;
     clearTimeout(timer);
     timer = 0;
-    button.classList.remove("down");
+    buttonElement.classList.remove("down");
     if (early) early();
   };
   const down = () => {
     if (timer || plain && plain.is()) return;
-    button.classList.add("down");
+    buttonElement.classList.add("down");
     timer = setTimeout(() => {
       timer = 0;
       fired = true;
-      button.classList.remove("down");
+      buttonElement.classList.remove("down");
       act();
     }, HOLD_MS);
   };
-  button.classList.add("hold");
-  button.onpointerdown = event => {
+  buttonElement.classList.add("hold");
+  buttonElement.onpointerdown = event => {
     fired = false;
     if (!event.button) down();
   };
-  button.onpointerup = button.onpointerleave = button.onpointercancel = button.onblur = up;
-  button.oncontextmenu = event => event.preventDefault();
-  button.onkeydown = event => {
+  buttonElement.onpointerup = buttonElement.onpointerleave = buttonElement.onpointercancel = buttonElement.onblur = up;
+  buttonElement.oncontextmenu = event => event.preventDefault();
+  buttonElement.onkeydown = event => {
     if (!isPress(event)) return;
     event.preventDefault();
     if (event.repeat) return;
     fired = false;
-    if (plain && plain.is()) button.click();
+    if (plain && plain.is()) buttonElement.click();
     else down();
   };
-  button.onkeyup = event => {
+  buttonElement.onkeyup = event => {
     if (!isPress(event)) return;
     event.preventDefault();
     up();
   };
-  button.onclick = event => {
+  buttonElement.onclick = event => {
     if (fired) fired = false;
     else if (plain && plain.is()) plain.act();
     else if (!event.detail) askFirst(title(), "", (options, answer) => answer(title(), "go", act));
@@ -104,10 +104,10 @@ const WORDS = {
 };
 
 // A button that shows one of two values, by its word and by whether it is pressed.
-function drawToggle(button, row) {
+function drawToggle(buttonElement, row) {
   const { on, words } = WORDS[row.kind];
-  put(button, words[row.value] || "–");
-  aria(button, "pressed", row.value === on);
+  put(buttonElement, words[row.value] || "–");
+  aria(buttonElement, "pressed", row.value === on);
 }
 
 // A press orders the other one of what the control shows, and a control shows what the device has. So while an order is not answered
@@ -115,36 +115,36 @@ function drawToggle(button, row) {
 const otherOf = row => OTHER[row.value] || WORDS[row.kind].on;
 
 function press(row) {
-  if (isOut(row, "set")) note(row.ono, "hint", "not sent: an order is out");
+  if (isOut(row, "set")) note(row.ono, "hint", NOT_SENT + "an order is out");
   else change(row, otherOf(row));
 }
 
 function toggle(row) {
-  const button = make("button");
-  button.onclick = () => press(row);
-  return { parts: [button], main: button, draw: () => drawToggle(button, row) };
+  const buttonElement = make("button");
+  buttonElement.onclick = () => press(row);
+  return { parts: [buttonElement], main: buttonElement, draw: () => drawToggle(buttonElement, row) };
 }
 
 // Phantom power and the like: held for 0.8 s, so that no touch in passing switches it.
 function heldToggle(row) {
-  const button = make("button");
-  onHold(button, () => press(row), {
+  const buttonElement = make("button");
+  onHold(buttonElement, () => press(row), {
     early: () => can(row) && note(row.ono, "hint", "hold for 1 s to switch " + otherOf(row)),
     title: () => "Switch " + fullName(row) + " " + otherOf(row),
   });
-  return { parts: [button], main: button, draw: () => drawToggle(button, row) };
+  return { parts: [buttonElement], main: buttonElement, draw: () => drawToggle(buttonElement, row) };
 }
 
 // A source and the like: select, then switch.
 function choice(row) {
-  const button = make("button"), text = make("span", "cut");
-  button.append(text, "▾");
-  button.ariaHasPopup = "dialog";
-  button.onclick = () => {
+  const buttonElement = make("button"), text = make("span", "cut");
+  buttonElement.append(text, "▾");
+  buttonElement.ariaHasPopup = "dialog";
+  buttonElement.onclick = () => {
     const picked = { word: null };
     if (can(row)) askFirst(fullName(row), "Select, then switch.", (options, answer) => choose(row, picked, options, answer), () => [row.value, row.flags, row.limits].join());
   };
-  return { parts: [button], main: button, draw: () => put(text, shown(row, row.value)) };
+  return { parts: [buttonElement], main: buttonElement, draw: () => put(text, shown(row, row.value)) };
 }
 
 // The position that the device has is marked; the one that is picked is switched to.
@@ -162,7 +162,7 @@ function choose(row, picked, options, answer) {
     option.disabled = row.flags[at - least] === false;
     option.onclick = () => {
       picked.word = word;
-      for (const other of options.children) aria(other, "checked", other === option);
+      for (const another of options.children) aria(another, "checked", another === option);
       drawGo();
     };
     options.append(option);

@@ -29,19 +29,19 @@ function stateNow() {
 }
 
 // What was read before a silence, or while no page looked, is read again before it counts as what is so.
-function settled(state) {
-  const opens = state === "live" || state === "slow";
+function settled(linkState) {
+  const opens = linkState === "live" || linkState === "slow";
   if (!opens) program.opensAt = 0;
   else if (!isOpen() && !program.opensAt) program.opensAt = now() + SETTLE_MS;
-  return opens && now() < program.opensAt ? "read" : state;
+  return opens && now() < program.opensAt ? "read" : linkState;
 }
 
-const stateWord = state => STATES[state][1].toLowerCase();
+const stateWord = linkState => STATES[linkState][1].toLowerCase();
 
 // What is said over the page where it shows nothing that is so: a heading and what to do.
-function warning(state) {
+function warning(linkState) {
   const device = program.device || "The device", old = rows.size ? "What you see is old, and nothing is sent. " : "Nothing was heard of it yet. ", waits = "This page goes on by itself.";
-  switch (state) {
+  switch (linkState) {
     case "shut": return ["The panel program does not let this page in.", "Open the address that ocapanel printed at its start."];
     case "stale": return ["The panel program gives no answer" + (program.heardClock ? " since " + program.heardClock : "") + ".",
       old + "See whether ocapanel runs, and start it again. " + waits];
@@ -52,26 +52,26 @@ function warning(state) {
   }
 }
 
-function noteState(state) {
+function noteState(linkState) {
   const was = program.state;
-  program.state = state;
-  if ([was, state].includes("slow") && ["live", "slow"].includes(was) && ["live", "slow"].includes(state)) return;
-  log("link: " + stateWord(state), "was " + stateWord(was), !["live", "slow", "read"].includes(state));
-  say(stateWord(state));
-  if (!isOpen()) dropWaiting("not sent: " + stateWord(state));
+  program.state = linkState;
+  if ([was, linkState].includes("slow") && ["live", "slow"].includes(was) && ["live", "slow"].includes(linkState)) return;
+  log("link: " + stateWord(linkState), "was " + stateWord(was), !["live", "slow", "read"].includes(linkState));
+  say(stateWord(linkState));
+  if (!isOpen()) dropWaiting(stateWord(linkState));
   forgetHints();
 }
 
 // Draws what is so of the link: word, colour and shape, age, the device's name, and the warning.
 function drawLink() {
-  const state = settled(stateNow()), looks = state === "live" && program.unsure ? "slow" : state, [sign, word] = STATES[looks], age = deviceAge(), [head, text] = warning(state);
-  if (state !== program.state) noteState(state);
+  const linkState = settled(stateNow()), looks = linkState === "live" && program.unsure ? "slow" : linkState, [sign, word] = STATES[looks], age = deviceAge(), [head, text] = warning(linkState);
+  if (linkState !== program.state) noteState(linkState);
   document.body.dataset.state = looks;
   document.body.classList.toggle("old", !isOpen());
   aria($("main"), "disabled", !isOpen());
   put($("state").firstElementChild, sign);
   put($("state").lastElementChild, word);
-  const gone = state === "lost" && program.news ? program.news.lost_for + programAge() : age;
+  const gone = linkState === "lost" && program.news ? program.news.lost_for + programAge() : age;
   put($("age"), gone === null ? "" : seconds(gone) + " ago");
   drawName(sign, looks === "live" ? "" : " — " + word);
   drawDialog();
@@ -101,29 +101,29 @@ const toldFrom = () => awaited.size ? min(...awaited.keys()) : program.told;
 const valuesPath = ranges => "/values?since=" + program.since + (program.run === null ? "" : "&run=" + program.run) + "&told=" + toldFrom() + "&shown=" + ranges.map(([first, count]) => first + "-" + count).join();
 
 // Another run of the program: its tickets, its changes and perhaps its device are others. Nothing of the old one stays.
-function beginRun(values) {
+function beginRun(update) {
   const first = program.run === null;
-  if (!first) log("the panel program was started anew", "all is read anew" + (program.device === values.device ? "" : "; the device is now " + values.device), true);
-  dropAll("the panel program was started anew", program.device === values.device);
-  Object.assign(program, { run: values.run, epoch: null, since: NOTHING_SINCE, told: 0, readOnly: !!values.read_only, waitsSince: now() });
+  if (!first) log(STARTED_ANEW, "all is read anew" + (program.device === update.device ? "" : "; the device is now " + update.device), true);
+  dropAll(STARTED_ANEW, program.device === update.device);
+  Object.assign(program, { run: update.run, epoch: null, since: NOTHING_SINCE, told: 0, readOnly: !!update.read_only, waitsSince: now() });
   clearStrips();
 }
 
-function takeLink(values) {
-  Object.assign(program, { news: values.link, ahead: values.now - now(), device: clean(values.device), name: values.name, found: values.found || 0, unread: values.unread, heardAt: now(), heardClock: wallClock() });
-  if (program.readOnly !== !!values.read_only) beginRun(values);
+function takeLink(update) {
+  Object.assign(program, { news: update.link, ahead: update.now - now(), device: clean(update.device), name: update.name, found: update.found || 0, unread: update.unread, heardAt: now(), heardClock: wallClock() });
+  if (program.readOnly !== !!update.read_only) beginRun(update);
   document.body.classList.toggle("watching", program.readOnly);
   $("watch").hidden = !program.readOnly;
 }
 
 // The objects are read, or were read again: once the walk is over, the strips of the one before go, and those of this one come.
-async function takeTree(values) {
+async function takeTree(update) {
   program.since = NOTHING_SINCE;
   program.reads = true;
-  if (!values.walked) return;
+  if (!update.walked) return;
   const tree = await get("/tree", ALL_MS);
-  if (tree.run !== values.run || tree.epoch !== values.epoch || !tree.walked) return;
-  dropWaiting("not sent: the objects were read anew", "changed");
+  if (tree.run !== update.run || tree.epoch !== update.epoch || !tree.walked) return;
+  dropWaiting("the objects were read anew", "changed");
   build(tree);
   Object.assign(program, { epoch: tree.epoch, since: "0", reads: false });
   again = true;
@@ -174,18 +174,18 @@ function stateChanged(row, key) {
   row.key = key;
 }
 
-async function take(values, ranges, askedAt) {
-  if (values.run === undefined) throw new Error("another version");
-  if (values.run !== program.run) beginRun(values);
-  takeLink(values);
-  if (values.epoch !== program.epoch || !values.walked) await takeTree(values);
+async function take(update, ranges, askedAt) {
+  if (update.run === undefined) throw new Error("another version");
+  if (update.run !== program.run) beginRun(update);
+  takeLink(update);
+  if (update.epoch !== program.epoch || !update.walked) await takeTree(update);
   else {
-    program.since = values.change;
+    program.since = update.change;
     program.reads = false;
-    learn(values.objects);
-    noteAges(values.old, ranges, askedAt);
+    learn(update.objects);
+    noteAges(update.old, ranges, askedAt);
   }
-  hearResults(values.told);
+  hearResults(update.told);
 }
 
 let asking = false, again = false, pace = 2, pollTimer = 0;

@@ -82,7 +82,7 @@ function keepEnd(one, how) {
   if (!item) return;
   if (how === "done" || how === "lost") Object.assign(item, { came: one.word, sure: how === "done" });
   else if (item.to === one.word && item.came !== undefined) item.to = item.came;
-  else if (item.to === one.word) leaveOut(other => other === item);
+  else if (item.to === one.word) leaveOut(another => another === item);
 }
 
 function tellGang(one, how, words) {
@@ -170,10 +170,10 @@ function undoWords(last) {
 }
 
 function drawUndo() {
-  const last = changes.at(-1), button = $("undo");
-  button.disabled = !last;
-  put(button, last ? undoWords(last) : "Nothing to undo");
-  button.title = button.textContent;
+  const last = changes.at(-1), buttonElement = $("undo");
+  buttonElement.disabled = !last;
+  put(buttonElement, last ? undoWords(last) : "Nothing to undo");
+  buttonElement.title = buttonElement.textContent;
 }
 
 // Takes the last change back. Where an object that had come to what this page ordered has something else now, it is asked first.
@@ -194,7 +194,7 @@ function undo() {
 
 // Whether this page may act now; where it may not, that is said.
 function mayAct(what) {
-  const why = program.readOnly ? "read only" : guarded ? "the panel lock is on" : isOpen() ? "" : stateWord(program.state);
+  const why = blocked();
   if (!why) return true;
   log(what, "not done: " + why, true);
   askFirst("Not done: " + why, "", () => {});

@@ -3,12 +3,12 @@ let guarded = false;
 
 // The page's own lock, against a sleeve: one press on, held to take off. It stops orders, and not looking.
 function setGuard(isOn) {
-  const button = $("guard");
+  const buttonElement = $("guard");
   guarded = isOn;
-  aria(button, "pressed", isOn);
-  put(button.lastElementChild, isOn ? "Locked: hold" : "Panel lock");
-  button.firstElementChild.replaceWith(icon(isOn ? "held" : "free"));
-  aria(button, "label", isOn ? "Panel lock: on; hold to take it off" : "Panel lock: off");
+  aria(buttonElement, "pressed", isOn);
+  put(buttonElement.lastElementChild, isOn ? "Locked: hold" : "Panel lock");
+  buttonElement.firstElementChild.replaceWith(icon(isOn ? "held" : "free"));
+  aria(buttonElement, "label", isOn ? "Panel lock: on; hold to take it off" : "Panel lock: off");
   document.body.classList.toggle("guarded", isOn);
   forgetHints();
   log("panel lock " + (isOn ? "on" : "off"), "");

@@ -1,5 +1,6 @@
 // Orders. For an object one is in flight, and of each of its controls the last one waits; each ends as done, refused, lost or not sent.
 const MOST_IN_BODY = 64, MOST_OUT = 64, MOST_POSTS = 3, NO_WORD_MS = 8000;
+const NOT_SENT = "not sent: ", STARTED_ANEW = "the panel program was started anew";
 const desks = new Map();     // by ONo: the order in flight, and those that wait
 const awaited = new Map();   // by ticket: orders that were taken, whose result was not told yet
 const early = new Map();     // by ticket: results that were told while the answer with the tickets was on its way
@@ -15,18 +16,19 @@ const isOut = (row, control) => {
 const goal = row => row.want ?? row.value;
 const lastMoment = order => (order.gang ? order.gang.at : order.at) + LIFE_MS;
 
+// Why this page takes no order now, or "".
+const blocked = () => program.readOnly ? "read only" : guarded ? "the panel lock is on" : isOpen() ? "" : stateWord(program.state);
+
 // Why an object takes no order now, or "".
 function hindrance(row) {
-  if (program.readOnly) return "not sent: read only";
-  if (guarded) return "not sent: the panel lock is on";
-  if (!isOpen()) return "not sent: " + stateWord(program.state);
-  if (rows.get(row.ono) !== row) return "not sent: no longer there";
-  return !row.enabled ? "not sent: not enabled" : row.value === null && row.kind !== "block" && row.kind !== "unknown" ? "not sent: not read yet" : "";
+  if (blocked()) return blocked();
+  if (rows.get(row.ono) !== row) return "no longer there";
+  return !row.enabled ? "not enabled" : row.value === null && row.kind !== "block" && row.kind !== "unknown" ? "not read yet" : "";
 }
 
 function can(row) {
   const why = hindrance(row);
-  if (why) note(row.ono, "hint", why);
+  if (why) note(row.ono, "hint", NOT_SENT + why);
   return !why;
 }
 
@@ -36,13 +38,13 @@ function order(row, kind, word, gang, item) {
   const desk = deskOf(row.ono), one = { ono: row.ono, run: program.run, name: fullName(row), kind, word, gang: gang || null, item, at: now(), from: row.value, over: false };
   one.read = { role: row.role, "block": row.block };
   if (kind === "set" && row.kind === "switch") one.read.name = nameAt(row, word);
-  const displaced = desk.waits.filter(other => controlOf(other) === controlOf(one));
-  desk.waits = desk.waits.filter(other => controlOf(other) !== controlOf(one));
+  const displaced = desk.waits.filter(another => controlOf(another) === controlOf(one));
+  desk.waits = desk.waits.filter(another => controlOf(another) !== controlOf(one));
   if (displaced.length) one.from = displaced[0].from;
   desk.waits.push(one);
   if (kind === "set") row.want = word;
   notes.delete(row.ono);
-  for (const other of displaced) end(other, "displaced", "");
+  for (const another of displaced) end(another, "displaced", "");
   ready(row.ono);
   if (!gang) sendReady();
   show(row);
@@ -64,7 +66,7 @@ function takeBatch() {
       const desk = desks.get(ono);
       if (!desk || desk.flying || !desk.waits.length) continue;
       desk.flying = desk.waits.shift();
-      if (now() > lastMoment(desk.flying)) end(desk.flying, "unsent", "not sent: it waited for 5 s");
+      if (now() > lastMoment(desk.flying)) endUnsent([desk.flying], "it waited for 5 s");
       else batch.push(desk.flying);
     }
     if (batch.length) break;
@@ -121,17 +123,17 @@ async function taken(batch, answer) {
     case 503: return againLater(batch);
     case 404:
     case 422: return oneIsWrong(batch, answer);
-    case 409: return endAll(batch, "not sent: the panel program was started anew");
-    case 403: return endAll(batch, "not sent: read only");
+    case 409: return endUnsent(batch, STARTED_ANEW);
+    case 403: return endUnsent(batch, "read only");
     case 401:
       program.shut = true;
-      return endAll(batch, "not sent: not let in");
-    default: return endAll(batch, "not sent: the panel program answered " + answer.status);
+      return endUnsent(batch, "not let in");
+    default: return endUnsent(batch, "the panel program answered " + answer.status);
   }
 }
 
-function endAll(batch, words) {
-  for (const one of batch) end(one, "unsent", words);
+function endUnsent(batch, why) {
+  for (const one of batch) end(one, "unsent", NOT_SENT + why);
 }
 
 function expect(one, ticket) {
@@ -148,7 +150,7 @@ function putBack(batch) {
     const desk = deskOf(one.ono);
     if (one.over || desk.flying !== one) continue;
     desk.flying = null;
-    if (desk.waits.some(other => controlOf(other) === controlOf(one))) end(one, "displaced", "");
+    if (desk.waits.some(another => controlOf(another) === controlOf(one))) end(one, "displaced", "");
     else desk.waits.unshift(one);
     ready(one.ono);
   }
@@ -171,10 +173,10 @@ async function oneIsWrong(batch, answer) {
   try {
     at = batch.length > 1 ? (await answer.json()).at : 0;
   } catch (fault) {
-    return endAll(batch, "not sent: one of these orders can't be");
+    at = -1;
   }
-  if (!batch[at]) return endAll(batch, "not sent: one of these orders can't be");
-  end(batch[at], "unsent", answer.status === 404 ? "not sent: no such object" : batch[at].kind === "label" ? "not sent: a name has at most 64 bytes, no control characters" : "not sent: no such value");
+  if (!batch[at]) return endUnsent(batch, "one of these orders can't be");
+  endUnsent([batch[at]], answer.status === 404 ? "no such object" : batch[at].kind === "label" ? "a name has at most 64 bytes, no control characters" : "no such value");
   putBack(batch.filter((_, place) => place !== at));
 }
 
@@ -211,22 +213,22 @@ function end(one, how, why) {
   const desk = deskOf(one.ono), row = rows.get(one.ono), words = how === "lost" ? lostWords(why) : why;
   if (desk.flying === one) desk.flying = null;
   if (row && !isOut(row, "set") && !row.held) row.want = null;
-  if (words && !desk.waits.some(other => controlOf(other) === controlOf(one))) note(one.ono, how, words);
+  if (words && !desk.waits.some(another => controlOf(another) === controlOf(one))) note(one.ono, how, words);
   tellEnd(one, how, words);
   ready(one.ono);
   if (row) show(row);
 }
 
 // Nothing that waits is sent any more; what is in flight is told as it ends.
-function dropWaiting(words, how) {
-  for (const desk of desks.values()) for (const one of desk.waits.splice(0)) end(one, how || "unsent", words);
+function dropWaiting(why, how) {
+  for (const desk of desks.values()) for (const one of desk.waits.splice(0)) end(one, how || "unsent", NOT_SENT + why);
   urgent.clear();
   patient.clear();
 }
 
 // The program is another one: what was in flight may have been carried out. Notes stay where the device is the same.
 function dropAll(why, sameDevice) {
-  dropWaiting("not sent: " + why);
+  dropWaiting(why);
   for (const desk of desks.values()) if (desk.flying) end(desk.flying, "lost", why);
   awaited.clear();
   early.clear();

@@ -33,8 +33,8 @@ function drawControl(row, strip) {
 
 // The locks of a strip in one word, and in one number.
 function locksOf(strip) {
-  const all = rowsOf(strip), other = all.filter(row => row.lock === "other").length, own = all.filter(row => row.lock === "own").length;
-  return other ? ["other", other + " by another controller"] : own ? ["own", own + " by this panel"] : ["free", "none"];
+  const all = rowsOf(strip), another = all.filter(row => row.lock === "other").length, own = all.filter(row => row.lock === "own").length;
+  return another ? ["other", another + " by another controller"] : own ? ["own", own + " by this panel"] : ["free", "none"];
 }
 
 function drawHead(strip) {
@@ -194,13 +194,13 @@ function menuLine(strip, row) {
 }
 
 function lockButton(row, name) {
-  const kind = row.lock === "own" ? "unlock" : "lock", button = make("button", "", row.lock === "other" ? "Try to lock" : row.lock === "own" ? "Unlock" : "Lock");
-  button.ariaLabel = button.textContent + " " + name;
-  button.onclick = () => {
+  const kind = row.lock === "own" ? "unlock" : "lock", buttonElement = make("button", "", row.lock === "other" ? "Try to lock" : row.lock === "own" ? "Unlock" : "Lock");
+  buttonElement.ariaLabel = buttonElement.textContent + " " + name;
+  buttonElement.onclick = () => {
     popUp.close();
     if (can(row)) order(row, kind);
   };
-  return button;
+  return buttonElement;
 }
 
 // Asks for an object's name, which is a label in the device.

@@ -57,7 +57,7 @@ function build(tree) {
   drawSums();
 }
 
-const isSameObject = (one, other) => !!other && one.kind === other.kind && one.role === other.role && one.block === other.block && one.names.join("\n") === other.names.join("\n");
+const isSameObject = (one, another) => !!another && one.kind === another.kind && one.role === another.role && one.block === another.block && one.names.join("\n") === another.names.join("\n");
 const membersOf = (kids, row) => kids.get(row.ono) || [];
 const isBlock = row => row.kind === "block";
 
@@ -213,10 +213,10 @@ function filterIn(group, path, test) {
     hits += strip.hit;
   }
   for (const inner of group.groups) {
-    const found = filterIn(inner, path + nameOf(inner.block) + " ", test);
-    inner.element.hidden = !found;
+    const hitsIn = filterIn(inner, path + nameOf(inner.block) + " ", test);
+    inner.element.hidden = !hitsIn;
     fold(inner);
-    hits += found;
+    hits += hitsIn;
   }
   return hits;
 }

@@ -39,9 +39,9 @@ const fullName = row => !row.strip || row.strip.block === row ? nameOf(row) : ro
 // A unit of the file that the program was given: of this object, else of its class.
 function unitOf(units, object) {
   const unit = units.find(u => u.ono === object.ono) || units.find(u => u.ono == null && u.class === object.class);
-  const found = unit && /^(\d+)(?:\.(\d+))?$/.exec(unit.factor);
-  if (!found) return null;
-  const part = found[2] || "", times = BigInt(found[1] + part);
+  const matched = unit && /^(\d+)(?:\.(\d+))?$/.exec(unit.factor);
+  if (!matched) return null;
+  const part = matched[2] || "", times = BigInt(matched[1] + part);
   return times ? { name: clean(unit.unit), times, places: part.length } : null;
 }
 
@@ -72,13 +72,13 @@ const limitWords = row => row.limits ? shown(row, row.limits[0]) + " to " + show
 // The value that a person typed, and else why it is none: a number, and behind it nothing or the object's own unit, of some units with
 // k for a thousand. A comma before three digits may mean a thousand, so it is refused.
 function typed(row, text) {
-  const found = /^([+-]?)(\d+)(?:\.(\d+)|,(\d\d?|\d{4,}))?\s*([^\d\s,.]\S*|)$/.exec(text.trim().replace(/[−–]/, "-")), unit = row.unit || { times: 1n, places: 0, name: "" };
-  if (!found) return { why: "write digits, with a point before decimals, and no other unit than " + (unit.name || "none") };
-  const part = found[3] || found[4] || "", times = timesOf(found[5], unit.name);
-  if (!times) return { why: "“" + clean(found[5]) + "” is not its unit" + (unit.name && ", " + unit.name) };
+  const matched = /^([+-]?)(\d+)(?:\.(\d+)|,(\d\d?|\d{4,}))?\s*([^\d\s,.]\S*|)$/.exec(text.trim().replace(/[−–]/, "-")), unit = row.unit || { times: 1n, places: 0, name: "" };
+  if (!matched) return { why: "write digits, with a point before decimals, and no other unit than " + (unit.name || "none") };
+  const part = matched[3] || matched[4] || "", times = timesOf(matched[5], unit.name);
+  if (!times) return { why: "“" + clean(matched[5]) + "” is not its unit" + (unit.name && ", " + unit.name) };
   if (part.length > unit.places && times < 2n) return { why: unit.places ? "it has " + unit.places + " decimals" : "it has no decimals" };
-  const top = BigInt(found[2] + part) * times * 10n ** BigInt(unit.places), below = unit.times * 10n ** BigInt(part.length);
-  const size = (2n * top + below) / (2n * below), value = found[1] === "-" ? -size : size;
+  const top = BigInt(matched[2] + part) * times * 10n ** BigInt(unit.places), below = unit.times * 10n ** BigInt(part.length);
+  const size = (2n * top + below) / (2n * below), value = matched[1] === "-" ? -size : size;
   if (row.limits && (value < BigInt(row.limits[0]) || value > BigInt(row.limits[1]))) return { why: limitWords(row) };
   return { word: String(value) };
 }
