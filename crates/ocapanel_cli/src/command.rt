@@ -90,7 +90,7 @@ const SPAN: OptionRow = OptionRow {
     name: "span",
     value: "S",
     help: "The span, 2 to 32: the handles of the commands in flight are within S consecutive numbers; half of it \
-        is kept for orders from browsers [default: 16]",
+        is kept for orders from browsers, except while all objects are read and nothing is ordered [default: 16]",
     kind: Kind::Optional,
     form: Form::Number {
         digits: 3,
