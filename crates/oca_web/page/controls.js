@@ -12,7 +12,7 @@ function askFirst(title, text, fill, look) {
 }
 
 function fillDialog() {
-  const head = make("h2", "", asked.title), options = make("div", "options"), acts = make("div", "acts"), at = tabStops().indexOf(document.activeElement);
+  const head = make("h2", "", asked.title), options = make("div", "options"), acts = make("div", "acts"), at = tabStops().indexOf(doc.activeElement);
   head.id = "dialog-title";
   popUp.replaceChildren(head, make("p", "", asked.text), options, acts);
   asked.drawn = asked.look();

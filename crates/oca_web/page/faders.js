@@ -123,7 +123,7 @@ function onKeysAndWheel(row, fader) {
     else moveToZero(row);
   };
   fader.addEventListener("wheel", event => {
-    if (document.activeElement !== fader) return;
+    if (doc.activeElement !== fader) return;
     event.preventDefault();
     step(row, event.deltaY + event.deltaX < 0 ? 1 : -1, event.shiftKey);
   }, { passive: false });

@@ -66,8 +66,8 @@ function noteState(linkState) {
 function drawLink() {
   const linkState = settled(stateNow()), looks = linkState === "live" && program.unsure ? "slow" : linkState, [sign, word] = STATES[looks], age = deviceAge(), [head, text] = warning(linkState);
   if (linkState !== program.state) noteState(linkState);
-  document.body.dataset.state = looks;
-  document.body.classList.toggle("old", !isOpen());
+  doc.body.dataset.state = looks;
+  doc.body.classList.toggle("old", !isOpen());
   aria($("main"), "disabled", !isOpen());
   put($("state").firstElementChild, sign);
   put($("state").lastElementChild, word);
@@ -85,7 +85,7 @@ function drawName(sign, word) {
   put($("device"), name);
   put($("about"), (address ? address + " · " : "") + strips.length + " strips, " + rows.size + " objects" + (program.unsure ? " · " + program.unsure + " not yet confirmed" : "") + (program.unread ? " · " + program.unread + " not read for 10 s" : ""));
   const title = sign + " " + name + (address ? " · " + address : "") + word;
-  if (document.title !== title) document.title = title;
+  if (doc.title !== title) doc.title = title;
 }
 
 // An answer of the program. A request ends after 2 s; one that asks for all objects may take longer, and meanwhile all is old.
@@ -112,7 +112,7 @@ function beginRun(update) {
 function takeLink(update) {
   Object.assign(program, { news: update.link, ahead: update.now - now(), device: clean(update.device), name: update.name, found: update.found || 0, unread: update.unread, heardAt: now(), heardClock: wallClock() });
   if (program.readOnly !== !!update.read_only) beginRun(update);
-  document.body.classList.toggle("watching", program.readOnly);
+  doc.body.classList.toggle("watching", program.readOnly);
   $("watch").hidden = !program.readOnly;
 }
 
@@ -207,12 +207,12 @@ async function poll() {
   asking = false;
   drawLink();
   const isOrderOut = awaited.size + posting > 0;
-  if (!document.hidden || isOrderOut) pollTimer = setTimeout(poll, again ? 0 : isOrderOut ? pace = min(40, 1.5 * pace) : 100);
+  if (!doc.hidden || isOrderOut) pollTimer = setTimeout(poll, again ? 0 : isOrderOut ? pace = min(40, 1.5 * pace) : 100);
 }
 
 // A window that was hidden asked for nothing: what it shows counts as old until an answer comes.
 function wakeUp() {
-  if (document.hidden) return;
+  if (doc.hidden) return;
   Object.assign(program, { heardAt: null, waitsSince: now() });
   drawLink();
   poll();

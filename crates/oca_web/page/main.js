@@ -9,7 +9,7 @@ function setGuard(isOn) {
   put(buttonElement.lastElementChild, isOn ? "Locked: hold" : "Panel lock");
   buttonElement.firstElementChild.replaceWith(icon(isOn ? "held" : "free"));
   aria(buttonElement, "label", isOn ? "Panel lock: on; hold to take it off" : "Panel lock: off");
-  document.body.classList.toggle("guarded", isOn);
+  doc.body.classList.toggle("guarded", isOn);
   forgetHints();
   log("panel lock " + (isOn ? "on" : "off"), "");
 }
@@ -65,8 +65,8 @@ function begin() {
     event.target.value = "";
   };
   narrow.onchange = layOutAgain;
-  document.onkeydown = findByKey;
-  document.onvisibilitychange = wakeUp;
+  doc.onkeydown = findByKey;
+  doc.onvisibilitychange = wakeUp;
   setInterval(() => {
     drawAges();
     drawLink();

@@ -196,12 +196,12 @@ function giveUpUnheard() {
 }
 
 // How an order ended, by the word of the program.
-function told(one, trouble) {
-  if (!trouble) return end(one, "done", "");
-  if (trouble === "lost" || trouble === "no answer") return end(one, "lost", "the device gave no answer");
-  if (trouble === "not sent: the device changed") return end(one, "changed", trouble + "; this page shows what it has now");
-  if (/^not sent/.test(trouble)) return end(one, "unsent", clean(trouble));
-  end(one, "refused", "refused: " + (trouble === "Locked" ? "locked by another controller" : clean(trouble)));
+function told(one, why) {
+  if (!why) return end(one, "done", "");
+  if (why === "lost" || why === "no answer") return end(one, "lost", "the device gave no answer");
+  if (why === "not sent: the device changed") return end(one, "changed", why + "; this page shows what it has now");
+  if (/^not sent/.test(why)) return end(one, "unsent", clean(why));
+  end(one, "refused", "refused: " + (why === "Locked" ? "locked by another controller" : clean(why)));
 }
 
 const lostWords = why => "lost: " + why + "; it may have been carried out";

@@ -160,7 +160,7 @@ function newMenu(strip) {
 
 // Takes the controls away of a strip that is far from what is seen, but none that a person uses.
 function empty(strip) {
-  if (!strip.message || strip.element.contains(document.activeElement) || strip.rows.some(row => row.held || isOut(row, "set"))) return;
+  if (!strip.message || strip.element.contains(doc.activeElement) || strip.rows.some(row => row.held || isOut(row, "set"))) return;
   strip.element.style.minHeight = narrow.matches ? strip.element.offsetHeight + "px" : "";
   strip.element.replaceChildren(strip.select);
   strip.message = strip.menu = null;
@@ -242,7 +242,7 @@ function chooseNone() {
 function drawChosen() {
   const chosen = chosenStrips(), away = chosen.filter(strip => isAway(strip)).length;
   $("chosen").hidden = !chosen.length;
-  document.body.classList.toggle("picked", !!chosen.length);
+  doc.body.classList.toggle("picked", !!chosen.length);
   put($("chosen").firstElementChild, chosen.length + " selected" + (away ? ", " + away + " not shown" : ""));
 }
 

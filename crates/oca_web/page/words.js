@@ -1,12 +1,13 @@
 // Elements and texts. What comes from the device goes in as text and as attributes alone, never as HTML.
 const { ceil, floor, max, min, round } = Math;
-const $ = id => document.getElementById(id);
+const doc = document;
+const $ = id => doc.getElementById(id);
 const popUp = $("dialog");
 const now = () => performance.now();
 const wallClock = () => new Date().toLocaleTimeString("en-GB");
 
 function make(tag, look, text) {
-  const element = document.createElement(tag);
+  const element = doc.createElement(tag);
   if (look) element.className = look;
   if (text != null) element.textContent = text;
   return element;
@@ -17,8 +18,8 @@ function put(element, text) {
   if (element.textContent !== text) element.textContent = text;
 }
 
-function aria(element, name, value) {
-  if (element.getAttribute("aria-" + name) !== String(value)) element.setAttribute("aria-" + name, String(value));
+function aria(element, name, amount) {
+  if (element.getAttribute("aria-" + name) !== String(amount)) element.setAttribute("aria-" + name, String(amount));
 }
 
 function icon(name) {
@@ -38,20 +39,20 @@ const fullName = row => !row.strip || row.strip.block === row ? nameOf(row) : ro
 
 // A unit of the file that the program was given: of this object, else of its class.
 function unitOf(units, object) {
-  const unit = units.find(u => u.ono === object.ono) || units.find(u => u.ono == null && u.class === object.class);
-  const matched = unit && /^(\d+)(?:\.(\d+))?$/.exec(unit.factor);
+  const ownUnit = units.find(u => u.ono === object.ono) || units.find(u => u.ono == null && u.class === object.class);
+  const matched = ownUnit && /^(\d+)(?:\.(\d+))?$/.exec(ownUnit.factor);
   if (!matched) return null;
   const part = matched[2] || "", times = BigInt(matched[1] + part);
-  return times ? { name: clean(unit.unit), times, places: part.length } : null;
+  return times ? { name: clean(ownUnit.unit), times, places: part.length } : null;
 }
 
 const isLevel = row => /int/.test(row.kind);
 const unitName = row => row.unit ? " " + row.unit.name : "";
 
 // A whole number times the unit's factor, exact however large it is.
-function scaled(word, unit, isSigned) {
-  const value = BigInt(word) * unit.times, digits = String(value < 0n ? -value : value).padStart(unit.places + 1, "0"), at = digits.length - unit.places;
-  return (value < 0n ? "−" : value > 0n && isSigned ? "+" : "") + digits.slice(0, at) + (unit.places ? "." + digits.slice(at) : "");
+function scaled(word, ownUnit, isSigned) {
+  const amount = BigInt(word) * ownUnit.times, digits = String(amount < 0n ? -amount : amount).padStart(ownUnit.places + 1, "0"), at = digits.length - ownUnit.places;
+  return (amount < 0n ? "−" : amount > 0n && isSigned ? "+" : "") + digits.slice(0, at) + (ownUnit.places ? "." + digits.slice(at) : "");
 }
 
 // The name of a switch's position, as the device has it.
@@ -72,15 +73,15 @@ const limitWords = row => row.limits ? shown(row, row.limits[0]) + " to " + show
 // The value that a person typed, and else why it is none: a number, and behind it nothing or the object's own unit, of some units with
 // k for a thousand. A comma before three digits may mean a thousand, so it is refused.
 function typed(row, text) {
-  const matched = /^([+-]?)(\d+)(?:\.(\d+)|,(\d\d?|\d{4,}))?\s*([^\d\s,.]\S*|)$/.exec(text.trim().replace(/[−–]/, "-")), unit = row.unit || { times: 1n, places: 0, name: "" };
-  if (!matched) return { why: "write digits, with a point before decimals, and no other unit than " + (unit.name || "none") };
-  const part = matched[3] || matched[4] || "", times = timesOf(matched[5], unit.name);
-  if (!times) return { why: "“" + clean(matched[5]) + "” is not its unit" + (unit.name && ", " + unit.name) };
-  if (part.length > unit.places && times < 2n) return { why: unit.places ? "it has " + unit.places + " decimals" : "it has no decimals" };
-  const top = BigInt(matched[2] + part) * times * 10n ** BigInt(unit.places), below = unit.times * 10n ** BigInt(part.length);
-  const size = (2n * top + below) / (2n * below), value = matched[1] === "-" ? -size : size;
-  if (row.limits && (value < BigInt(row.limits[0]) || value > BigInt(row.limits[1]))) return { why: limitWords(row) };
-  return { word: String(value) };
+  const matched = /^([+-]?)(\d+)(?:\.(\d+)|,(\d\d?|\d{4,}))?\s*([^\d\s,.]\S*|)$/.exec(text.trim().replace(/[−–]/, "-")), ownUnit = row.unit || { times: 1n, places: 0, name: "" };
+  if (!matched) return { why: "write digits, with a point before decimals, and no other unit than " + (ownUnit.name || "none") };
+  const part = matched[3] || matched[4] || "", times = timesOf(matched[5], ownUnit.name);
+  if (!times) return { why: "“" + clean(matched[5]) + "” is not its unit" + (ownUnit.name && ", " + ownUnit.name) };
+  if (part.length > ownUnit.places && times < 2n) return { why: ownUnit.places ? "it has " + ownUnit.places + " decimals" : "it has no decimals" };
+  const top = BigInt(matched[2] + part) * times * 10n ** BigInt(ownUnit.places), below = ownUnit.times * 10n ** BigInt(part.length);
+  const size = (2n * top + below) / (2n * below), amount = matched[1] === "-" ? -size : size;
+  if (row.limits && (amount < BigInt(row.limits[0]) || amount > BigInt(row.limits[1]))) return { why: limitWords(row) };
+  return { word: String(amount) };
 }
 
 // By how much a unit that was typed is larger than the object's own; 0n where it is another one. Small letters do for all but m and M.
