@@ -78,8 +78,7 @@ pub enum Shape {
     Descendants,
 }
 
-/// Returns the kind of answer that the method has, by which [`Answer::read`] reads an answer (AES70-2). The call
-/// refuses nothing and takes no memory. The result is:
+/// Returns the kind of answer that the method has, by which [`Answer::read`] reads an answer (AES70-2). The result is:
 /// - `Truth` for GetLockable, GetEnabled and GetPositionEnabled, and `Text` for GetRole, GetLabel and GetPositionName.
 /// - `Reading` for GetState, GetPosition and GetSetting, and `Owner` for GetOwner.
 /// - `Names` for GetPositionNames, `Flags` for GetPositionEnableds, and `Class` for GetClassIdentification.
@@ -104,7 +103,6 @@ pub fn shape_of(method: Method) -> Shape
 
 /// Reads the text in `params`, the parameters of an answer to GetRole, GetLabel or GetPositionName (AES70-2). The text
 /// has from 0 to 64 bytes. The result is `None` if `params` is not exactly one OcaString of at most 64 bytes of UTF-8.
-/// The call takes no memory.
 pub fn read_text(params: &[u8]) -> Option<Text>
     ensures { result ≡ whole (text_at params.now) }
 {
@@ -113,8 +111,7 @@ pub fn read_text(params: &[u8]) -> Option<Text>
 
 /// Reads the position names in `params`, the parameters of an answer to GetPositionNames (OcaSwitch, AES70-2). The
 /// names are in the order of the positions: from 0 to 16 names, each of at most 64 bytes. The result is `None` if
-/// `params` is not exactly such an answer, or has more than 16 names, or has a name of more than 64 bytes. The call
-/// takes no memory.
+/// `params` is not exactly such an answer, or has more than 16 names, or has a name of more than 64 bytes.
 pub fn read_names(params: &[u8]) -> Option<Names>
     ensures { option_map (λ v. v.items) result ≡ switch_names_in params.now }
 {
@@ -124,7 +121,7 @@ pub fn read_names(params: &[u8]) -> Option<Names>
 /// Appends the names of a switch's positions to the parameters, as an OcaList of OcaStrings (AES70-3): the number of
 /// names as a Uint16, then each name. There are from 0 to 16 names, each of at most 64 bytes. The only refusal is
 /// `Full`, if the parameters would have more than 1,452 bytes in all. Then a part of the names may have been appended,
-/// so discard the parameters. The call takes no memory.
+/// so discard the parameters.
 pub fn put_names(params: &mut Params, names: &Names) -> Result<(), PutFault>
     ensures { Puts result params.old.items params.new.items (list_encoding text_encoding names.now.items) }
 {
@@ -134,7 +131,7 @@ pub fn put_names(params: &mut Params, names: &Names) -> Result<(), PutFault>
 /// Appends the enabled flags of a switch's positions to the parameters, as an OcaList of OcaBooleans (AES70-3): the
 /// number of flags as a Uint16, then each flag as a byte 0 or 1. There are from 0 to 16 flags, in the order of the
 /// positions. The only refusal is `Full`, if the parameters would have more than 1,452 bytes in all. Then a part of the
-/// flags may have been appended, so discard the parameters. The call takes no memory.
+/// flags may have been appended, so discard the parameters.
 pub fn put_flags(params: &mut Params, flags: &Flags) -> Result<(), PutFault>
     ensures { Puts result params.old.items params.new.items (list_encoding bool_encoding flags.now.items) }
 {
@@ -183,7 +180,7 @@ impl Answer {
     /// Appends the parameters of the answer to `params` (AES70-3). [`Answer::count`] returns how many they are; `Done`
     /// appends nothing. The only refusal is `Full`, if the parameters would have more than 1,452 bytes in all. Then a
     /// part of the answer may have been appended, so discard the parameters. Of a member whose class is `None` only the
-    /// numbers are appended, which is no encoding of AES70-3. The call takes no memory.
+    /// numbers are appended, which is no encoding of AES70-3.
     #[tactic(auto, unfolding(crate::specs::Answers::answer_encoding))]
     pub fn put(&self, params: &mut Params) -> Result<(), PutFault>
         ensures { Puts result params.old.items params.new.items (answer_encoding self.now) }
@@ -204,8 +201,8 @@ impl Answer {
 
     /// Reads an answer from the parameters of a response to a method (AES70-2). `count` is ParamCount and `params` the
     /// bytes of the parameters. `class` is the class of the object; only the answer to the get method of a value
-    /// depends on the class. The call does not check that the class has the method, and takes no memory. The result is
-    /// `None` in each of these cases:
+    /// depends on the class. The call does not check that the class has the method. The result is `None` in each of
+    /// these cases:
     /// - `count` is not the number of parameters that this answer has.
     /// - `params` is not exactly such an answer.
     /// - A text has more than 64 bytes, or there are more than 16 positions, 181 members or 120 descendants.

@@ -124,8 +124,8 @@ fn set_in<'a>(class: Class, count: u8, params: &[u8]) -> Result<Asked<'a>, Value
 impl<'a> Asked<'a> {
     /// Reads the request of a command from its method and its parameters, as a device does (AES70-2). `count` is
     /// ParamCount and `params` the bytes of the parameters. `class` is the class of the object; only the value of a set
-    /// method depends on the class. Texts are not copied, and no memory is taken. The call checks neither that the
-    /// class has the method, nor that a switch has the position. Refusals, the first that applies:
+    /// method depends on the class. Texts are not copied. The call checks neither that the class has the method, nor
+    /// that a switch has the position. Refusals, the first that applies:
     /// - `Malformed` (the status ParameterError) if `count` is not the number of parameters of the method, or the class
     ///   of a set method is OcaBlock.
     /// - `Malformed` also if `params` is not exactly these parameters: a text has at most 64 bytes, and a list of names
@@ -193,7 +193,7 @@ impl<'a> Asked<'a> {
     }
 
     /// Returns the same request as a [`Request`], which contains copies of the texts (AES70-2). A text has at most 64
-    /// bytes. `self` is consumed. The call refuses nothing and takes no memory.
+    /// bytes. `self` is consumed.
     #[tactic(auto, unfolding(crate::specs::HeldRequests::asked_by))]
     pub fn request(self) -> Request
         ensures { result ≡ asked_by self.entry }

@@ -42,8 +42,7 @@ impl<'a> HeldText<'a> {
         Some(HeldText { bytes })
     }
 
-    /// Returns a copy of the text, which has from 0 to 64 bytes of UTF-8 (the limit is the profile's). The call refuses
-    /// nothing and takes no memory.
+    /// Returns a copy of the text, which has from 0 to 64 bytes of UTF-8 (the limit is the profile's).
     pub fn text(&self) -> Text
         ensures { result ≡ self.now }
     {
@@ -91,7 +90,7 @@ impl<'a> HeldTexts<'a> {
         })
     }
 
-    /// Returns the number of texts in the list: from 0 to 16 (the limit is the profile's). The call refuses nothing.
+    /// Returns the number of texts in the list: from 0 to 16 (the limit is the profile's).
     pub fn len(&self) -> usize
         ensures { result ≡ length self.now }
     {
@@ -99,7 +98,7 @@ impl<'a> HeldTexts<'a> {
     }
 
     /// Returns copies of the texts, in the order of the list: from 0 to 16 texts, each of at most 64 bytes (the limits
-    /// are the profile's). The call refuses nothing and takes no memory.
+    /// are the profile's).
     pub fn texts(&self) -> Names
         ensures { result.items ≡ self.now }
     {

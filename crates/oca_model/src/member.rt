@@ -63,7 +63,7 @@ macro_rules! first_of {
 
 /// Returns the class whose identifier has these fields (OcaClassID, AES70-2), such as `Mute` for 1, 1, 1, 2. The fields
 /// and their number must match exactly. The result is `None` if none of the 13 classes of this profile has these
-/// fields. The call takes no memory.
+/// fields.
 #[tactic(auto, unfolding(crate::specs::Members::class_with))]
 pub fn class_with(fields: &[u16]) -> Option<Class>
     ensures { result ≡ class_with fields.now }
@@ -104,7 +104,6 @@ pub(crate) fn take_class(cursor: &mut Cursor<'_>) -> Result<Option<Class>, ReadF
 /// Reads the fields of a class identifier in `params`, the parameters of an answer to GetClassIdentification (OcaRoot,
 /// AES70-2). The class can be any class, also one that this profile does not have. The class version is ignored. The
 /// result has from 0 to 16 fields. It is `None` if `params` is not exactly such an answer, or has more than 16 fields.
-/// The call takes no memory.
 pub fn read_class_fields(params: &[u8]) -> Option<ClassFields>
     ensures { option_map (λ v. v.items) result ≡ class_id_in params.now }
 {
@@ -139,7 +138,7 @@ fn numbers_of(members: &[Member]) -> MemberNumbers
 /// Reads the object numbers of the members in `params`, the parameters of an answer to GetMembers (OcaBlock, AES70-2).
 /// The result has from 0 to 181 numbers, in the order of the answer; a response has no room for more. Members can be of
 /// any class. The result is `None` if `params` is not exactly such an answer, or a class identifier has more than 16
-/// fields. The call takes no memory.
+/// fields.
 pub fn read_members(params: &[u8]) -> Option<MemberNumbers>
     ensures { option_map (λ v. v.items) result ≡ members_in params.now }
 {

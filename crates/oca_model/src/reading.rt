@@ -77,7 +77,7 @@ fn put_ranged<F: Field>(params: &mut Params, ranged: &Ranged<F>) -> Result<(), P
 
 impl Reading {
     /// Returns the value of the reading without its limits (AES70-2). The value is of the class of the reading, and the
-    /// call does not check the limits. The call refuses nothing and takes no memory.
+    /// call does not check the limits.
     pub fn value(self) -> Value
         ensures { result ≡ value_without_limits self }
     {
@@ -110,7 +110,7 @@ impl Reading {
     /// Appends the parameters of an answer to the get method of the class to `params` (AES70-2): the setting, and for a
     /// switch or an integer the least and the greatest after it. A mute or a polarity has the number of its state, 1 or
     /// 2. The only refusal is `Full`, if the parameters would have more than 1,452 bytes in all. Then a part of the
-    /// reading may have been appended, so discard the parameters. The call takes no memory.
+    /// reading may have been appended, so discard the parameters.
     #[tactic(auto, unfolding(crate::specs::Readings::reading_encoding))]
     pub fn put(self, params: &mut Params) -> Result<(), PutFault>
         ensures { Puts result params.old.items params.new.items (reading_encoding self) }
@@ -132,7 +132,7 @@ impl Reading {
     /// Reads the answer to the get method of an object of this class from `params` (AES70-2): the setting, and for a
     /// switch or an integer the least and the greatest after it. The result is `None` if the class is OcaBlock, or
     /// `params` is not exactly such an answer, or the number of a state is not 1 or 2. The call does not check that the
-    /// setting is within its limits ([`Reading::is_within`]). It takes no memory.
+    /// setting is within its limits ([`Reading::is_within`]).
     #[tactic(auto, unfolding(crate::specs::Readings::reading_in))]
     pub fn read(class: Class, params: &[u8]) -> Option<Reading>
         ensures { result ≡ reading_in class params.now }
@@ -156,7 +156,7 @@ impl Reading {
 /// Reads the setting in the answer to [`get_request`](crate::get_request) of an object of this class (AES70-2), without
 /// its limits. [`Reading::read`] returns the limits too. `params` are the parameters of the answer: the setting, and
 /// for a switch or an integer the least and the greatest after it. The result is `None` if the class is OcaBlock, or
-/// `params` is not exactly such an answer, or the number of a state is not 1 or 2. The call takes no memory.
+/// `params` is not exactly such an answer, or the number of a state is not 1 or 2.
 pub fn read_value(class: Class, params: &[u8]) -> Option<Value>
     ensures { result ≡ value_read class params.now }
 {

@@ -172,7 +172,7 @@ impl Request {
 
     /// Encodes the request for an object of this class (AES70-2, AES70-3): returns the DefLevel, MethodIndex and
     /// ParamCount, and writes the bytes of the parameters into `params`. The old bytes of `params` are lost. The call
-    /// sends nothing and takes no memory. It checks no limits of the object. Refusals, the first that applies:
+    /// sends nothing. It checks no limits of the object. Refusals, the first that applies:
     /// - `OtherClass` if the class has no method for the request, or the value to set is of another class; `params` is
     ///   then unchanged.
     /// - `Full` if the parameters would have more than 1,452 bytes; discard `params` then.
@@ -197,8 +197,8 @@ impl Request {
 
     /// Reads the request of a command from its method and its parameters, as a device does, and copies its texts
     /// (AES70-2). `count` is ParamCount and `params` the bytes of the parameters. `class` is the class of the object;
-    /// only the value of a set method depends on the class. The call takes no memory. It checks neither that the class
-    /// has the method, nor that a switch has the position. Refusals, the first that applies:
+    /// only the value of a set method depends on the class. It checks neither that the class has the method, nor that a
+    /// switch has the position. Refusals, the first that applies:
     /// - `Malformed` (the status ParameterError) if `count` is not the number of parameters of the method, or the class
     ///   of a set method is OcaBlock.
     /// - `Malformed` also if `params` is not exactly these parameters: a text has at most 64 bytes, and a list of names

@@ -17,7 +17,7 @@ pub enum SettingFault {
 
 impl Reading {
     /// Returns the class of the objects that answer such a reading (AES70-2). It is never OcaBlock, which has no
-    /// setting. The call refuses nothing.
+    /// setting.
     #[inline(always)]
     pub fn class(self) -> Class
         ensures { result ≡ class_of_reading self }
@@ -27,7 +27,7 @@ impl Reading {
 
     /// Returns whether the setting is at least the least and at most the greatest of the reading (AES70-2). The result
     /// is always `true` for a mute, a polarity and a Boolean, which have no limits. It is `false` for each setting if
-    /// the least is above the greatest. The call refuses nothing.
+    /// the least is above the greatest.
     #[tactic(auto, unfolding(crate::specs::Settings::is_within))]
     pub fn is_within(self) -> bool
         ensures { result ≡ is_within self }
@@ -45,8 +45,7 @@ impl Reading {
     }
 
     /// Returns the reading with another value and the same limits (AES70-2). The value can be outside the limits;
-    /// [`Reading::set_to`] refuses such a value. The result is `None` if the value is not of the reading's class. The
-    /// call takes no memory.
+    /// [`Reading::set_to`] refuses such a value. The result is `None` if the value is not of the reading's class.
     #[tactic(auto, unfolding(crate::specs::Settings::with_value))]
     pub fn with_value(self, value: Value) -> Option<Reading>
         ensures { result ≡ with_value self value }

@@ -126,8 +126,7 @@ fn polarity_in(params: &[u8]) -> Result<PolarityState, ValueFault>
 }
 
 impl Value {
-    /// Returns the class of the objects that can be set to this value (AES70-2). It is never OcaBlock. The call refuses
-    /// nothing.
+    /// Returns the class of the objects that can be set to this value (AES70-2). It is never OcaBlock.
     pub fn class(self) -> Class
         ensures { result ≡ class_of_value self }
     {
@@ -147,7 +146,7 @@ impl Value {
 
     /// Appends the encoding of the value to the parameters (AES70-3): from 1 to 8 bytes. A mute or a polarity has the
     /// number of its state as one byte, 1 or 2. The only refusal is `Full`, if the parameters would have more than
-    /// 1,452 bytes in all; the parameters are then unchanged. The call takes no memory.
+    /// 1,452 bytes in all; the parameters are then unchanged.
     #[tactic(auto, unfolding(crate::specs::Values::value_encoding))]
     pub fn put(self, params: &mut Params) -> Result<(), PutFault>
         ensures puts { Puts result params.old.items params.new.items (value_encoding self) }
@@ -168,9 +167,9 @@ impl Value {
     }
 
     /// Reads the value of an object of this class from `params`, the one parameter of a set method (AES70-2). It does
-    /// not check the limits of an object. The call takes no memory. Refusals, the first that applies: `Malformed` if
-    /// the class is OcaBlock, or `params` is not exactly one value of the class. `Unlisted` if the number of a mute's
-    /// or a polarity's state is not 1 or 2.
+    /// not check the limits of an object. Refusals, the first that applies: `Malformed` if the class is OcaBlock, or
+    /// `params` is not exactly one value of the class. `Unlisted` if the number of a mute's or a polarity's state is
+    /// not 1 or 2.
     #[tactic(auto, unfolding(crate::specs::Values::value_in))]
     pub fn read(class: Class, params: &[u8]) -> Result<Value, ValueFault>
         ensures { result ≡ value_in class params.now }

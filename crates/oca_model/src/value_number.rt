@@ -7,7 +7,7 @@ use oca_types::Class;
 impl Value {
     /// Returns the state of a mute or a polarity with this number (AES70-2): 1 is `Muted` and 2 is `Unmuted`, or 1 is
     /// `NonInverted` and 2 is `Inverted`. The result is `None` if the class is not OcaMute or OcaPolarity, or the
-    /// number is not 1 or 2. The call takes no memory.
+    /// number is not 1 or 2.
     pub fn of_state(class: Class, number: u8) -> Option<Value>
         ensures { IsValueWith state_in class number result }
     {
@@ -28,8 +28,7 @@ impl Value {
 
     /// Returns the value of an integer actuator of this class with this number (AES70-2). The result is `None` if the
     /// class is not one of the eight integer actuators. It is `None` also if the number does not fit the integer type
-    /// of the class, such as -128 to 127 for OcaInt8Actuator. The limits of a single object are not checked. The call
-    /// takes no memory.
+    /// of the class, such as -128 to 127 for OcaInt8Actuator. The limits of a single object are not checked.
     pub fn of_integer(class: Class, number: i128) -> Option<Value>
         ensures { IsValueWith integer_in class number result }
     {

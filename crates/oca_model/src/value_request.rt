@@ -25,8 +25,8 @@ impl ValueRequest {
     ghost use Rattle.oca_model.specs.ValueRequests.{request_to};
 
     /// Returns the same request for the object with the number `target`, as `oca_types::Request` (AES70-3). A
-    /// controller can then send the request as a command. The call does not check that a device has the object, borrows
-    /// the parameters from `self`, and takes no memory.
+    /// controller can then send the request as a command. The call does not check that a device has the object, and
+    /// borrows the parameters from `self`.
     pub fn of(&self, target: Ono) -> oca_types::Request<'_>
         ensures { request_of result ≡ request_to target.0 self.now }
     {
@@ -93,7 +93,7 @@ fn encoding(value: Value) -> ArrayVec<u8, 8>
 
 /// Returns the request that sets an object of the value's class to the value (AES70-2): SetState of a mute or a
 /// polarity, SetPosition of a switch, or SetSetting of an actuator, with the value as its one parameter. The call sends
-/// nothing, checks no limits of an object, refuses nothing and takes no memory.
+/// nothing and checks no limits of an object.
 pub fn set_request(value: Value) -> ValueRequest
     ensures { CallsMethod (class_of_value value) (set_method value) result 1 (value_encoding value) }
 {
@@ -109,7 +109,7 @@ pub fn set_request(value: Value) -> ValueRequest
 
 /// Returns the request that reads the setting of an object of the class (AES70-2): GetState of a mute or a polarity,
 /// GetPosition of a switch, or GetSetting of an actuator, without parameters. The result is `None` for OcaBlock, which
-/// has no setting. The call sends nothing and takes no memory.
+/// has no setting. The call sends nothing.
 pub fn get_request(class: Class) -> Option<ValueRequest>
     ensures { CallsMethodIfAny (get_method class) class result }
 {

@@ -28,7 +28,7 @@ fn text_of(text: &str) -> Text
 
 /// Returns the word for a value: from 1 to 20 bytes. The words are `muted` or `unmuted`, `non-inverted` or `inverted`,
 /// and `on` or `off` for a Boolean. A position and an integer are decimal digits, with `-` in front of a negative
-/// number. The call refuses nothing and takes no memory.
+/// number.
 #[tactic(auto, unfolding(crate::specs::Words::word_of))]
 pub fn word_of(value: Value) -> Text
     ensures { result ≡ word_of value }
@@ -53,8 +53,7 @@ pub fn word_of(value: Value) -> Text
 /// Returns the value that a word names for an object of this class. The word is one of the class's words ([`word_of`]),
 /// in exactly these letters. For an integer or a switch, the word is a number in decimal digits. A `+` can come first,
 /// and a `-` for a signed integer. The result is `None` for any other word, for a number that does not fit the type of
-/// the class (0 to 65,535 for a switch), and for OcaBlock. The limits of a single object are not checked. The call
-/// takes no memory.
+/// the class (0 to 65,535 for a switch), and for OcaBlock. The limits of a single object are not checked.
 #[tactic(auto, unfolding(crate::specs::Words::IsRead, crate::specs::Words::word_of))]
 pub fn value_from_word(class: Class, word: &str) -> Option<Value>
     ensures { IsRead class word.now result }
@@ -87,7 +86,7 @@ pub fn value_from_word(class: Class, word: &str) -> Option<Value>
 }
 
 /// Returns the word for a class, from 4 to 8 bytes: `block`, `mute`, `polarity`, `switch`, `boolean`, `int8`, `int16`,
-/// `int32`, `int64`, `uint8`, `uint16`, `uint32` or `uint64`. The call refuses nothing and takes no memory.
+/// `int32`, `int64`, `uint8`, `uint16`, `uint32` or `uint64`.
 pub fn class_word(class: Class) -> &'static str
     ensures { result.now ≡ class_word class }
 {

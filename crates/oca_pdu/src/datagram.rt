@@ -19,7 +19,7 @@ impl<'a> Datagram<'a> {
 
     /// Returns an iterator over the messages of the datagram, in their order (AES70-3). Their parameters are slices of
     /// the datagram, so nothing is copied. There are from 1 to 146 messages. At most 86 of them are commands, and at
-    /// most 122 are commands or keep-alives. The call refuses nothing and takes no memory.
+    /// most 122 are commands or keep-alives.
     pub fn messages(&self) -> Messages<'a>
         ensures all { messages_left result ≡ datagram_messages self.now }
         ensures limits { IsWithinLimits (messages_left result) }

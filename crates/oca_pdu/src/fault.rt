@@ -30,8 +30,7 @@ pub enum PduFaultKind {
 }
 
 impl PduFaultKind {
-    /// Returns the number of the fault: from 1 for `Empty` to 9 for `Truncated`. Each kind has a number of its own. The
-    /// call refuses nothing.
+    /// Returns the number of the fault: from 1 for `Empty` to 9 for `Truncated`. Each kind has a number of its own.
     pub fn number(self) -> u8
         ensures { result ≡ fault_number self }
     {

@@ -8,7 +8,7 @@ use crate::message::{COMMAND_BYTES, Content, Form, Kind, Message, RESPONSE_BYTES
 use oca_types::{Command, Handle, MethodId, Ono};
 
 /// Returns the Uint16 that two bytes encode, the highest byte first (AES70-3). There must be exactly two bytes (a
-/// premise, which the caller must prove). The call refuses nothing.
+/// premise, which the caller must prove).
 pub fn u16_in(bytes: &[u8]) -> u16
     requires { length bytes.now ≡ 2 }
     ensures { result ≡ from_be_bytes w16 bytes.now }
@@ -17,7 +17,7 @@ pub fn u16_in(bytes: &[u8]) -> u16
 }
 
 /// Returns the Uint32 that four bytes encode, the highest byte first (AES70-3). There must be exactly four bytes (a
-/// premise, which the caller must prove). The call refuses nothing.
+/// premise, which the caller must prove).
 pub fn u32_in(bytes: &[u8]) -> u32
     requires { length bytes.now ≡ 4 }
     ensures { result ≡ from_be_bytes w32 bytes.now }
@@ -25,8 +25,7 @@ pub fn u32_in(bytes: &[u8]) -> u32
     u32::from_be_bytes([bytes[0], bytes[1], bytes[2], bytes[3]])
 }
 
-/// Returns the least size of a message of this kind, in bytes (AES70-3): 17 for a command, and 10 for a response. The
-/// call refuses nothing.
+/// Returns the least size of a message of this kind, in bytes (AES70-3): 17 for a command, and 10 for a response.
 pub fn least(kind: Kind) -> usize
     ensures { result ≡ least_size kind }
 {
@@ -52,7 +51,7 @@ pub fn content(pdu_type: u8) -> Option<Content>
 
 /// Returns the message that all of these bytes encode, a command or a response as `kind` says (AES70-3). There must be
 /// at least as many bytes as [`least`] says (a premise, which the caller must prove). The parameters of the message are
-/// a slice of the bytes. The size in the first four bytes is not read. The call refuses nothing and takes no memory.
+/// a slice of the bytes. The size in the first four bytes is not read.
 pub fn read_message(kind: Kind, bytes: &[u8]) -> Message<'_>
     requires { least_size kind ≤ length bytes.now }
     ensures { msg_of result ≡ message_in kind bytes.now }
@@ -85,8 +84,7 @@ pub fn read_message(kind: Kind, bytes: &[u8]) -> Message<'_>
 }
 
 /// Returns the heartbeat of a keep-alive from all of its bytes (AES70-3): two bytes are seconds, and four bytes are
-/// milliseconds. The bytes must be those of a well-formed keep-alive (a premise, which the caller must prove). The call
-/// refuses nothing.
+/// milliseconds. The bytes must be those of a well-formed keep-alive (a premise, which the caller must prove).
 pub fn read_form(bytes: &[u8]) -> Form
     requires { IsTrue (is_ok (keep_alive_at 0 bytes.now)) }
     ensures { keep_alive_at 0 bytes.now ≡ Ok (msg_of (Message.KeepAlive result) ∷ []) }

@@ -39,7 +39,7 @@ fn put(packet: &mut Packet, bytes: &[u8])
 /// Appends a PDU with one command to the packet (AES70-3). `respond` says whether the command asks for a response:
 /// PduType is 1 if `respond` is true, and 0 if `respond` is false. The PDU has 27 bytes and the bytes of the
 /// parameters. The only refusal is `TooLong`, if the packet would have more than 1,472 bytes; the packet is then
-/// unchanged. The call sends nothing and takes no memory.
+/// unchanged. The call sends nothing.
 pub fn write_command(
     packet: &mut Packet,
     respond: bool,
@@ -85,8 +85,7 @@ fn command_front(respond: bool, command: &Command) -> [u8; 27]
 
 /// Appends a PDU with one response to the packet (AES70-3). `handle` is the handle of the command, and `reply` its
 /// status, ParamCount and parameters. The PDU has 20 bytes and the bytes of the parameters. The only refusal is
-/// `TooLong`, if the packet would have more than 1,472 bytes; the packet is then unchanged. The call sends nothing and
-/// takes no memory.
+/// `TooLong`, if the packet would have more than 1,472 bytes; the packet is then unchanged. The call sends nothing.
 pub fn write_response(packet: &mut Packet, handle: Handle, reply: &Reply) -> Result<(), WriteFault>
     ensures room { let pdu = Responses (response_with handle reply.now ∷ []) in
         IsOk result ↔ (length packet.old.items + length (pdu_encoding pdu) ≤ largest_datagram) }
@@ -110,8 +109,8 @@ pub fn write_response(packet: &mut Packet, handle: Handle, reply: &Reply) -> Res
 
 /// Replaces all bytes of the packet by a PDU with one response (AES70-3). `handle` is the handle of the command, and
 /// `reply` its status, ParamCount and parameters. The packet then has 20 bytes and the bytes of the parameters, and is
-/// a well-formed datagram. There is always room, since a reply has at most 1,452 bytes of parameters. The call refuses
-/// nothing, sends nothing and takes no memory.
+/// a well-formed datagram. There is always room, since a reply has at most 1,452 bytes of parameters. The call sends
+/// nothing.
 #[inline(always)]
 pub fn replace_response(packet: &mut Packet, handle: Handle, reply: &Reply)
     ensures bytes { packet.new.items ≡ pdu_encoding (Responses (response_with handle reply.now ∷ [])) }
@@ -122,7 +121,7 @@ pub fn replace_response(packet: &mut Packet, handle: Handle, reply: &Reply)
 
 /// Replaces all bytes of the packet by a PDU with one response, as [`replace_response`] does, where the bytes of the
 /// parameters lie elsewhere (AES70-3). They must be at most 1,452 (a premise, which the caller must prove). The call
-/// refuses nothing, sends nothing and takes no memory.
+/// sends nothing.
 #[inline(always)]
 pub fn replace_response_of(packet: &mut Packet, handle: Handle, reply: ReplyParts<'_>)
     requires { length reply.params.now ≤ most_parameter_bytes }
@@ -219,7 +218,7 @@ pub fn holds_responses(packet: &Packet) -> bool
 /// prove). [`holds_responses`] says whether a PDU is one of responses. Afterwards the packet is one PDU with all these
 /// responses, the new one last. `handle` is the handle of the command, and `reply` its status, ParamCount and
 /// parameters. The packet grows by 10 bytes and the bytes of the parameters. The only refusal is `TooLong`, if the
-/// packet would have more than 1,472 bytes; the packet is then unchanged. The call sends nothing and takes no memory.
+/// packet would have more than 1,472 bytes; the packet is then unchanged. The call sends nothing.
 #[inline(always)]
 pub fn extend_response(packet: &mut Packet, handle: Handle, reply: &Reply) -> Result<(), WriteFault>
     requires { HoldsResponses packet.old.items }
@@ -239,7 +238,7 @@ pub fn extend_response(packet: &mut Packet, handle: Handle, reply: &Reply) -> Re
 /// Adds a response to the packet, as [`extend_response`] does, where the bytes of the parameters lie elsewhere
 /// (AES70-3). The packet must be exactly one PDU of responses, and the reply must have at most 1,452 bytes of
 /// parameters (premises, which the caller must prove). The only refusal is `TooLong`, if the packet would have more
-/// than 1,472 bytes; the packet is then unchanged. The call sends nothing and takes no memory.
+/// than 1,472 bytes; the packet is then unchanged. The call sends nothing.
 #[inline(always)]
 pub fn extend_response_of(
     packet: &mut Packet,
@@ -274,7 +273,7 @@ pub fn extend_response_of(
 
 /// Appends a PDU with one keep-alive to the packet (AES70-3). `form` is the heartbeat in seconds (a PDU of 12 bytes) or
 /// in milliseconds (14 bytes); 0 is allowed. The only refusal is `TooLong`, if the packet would have more than 1,472
-/// bytes; the packet is then unchanged. The call sends nothing and takes no memory.
+/// bytes; the packet is then unchanged. The call sends nothing.
 pub fn write_keepalive(packet: &mut Packet, form: Form) -> Result<(), WriteFault>
     ensures room { IsOk result
         ↔ (length packet.old.items + length (pdu_encoding (OneKeepAlive form)) ≤ largest_datagram) }

@@ -132,8 +132,8 @@ impl Tree {
 
     /// Executes a command of a peer: calls the method on the object and writes the answer's parameters into `out`
     /// (AES70-2). What `out` contained before is lost. Returns the status and ParamCount, and whether the command wrote
-    /// to its object. With each status except OK no object is changed, `out` is empty, and ParamCount is 0. The call
-    /// takes no memory. The status is the first of this list that applies (*profile*), and OK if none does:
+    /// to its object. With each status except OK no object is changed, `out` is empty, and ParamCount is 0. The status
+    /// is the first of this list that applies (*profile*), and OK if none does:
     /// - `BadOno` if no object has the number.
     /// - `BadMethod` if its class has no such method; `NotImplemented` if the device leaves the method out
     ///   ([`method_of`](oca_types::method_of)).
@@ -244,7 +244,7 @@ impl Tree {
     }
 
     /// Releases all locks of the peer `peer` in the tree (OcaRoot, AES70-2). If the peer has no lock, nothing is
-    /// changed. Locks of other peers remain. The call returns nothing, refuses nothing and takes no memory.
+    /// changed. Locks of other peers remain.
     pub fn release(&mut self, peer: Peer)
         ensures { self.new ≡ released self.old peer }
     {
@@ -267,7 +267,7 @@ impl Tree {
 
     /// Returns what the object at an index is: its number, class, container and role (AES70-2). The index counts from
     /// 0, the root, in order of adding. The result is `None` if `index` is the number of objects or above. The role is
-    /// copied; the call takes no memory.
+    /// copied.
     pub fn object_at(&self, index: usize) -> Option<ObjectInfo>
         ensures { result ≡ info_at self.now index }
     {
@@ -278,7 +278,7 @@ impl Tree {
     }
 
     /// Returns what the object with the number `ono` is: its number, class, container and role (AES70-2). The result is
-    /// `None` if no object has the number. The role is copied; the call takes no memory.
+    /// `None` if no object has the number. The role is copied.
     pub fn object_of(&self, ono: Ono) -> Option<ObjectInfo>
         ensures { result ≡ info_of_ono self.now ono.0 }
     {
@@ -289,8 +289,7 @@ impl Tree {
     }
 
     /// Returns an iterator over the objects of the tree, in order of adding, with the root first (AES70-2). Its items
-    /// are the results of [`object_at`](Tree::object_at) for 0, 1 and so on. There is at least the root. The call takes
-    /// no memory.
+    /// are the results of [`object_at`](Tree::object_at) for 0, 1 and so on. There is at least the root.
     pub fn objects(&self) -> ObjectInfos<'_>
         ensures { infos_left result ≡ map info_of self.now }
     {
@@ -353,7 +352,7 @@ impl Tree {
     /// Returns the label and the flags of the object with the number `ono`, for storing them: its label, whether it is
     /// enabled, and for a switch which of its positions are enabled.
     /// [`TreeBuilder::add_with`](crate::TreeBuilder::add_with) and [`with_root`](crate::TreeBuilder::with_root) take
-    /// the result. It is `None` if no object has the number. The result borrows from the tree, and no memory is taken.
+    /// the result. It is `None` if no object has the number. The result borrows from the tree.
     pub fn start_of(&self, ono: Ono) -> Option<Start<'_>>
         ensures { option_map stored_in result ≡ stored_at self.now ono.0 }
     {
@@ -362,7 +361,7 @@ impl Tree {
 
     /// Returns the names of the positions of the switch with the number `ono`, in order: 1 to 16 names, each of at most
     /// 64 bytes (OcaSwitch, AES70-2). The result is empty if no object has the number, or the object is no switch. The
-    /// result borrows from the tree, and no memory is taken.
+    /// result borrows from the tree.
     pub fn position_names_of(&self, ono: Ono) -> &[Text]
         ensures { result.now ≡ names_of_ono self.now ono.0 }
     {
@@ -381,7 +380,7 @@ impl Tree {
     /// objects: with the same numbers, classes, containers, roles, labels, flags, values, limits and names of
     /// positions, and the same objects can be locked. Two things are not compared: which peer has a lock, and whether
     /// the hardware of an object refuses changes. `false` means that the call found a difference; that is not proved.
-    /// Neither tree is changed, and no memory is taken.
+    /// Neither tree is changed.
     pub fn is_but_for_locks(&self, other: &Tree) -> bool
         ensures { IsTrue result → (all_unlocked self.now ≡ all_unlocked other.now) }
     {

@@ -36,7 +36,7 @@ impl Clone for Cursor<'_> {
 
     ghost is_clone = { λ c d. bytes_left d ≡ bytes_left c };
 
-    /// Returns a cursor with the same bytes left. It refuses nothing and takes no memory.
+    /// Returns a cursor with the same bytes left.
     fn clone(&self) -> Result<Self, AllocError> {
         Ok(*self)
     }
@@ -54,8 +54,7 @@ fn split(bytes: &[u8], n: usize) -> Result<(&[u8], &[u8]), ReadFault>
 
 impl<'a> Cursor<'a> {
     /// Returns a cursor at the first byte of `bytes`, with all these bytes left to read. An empty slice is allowed:
-    /// each `take` call is then refused with `Short`, and `finish` returns `Ok`. The call copies no byte and takes no
-    /// memory.
+    /// each `take` call is then refused with `Short`, and `finish` returns `Ok`. The call copies no byte.
     pub fn new(bytes: &'a [u8]) -> Cursor<'a>
         ensures { bytes_left result ≡ bytes.now }
     {

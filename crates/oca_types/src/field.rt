@@ -24,14 +24,13 @@ pub trait Field: Copy {
     const SIZE: usize;
 
     /// Returns the value that the bytes `front` encode (AES70-3). The caller must pass exactly `SIZE` bytes (a premise,
-    /// which the caller must prove). Every `SIZE` bytes encode a value, so the call refuses nothing. It takes no
-    /// memory.
+    /// which the caller must prove). Every `SIZE` bytes encode a value, so the call refuses nothing.
     fn from_front(front: &[u8]) -> Self
         requires { length front.now ≡ SIZE }
         ensures { result ≡ codec.value_in front.now };
 
     /// Appends the encoding of the value to `params` (AES70-3): `SIZE` bytes. The only refusal is `Full`, if the
-    /// parameters would have more than 1,452 bytes; the parameters are then unchanged. The call takes no memory.
+    /// parameters would have more than 1,452 bytes; the parameters are then unchanged.
     fn put(self, params: &mut Params) -> Result<(), PutFault>
         ensures full { IsErr result ↔ (most_parameter_bytes < length params.old.items + SIZE) }
         ensures puts { Puts result params.old.items params.new.items (codec.encoding self) }

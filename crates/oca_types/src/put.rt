@@ -26,7 +26,7 @@ pub(crate) fn put_bytes(params: &mut Params, bytes: &[u8]) -> Result<(), PutFaul
 }
 
 /// Appends a Uint8 to the parameters (one byte, AES70-3). The only refusal is `Full`, if the parameters would have more
-/// than 1,452 bytes in all; the parameters are then unchanged. The call takes no memory.
+/// than 1,452 bytes in all; the parameters are then unchanged.
 pub fn put_u8(params: &mut Params, value: u8) -> Result<(), PutFault>
     ensures full { IsErr result ↔ (most_parameter_bytes < length params.old.items + 1) }
     ensures puts { Puts result params.old.items params.new.items (unsigned_encoding w8 value) }
@@ -36,7 +36,7 @@ pub fn put_u8(params: &mut Params, value: u8) -> Result<(), PutFault>
 }
 
 /// Appends a Uint16 to the parameters (2 bytes, the highest first, AES70-3). The only refusal is `Full`, if the
-/// parameters would have more than 1,452 bytes in all; the parameters are then unchanged. The call takes no memory.
+/// parameters would have more than 1,452 bytes in all; the parameters are then unchanged.
 pub fn put_u16(params: &mut Params, value: u16) -> Result<(), PutFault>
     ensures full { IsErr result ↔ (most_parameter_bytes < length params.old.items + 2) }
     ensures puts { Puts result params.old.items params.new.items (unsigned_encoding w16 value) }
@@ -46,7 +46,7 @@ pub fn put_u16(params: &mut Params, value: u16) -> Result<(), PutFault>
 }
 
 /// Appends a Uint32 to the parameters (4 bytes, the highest first, AES70-3). The only refusal is `Full`, if the
-/// parameters would have more than 1,452 bytes in all; the parameters are then unchanged. The call takes no memory.
+/// parameters would have more than 1,452 bytes in all; the parameters are then unchanged.
 pub fn put_u32(params: &mut Params, value: u32) -> Result<(), PutFault>
     ensures full { IsErr result ↔ (most_parameter_bytes < length params.old.items + 4) }
     ensures puts { Puts result params.old.items params.new.items (unsigned_encoding w32 value) }
@@ -56,7 +56,7 @@ pub fn put_u32(params: &mut Params, value: u32) -> Result<(), PutFault>
 }
 
 /// Appends a Uint64 to the parameters (8 bytes, the highest first, AES70-3). The only refusal is `Full`, if the
-/// parameters would have more than 1,452 bytes in all; the parameters are then unchanged. The call takes no memory.
+/// parameters would have more than 1,452 bytes in all; the parameters are then unchanged.
 pub fn put_u64(params: &mut Params, value: u64) -> Result<(), PutFault>
     ensures full { IsErr result ↔ (most_parameter_bytes < length params.old.items + 8) }
     ensures puts { Puts result params.old.items params.new.items (unsigned_encoding w64 value) }
@@ -66,7 +66,7 @@ pub fn put_u64(params: &mut Params, value: u64) -> Result<(), PutFault>
 }
 
 /// Appends an Int8 to the parameters (one byte in two's complement, AES70-3). The only refusal is `Full`, if the
-/// parameters would have more than 1,452 bytes in all; the parameters are then unchanged. The call takes no memory.
+/// parameters would have more than 1,452 bytes in all; the parameters are then unchanged.
 pub fn put_i8(params: &mut Params, value: i8) -> Result<(), PutFault>
     ensures full { IsErr result ↔ (most_parameter_bytes < length params.old.items + 1) }
     ensures puts { Puts result params.old.items params.new.items (signed_encoding w8 value) }
@@ -76,8 +76,7 @@ pub fn put_i8(params: &mut Params, value: i8) -> Result<(), PutFault>
 }
 
 /// Appends an Int16 to the parameters (2 bytes in two's complement, the highest first, AES70-3). The only refusal is
-/// `Full`, if the parameters would have more than 1,452 bytes in all; the parameters are then unchanged. The call takes
-/// no memory.
+/// `Full`, if the parameters would have more than 1,452 bytes in all; the parameters are then unchanged.
 pub fn put_i16(params: &mut Params, value: i16) -> Result<(), PutFault>
     ensures full { IsErr result ↔ (most_parameter_bytes < length params.old.items + 2) }
     ensures puts { Puts result params.old.items params.new.items (signed_encoding w16 value) }
@@ -87,8 +86,7 @@ pub fn put_i16(params: &mut Params, value: i16) -> Result<(), PutFault>
 }
 
 /// Appends an Int32 to the parameters (4 bytes in two's complement, the highest first, AES70-3). The only refusal is
-/// `Full`, if the parameters would have more than 1,452 bytes in all; the parameters are then unchanged. The call takes
-/// no memory.
+/// `Full`, if the parameters would have more than 1,452 bytes in all; the parameters are then unchanged.
 pub fn put_i32(params: &mut Params, value: i32) -> Result<(), PutFault>
     ensures full { IsErr result ↔ (most_parameter_bytes < length params.old.items + 4) }
     ensures puts { Puts result params.old.items params.new.items (signed_encoding w32 value) }
@@ -98,8 +96,7 @@ pub fn put_i32(params: &mut Params, value: i32) -> Result<(), PutFault>
 }
 
 /// Appends an Int64 to the parameters (8 bytes in two's complement, the highest first, AES70-3). The only refusal is
-/// `Full`, if the parameters would have more than 1,452 bytes in all; the parameters are then unchanged. The call takes
-/// no memory.
+/// `Full`, if the parameters would have more than 1,452 bytes in all; the parameters are then unchanged.
 pub fn put_i64(params: &mut Params, value: i64) -> Result<(), PutFault>
     ensures full { IsErr result ↔ (most_parameter_bytes < length params.old.items + 8) }
     ensures puts { Puts result params.old.items params.new.items (signed_encoding w64 value) }
@@ -109,8 +106,7 @@ pub fn put_i64(params: &mut Params, value: i64) -> Result<(), PutFault>
 }
 
 /// Appends an OcaBoolean to the parameters (one byte, AES70-3): 0 for false and 1 for true. The only refusal is `Full`,
-/// if the parameters would have more than 1,452 bytes in all; the parameters are then unchanged. The call takes no
-/// memory.
+/// if the parameters would have more than 1,452 bytes in all; the parameters are then unchanged.
 pub fn put_bool(params: &mut Params, value: bool) -> Result<(), PutFault>
     ensures full { IsErr result ↔ (most_parameter_bytes < length params.old.items + 1) }
     ensures puts { Puts result params.old.items params.new.items (bool_encoding value) }
@@ -129,7 +125,7 @@ fn scalar_count(text: &str) -> u16
 
 /// Appends an OcaString to the parameters (AES70-3): a Uint16 with the number of Unicode scalar values of the text, and
 /// then the UTF-8 of the text. These are from 2 to 66 bytes. The only refusal is `Full`, if the parameters would have
-/// more than 1,452 bytes in all; the parameters are then unchanged. The call takes no memory.
+/// more than 1,452 bytes in all; the parameters are then unchanged.
 pub fn put_text(params: &mut Params, value: &Text) -> Result<(), PutFault>
     ensures full { IsErr result ↔ (most_parameter_bytes < length params.old.items + length (text_encoding value.now)) }
     ensures puts { Puts result params.old.items params.new.items (text_encoding value.now) }
@@ -146,7 +142,7 @@ pub fn put_text(params: &mut Params, value: &Text) -> Result<(), PutFault>
 /// Appends the OcaClassIdentification of a class to the parameters (AES70-2): the number of fields of its class
 /// identifier, these fields, and the class version. Each is a Uint16, so these are from 10 to 14 bytes. The version is
 /// 2 for each class (*profile*). The only refusal is `Full`, if the parameters would have more than 1,452 bytes in all;
-/// the parameters are then unchanged. The call takes no memory.
+/// the parameters are then unchanged.
 pub fn put_class_identification(params: &mut Params, class: Class) -> Result<(), PutFault>
     ensures full { IsErr result
         ↔ (most_parameter_bytes < length params.old.items + length (class_identification_encoding class)) }
