@@ -56,7 +56,7 @@ function noteState(linkState) {
   const was = program.state;
   program.state = linkState;
   if ([was, linkState].includes("slow") && ["live", "slow"].includes(was) && ["live", "slow"].includes(linkState)) return;
-  log("link: " + stateWord(linkState), "was " + stateWord(was), !["live", "slow", "read"].includes(linkState));
+  log("link", stateWord(linkState) + ", was " + stateWord(was), !["live", "slow", "read"].includes(linkState));
   say(stateWord(linkState));
   if (!isOpen()) dropWaiting(stateWord(linkState));
   forgetHints();

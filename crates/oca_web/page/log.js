@@ -62,7 +62,7 @@ function log(what, came, isBad) {
 const changeOf = one => one.kind === "set" ? "" : one.kind === "label" ? "name “" + clean(one.word) + "”" : one.kind;
 
 // Each order's end stands in the log: by itself, or in the line of the change of many that it belongs to. Where the strip of an order
-// that was not done is out of sight, the result banner names it.
+// that was not done is out of sight, or has no room for a message, the result banner names it.
 function tellEnd(one, how, words) {
   const row = rows.get(one.ono), ms = round(now() - one.at);
   keepEnd(one, how);
@@ -70,7 +70,7 @@ function tellEnd(one, how, words) {
   if (how === "displaced" || how === "done" && row && (row.held || isOut(row, controlOf(one)))) return;
   const value = one.kind === "set" && row ? shown(row, firstOf(one)) + " → " + shown(row, one.word) + unitName(row) : changeOf(one);
   log(one.name + ": " + value, words || "done, " + ms + " ms", how !== "done");
-  if (words && (how === "changed" || !(row && inView.has(row.strip)))) tellUndone("Not done: " + value, [[one.name, words]]);
+  if (words && (how === "changed" || !(row && inView.has(row.strip)) || row.strip.message.offsetHeight < 14)) tellUndone("Not done: " + value, [[one.name, words]]);
   drawUndo();
 }
 

@@ -204,7 +204,8 @@ function told(one, why) {
   end(one, "refused", "refused: " + (why === "Locked" ? "locked by another controller" : clean(why)));
 }
 
-const lostWords = why => "lost: " + why + "; it may have been carried out";
+// A strip shows the first words alone: that it may have been carried out is what a person must know.
+const lostWords = why => "lost, may have been carried out: " + why;
 
 function end(one, how, why) {
   if (one.over) return;
