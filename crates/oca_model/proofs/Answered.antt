@@ -1,22 +1,14 @@
 -- What a device answers is what the panel reads.
-use Rattle.std.proofs.Common.{◌≡◌, [], refl, sym, ap, ◌∙◌, append-nil, arith}
-use Rattle.std.specs.Prelude.{Some}
-use Rattle.std.specs.Option.{option_map}
-use Rattle.std.specs.Int.{w32}
-use Rattle.oca_types.specs.Numbers.{unsigned_encoding}
+use Rattle.oca_model.proofs.Terms.{◌≡◌, [], refl, sym, ap, ◌∙◌, append-nil, arith, Some, option_map, w32, unsigned_encoding, text_encoding, Class, Reading, lists_back, whole_of, u32_front, front_of_text}
 use Rattle.oca_types.specs.Reading.{unsigned_at, text_at}
-use Rattle.oca_types.specs.Texts.{text_encoding}
 use Rattle.std.proofs.lemmas.Bool.{eq-eqb}
-use Rattle.oca_types.specs.declared.class.Class.{Class}
 use Rattle.oca_model.specs.declared.answer.Answer.{Answer}
-use Rattle.oca_model.specs.declared.answer.Answer.TheVariants.{Done, Truth, Text, Owner, Reading, Names, Flags, Class as ItsClass, Members, Descendants}
+use Rattle.oca_model.specs.declared.answer.Answer.TheVariants.{Done, Truth, Text, Owner, Names, Flags, Class as ItsClass, Members, Descendants}
 use Rattle.oca_types.specs.Classes.{class_identification_encoding}
 use Rattle.oca_model.specs.Members.{class_at, class_in, member_at, member_encoding, IsMember, descendant_at, descendant_encoding, IsDescendant}
 use Rattle.oca_model.specs.MemberFronts.{class_front, member_front, descendant_front}
-use Rattle.oca_model.specs.ListsBack.{lists_back}
 use Rattle.oca_model.specs.Readings.{reading_in, reading_encoding}
 use Rattle.oca_model.specs.Answers.{shape_of_answer, shaped_in, answer_count, answer_encoding, answer_in, IsAnswer, AnswersAreRead}
-use Rattle.oca_model.specs.Fronts.{whole_of, u32_front, front_of_text}
 use Rattle.oca_model.proofs.ReadBack.{readings_back}
 use Rattle.oca_model.proofs.Understood.{bool_whole, names_whole, flags_whole}
 

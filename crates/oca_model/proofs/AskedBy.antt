@@ -1,14 +1,8 @@
 -- One method asks a request of a class.
-use Rattle.std.proofs.Common.{◌≡◌, sym, subst, ◌∙◌}
-use Rattle.std.specs.Prelude.{Some, None}
-use Rattle.oca_types.specs.declared.class.Class.{Class}
-use Rattle.oca_types.specs.declared.class.Method.{Method}
-use Rattle.oca_types.specs.declared.class.MethodKind.TheVariants.{Known}
-use Rattle.oca_types.specs.Methods.{method_kind, access, IsMethodId}
-use Rattle.oca_model.specs.declared.request.Request.{Request}
-use Rattle.oca_model.specs.declared.request.Request.TheVariants.{Get, Set}
+use Rattle.oca_model.proofs.Terms.{◌≡◌, sym, subst, ◌∙◌, Some, None, Class, Method, Known, access, IsMethodId, Request, Get, Set, AskedBy}
+use Rattle.oca_types.specs.Methods.{method_kind}
 use Rattle.oca_model.specs.declared.request.RequestFault.TheVariants.{OtherClass}
-use Rattle.oca_model.specs.Requests.{AskedBy, IsRefusedCall}
+use Rattle.oca_model.specs.Requests.{IsRefusedCall}
 
 one_method : (of : Class) (r : Request) (m n : Method) → AskedBy of r m → AskedBy of r n → m ≡ n
 one_method of Get m n p q = let both : Some m ≡ Some n = sym p ∙ q in cc

@@ -1,24 +1,18 @@
 -- The texts that a request carries are texts of at most 64 bytes.
-use Rattle.std.proofs.Common.{◌≡◌, ℕ, zero, suc, ◌+◌, ◌<◌, ◌≤◌, ◌^◌, ◌==◌, Bool, true, false, cond, ◌&&◌, List, [], ◌∷◌, length, take, drop, Option, Some, None, refl, subst, arith}
-use Rattle.std.specs.Prelude.{IsUtf8, nat_lt, Result, Ok, Err}
+use Rattle.oca_model.proofs.Terms.{◌≡◌, ℕ, zero, suc, ◌+◌, ◌<◌, ◌≤◌, ◌^◌, Bool, true, false, List, [], ◌∷◌, length, drop, refl, subst, arith, Ok, option_map, option_and_then, w16, Class, Method, bool_at, Request, Malformed, IsText, Each, list_of_most, whole, pair_at, as_request, or_fault}
+use Rattle.std.proofs.Common.{◌==◌, cond, ◌&&◌, take, Option, Some, None}
+use Rattle.std.specs.Prelude.{IsUtf8, nat_lt, Result, Err}
 use Rattle.std.specs.List.{find, range_with_len}
-use Rattle.std.specs.Option.{option_map, option_and_then}
 use Rattle.std.specs.Str.{chars, is_utf8}
-use Rattle.std.specs.Int.{w16}
 use Rattle.std.proofs.lemmas.Bool.{and_parts}
 use Rattle.std.proofs.lemmas.Str.{IsUtf8-from_is_utf8, encodes-chars, length-le-encodes}
-use Rattle.oca_types.specs.declared.class.Class.{Class}
-use Rattle.oca_types.specs.declared.class.Method.{Method}
 use Rattle.oca_types.specs.declared.class.Method.TheVariants as methods
-use Rattle.oca_types.specs.Reading.{unsigned_at, bool_at, is_text_of, text_front, text_at}
-use Rattle.oca_model.specs.declared.request.Request.{Request}
+use Rattle.oca_types.specs.Reading.{unsigned_at, is_text_of, text_front, text_at}
 use Rattle.oca_model.specs.declared.request.Request.TheVariants as requests
 use Rattle.oca_model.specs.declared.value.ValueFault.{ValueFault}
-use Rattle.oca_model.specs.declared.value.ValueFault.TheVariants.{Malformed}
-use Rattle.oca_model.specs.Lists.{IsText, Each, list_of_most}
-use Rattle.oca_model.specs.Parameters.{whole, pair_at, items_at}
-use Rattle.oca_model.specs.Requests.{bare, counted, as_request, request_in}
-use Rattle.oca_model.specs.Values.{all, or_fault, value_in}
+use Rattle.oca_model.specs.Parameters.{items_at}
+use Rattle.oca_model.specs.Requests.{bare, counted, request_in}
+use Rattle.oca_model.specs.Values.{all, value_in}
 
 -- ---- a text that a command carries
 

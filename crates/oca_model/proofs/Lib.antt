@@ -1,3 +1,4 @@
+mod Terms
 pub mod Steps
 pub mod ReadBack
 pub mod Understood

@@ -1,16 +1,10 @@
 -- Each class has the methods that set and read its values.
-use Rattle.std.proofs.Common.{◌≡◌, refl, subst}
-use Rattle.std.specs.Prelude.{Some, None}
+use Rattle.oca_model.proofs.Terms.{◌≡◌, refl, subst, Some, None, Class, Method, Known, access, IsMethodId, Value, class_of_value, set_method, get_method}
 use Rattle.oca_types.specs.declared.words.MethodId.{MethodId}
-use Rattle.oca_types.specs.declared.class.Class.{Class}
 use Rattle.oca_types.specs.declared.class.Class.TheVariants as class
-use Rattle.oca_types.specs.declared.class.Method.{Method}
 use Rattle.oca_types.specs.declared.class.Method.TheVariants.{GetState, GetPosition, GetSetting}
-use Rattle.oca_types.specs.declared.class.MethodKind.TheVariants.{Known}
-use Rattle.oca_types.specs.Methods.{method_kind, access, IsMethodId}
-use Rattle.oca_model.specs.declared.value.Value.{Value}
+use Rattle.oca_types.specs.Methods.{method_kind}
 use Rattle.oca_model.specs.declared.value.Value.TheVariants.{Mute, Polarity, Switch}
-use Rattle.oca_model.specs.Values.{class_of_value, set_method, get_method}
 
 -- a class that has a method by some pair has a pair for it
 there : (of : Class) (m : Method) (id : MethodId) → method_kind of id ≡ Known m (access m) → IsMethodId of m None → ⊥

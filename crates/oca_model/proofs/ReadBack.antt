@@ -1,19 +1,14 @@
 -- What was encoded is read back.
-use Rattle.std.proofs.Common.{◌≡◌, ℕ, true, false, List, ◌++◌, refl, ap, ◌∙◌, append_assoc}
-use Rattle.std.specs.Prelude.{Option, Some}
-use Rattle.std.specs.Option.{option_map}
-use Rattle.std.specs.Int.{w8, w16, w32, w64}
-use Rattle.oca_types.specs.Numbers.{unsigned_encoding, signed_encoding}
+use Rattle.oca_model.proofs.Terms.{◌≡◌, ℕ, true, false, List, ◌++◌, refl, ap, ◌∙◌, append_assoc, Option, Some, option_map, w8, w16, w32, w64, unsigned_encoding, Malformed, Ranged, end_of, whole_of, u16_front, u32_front, or_fault, All3}
+use Rattle.oca_types.specs.Numbers.{signed_encoding}
 use Rattle.oca_types.specs.Reading.{unsigned_at, signed_at}
 use Rattle.oca_model.specs.declared.value.MuteState.TheVariants.{Muted, Unmuted}
 use Rattle.oca_model.specs.declared.value.PolarityState.TheVariants.{NonInverted, Inverted}
 use Rattle.oca_model.specs.declared.value.Value.TheVariants as value
-use Rattle.oca_model.specs.declared.value.ValueFault.TheVariants.{Malformed}
-use Rattle.oca_model.specs.declared.reading.Ranged.{Ranged}
 use Rattle.oca_model.specs.declared.reading.Reading.TheVariants as reading
-use Rattle.oca_model.specs.Fronts.{end_of, whole_of, u8_front, u16_front, u32_front, u64_front, i8_front, i16_front, i32_front, i64_front}
-use Rattle.oca_model.specs.Values.{value_in, value_encoding, or_fault, as_value, ValuesAreReadBack}
-use Rattle.oca_model.specs.Readings.{All3, ranged_in, ranged_encoding, reading_in, reading_encoding, ReadingsAreReadBack}
+use Rattle.oca_model.specs.Fronts.{u8_front, u64_front, i8_front, i16_front, i32_front, i64_front}
+use Rattle.oca_model.specs.Values.{value_in, value_encoding, as_value, ValuesAreReadBack}
+use Rattle.oca_model.specs.Readings.{ranged_in, ranged_encoding, reading_in, reading_encoding, ReadingsAreReadBack}
 
 module _ {V : Type 0} (Fits : V → Type 0) (encoding : V → List ℕ) (read_at : List ℕ → Option (V × List ℕ))
     (back : (v : V) (rest : List ℕ) → Fits v → read_at (encoding v ++ rest) ≡ Some (v, rest)) where

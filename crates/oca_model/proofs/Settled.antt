@@ -1,16 +1,12 @@
 -- What a reading is once it was set to a value.
-use Rattle.std.proofs.Common.{◌≡◌, ℕ, ◌<◌, Bool, true, false, refl, arith}
-use Rattle.std.specs.Prelude.{Option, Some, None, FitsSigned, ℤ, ◌≤ℤ◌, not, nat_le, int_le}
-use Rattle.std.specs.Int.{w8, w16, w32, w64}
+use Rattle.oca_model.proofs.Terms.{◌≡◌, ℕ, ◌<◌, Bool, true, false, refl, arith, Option, Some, None, w8, w16, w32, w64, Ranged, Value, All3, class_of_value}
+use Rattle.std.specs.Prelude.{FitsSigned, ℤ, ◌≤ℤ◌, not, nat_le, int_le}
 use Rattle.std.proofs.lemmas.Int.{ints}
-use Rattle.oca_model.specs.declared.reading.Ranged.{Ranged}
 use Rattle.oca_model.specs.declared.reading.Reading.{Reading}
 use Rattle.oca_model.specs.declared.reading.Reading.TheVariants as readings
-use Rattle.oca_model.specs.declared.value.Value.{Value}
 use Rattle.oca_model.specs.declared.value.Value.TheVariants as set
-use Rattle.oca_model.specs.Readings.{value_without_limits, All3, IsReading}
+use Rattle.oca_model.specs.Readings.{value_without_limits, IsReading}
 use Rattle.oca_model.specs.Settings.{class_of_reading, lies, is_within, set_in_limits, with_value, made_or, reading_set_to, lies_beyond, is_beyond}
-use Rattle.oca_model.specs.Values.{class_of_value}
 
 -- The value makes a reading, which is of that value.
 pub record Makes (r : Reading) (v : Value) : Type 0 where

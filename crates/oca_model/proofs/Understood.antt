@@ -1,24 +1,15 @@
 -- What a panel asks is what the device understands.
-use Rattle.std.proofs.Common.{◌≡◌, ℕ, ◌<◌, ◌^◌, ◌≤◌, Bool, List, [], ◌∷◌, ◌++◌, length, refl, sym, ap, ◌∙◌, arith}
-use Rattle.std.specs.Prelude.{Option, Some, Ok}
-use Rattle.std.specs.Int.{w16}
-use Rattle.oca_types.specs.declared.class.Class.{Class}
+use Rattle.oca_model.proofs.Terms.{◌≡◌, ℕ, ◌<◌, ◌^◌, ◌≤◌, Bool, List, [], ◌∷◌, ◌++◌, length, refl, sym, ap, ◌∙◌, arith, Option, Some, Ok, w16, Class, Method, unsigned_encoding, bool_at, text_encoding, Request, Get, Set, Value, IsText, Each, list_of_most, whole, pair_at, class_of_value, set_method, get_method, AskedBy, as_request, end_of, whole_of, u16_front, front_of_text, lists_back}
 use Rattle.oca_types.specs.declared.class.Class.TheVariants as class
-use Rattle.oca_types.specs.declared.class.Method.{Method}
 use Rattle.oca_types.specs.declared.class.Method.TheVariants as method
-use Rattle.oca_types.specs.Numbers.{unsigned_encoding, bool_encoding}
-use Rattle.oca_types.specs.Reading.{unsigned_at, bool_at, text_at}
-use Rattle.oca_types.specs.Texts.{text_encoding}
-use Rattle.oca_model.specs.declared.request.Request.{Request}
-use Rattle.oca_model.specs.declared.request.Request.TheVariants.{SetEnabled, SetLabel, Get, Set, GetPositionName, SetPositionName, GetPositionEnabled, SetPositionEnabled, SetPositionNames, SetPositionEnableds}
-use Rattle.oca_model.specs.declared.value.Value.{Value}
+use Rattle.oca_types.specs.Numbers.{bool_encoding}
+use Rattle.oca_types.specs.Reading.{unsigned_at, text_at}
+use Rattle.oca_model.specs.declared.request.Request.TheVariants.{SetEnabled, SetLabel, GetPositionName, SetPositionName, GetPositionEnabled, SetPositionEnabled, SetPositionNames, SetPositionEnableds}
 use Rattle.oca_model.specs.declared.value.Value.TheVariants as value
-use Rattle.oca_model.specs.Lists.{IsText, Each, list_encoding, list_of_most}
-use Rattle.oca_model.specs.Parameters.{whole, pair_at}
-use Rattle.oca_model.specs.Values.{class_of_value, value_in, value_encoding, set_method, get_method, IsOfItsType}
-use Rattle.oca_model.specs.Requests.{AskedBy, IsRequest, as_request, count_of, parameters_of, request_in, RequestsAreUnderstood}
-use Rattle.oca_model.specs.Fronts.{end_of, whole_of, u16_front, bool_front, front_of_text}
-use Rattle.oca_model.specs.ListsBack.{lists_back}
+use Rattle.oca_model.specs.Lists.{list_encoding}
+use Rattle.oca_model.specs.Values.{value_in, value_encoding, IsOfItsType}
+use Rattle.oca_model.specs.Requests.{IsRequest, count_of, parameters_of, request_in, RequestsAreUnderstood}
+use Rattle.oca_model.specs.Fronts.{bool_front}
 use Rattle.oca_model.proofs.ReadBack.{values_back}
 
 -- ---- texts, positions, Booleans

@@ -1,20 +1,10 @@
 -- A PDU behind others.
-use Rattle.std.proofs.Common.{◌≡◌, ℕ, ◌+◌, ◌*◌, ◌≤◌, ◌<◌, ◌^◌, Bool, List, [], ◌∷◌, ◌++◌, length, sym, ap, ◌∙◌, append_assoc, arith, length-append}
+use Rattle.oca_pdu.proofs.Words.{◌≡◌, ℕ, ◌+◌, ◌*◌, ◌≤◌, ◌<◌, ◌^◌, Bool, List, [], ◌∷◌, ◌++◌, length, sym, ap, ◌∙◌, append_assoc, arith, length-append, w16, flat_map, append-nil, flat_map-cons, from_be_bytes-to_be_bytes_2, flat_map-append, CommandFields, ResponseFields, Pdu, Commands, Responses, response_encoding, pdu_encoding, CommandFits, ResponseFits, PduFits, IsDatagram, number_at}
 use Rattle.std.specs.Prelude.{Result, Ok, Err, OnOk, OnErr}
-use Rattle.std.specs.Int.{w16}
 use Rattle.arrayvec.specs.ArrayVec.{ArrayVec as Items}
-use Rattle.std.specs.List.{flat_map}
-use Rattle.std.proofs.lemmas.List.{append-nil}
-use Rattle.std.proofs.lemmas.List.Concat.{flat_map-cons}
-use Rattle.std.proofs.lemmas.Nat.{from_be_bytes-to_be_bytes_2}
-use Rattle.std.proofs.lemmas.Grind.{flat_map-append}
-use Rattle.oca_types.specs.Peers.{CommandFields}
 use Rattle.oca_types.specs.declared.status.Status.{Status}
 use Rattle.oca_types.specs.declared.status.Status.TheVariants as status
 use Rattle.oca_types.specs.Status.{status_number}
-use Rattle.oca_pdu.specs.Messages.{ResponseFields, Pdu, Commands, Responses}
-use Rattle.oca_pdu.specs.Encoding.{response_encoding, pdu_encoding, CommandFits, ResponseFits, PduFits, IsDatagram}
-use Rattle.oca_pdu.specs.Reading.{number_at}
 use Rattle.oca_pdu.specs.Writing.{AddsPdu, IsResponses, HoldsResponses}
 use Rattle.oca_pdu.proofs.Decided.{each-append}
 

@@ -1,9 +1,5 @@
 -- Checks of parts, one behind the other.
-use Rattle.std.proofs.Common.{◌≡◌, ℕ, true, List, Result, Ok, Err, refl}
-use Rattle.std.specs.Prelude.{is_ok}
-use Rattle.oca_pdu.specs.declared.fault.PduFault.{PduFault}
-use Rattle.oca_pdu.specs.Reading.{◌>>=◌}
-use Rattle.oca_pdu.specs.Checking.{behind}
+use Rattle.oca_pdu.proofs.Words.{◌≡◌, ℕ, true, List, Result, Ok, Err, refl, is_ok, PduFault, ◌>>=◌, behind}
 
 -- a check that passed lets what is behind it through
 pub passes_on : {A : Type 0} (read : Result A PduFault) (rest : List ℕ) → is_ok read ≡ true → behind (read >>= λ x. Ok (x, rest)) ≡ Ok rest

@@ -1,16 +1,9 @@
 -- The two kinds of messages with sizes: what is encoded is read, and bytes of the right size are an encoding.
-use Rattle.std.proofs.Common.{◌≡◌, ℕ, ◌+◌, ◌≤◌, ◌<◌, ◌^◌, Bool, true, false, ltb, List, ◌∷◌, ◌++◌, length, take, drop, get_or, Ok, refl, sym, ap, ◌∙◌, append_assoc, arith, length-append, inl, inr, drop-cons}
-use Rattle.std.specs.Prelude.{slice_index}
-use Rattle.std.specs.Int.{w16, w32, to_be_bytes, from_be_bytes}
-use Rattle.std.proofs.lemmas.Bool.{le-ltb, cases_lt}
-use Rattle.std.proofs.lemmas.List.{take_at, drop_at, take-append-le, take-append-drop, length-take, length-drop, get_or-drop, get_or-take, get_or_past, drop-drop}
-use Rattle.std.proofs.lemmas.Nat.{from_be_bytes-to_be_bytes_2, from_be_bytes-to_be_bytes_4, be_bytes_2, be_bytes_4}
-use Rattle.oca_types.specs.Peers.{CommandFields}
-use Rattle.oca_pdu.specs.declared.message.Kind.{Kind}
+use Rattle.oca_pdu.proofs.Words.{◌≡◌, ℕ, ◌+◌, ◌≤◌, ◌<◌, ◌^◌, Bool, true, false, ltb, List, ◌∷◌, ◌++◌, length, take, drop, Ok, refl, sym, ap, ◌∙◌, append_assoc, arith, length-append, inl, inr, drop-cons, slice_index, w16, w32, to_be_bytes, from_be_bytes, le-ltb, cases_lt, take_at, drop_at, take-append-le, take-append-drop, length-take, length-drop, drop-drop, from_be_bytes-to_be_bytes_2, from_be_bytes-to_be_bytes_4, be_bytes_2, be_bytes_4, CommandFields, Kind, Msg, Command, Response, ResponseFields, command_encoding, response_encoding, CommandFits, ResponseFits, number_at, least_size, message_in}
+use Rattle.std.proofs.Common.{get_or}
+use Rattle.std.proofs.lemmas.List.{get_or-drop, get_or-take, get_or_past}
 use Rattle.oca_pdu.specs.declared.message.Kind.TheVariants as kinds
-use Rattle.oca_pdu.specs.Messages.{Msg, Command, Response, ResponseFields}
-use Rattle.oca_pdu.specs.Encoding.{command_encoding, response_encoding, CommandFits, ResponseFits}
-use Rattle.oca_pdu.specs.Reading.{number_at, least_size, command_in, message_in, message_at}
+use Rattle.oca_pdu.specs.Reading.{command_in, message_at}
 
 -- each is a byte
 abbrev pub IsBytes : List ℕ → Type 0

@@ -1,22 +1,7 @@
 -- Bytes are a datagram or have a first fault.
-use Rattle.std.proofs.Common.{◌≡◌, ℕ, zero, suc, ◌-◌, ◌+◌, ◌≤◌, ◌<◌, ◌^◌, Bool, true, false, List, [], ◌∷◌, ◌++◌, length, take, drop, refl, sym, ap, subst, ◌∙◌, append_assoc, arith, length-append, inl, inr, ◌⊎◌, drop-cons}
-use Rattle.std.specs.Prelude.{◌≢◌, slice_index}
-use Rattle.std.specs.List.{flat_map, AllByRecursion}
-use Rattle.std.specs.Int.{w16, w32, to_be_bytes, from_be_bytes}
-use Rattle.std.proofs.lemmas.Bool.{cases_lt}
-use Rattle.std.proofs.lemmas.List.{append-nil, take-append-le, take-append-drop, length-take, length-drop, nil_from_length, drop-drop}
-use Rattle.std.proofs.lemmas.Grind.{flat_map-append}
-use Rattle.std.proofs.lemmas.Nat.{be_bytes_2, be_bytes_4}
-use Rattle.oca_pdu.specs.declared.fault.PduFault.{PduFault}
-use Rattle.oca_pdu.specs.declared.fault.PduFaultKind.{PduFaultKind}
-use Rattle.oca_pdu.specs.declared.fault.PduFaultKind.TheVariants.{Empty, TooLong, Sync, Version, PduSize, PduType, Count, MessageSize, Truncated}
-use Rattle.oca_pdu.specs.declared.message.Form.TheVariants.{Seconds, Millis}
-use Rattle.oca_pdu.specs.declared.message.Kind.{Kind}
+use Rattle.oca_pdu.proofs.Words.{◌≡◌, ℕ, zero, suc, ◌-◌, ◌+◌, ◌≤◌, ◌<◌, ◌^◌, Bool, true, false, List, [], ◌∷◌, ◌++◌, length, take, drop, refl, sym, ap, subst, ◌∙◌, append_assoc, arith, length-append, inl, inr, ◌⊎◌, drop-cons, ◌≢◌, slice_index, flat_map, AllByRecursion, w16, w32, to_be_bytes, from_be_bytes, cases_lt, append-nil, take-append-le, take-append-drop, length-take, length-drop, drop-drop, flat_map-append, be_bytes_2, be_bytes_4, PduFault, PduFaultKind, Empty, TooLong, Sync, Version, PduSize, PduType, Count, MessageSize, Truncated, Seconds, Millis, Kind, Msg, Command, Response, Pdu, Commands, Responses, OneKeepAlive, command_encoding, response_encoding, pdu_frame, command_type, pdu_encoding, CommandFits, ResponseFits, PduFits, IsDatagram, MessagesFail, MessagesMissing, MessageCutOff, MessageOfWrongSize, BytesLeft, BeginsWithFrame, PduFails, WrongSync, VersionCutOff, WrongVersion, SizeCutOff, SizeTooSmall, PduCutOff, WrongType, NoMessages, WrongKeepAliveCount, WrongKeepAliveSize, InCommands, InResponses, IsFirstFault, NoBytes, TooManyBytes, InPdu, number_at, least_size}
+use Rattle.std.proofs.lemmas.List.{nil_from_length}
 use Rattle.oca_pdu.specs.declared.message.Kind.TheVariants as kinds
-use Rattle.oca_pdu.specs.Messages.{Msg, Command, Response, Pdu, Commands, Responses, OneKeepAlive}
-use Rattle.oca_pdu.specs.Encoding.{command_encoding, response_encoding, pdu_frame, command_type, pdu_encoding, CommandFits, ResponseFits, PduFits, IsDatagram}
-use Rattle.oca_pdu.specs.FirstFault.{MessagesFail, MessagesMissing, MessageCutOff, MessageOfWrongSize, BytesLeft, BeginsWithFrame, PduFails, WrongSync, VersionCutOff, WrongVersion, SizeCutOff, SizeTooSmall, PduCutOff, WrongType, NoMessages, WrongKeepAliveCount, WrongKeepAliveSize, InCommands, InResponses, IsFirstFault, NoBytes, TooManyBytes, InPdu}
-use Rattle.oca_pdu.specs.Reading.{number_at, least_size}
 use Rattle.oca_pdu.proofs.Codec.{IsBytes, IsBytes-take, IsBytes-drop, Codec, least_four, least_command, command_kind, command_codec, response_codec, below_w16, below_w32, front_w16, front_w32}
 use Rattle.oca_pdu.proofs.Encoded.{pdu_some}
 

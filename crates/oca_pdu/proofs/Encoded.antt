@@ -1,22 +1,9 @@
 -- What is encoded is read.
-use Rattle.std.proofs.Common.{◌≡◌, ℕ, zero, suc, ◌-◌, ◌+◌, ◌≤◌, ◌<◌, ◌^◌, Bool, true, false, eqb, ltb, List, [], ◌∷◌, ◌++◌, length, take, drop, map, Result, Ok, Err, refl, sym, ap, ◌∙◌, append_assoc, arith, length-append, eq-eqb}
-use Rattle.std.specs.Prelude.{Some, slice_index}
-use Rattle.std.specs.List.{flat_map, AllByRecursion}
-use Rattle.std.specs.Int.{w16, w32}
-use Rattle.std.proofs.lemmas.Bool.{le-ltb, ne_eqb}
-use Rattle.std.proofs.lemmas.List.{take_at, drop_at, append-nil}
-use Rattle.std.proofs.lemmas.List.Concat.{flat_map-cons}
-use Rattle.std.proofs.lemmas.Nat.{from_be_bytes-to_be_bytes_2, from_be_bytes-to_be_bytes_4}
-use Rattle.oca_types.specs.Peers.{CommandFields}
-use Rattle.oca_pdu.specs.declared.fault.PduFault.{PduFault}
-use Rattle.oca_pdu.specs.declared.message.Kind.{Kind}
+use Rattle.oca_pdu.proofs.Words.{◌≡◌, ℕ, zero, suc, ◌-◌, ◌+◌, ◌≤◌, ◌<◌, ◌^◌, Bool, true, false, eqb, ltb, List, [], ◌∷◌, ◌++◌, length, take, drop, map, Result, Ok, Err, refl, sym, ap, ◌∙◌, append_assoc, arith, length-append, eq-eqb, Some, slice_index, flat_map, AllByRecursion, w16, w32, le-ltb, ne_eqb, take_at, drop_at, append-nil, flat_map-cons, from_be_bytes-to_be_bytes_2, from_be_bytes-to_be_bytes_4, CommandFields, PduFault, Kind, Form, Seconds, Millis, Msg, Command, Response, KeepAlive, ResponseFields, Pdu, Commands, Responses, OneKeepAlive, messages_of, command_encoding, response_encoding, pdu_frame, command_type, pdu_encoding, CommandFits, ResponseFits, PduFits, IsDatagram, ◌>>=◌, number_at, content_of}
 use Rattle.oca_pdu.specs.declared.message.Kind.TheVariants as kinds
 use Rattle.oca_pdu.specs.declared.message.Content.TheVariants as contents
-use Rattle.oca_pdu.specs.declared.message.Form.{Form}
-use Rattle.oca_pdu.specs.declared.message.Form.TheVariants.{Seconds, Millis}
-use Rattle.oca_pdu.specs.Messages.{Msg, Command, Response, KeepAlive, ResponseFields, Pdu, Commands, Responses, OneKeepAlive, messages_of}
-use Rattle.oca_pdu.specs.Encoding.{command_encoding, response_encoding, keep_alive_encoding, pdu_frame, command_type, pdu_encoding, CommandFits, ResponseFits, FormFits, PduFits, IsDatagram}
-use Rattle.oca_pdu.specs.Reading.{◌>>=◌, number_at, messages_at, keep_alive_at, content_of, content_at, inside_at, pdu_at, pdus_at, read_datagram}
+use Rattle.oca_pdu.specs.Encoding.{keep_alive_encoding, FormFits}
+use Rattle.oca_pdu.specs.Reading.{messages_at, keep_alive_at, content_at, inside_at, pdu_at, pdus_at, read_datagram}
 use Rattle.oca_pdu.proofs.MessageLoop.{with_front, no_front}
 use Rattle.oca_pdu.proofs.Codec.{Codec, least_four, message_again, command_kind, command_codec, response_codec}
 

@@ -1,17 +1,8 @@
 -- The laws.
-use Rattle.std.proofs.Common.{◌≡◌, ℕ, zero, suc, true, List, [], ◌∷◌, ◌++◌, Result, Ok, Err, refl, sym, ap, subst, ◌∙◌, inl, inr, arith}
-use Rattle.std.specs.Prelude.{is_ok}
-use Rattle.std.specs.List.{flat_map}
-use Rattle.oca_pdu.specs.declared.fault.PduFault.{PduFault}
-use Rattle.oca_pdu.specs.Messages.{Msg, Pdu, messages_of}
-use Rattle.oca_pdu.specs.Encoding.{IsDatagram}
-use Rattle.oca_pdu.specs.Datagrams.{read_or_none}
-use Rattle.std.proofs.lemmas.List.{append-nil}
-use Rattle.std.proofs.lemmas.Grind.{flat_map-append}
+use Rattle.oca_pdu.proofs.Words.{◌≡◌, ℕ, zero, suc, true, List, [], ◌∷◌, ◌++◌, Result, Ok, Err, refl, sym, ap, subst, ◌∙◌, inl, inr, arith, is_ok, flat_map, PduFault, Msg, Pdu, messages_of, IsDatagram, read_or_none, append-nil, flat_map-append, IsFirstFault}
 use Rattle.oca_pdu.specs.Reading.{read_datagram}
 use Rattle.oca_pdu.specs.Laws.{OneListOfMessages, OneFirstFault, NoFaultOfADatagram, DatagramOrFault, ReadingIsExact, WrittenIsReadBack, AreBytes}
 use Rattle.oca_pdu.proofs.MessageLoop.{ok_is}
-use Rattle.oca_pdu.specs.FirstFault.{IsFirstFault}
 use Rattle.oca_pdu.proofs.Refused.{datagram_refused}
 use Rattle.oca_pdu.proofs.Codec.{IsBytes}
 use Rattle.oca_pdu.proofs.Decided.{datagram_decided}

@@ -1,3 +1,4 @@
+mod Words
 pub mod Agreeing
 pub mod MessageLoop
 pub mod PduLoop

@@ -1,18 +1,9 @@
 -- A datagram is within the limits.
-use Rattle.std.proofs.Common.{◌≡◌, ℕ, ◌+◌, ◌*◌, ◌<◌, ◌≤◌, Bool, true, List, [], ◌∷◌, length, map, refl, sym, ap, subst, ◌∙◌, arith, length-append, cond}
-use Rattle.std.specs.Prelude.{not, count_by, is_ok}
-use Rattle.std.specs.List.{flat_map, AllByRecursion}
-use Rattle.std.proofs.lemmas.List.Concat.{flat_map-cons}
+use Rattle.oca_pdu.proofs.Words.{◌≡◌, ℕ, ◌+◌, ◌*◌, ◌<◌, ◌≤◌, Bool, true, List, [], ◌∷◌, length, map, refl, sym, ap, subst, ◌∙◌, arith, length-append, cond, not, is_ok, flat_map, AllByRecursion, flat_map-cons, append-nil, CommandFields, Form, Seconds, Millis, Msg, Command, Response, ResponseFields, Pdu, Commands, Responses, OneKeepAlive, messages_of, command_encoding, response_encoding, pdu_encoding, PduFits, IsDatagram, IsWithinLimits, read_or_none}
+use Rattle.std.specs.Prelude.{count_by}
 use Rattle.std.proofs.lemmas.List.Sums.{sum_by-append}
-use Rattle.std.proofs.lemmas.List.{append-nil}
-use Rattle.oca_types.specs.Peers.{CommandFields}
-use Rattle.oca_pdu.specs.declared.message.Form.{Form}
-use Rattle.oca_pdu.specs.declared.message.Form.TheVariants.{Seconds, Millis}
-use Rattle.oca_pdu.specs.Messages.{Msg, Command, Response, ResponseFields, Pdu, Commands, Responses, OneKeepAlive, messages_of}
-use Rattle.oca_pdu.specs.Encoding.{command_encoding, response_encoding, pdu_encoding, PduFits, IsDatagram}
-use Rattle.oca_pdu.specs.Limits.{is_command, is_response, IsWithinLimits}
+use Rattle.oca_pdu.specs.Limits.{is_command, is_response}
 use Rattle.oca_pdu.specs.Reading.{read_datagram}
-use Rattle.oca_pdu.specs.Datagrams.{read_or_none}
 use Rattle.oca_pdu.proofs.Codec.{IsBytes}
 use Rattle.oca_pdu.proofs.Exact.{check_found}
 

@@ -1,12 +1,6 @@
 -- Checking messages one after the other.
-use Rattle.std.proofs.Common.{◌≡◌, ℕ, suc, ◌-◌, ◌+◌, ◌≤◌, ◌<◌, true, false, eqb, List, [], ◌∷◌, ◌++◌, length, Result, Ok, Err, refl, sym, ap, ◌∙◌, append_assoc, arith}
-use Rattle.std.specs.Prelude.{is_ok}
-use Rattle.oca_pdu.specs.declared.fault.PduFault.{PduFault}
-use Rattle.oca_pdu.specs.declared.fault.PduFaultKind.TheVariants.{Count}
-use Rattle.oca_pdu.specs.declared.message.Kind.{Kind}
-use Rattle.oca_pdu.specs.Messages.{Msg}
-use Rattle.oca_pdu.specs.Reading.{◌>>=◌, fault, message_at, messages_at}
-use Rattle.oca_pdu.specs.Checking.{behind}
+use Rattle.oca_pdu.proofs.Words.{◌≡◌, ℕ, suc, ◌-◌, ◌+◌, ◌≤◌, ◌<◌, true, false, eqb, List, [], ◌∷◌, ◌++◌, length, Result, Ok, Err, refl, sym, ap, ◌∙◌, append_assoc, arith, is_ok, PduFault, Count, Kind, Msg, ◌>>=◌, fault, behind}
+use Rattle.oca_pdu.specs.Reading.{message_at, messages_at}
 
 -- what was read before, and what is still read
 abbrev pub with_front : List Msg → Result (List Msg) PduFault → Result (List Msg) PduFault

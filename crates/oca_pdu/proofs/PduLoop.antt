@@ -1,10 +1,6 @@
 -- Checking PDUs one after the other.
-use Rattle.std.proofs.Common.{◌≡◌, ℕ, suc, ◌-◌, ◌+◌, ◌≤◌, ◌<◌, true, false, eqb, List, [], ◌++◌, length, Result, Ok, Err, refl, sym, ap, ◌∙◌, append_assoc, arith}
-use Rattle.std.specs.Prelude.{is_ok}
-use Rattle.oca_pdu.specs.declared.fault.PduFault.{PduFault}
-use Rattle.oca_pdu.specs.Messages.{Msg}
-use Rattle.oca_pdu.specs.Reading.{◌>>=◌, pdu_at, pdus_at}
-use Rattle.oca_pdu.specs.Checking.{behind}
+use Rattle.oca_pdu.proofs.Words.{◌≡◌, ℕ, suc, ◌-◌, ◌+◌, ◌≤◌, ◌<◌, true, false, eqb, List, [], ◌++◌, length, Result, Ok, Err, refl, sym, ap, ◌∙◌, append_assoc, arith, is_ok, PduFault, Msg, ◌>>=◌, behind}
+use Rattle.oca_pdu.specs.Reading.{pdu_at, pdus_at}
 use Rattle.oca_pdu.proofs.MessageLoop.{with_front, no_front, read_is}
 
 regroup : (front these : List Msg) (read : Result (List Msg) PduFault) → with_front front (read >>= λ ms. Ok (these ++ ms)) ≡ with_front (front ++ these) read

@@ -1,22 +1,10 @@
 -- What has a first fault is read as that fault.
-use Rattle.std.proofs.Common.{◌≡◌, ℕ, zero, suc, ◌-◌, ◌+◌, ◌≤◌, ◌<◌, ◌^◌, Bool, true, false, eqb, ltb, List, [], ◌∷◌, ◌++◌, length, map, Result, Ok, Err, refl, sym, ap, ◌∙◌, arith, length-append, inl, inr, ◌⊎◌}
-use Rattle.std.specs.Prelude.{◌||◌, ◌≢◌, Option, Some, None, slice_index}
-use Rattle.std.specs.List.{flat_map, AllByRecursion}
-use Rattle.std.specs.Int.{w16, w32, to_be_bytes}
-use Rattle.std.proofs.lemmas.Bool.{le-ltb, lt-ltb, ne_eqb}
-use Rattle.std.proofs.lemmas.Nat.{from_be_bytes-to_be_bytes_2, from_be_bytes-to_be_bytes_4}
-use Rattle.oca_pdu.specs.declared.fault.PduFault.{PduFault}
-use Rattle.oca_pdu.specs.declared.fault.PduFaultKind.{PduFaultKind}
-use Rattle.oca_pdu.specs.declared.fault.PduFaultKind.TheVariants.{Empty, TooLong, Sync, Version, PduSize, PduType, Count, MessageSize, Truncated}
-use Rattle.oca_pdu.specs.declared.message.Kind.{Kind}
+use Rattle.oca_pdu.proofs.Words.{◌≡◌, ℕ, zero, suc, ◌-◌, ◌+◌, ◌≤◌, ◌<◌, ◌^◌, Bool, true, false, eqb, ltb, List, [], ◌∷◌, ◌++◌, length, map, Result, Ok, Err, refl, sym, ap, ◌∙◌, arith, length-append, inl, inr, ◌⊎◌, ◌||◌, ◌≢◌, Option, Some, None, slice_index, flat_map, AllByRecursion, w16, w32, to_be_bytes, le-ltb, ne_eqb, from_be_bytes-to_be_bytes_2, from_be_bytes-to_be_bytes_4, PduFault, PduFaultKind, Empty, TooLong, Sync, Version, PduSize, PduType, Count, MessageSize, Truncated, Kind, Content, Msg, Command, Response, messages_of, command_encoding, response_encoding, command_type, pdu_encoding, CommandFits, ResponseFits, MessagesFail, MessagesMissing, MessageCutOff, MessageOfWrongSize, BytesLeft, BeginsWithFrame, PduFails, WrongSync, VersionCutOff, WrongVersion, SizeCutOff, SizeTooSmall, PduCutOff, WrongType, NoMessages, WrongKeepAliveCount, WrongKeepAliveSize, InCommands, InResponses, IsFirstFault, NoBytes, TooManyBytes, InPdu, ◌>>=◌, fault, number_at, least_size, content_of}
+use Rattle.std.proofs.lemmas.Bool.{lt-ltb}
 use Rattle.oca_pdu.specs.declared.message.Kind.TheVariants as kinds
-use Rattle.oca_pdu.specs.declared.message.Content.{Content}
 use Rattle.oca_pdu.specs.declared.message.Content.TheVariants as contents
 use Rattle.oca_pdu.specs.Faults.{IsFaultAt}
-use Rattle.oca_pdu.specs.Messages.{Msg, Command, Response, messages_of}
-use Rattle.oca_pdu.specs.Encoding.{command_encoding, response_encoding, command_type, pdu_encoding, CommandFits, ResponseFits}
-use Rattle.oca_pdu.specs.FirstFault.{MessagesFail, MessagesMissing, MessageCutOff, MessageOfWrongSize, BytesLeft, BeginsWithFrame, PduFails, WrongSync, VersionCutOff, WrongVersion, SizeCutOff, SizeTooSmall, PduCutOff, WrongType, NoMessages, WrongKeepAliveCount, WrongKeepAliveSize, InCommands, InResponses, IsFirstFault, NoBytes, TooManyBytes, InPdu}
-use Rattle.oca_pdu.specs.Reading.{◌>>=◌, fault, number_at, least_size, message_at, messages_at, keep_alive_at, content_of, content_at, pdu_at, pdus_at, read_datagram}
+use Rattle.oca_pdu.specs.Reading.{message_at, messages_at, keep_alive_at, content_at, pdu_at, pdus_at, read_datagram}
 use Rattle.oca_pdu.proofs.MessageLoop.{with_front}
 use Rattle.oca_pdu.proofs.Codec.{Codec, least_command, command_kind, command_codec, response_codec}
 use Rattle.oca_pdu.proofs.Encoded.{messages_before, frame_read, messages_content, keep_alive_content, command_content, pdus_before}

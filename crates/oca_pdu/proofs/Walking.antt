@@ -1,20 +1,10 @@
 -- Going through bytes that were checked: what was read of them does not depend on where they stand, and how reading begins.
-use Rattle.std.proofs.Common.{◌≡◌, ℕ, zero, suc, ◌-◌, ◌+◌, ◌≤◌, ◌<◌, Bool, true, false, cond, eqb, ltb, List, [], ◌∷◌, ◌++◌, length, take, drop, Result, Ok, Err, refl, sym, ap, ◌∙◌, arith}
-use Rattle.std.specs.Prelude.{◌||◌, not, is_ok, Option, Some, None, slice_index}
+use Rattle.oca_pdu.proofs.Words.{◌≡◌, ℕ, zero, suc, ◌-◌, ◌+◌, ◌≤◌, ◌<◌, Bool, true, false, cond, eqb, ltb, List, [], ◌∷◌, ◌++◌, length, take, drop, Result, Ok, Err, refl, sym, ap, ◌∙◌, arith, ◌||◌, not, is_ok, Option, Some, None, slice_index, w16, w32, from_be_bytes, eqb-true, ne_eqb, length-drop, PduFault, PduFaultKind, Sync, Version, PduSize, PduType, Count, MessageSize, Truncated, Kind, Content, Seconds, Millis, Msg, KeepAlive, ◌>>=◌, fault, number_at, least_size, message_in, content_of, read_or_none}
 use Rattle.std.specs.Result.{result_ok}
-use Rattle.std.specs.Int.{w16, w32, from_be_bytes}
-use Rattle.std.proofs.lemmas.Bool.{ltb-false, eqb-true, eqb-false, ne_eqb, eq-eqb}
-use Rattle.std.proofs.lemmas.List.{length-drop, take_all}
-use Rattle.oca_pdu.specs.declared.fault.PduFault.{PduFault}
-use Rattle.oca_pdu.specs.declared.fault.PduFaultKind.{PduFaultKind}
-use Rattle.oca_pdu.specs.declared.fault.PduFaultKind.TheVariants.{Sync, Version, PduSize, PduType, Count, MessageSize, Truncated}
-use Rattle.oca_pdu.specs.declared.message.Kind.{Kind}
-use Rattle.oca_pdu.specs.declared.message.Content.{Content}
+use Rattle.std.proofs.lemmas.Bool.{ltb-false, eqb-false, eq-eqb}
+use Rattle.std.proofs.lemmas.List.{take_all}
 use Rattle.oca_pdu.specs.declared.message.Content.TheVariants as contents
-use Rattle.oca_pdu.specs.declared.message.Form.TheVariants.{Seconds, Millis}
-use Rattle.oca_pdu.specs.Messages.{Msg, KeepAlive}
-use Rattle.oca_pdu.specs.Reading.{◌>>=◌, fault, number_at, least_size, message_in, message_at, messages_at, keep_alive_at, content_of, content_at, inside_at, pdu_at, pdus_at}
-use Rattle.oca_pdu.specs.Datagrams.{read_or_none}
+use Rattle.oca_pdu.specs.Reading.{message_at, messages_at, keep_alive_at, content_at, inside_at, pdu_at, pdus_at}
 use Rattle.oca_pdu.proofs.MessageLoop.{ok_is}
 
 -- ---- what was read, whatever the fault

@@ -1,5 +1,4 @@
-use Rattle.std.proofs.lemmas.Result.{err_from_is_err_and}
-use Rattle.std.proofs.Math.Facts.{Fits-lt-pow}
+use Rattle.oca_pdu.proofs.Words.{err_from_is_err_and, Fits-lt-pow}
 use Rattle.oca_pdu.proofs.Exact.{is_fault, check_found, check_only, not_refused}
 use Rattle.oca_pdu.proofs.checking.check.Goals as goal
 

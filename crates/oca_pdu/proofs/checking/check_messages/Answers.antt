@@ -1,5 +1,4 @@
-use Rattle.std.proofs.Common.{sym, ◌∙◌, arith, ◌≡◌, ◌-◌, ◌+◌, length}
-use Rattle.std.proofs.lemmas.Result.{err_from_is_err_and}
+use Rattle.oca_pdu.proofs.Words.{sym, ◌∙◌, arith, ◌≡◌, ◌-◌, ◌+◌, length, err_from_is_err_and}
 use Rattle.oca_pdu.proofs.MessageLoop.{goes_on, ends, ends_early, ends_late, is_done}
 use Rattle.oca_pdu.proofs.checking.check_messages.Goals as goal
 

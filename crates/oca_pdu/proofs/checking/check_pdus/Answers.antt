@@ -1,5 +1,4 @@
-use Rattle.std.proofs.Common.{sym, ◌∙◌, arith, ◌≡◌, ◌-◌, ◌+◌, length}
-use Rattle.std.proofs.lemmas.Result.{err_from_is_err_and}
+use Rattle.oca_pdu.proofs.Words.{sym, ◌∙◌, arith, ◌≡◌, ◌-◌, ◌+◌, length, err_from_is_err_and}
 use Rattle.oca_pdu.proofs.PduLoop.{goes_on, ends, is_done_early, is_done}
 use Rattle.oca_pdu.proofs.checking.check_pdus.Goals as goal
 

@@ -1,7 +1,6 @@
-use Rattle.std.proofs.Common.{arith}
+use Rattle.oca_pdu.proofs.Words.{arith, response_with}
 use Rattle.std.proofs.lemmas.Grind.{common_steps}
 use Rattle.oca_types.specs.Replies.{reply_in}
-use Rattle.oca_pdu.specs.Messages.{response_with}
 use Rattle.oca_pdu.proofs.Adding.{count_below, joins_responses}
 use Rattle.oca_pdu.proofs.writing.extend_response_of.Goals as goal
 

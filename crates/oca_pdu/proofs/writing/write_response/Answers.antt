@@ -1,7 +1,5 @@
-use Rattle.std.proofs.Common.{arith, ap, ◌∙◌, ◌≤◌, ◌++◌, ◌∷◌, [], List, ℕ, length, length-append, subst}
+use Rattle.oca_pdu.proofs.Words.{arith, ap, ◌∙◌, ◌≤◌, ◌++◌, ◌∷◌, [], List, ℕ, length, length-append, subst, Responses, response_with, pdu_encoding, ResponseFits}
 use Rattle.oca_types.specs.Replies.{Reply}
-use Rattle.oca_pdu.specs.Messages.{Responses, response_with}
-use Rattle.oca_pdu.specs.Encoding.{pdu_encoding, ResponseFits}
 use Rattle.oca_pdu.proofs.Adding.{adds_response, two_parts}
 use Rattle.oca_pdu.proofs.writing.write_response.Goals as goal
 

@@ -1,5 +1,4 @@
-use Rattle.std.proofs.Common.{subst, sym}
-use Rattle.oca_pdu.specs.Limits.{IsWithinLimits}
+use Rattle.oca_pdu.proofs.Words.{subst, sym, IsWithinLimits}
 use Rattle.oca_pdu.proofs.datagram.Datagram.messages.Goals as goal
 
 pub returns-clause-limits : goal.returns-clause-limits

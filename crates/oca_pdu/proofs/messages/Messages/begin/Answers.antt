@@ -1,6 +1,5 @@
-use Rattle.std.proofs.Common.{arith, sym, ◌∙◌, ap, ◌∷◌, List}
+use Rattle.oca_pdu.proofs.Words.{arith, sym, ◌∙◌, ap, ◌∷◌, List, Msg, KeepAlive}
 use Rattle.std.proofs.lemmas.List.{take_rest}
-use Rattle.oca_pdu.specs.Messages.{Msg, KeepAlive}
 use Rattle.oca_pdu.proofs.Walking.{pdus_open, Parts, inside_ok, rest_ok, has_content, begins, passes, only_pdus}
 use Rattle.oca_pdu.proofs.messages.Messages.begin.Goals as goal
 

@@ -1,5 +1,4 @@
-use Rattle.std.proofs.Common.{arith, ◌≡◌, sym, ◌∙◌, length}
-use Rattle.std.proofs.lemmas.Bool.{eqb-true}
+use Rattle.oca_pdu.proofs.Words.{arith, ◌≡◌, sym, ◌∙◌, length, eqb-true}
 use Rattle.oca_pdu.proofs.Walking.{nothing_left}
 use Rattle.oca_pdu.proofs.messages.MessagesIterator.next.Goals as goal
 
