@@ -195,16 +195,7 @@ impl Request {
         })
     }
 
-    /// Reads the request of a command from its method and its parameters, as a device does, and copies its texts
-    /// (AES70-2). `count` is ParamCount and `params` the bytes of the parameters. `class` is the class of the object;
-    /// only the value of a set method depends on the class. It checks neither that the class has the method, nor that a
-    /// switch has the position. Refusals, the first that applies:
-    /// - `Malformed` (the status ParameterError) if `count` is not the number of parameters of the method, or the class
-    ///   of a set method is OcaBlock.
-    /// - `Malformed` also if `params` is not exactly these parameters: a text has at most 64 bytes, and a list of names
-    ///   or flags at most 16 items.
-    /// - `Unlisted` (the status ParameterOutOfRange) if a set method of a mute or a polarity has a number that is not 1
-    ///   or 2.
+    /// Reads the request of a command as [`Asked::read`] does, with the same refusals, and copies its texts (AES70-2).
     pub fn read(
         class: Class,
         method: Method,
@@ -213,9 +204,6 @@ impl Request {
     ) -> Result<Request, ValueFault>
         ensures { result ≡ request_in class method count params.now }
     {
-        match Asked::read(class, method, count, params) {
-            Ok(asked) => Ok(asked.request()),
-            Err(fault) => Err(fault),
-        }
+        Asked::read(class, method, count, params).map(Asked::request)
     }
 }

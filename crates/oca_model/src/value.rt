@@ -1,5 +1,5 @@
 //! What an object is set to, in the terms of its class.
-ghost use Rattle.std.specs.Prelude.{◌≡◌, OnErr};
+ghost use Rattle.std.specs.Prelude.{◌≡◌, ◌≤◌, length, OnErr};
 ghost use Rattle.std.specs.Int.{w8};
 ghost use Rattle.oca_types.specs.Putting.{Puts};
 ghost use Rattle.oca_types.specs.Reading.{unsigned_at};
@@ -8,6 +8,7 @@ ghost use Rattle.oca_model.specs.Values.{then_find, or_fault};
 ghost use Rattle.oca_model.specs.declared.value.ValueFault.TheVariants.{Unlisted};
 
 use crate::parameters::whole_field;
+use arrayvec::ArrayVec;
 use oca_types::{Class, Field, Params, PutFault};
 
 /// Calls the macro `$each` with the name and the type of each class of integers. `Class`, `Value` and `Reading` have
@@ -125,6 +126,16 @@ fn polarity_in(params: &[u8]) -> Result<PolarityState, ValueFault>
     polarity_of(all(params)?).ok_or(ValueFault::Unlisted)
 }
 
+/// These bytes, of which there are at most 8.
+fn bytes(bytes: &[u8]) -> ArrayVec<u8, 8>
+    requires { length bytes.now ≤ 8 }
+    ensures { result.items ≡ bytes.now }
+{
+    let mut items = ArrayVec::new();
+    let _ = items.try_extend_from_slice(bytes);
+    items
+}
+
 impl Value {
     /// Returns the class of the objects that can be set to this value (AES70-2). It is never OcaBlock.
     pub fn class(self) -> Class
@@ -144,26 +155,35 @@ impl Value {
         with_integers!(class)
     }
 
+    /// The encoding of the value (AES70-3).
+    #[tactic(auto, unfolding(crate::specs::Values::value_encoding))]
+    pub(crate) fn encoding(self) -> ArrayVec<u8, 8>
+        ensures { result.items ≡ value_encoding self }
+    {
+        macro_rules! bytes_of {
+            ($($integer:ident $type:ty),*) => {
+                match self {
+                    Value::Mute(state) => bytes(&[state as u8]),
+                    Value::Polarity(state) => bytes(&[state as u8]),
+                    Value::Switch(position) => bytes(&position.to_be_bytes()),
+                    Value::Boolean(truth) => bytes(&[u8::from(truth)]),
+                    $(Value::$integer(setting) => bytes(&setting.to_be_bytes()),)*
+                }
+            };
+        }
+        with_integers!(bytes_of)
+    }
+
     /// Appends the encoding of the value to the parameters (AES70-3): from 1 to 8 bytes. A mute or a polarity has the
     /// number of its state as one byte, 1 or 2. The only refusal is `Full`, if the parameters would have more than
     /// 1,452 bytes in all; the parameters are then unchanged.
-    #[tactic(auto, unfolding(crate::specs::Values::value_encoding))]
     pub fn put(self, params: &mut Params) -> Result<(), PutFault>
         ensures puts { Puts result params.old.items params.new.items (value_encoding self) }
         ensures err { OnErr result (params.new ≡ params.old) }
     {
-        macro_rules! put {
-            ($($integer:ident $type:ty),*) => {
-                match self {
-                    Value::Mute(state) => (state as u8).put(params),
-                    Value::Polarity(state) => (state as u8).put(params),
-                    Value::Switch(position) => position.put(params),
-                    Value::Boolean(truth) => truth.put(params),
-                    $(Value::$integer(setting) => setting.put(params),)*
-                }
-            };
-        }
-        with_integers!(put)
+        params
+            .try_extend_from_slice(self.encoding().as_slice())
+            .map_err(|_| PutFault::Full)
     }
 
     /// Reads the value of an object of this class from `params`, the one parameter of a set method (AES70-2). It does

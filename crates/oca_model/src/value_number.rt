@@ -1,7 +1,7 @@
 //! The value of a class that has a number.
 ghost use Rattle.oca_model.specs.ValueNumbers.{integer_in, state_in, IsValueWith};
 
-use crate::value::{MuteState, PolarityState, Value, with_integers};
+use crate::value::{Value, mute_of, polarity_of, with_integers};
 use oca_types::Class;
 
 impl Value {
@@ -12,16 +12,8 @@ impl Value {
         ensures { IsValueWith state_in class number result }
     {
         match class {
-            Class::Mute => match number {
-                1 => Some(Value::Mute(MuteState::Muted)),
-                2 => Some(Value::Mute(MuteState::Unmuted)),
-                _ => None,
-            },
-            Class::Polarity => match number {
-                1 => Some(Value::Polarity(PolarityState::NonInverted)),
-                2 => Some(Value::Polarity(PolarityState::Inverted)),
-                _ => None,
-            },
+            Class::Mute => mute_of(number).map(Value::Mute),
+            Class::Polarity => polarity_of(number).map(Value::Polarity),
             _ => None,
         }
     }

@@ -1,9 +1,9 @@
 //! The requests that set a value and that read it.
-ghost use Rattle.std.specs.Prelude.{◌≡◌, ◌≤◌, length};
+ghost use Rattle.std.specs.Prelude.{◌≡◌};
 ghost use Rattle.oca_model.specs.Values.{class_of_value, set_method, get_method, value_encoding};
 ghost use Rattle.oca_model.specs.ValueRequests.{CallsMethod, CallsMethodIfAny};
 
-use crate::value::{Value, with_integers};
+use crate::value::Value;
 use arrayvec::ArrayVec;
 use oca_types::{Class, Method, MethodId, Ono, method_id};
 
@@ -62,35 +62,6 @@ pub(crate) fn get_method(class: Class) -> Option<Method>
     }
 }
 
-/// These bytes, of which there are at most 8.
-fn bytes(bytes: &[u8]) -> ArrayVec<u8, 8>
-    requires { length bytes.now ≤ 8 }
-    ensures { result.items ≡ bytes.now }
-{
-    let mut items = ArrayVec::new();
-    let _ = items.try_extend_from_slice(bytes);
-    items
-}
-
-/// The encoding of a value (AES70-3).
-#[tactic(auto, unfolding(crate::specs::Values::value_encoding))]
-fn encoding(value: Value) -> ArrayVec<u8, 8>
-    ensures { result.items ≡ value_encoding value }
-{
-    macro_rules! bytes_of {
-        ($($integer:ident $type:ty),*) => {
-            match value {
-                Value::Mute(state) => bytes(&[state as u8]),
-                Value::Polarity(state) => bytes(&[state as u8]),
-                Value::Switch(position) => bytes(&position.to_be_bytes()),
-                Value::Boolean(truth) => bytes(&[u8::from(truth)]),
-                $(Value::$integer(setting) => bytes(&setting.to_be_bytes()),)*
-            }
-        };
-    }
-    with_integers!(bytes_of)
-}
-
 /// Returns the request that sets an object of the value's class to the value (AES70-2): SetState of a mute or a
 /// polarity, SetPosition of a switch, or SetSetting of an actuator, with the value as its one parameter. The call sends
 /// nothing and checks no limits of an object.
@@ -103,7 +74,7 @@ pub fn set_request(value: Value) -> ValueRequest
     ValueRequest {
         method,
         count: 1,
-        params: encoding(value),
+        params: value.encoding(),
     }
 }
 
