@@ -17,7 +17,7 @@ ghost use Rattle.oca_tree.specs.Readers.{reading_setting, value_setting, setting
 ghost use Rattle.oca_tree.specs.declared.tree.Setting.TheVariants.{Number};
 ghost use Rattle.oca_tree.specs.Copies.{stored_in, stored_at, names_of_ono, lockable_at, all_unlocked};
 
-use crate::description::{class_in, failing_in, lockable_in, position_names_in, start_in};
+use crate::description::{names_in, start_of};
 use crate::execute::carry_out;
 use crate::front::{FrontFault, set_enabled, set_failing, set_label, unlock};
 use crate::infos::ObjectInfos;
@@ -271,10 +271,7 @@ impl Tree {
     pub fn object_at(&self, index: usize) -> Option<ObjectInfo>
         ensures { result ≡ info_at self.now index }
     {
-        match self.objects.as_slice().get(index) {
-            Some(object) => Some(info_of(object)),
-            None => None,
-        }
+        Some(info_of(self.objects.as_slice().get(index)?))
     }
 
     /// Returns what the object with the number `ono` is: its number, class, container and role (AES70-2). The result is
@@ -282,10 +279,7 @@ impl Tree {
     pub fn object_of(&self, ono: Ono) -> Option<ObjectInfo>
         ensures { result ≡ info_of_ono self.now ono.0 }
     {
-        match self.objects.find(ono) {
-            Some(object) => Some(info_of(object)),
-            None => None,
-        }
+        Some(info_of(self.objects.find(ono)?))
     }
 
     /// Returns an iterator over the objects of the tree, in order of adding, with the root first (AES70-2). Its items
@@ -301,7 +295,7 @@ impl Tree {
     pub fn lock_of(&self, ono: Ono) -> Option<Lock>
         ensures { result ≡ lock_at self.now ono.0 }
     {
-        lock_in(&self.objects, ono)
+        self.objects.find(ono)?.lock
     }
 
     /// Returns the lock of the object at an index: its kind and the peer that has the lock (OcaRoot, AES70-2). The
@@ -310,10 +304,7 @@ impl Tree {
     pub fn lock_at(&self, index: usize) -> Option<Lock>
         ensures { result ≡ option_and_then (λ o. o.lock) (slice_get self.now index) }
     {
-        let Some(object) = self.objects.as_slice().get(index) else {
-            return None;
-        };
-        object.lock
+        self.objects.as_slice().get(index)?.lock
     }
 
     /// Returns whether the hardware of the object with the number `ono` refuses changes. The result is what
@@ -322,7 +313,7 @@ impl Tree {
     pub fn is_failing(&self, ono: Ono) -> Option<bool>
         ensures { result ≡ failing_at self.now ono.0 }
     {
-        failing_in(&self.objects, ono)
+        Some(self.objects.find(ono)?.failing)
     }
 
     /// Returns how many objects are locked: from 0 to the number of objects, at most 4,096 (OcaRoot, AES70-2). The tree
@@ -338,7 +329,7 @@ impl Tree {
     pub fn class_of(&self, ono: Ono) -> Option<Class>
         ensures { result ≡ class_of_ono self.now ono.0 }
     {
-        class_in(&self.objects, ono)
+        Some(self.objects.find(ono)?.class())
     }
 
     /// Returns the setting of the object with the number `ono`: a state, a position, a Boolean, or an integer with its
@@ -346,7 +337,7 @@ impl Tree {
     pub fn setting_of(&self, ono: Ono) -> Option<Setting>
         ensures { result ≡ setting_at self.now ono.0 }
     {
-        setting_in(&self.objects, ono)
+        value_setting(&self.objects.find(ono)?.value)
     }
 
     /// Returns the label and the flags of the object with the number `ono`, for storing them: its label, whether it is
@@ -356,7 +347,7 @@ impl Tree {
     pub fn start_of(&self, ono: Ono) -> Option<Start<'_>>
         ensures { option_map stored_in result ≡ stored_at self.now ono.0 }
     {
-        start_in(&self.objects, ono)
+        Some(start_of(self.objects.find(ono)?))
     }
 
     /// Returns the names of the positions of the switch with the number `ono`, in order: 1 to 16 names, each of at most
@@ -365,7 +356,10 @@ impl Tree {
     pub fn position_names_of(&self, ono: Ono) -> &[Text]
         ensures { result.now ≡ names_of_ono self.now ono.0 }
     {
-        position_names_in(&self.objects, ono)
+        match self.objects.find(ono) {
+            Some(object) => names_in(&object.value),
+            None => &[],
+        }
     }
 
     /// Returns whether the object with the number `ono` can be locked (OcaRoot, AES70-2). The result is `None` if no
@@ -373,7 +367,7 @@ impl Tree {
     pub fn is_lockable(&self, ono: Ono) -> Option<bool>
         ensures { result ≡ lockable_at self.now ono.0 }
     {
-        lockable_in(&self.objects, ono)
+        Some(self.objects.find(ono)?.lockable)
     }
 
     /// Compares this tree with `other`, object by object in their order. Returns `true` only if both have the same
@@ -397,16 +391,6 @@ pub(crate) fn info_of(object: &Object) -> ObjectInfo
         class: object.class(),
         container: object.container,
         role: object.role.copied(),
-    }
-}
-
-/// The lock of the object with this number.
-fn lock_in(objects: &Objects, ono: Ono) -> Option<Lock>
-    ensures { result ≡ lock_at objects.now.list ono.0 }
-{
-    match objects.find(ono) {
-        Some(object) => object.lock,
-        None => None,
     }
 }
 
@@ -449,16 +433,6 @@ fn value_setting(value: &Held) -> Option<Setting>
         Held::Block => None,
         Held::Switch(switch) => Some(Setting::Position(switch.position)),
         Held::Reads(reading) => reading_setting(*reading),
-    }
-}
-
-/// How the object with this number is set.
-fn setting_in(objects: &Objects, ono: Ono) -> Option<Setting>
-    ensures { result ≡ setting_at objects.now.list ono.0 }
-{
-    match objects.find(ono) {
-        Some(object) => value_setting(&object.value),
-        None => None,
     }
 }
 
