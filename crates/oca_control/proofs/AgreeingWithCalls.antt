@@ -15,9 +15,7 @@ submit_heard (Ok h) r now l = refl
 
 due_heard : (d : Decision) (t : ℕ) (l : LinkState) → (after_due d t l).heard ≡ l.heard
 due_heard (GivesCommand c) t l = refl
-due_heard GivesKeepAlive t l = refl
-due_heard GivesNothing t l = refl
-due_heard IsLost t l = refl
+due_heard _ t l = refl
 
 heard_is : (device : Peer) (first opened s : ℕ) (calls : List Call) (after : LinkState) → 0 < s → IsHistory device first opened s calls after → after.heard ≡ last_heard device opened calls
 heard_is device first opened s [] after some h = ap (λ (l : LinkState). l.heard) h

@@ -199,9 +199,7 @@ clock_stays opened now before (SendsDue n a bytes ∷ calls) e = same (clock_of_
   where
     same : (c n : ℕ) → n ≡ now → max (max c n) now ≡ max c now
     same c n e = omega arith
-clock_stays opened now before (Submits r n a ∷ calls) e = absurd e.0
-clock_stays opened now before (Receives from bytes content n a ∷ calls) e = absurd e.0
-clock_stays opened now before (TakesAnswer x a ∷ calls) e = absurd e.0
+clock_stays opened now before _ e = absurd e.0
 
 goes_on_until : (device : Peer) (opened now h : ℕ) (before calls : List Call) (due : List ℕ) → GivesWhatIsDue device opened (calls ++ before) → AllByRecursion (CallsDueAt now) calls →
     is_due_at device opened (max (clock_of_calls opened before) now) h before ≡ true → ((x : ℕ) → is_due_at device opened (max (clock_of_calls opened before) now) x before ≡ true → is_among x due ≡ true) →
@@ -230,9 +228,7 @@ goes_on_until device opened now h before (SendsDue n a bytes ∷ calls) due g e 
     by (inr (inl given)) = inr (inl (ap (λ b. is_given_in h (SendsDue n a bytes) || b) given ∙ or-true (is_given_in h (SendsDue n a bytes))))
     by (inr (inr s)) = by_call (one_call device opened n (max (clock_of_calls opened before) now) h (length due) (calls ++ before) (length calls) same_now a bytes
         (subst (λ (m : ℕ). IsDueAnswer device opened m bytes (calls ++ before) a) same_now g.0) s)
-goes_on_until device opened now h before (Submits r n a ∷ calls) due g e d covers = absurd e.0
-goes_on_until device opened now h before (Receives from bytes content n a ∷ calls) due g e d covers = absurd e.0
-goes_on_until device opened now h before (TakesAnswer x a ∷ calls) due g e d covers = absurd e.0
+goes_on_until device opened now h before _ due g e d covers = absurd e.0
 
 -- Among calls of `due` alone, at one moment, and at least as many of them as handles are due then, each handle that is
 -- due is sent, or the link is lost (span not 0).

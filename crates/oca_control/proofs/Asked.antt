@@ -196,15 +196,13 @@ left_taken h l left =
 lost_heard : (d : Delivery) (l between : LinkState) (n : ℕ) → HearsDelivery d l between n → between.lost ≡ l.lost
 lost_heard (Datagram from bytes now) l between n x = on_bool (nat_le (length bytes) 1472) (λ b. nat_le (length bytes) 1472 ≡ b → between.lost ≡ l.lost)
     (λ q. ap (λ (k : LinkState). k.lost) (x.short (leb-true (length bytes) 1472 q)).1.link_is) (λ q. ap (λ (k : LinkState). k.lost) (x.long (leb-false (length bytes) 1472 q)).0) refl
-lost_heard (Quiet now) l between n x = ap (λ (k : LinkState). k.lost) x.0
-lost_heard Failed l between n x = ap (λ (k : LinkState). k.lost) x.0
+lost_heard _ l between n x = ap (λ (k : LinkState). k.lost) x.0
 
 moment_heard : (d : Delivery) (l between : LinkState) (n : ℕ) → HearsDelivery d l between n → l.moment ≤ between.moment
 moment_heard (Datagram from bytes now) l between n x = on_bool (nat_le (length bytes) 1472) (λ b. nat_le (length bytes) 1472 ≡ b → l.moment ≤ between.moment)
     (λ q. let e : between.moment ≡ max l.moment now = ap (λ (k : LinkState). k.moment) (x.short (leb-true (length bytes) 1472 q)).1.link_is in omega arith)
     (λ q. let e : between.moment ≡ l.moment = ap (λ (k : LinkState). k.moment) (x.long (leb-false (length bytes) 1472 q)).0 in omega arith) refl
-moment_heard (Quiet now) l between n x = let e : between.moment ≡ l.moment = ap (λ (k : LinkState). k.moment) x.0 in omega arith
-moment_heard Failed l between n x = let e : between.moment ≡ l.moment = ap (λ (k : LinkState). k.moment) x.0 in omega arith
+moment_heard _ l between n x = let e : between.moment ≡ l.moment = ap (λ (k : LinkState). k.moment) x.0 in omega arith
 
 lost_in_time : (now : ℕ) (l : LinkState) (b : Bool) → (cond b l (link_from now (l.span + 1) l)).lost ≡ false → l.lost ≡ false
 lost_in_time now l true e = e

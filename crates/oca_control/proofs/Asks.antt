@@ -66,9 +66,7 @@ fault_asked fault o turns before after is same = subst (λ (x : Outcome). Receiv
   where
     by : (f : ControlFault) → ReceivesSoOften turns (refused_by f) before after
     by faults.Lost = omega arith
-    by faults.HandlesSpent = same
-    by faults.SpanFull = same
-    by faults.TooLong = same
+    by _ = same
 
 -- A command that was begun and then waited for was asked.
 pub asks_answered : {request : RequestFields} {turns : ℕ} {old link new : LinkState} {e d f : EndState} (h : Handle) (o : Outcome) → Begins request (Ok h) old link e d → Waits h.0 turns link o new d f →

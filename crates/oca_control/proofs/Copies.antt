@@ -62,15 +62,11 @@ dated_later t now at us q = each_map (λ u a. (a.0, later u.submitted a.1, later
 
 dated_due : (now : ℕ) (at : ℕ → Option ℕ) (l : LinkState) (d : Decision) → AreDated l.moment at l.untaken → AreDated (max l.moment now) at (after_due d (present_moment now l) l).untaken
 dated_due now at l (GivesCommand c) q = dated_marked_sent (max l.moment now) c.handle at l.untaken (dated_later l.moment now at l.untaken q)
-dated_due now at l GivesKeepAlive q = dated_later l.moment now at l.untaken q
-dated_due now at l GivesNothing q = dated_later l.moment now at l.untaken q
-dated_due now at l IsLost q = dated_later l.moment now at l.untaken q
+dated_due now at l _ q = dated_later l.moment now at l.untaken q
 
 due_moment : (now : ℕ) (l : LinkState) (d : Decision) → (after_due d (present_moment now l) l).moment ≡ max l.moment now
 due_moment now l (GivesCommand c) = refl
-due_moment now l GivesKeepAlive = refl
-due_moment now l GivesNothing = refl
-due_moment now l IsLost = refl
+due_moment now l _ = refl
 
 is_history : (device : Peer) (first opened s : ℕ) (calls : List Call) (after : LinkState) → MakesInTime (new_link device first opened s) calls after → IsHistory device first opened s calls after
 is_history device first opened s [] after m = m
@@ -250,9 +246,7 @@ asked_more ms ns f calls = each_map one calls
   where
     one : (call : Call) → IsAskedAt ms call → IsAskedAt ns call
     one (SendsDue now returned bytes) k = f now k
-    one (Submits request now returned) k = tt
-    one (Receives from bytes content now returned) k = tt
-    one (TakesAnswer h answer) k = tt
+    one _ k = tt
 
 among_first : (x : ℕ) (ms ns : List ℕ) → is_among x ms ≡ true → is_among x (ms ++ ns) ≡ true
 among_first x ms ns k = list_any-append (λ y. y == x) ms ns ∙ ap (λ b. b || is_among x ns) k
@@ -314,9 +308,7 @@ calm_after now l calm = by (decision now l)
     by : (d : Decision) → late_at now (after_due d (present_moment now l) l) ≡ false
     by (GivesCommand c) =
         ap (λ k. list_any (is_late k) (map (marked_sent (present_moment now l) c.handle) l.untaken)) (again l.moment now) ∙ none_marked_sent (present_moment now l) c.handle l.untaken calm
-    by GivesKeepAlive = ap (λ k. list_any (is_late k) l.untaken) (again l.moment now) ∙ calm
-    by GivesNothing = ap (λ k. list_any (is_late k) l.untaken) (again l.moment now) ∙ calm
-    by IsLost = ap (λ k. list_any (is_late k) l.untaken) (again l.moment now) ∙ calm
+    by _ = ap (λ k. list_any (is_late k) l.untaken) (again l.moment now) ∙ calm
 
 -- what is sent by calls in time, at these moments, by what was decided
 record SentBy (moments : List ℕ) (old new : LinkState) (ds : List Decision) : Type 0 where
@@ -331,9 +323,7 @@ sent_nothing moments same none = record { calls = []; made = same; sent = none; 
 
 sent_out : (d : Decision) → is_sent_out (due_answer d) ≡ goes_on d
 sent_out (GivesCommand c) = refl
-sent_out GivesKeepAlive = refl
-sent_out GivesNothing = refl
-sent_out IsLost = refl
+sent_out _ = refl
 
 made_from : (n now : ℕ) (l : LinkState) → late_at now l ≡ false → SentBy (now ∷ []) l (link_from now n l) (decisions_from now n l)
 unfolding link_from decisions_from
@@ -423,8 +413,7 @@ heard_made (Datagram from bytes now) old new n x = by (nat_le (length bytes) 147
           asked = λ ms. (tt, tt);
         }
     by false q = heard_nothing (x.long (leb-false (length bytes) 1472 q)).0 (ap (λ b. cond b (Datagram from bytes now ∷ []) []) (sym q))
-heard_made (Quiet now) old new n x = heard_nothing x.0 refl
-heard_made Failed old new n x = heard_nothing x.0 refl
+heard_made _ old new n x = heard_nothing x.0 refl
 
 after_made : (d : Delivery) (old new : LinkState) (ds : List Decision) → GivesAfter d old new ds → SentBy (delivered_at d) old new ds
 after_made (Datagram from bytes now) old new ds x = all_made now old new ds x

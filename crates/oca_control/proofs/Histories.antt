@@ -316,9 +316,7 @@ fit_submit r now l (Ok h) e f = fits_after h.0 (subst Fits32 (is_accepted r h l 
 
 fit_due : (d : Decision) (t : ℕ) (l : LinkState) → Fits32 l.next → Fits32 (after_due d t l).next
 fit_due (GivesCommand c) t l f = f
-fit_due GivesKeepAlive t l f = f
-fit_due GivesNothing t l f = f
-fit_due IsLost t l f = f
+fit_due _ t l f = f
 
 fit : (device : Peer) (first opened s : ℕ) (calls : List Call) (after : LinkState) → 0 < s → first ≤ 4294967295 → IsHistory device first opened s calls after → Fit first s calls after
 fit device first opened s [] after some low h = record { next = subst (λ (m : LinkState). Fits32 m.next) (sym h) low; submits_are = tt }

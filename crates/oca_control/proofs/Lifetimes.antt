@@ -109,15 +109,11 @@ fits_given ms t h (u ∷ us) q = (by (eqb u.command.handle h) q.0, fits_given ms
 
 fits_due : (ms now : ℕ) (l : LinkState) (d : Decision) → AllByRecursion (Fits ms (present_moment now l)) l.untaken → AllByRecursion (Fits ms (present_moment now l)) (after_due d (present_moment now l) l).untaken
 fits_due ms now l (GivesCommand c) q = fits_given ms (present_moment now l) c.handle l.untaken q
-fits_due ms now l GivesKeepAlive q = q
-fits_due ms now l GivesNothing q = q
-fits_due ms now l IsLost q = q
+fits_due ms now l _ q = q
 
 due_moment : (now : ℕ) (l : LinkState) (d : Decision) → present_moment now (after_due d (present_moment now l) l) ≡ present_moment now l
 due_moment now l (GivesCommand c) = again l.moment now
-due_moment now l GivesKeepAlive = again l.moment now
-due_moment now l GivesNothing = again l.moment now
-due_moment now l IsLost = again l.moment now
+due_moment now l _ = again l.moment now
 
 -- What is sent at the moment changes nothing of it.
 pub fits_from : (ms now n : ℕ) (l : LinkState) → AllByRecursion (Fits ms (present_moment now l)) l.untaken → AllByRecursion (Fits ms (present_moment now l)) (link_from now n l).untaken

@@ -248,8 +248,7 @@ moment_from (suc n) now l p = by (decision now l) (λ x some. moment_from n now 
     by : (d : Decision) → ((y : LinkState) → 0 < n → (link_from now n y).moment ≡ present_moment now y) → (cond (goes_on d) (link_from now n (after_due d (present_moment now l) l)) (after_due d (present_moment now l) l)).moment ≡ present_moment now l
     by (GivesCommand c) further = rest n (after_due (GivesCommand c) (present_moment now l) l) refl refl further
     by GivesKeepAlive further = rest n (after_due GivesKeepAlive (present_moment now l) l) refl refl further
-    by GivesNothing further = refl
-    by IsLost further = refl
+    by _ further = refl
 
 -- ---- what was sent
 

@@ -22,17 +22,14 @@ use Rattle.oca_control.specs.Driving.{decisions_from, link_from, SendsDue}
 -- as sent.
 pub sends : (p : Peer) (d : Decision) (h : Due) → h ≡ due_answer d → (a : ℕ) → h ≡ dues.Send (record { 0 = a }) → (given_to p d ≡ (record { to = p; bytes = due_bytes d }) ∷ []) × (goes_on d ≡ true) × ((k : ℕ) → given_report (d ∷ []) k ≡ record (given_report [] k) { sent = 1 })
 sends p (GivesCommand c) h e a f = (refl, refl, λ k. refl)
-sends p GivesKeepAlive h e a f = let g = sym e ∙ f in cc
-sends p GivesNothing h e a f = let g = sym e ∙ f in cc
-sends p IsLost h e a f = let g = sym e ∙ f in cc
+sends p _ h e a f = let g = sym e ∙ f in cc
 
 -- Where `due` answered with a keep-alive, its bytes go to the device, `due` is called again, and one keep-alive is
 -- reported.
 pub keeps_alive : (p : Peer) (d : Decision) (h : Due) → h ≡ due_answer d → h ≡ dues.KeepAlive → (given_to p d ≡ (record { to = p; bytes = due_bytes d }) ∷ []) × (goes_on d ≡ true) × ((k : ℕ) → given_report (d ∷ []) k ≡ record (given_report [] k) { keep_alives = 1 })
 keeps_alive p (GivesCommand c) h e f = let g = sym e ∙ f in cc
 keeps_alive p GivesKeepAlive h e f = (refl, refl, λ k. refl)
-keeps_alive p GivesNothing h e f = let g = sym e ∙ f in cc
-keeps_alive p IsLost h e f = let g = sym e ∙ f in cc
+keeps_alive p _ h e f = let g = sym e ∙ f in cc
 
 -- Where `due` answered with nothing, no bytes go out, `due` is not called again, and nothing is reported.
 pub gives_nothing : (p : Peer) (d : Decision) (h : Due) → h ≡ due_answer d → h ≡ dues.Nothing → (given_to p d ≡ []) × (goes_on d ≡ false) × (given_report [] 0 ≡ given_report (d ∷ []) 0)
@@ -95,9 +92,7 @@ added_reports xs ys ds es n k a b =
 -- nothing that is sent changes the address
 pub device_stays : (d : Decision) (now : ℕ) (l : LinkState) → (after_due d now l).device ≡ l.device
 device_stays (GivesCommand c) now l = refl
-device_stays GivesKeepAlive now l = refl
-device_stays GivesNothing now l = refl
-device_stays IsLost now l = refl
+device_stays _ now l = refl
 
 -- ---- what is due, one after another
 

@@ -24,9 +24,7 @@ has_response h messages = is_some (first_of (answers_among h messages))
 -- a call is no take of this handle
 abbrev pub TakesNothingOf : ℕ → Call → Type 0
 TakesNothingOf h (TakesAnswer x answer) = x ≡ h → ⊥
-TakesNothingOf h (Submits request now returned) = ⊤
-TakesNothingOf h (SendsDue now returned bytes) = ⊤
-TakesNothingOf h (Receives from bytes content now returned) = ⊤
+TakesNothingOf h _ = ⊤
 
 -- A well-formed datagram came from the device, with a response to an untaken command, whatever else it has. Then
 -- whatever is called, but for a take of this handle, the link holds an answer to it, which a take gives.
@@ -43,23 +41,17 @@ EveryAnswerIsKept =
 -- a call of `due` at this moment
 abbrev pub CallsDueAt : ℕ → Call → Type 0
 CallsDueAt t (SendsDue now returned bytes) = now ≡ t
-CallsDueAt t (Submits request now returned) = ⊥
-CallsDueAt t (Receives from bytes content now returned) = ⊥
-CallsDueAt t (TakesAnswer x answer) = ⊥
+CallsDueAt t _ = ⊥
 
 -- the command of this handle was sent in the call
 abbrev pub is_send_of : ℕ → Due → Bool
 is_send_of h (dues.Send x) = x.0 == h
-is_send_of h dues.KeepAlive = false
-is_send_of h dues.Nothing = false
-is_send_of h dues.Lost = false
+is_send_of h _ = false
 
 -- the same of a call: one of `due` that returned it
 abbrev pub is_given_in : ℕ → Call → Bool
 is_given_in h (SendsDue now returned bytes) = is_send_of h returned
-is_given_in h (Submits request now returned) = false
-is_given_in h (Receives from bytes content now returned) = false
-is_given_in h (TakesAnswer x answer) = false
+is_given_in h _ = false
 
 -- the handle stands in the list
 abbrev pub is_among : ℕ → List ℕ → Bool
@@ -82,9 +74,7 @@ EveryDueCommandIsSent =
 -- `due` returned that no command is left to send: with a keep-alive, with nothing, or that the link is lost
 abbrev pub is_none_left : Due → Bool
 is_none_left (dues.Send h) = false
-is_none_left dues.KeepAlive = true
-is_none_left dues.Nothing = true
-is_none_left dues.Lost = true
+is_none_left _ = true
 
 -- THE LAST TIME that it did, by the clock, and at first the moment since when the calls are looked at.
 abbrev pub last_asked : ℕ → List Call → ℕ

@@ -42,9 +42,7 @@ LeavesInTime (Some t) s = (t ≤ s.at) × (s.at ≤ t + longest_life)
 -- A call is in time unless it is one of `due` at a moment at which the link is late.
 abbrev pub IsInTime : LinkState → Call → Type 0
 IsInTime l (SendsDue now returned bytes) = late_at now l ≡ false
-IsInTime l (Submits request now returned) = ⊤
-IsInTime l (Receives from bytes content now returned) = ⊤
-IsInTime l (TakesAnswer h answer) = ⊤
+IsInTime l _ = ⊤
 
 -- A link becomes another by these calls, each of which is in time.
 abbrev pub MakesInTime : LinkState → List Call → LinkState → Type 0
@@ -70,8 +68,7 @@ EveryCallInTimeGoesOn =
 abbrev pub is_sent_out : Due → Bool
 is_sent_out (dues.Send handle) = true
 is_sent_out dues.KeepAlive = true
-is_sent_out dues.Nothing = false
-is_sent_out dues.Lost = false
+is_sent_out _ = false
 
 -- THE DATAGRAMS THAT CALLS SEND to a device, in order: here the first one stands first.
 abbrev pub datagrams_sent : Peer → List Call → List Sent
@@ -96,15 +93,12 @@ datagrams_heard (TakesAnswer h answer ∷ before) = datagrams_heard before
 abbrev pub short_datagram : Delivery → List Delivery
 short_datagram (Datagram from bytes now) =
     if nat_le (length bytes) largest_datagram then Datagram from bytes now ∷ [] else []
-short_datagram (Quiet now) = []
-short_datagram Failed = []
+short_datagram _ = []
 
 -- a call is at one of these moments, if it is one of `due`
 abbrev pub IsAskedAt : List ℕ → Call → Type 0
 IsAskedAt moments (SendsDue now returned bytes) = is_among now moments ≡ true
-IsAskedAt moments (Submits request now returned) = ⊤
-IsAskedAt moments (Receives from bytes content now returned) = ⊤
-IsAskedAt moments (TakesAnswer h answer) = ⊤
+IsAskedAt moments _ = ⊤
 
 -- A LINK BECOMES ANOTHER OVER AN END by calls, each of which is in time. What these calls send is what was handed to
 -- the end, and what they receive is what came. The calls of `due` are at moments at which something was delivered, or

@@ -16,23 +16,18 @@ use Rattle.oca_control.specs.Steps.{ReceivesDatagram}
 -- how many commands a datagram answered
 abbrev pub answered_by : Reception → ℕ
 answered_by (receptions.Answered n) = n
-answered_by receptions.Stranger = 0
-answered_by receptions.Malformed = 0
-answered_by receptions.NothingNew = 0
+answered_by _ = 0
 
 -- a decision is that a command is sent
 abbrev pub gives_command : Decision → Bool
 gives_command (GivesCommand c) = true
-gives_command GivesKeepAlive = false
-gives_command GivesNothing = false
-gives_command IsLost = false
+gives_command _ = false
 
 -- or a keep-alive
 abbrev pub is_keep_alive : Decision → Bool
 is_keep_alive (GivesCommand c) = false
 is_keep_alive GivesKeepAlive = true
-is_keep_alive GivesNothing = false
-is_keep_alive IsLost = false
+is_keep_alive _ = false
 
 -- or that the link is lost
 abbrev pub decides_lost : Decision → Bool
@@ -45,8 +40,7 @@ decides_lost IsLost = true
 abbrev pub goes_on : Decision → Bool
 goes_on (GivesCommand c) = true
 goes_on GivesKeepAlive = true
-goes_on GivesNothing = false
-goes_on IsLost = false
+goes_on _ = false
 
 -- what at most n calls of `due` decide at a moment, until one gives nothing out
 unfoldable pub decisions_from : ℕ → ℕ → LinkState → List Decision
@@ -76,8 +70,7 @@ pub record HearsDatagram (from : Peer) (bytes : List ℕ) (now : ℕ) (old new :
 -- what is heard of a delivery: where nothing came, or the receive failed, the link stays as it is
 abbrev pub HearsDelivery : Delivery → LinkState → LinkState → ℕ → Type 0
 HearsDelivery (Datagram from bytes now) old new answered = HearsDatagram from bytes now old new answered
-HearsDelivery (Quiet now) old new answered = (new ≡ old) × (answered ≡ 0)
-HearsDelivery Failed old new answered = (new ≡ old) × (answered ≡ 0)
+HearsDelivery _ old new answered = (new ≡ old) × (answered ≡ 0)
 
 -- What is then sent: `due` is called at most once more than the span has handles, and not after a failed receive.
 abbrev pub GivesAll : ℕ → LinkState → LinkState → List Decision → Type 0

@@ -145,8 +145,7 @@ is_due_at device opened t h before =
 abbrev pub given_at : ℕ → Due → ℕ → ℕ
 given_at t (dues.Send h) last = t
 given_at t dues.KeepAlive last = t
-given_at t dues.Nothing last = last
-given_at t dues.Lost last = last
+given_at t _ last = last
 
 -- THE LAST MOMENT when a command or a keep-alive was sent, and at first that of the opening.
 abbrev pub last_given : ℕ → List Call → ℕ

@@ -130,8 +130,7 @@ due_answer IsLost = dues.Lost
 abbrev pub due_bytes : Decision → List ℕ
 due_bytes (GivesCommand c) = pdu_encoding (Commands true (c ∷ []))
 due_bytes GivesKeepAlive = pdu_encoding (OneKeepAlive (Seconds 5))
-due_bytes GivesNothing = []
-due_bytes IsLost = []
+due_bytes _ = []
 
 -- the link after it, at the present moment
 abbrev pub after_due : Decision → ℕ → LinkState → LinkState

@@ -105,9 +105,7 @@ first_decided now us = option_map decided (first_due now us)
 abbrev pub after_decision : ℕ → Option Decision → List Untaken → List Untaken
 after_decision now None us = us
 after_decision now (Some (GivesCommand c)) us = map (marked_sent now c.handle) us
-after_decision now (Some GivesKeepAlive) us = us
-after_decision now (Some GivesNothing) us = us
-after_decision now (Some IsLost) us = us
+after_decision now _ us = us
 
 -- the bytes that are sent then
 abbrev pub bytes_decided : Option Decision → List ℕ

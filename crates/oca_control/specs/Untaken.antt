@@ -67,8 +67,7 @@ answered h answer u =
 -- after a message: a response brings an answer; commands and keep-alives are ignored
 abbrev pub hears : Msg → List Untaken → List Untaken
 hears (Response r) us = map (answered r.handle (answer_of_response r)) us
-hears (KeepAlive form) us = us
-hears (Command respond c) us = us
+hears _ us = us
 
 -- after messages, in order
 abbrev pub hears_all : List Msg → List Untaken → List Untaken
@@ -78,8 +77,7 @@ hears_all (m ∷ messages) us = hears_all messages (hears m us)
 -- how many commands a message answers: 1 or none
 abbrev pub answers_by : Msg → List Untaken → ℕ
 answers_by (Response r) us = if list_any (waits r.handle) us then 1 else 0
-answers_by (KeepAlive form) us = 0
-answers_by (Command respond c) us = 0
+answers_by _ us = 0
 
 -- how many commands messages answer, in order: a second response to one counts nothing
 abbrev pub answers_by_all : List Msg → List Untaken → ℕ

@@ -21,8 +21,7 @@ counted m = cond (not (is_response m)) 1 0
 
 one_counted : (m : Msg) → may_answer m ≡ counted m
 one_counted (Command respond c) = refl
-one_counted (KeepAlive form) = refl
-one_counted (Response r) = refl
+one_counted _ = refl
 
 pub answers_counted : (ms : List Msg) → most_answers ms ≡ count_by (λ m. not (is_response m)) ms
 answers_counted [] = refl
@@ -31,8 +30,7 @@ answers_counted (m ∷ ms) =
 
 one_command : (m : Msg) → commands_of m ≡ cond (is_command m) 1 0
 one_command (Command respond c) = refl
-one_command (KeepAlive form) = refl
-one_command (Response r) = refl
+one_command _ = refl
 
 pub commands_counted : (ms : List Msg) → all_commands ms ≡ count_by is_command ms
 commands_counted [] = refl
@@ -106,14 +104,11 @@ answers_grow groups (m ∷ ms) = omega (arith, answers_grow (with_answer groups 
 
 command_answers : (j : Judgement) (p : Peer) (c : CommandFields) (s : State) → length (answer_to_command j p c s) ≤ 1
 command_answers Fresh p c s = omega arith
-command_answers (Duplicate reply) p c s = omega arith
-command_answers Reused p c s = omega arith
-command_answers Old p c s = omega arith
+command_answers _ p c s = omega arith
 
 message_answers : (w : DeviceSizes) (p : Peer) (m : Msg) (s : State) → length (answer_to w p m s) ≤ may_answer m
 message_answers w p (Command respond c) s = on_bool respond (λ b. length (cond b (answer_to_command (judged_in w s p c) p c s) []) ≤ 1) (command_answers (judged_in w s p c) p c s) (omega arith)
-message_answers w p (KeepAlive form) s = omega arith
-message_answers w p (Response r) s = omega arith
+message_answers w p _ s = omega arith
 
 all_answers : (w : DeviceSizes) (p : Peer) (ms : List Msg) (s : State) → length (answers_to_messages w p ms s) ≤ most_answers ms
 all_answers w p [] s = omega arith

@@ -124,8 +124,7 @@ still_first p (Responses (s ∷ rs)) [] (Response r) g h =
   where
     still : (y : Pdu) → IsFullBefore y (Responses (s ∷ rs)) → IsFullBefore y (Responses (s ∷ (rs ++ r ∷ [])))
     still (Responses xs) k = k
-    still (OneKeepAlive form) k = tt
-    still (Commands respond cs) k = tt
+    still _ k = tt
 still_first p (Responses []) [] (Response r) g h = absurd (omega (arith, g.0))
 still_first p (Responses rs) [] (KeepAlive form) g h = h
 still_first p (Responses rs) [] (Command respond c) g h = h
@@ -143,8 +142,7 @@ from_grown p (q ∷ groups) m h a =
 
 one_message : (m : Msg) → messages_of (pdu_of m) ≡ m ∷ []
 one_message (Command respond c) = refl
-one_message (Response r) = refl
-one_message (KeepAlive form) = refl
+one_message _ = refl
 
 answer_grown : (groups : List Pdu) (m : Msg) → AreSound groups → IsAnswerMessage m → Grown (with_answer groups m) groups m
 answer_grown [] m h a = record { sound = ((one_group m a, tt), (tt, tt)); adds = append-nil (messages_of (pdu_of m)) ∙ one_message m }
@@ -180,8 +178,7 @@ head_or d (x ∷ xs) = x
 
 fields_or : ResponseFields → Msg → ResponseFields
 fields_or d (Response r) = r
-fields_or d (Command respond c) = d
-fields_or d (KeepAlive form) = d
+fields_or d _ = d
 
 tail_of : List Msg → List Msg
 tail_of [] = []
@@ -234,8 +231,7 @@ no_message (Commands respond cs) groups g e = g
 
 alive_or : Pdu → Msg → Pdu
 alive_or d (KeepAlive form) = OneKeepAlive form
-alive_or d (Response r) = d
-alive_or d (Command respond c) = d
+alive_or d _ = d
 
 pub unique : (ps qs : List Pdu) → AreSound ps → AreSound qs → messages_of_groups ps ≡ messages_of_groups qs → ps ≡ qs
 unfolding alive_or head_or

@@ -266,8 +266,7 @@ cut_so m before r some =
 
 alive_last : (p : Pdu) (form : Form) → last_with p (KeepAlive form) ≡ p ∷ OneKeepAlive form ∷ []
 alive_last (Responses rs) form = refl
-alive_last (OneKeepAlive f) form = refl
-alive_last (Commands respond cs) form = refl
+alive_last _ form = refl
 
 alive_from : (p : Pdu) (groups : List Pdu) (form : Form) → from_with p groups (KeepAlive form) ≡ p ∷ groups ++ OneKeepAlive form ∷ []
 alive_from p [] form = alive_last p form

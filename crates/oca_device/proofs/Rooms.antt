@@ -116,8 +116,7 @@ module _ (most : ℕ) where
   all_kept : nat_le 1452 most ≡ true → (j : Judgement) → shortened_judgement most j ≡ j
   all_kept h Fresh = refl
   all_kept h (Duplicate r) = ap (λ (x : Reply). Duplicate x) (kept h r)
-  all_kept h Reused = refl
-  all_kept h Old = refl
+  all_kept h _ = refl
 
   pub judged_short : (w : ℕ) (A : List Entry) (c : CommandFields) → judgement w (shortened_entries most A) c ≡ shortened_judgement most (judgement w A c)
   judged_short w A c =
@@ -128,9 +127,7 @@ module _ (most : ℕ) where
 
   pub was_fresh : (j : Judgement) → Fresh ≡ shortened_judgement most j → Fresh ≡ j
   was_fresh Fresh h = refl
-  was_fresh (Duplicate r) h = cc
-  was_fresh Reused h = cc
-  was_fresh Old h = cc
+  was_fresh _ h = cc
 
   pub was_reused : (j : Judgement) → Reused ≡ shortened_judgement most j → Reused ≡ j
   was_reused Fresh h = cc
@@ -147,5 +144,4 @@ module _ (most : ℕ) where
   pub was_duplicate : (j : Judgement) (x : Reply) → Duplicate x ≡ shortened_judgement most j → (r : Reply) × (Duplicate r ≡ j) × (x ≡ shortened_reply most r)
   was_duplicate Fresh x h = cc
   was_duplicate (Duplicate r) x h = (r, refl, cc)
-  was_duplicate Reused x h = cc
-  was_duplicate Old x h = cc
+  was_duplicate _ x h = cc

@@ -175,9 +175,7 @@ message_now w s p (Command respond c) k now = by_judgement (judged_in w s p c)
   where
     by_judgement : (j : Judgement) → last_noted (run p (after_command j p c s).notes) ≡ (after_command j p c s).moment
     by_judgement Fresh = ap last_noted (run_goes_on (record { peer = p; at = s.moment; what = Executed s.tree c (reply_of s.tree p c) }) s.notes k)
-    by_judgement (Duplicate reply) = now
-    by_judgement Reused = now
-    by_judgement Old = now
+    by_judgement _ = now
 message_now w s p (KeepAlive form) k now = ap last_noted (run_goes_on (record { peer = p; at = s.moment; what = Heartbeat (time_of form) }) s.notes k)
 message_now w s p (Response r) k now = now
 

@@ -218,8 +218,7 @@ all_sent p k i xs packets {a} {b} h e f =
 -- a verdict is that of one turn, in which no receive failed
 pub verdict_one : (v : Verdict) → ((verdict_turn v).turns ≡ 1) × ((verdict_turn v).failed_receives ≡ 0)
 verdict_one (verdicts.Served n k o r) = (refl, refl)
-verdict_one (verdicts.Malformed fault) = (refl, refl)
-verdict_one verdicts.NoRoom = (refl, refl)
+verdict_one _ = (refl, refl)
 
 -- a turn: one delivery was heard, and what it asks for was sent
 heard_one : (x : Delivery) {h : Heard} {bytes : List ℕ} {all : List Sent} {old new : DeviceState} {before mid after : EndState} {idle moved : ElectronicsState} {r : Report} →

@@ -36,8 +36,7 @@ response handle reply =
 abbrev pub answer_to_command : Judgement → Peer → CommandFields → State → List Msg
 answer_to_command Fresh p c s = response c.handle (reply_of s.tree p c) ∷ []
 answer_to_command (Duplicate reply) p c s = response c.handle reply ∷ []
-answer_to_command Reused p c s = []
-answer_to_command Old p c s = []
+answer_to_command _ p c s = []
 
 -- A command that asks for no response gets none. A keep-alive is answered with a keep-alive of the same form and the
 -- same time, as it was sent. A response is not answered.
@@ -61,8 +60,7 @@ answers_to_reading w p (Ok messages) s =
 abbrev pub answers_in : DeviceSizes → Event → State → List Msg
 answers_in w (Datagram from bytes now) s =
     answers_to_reading w from (read_datagram bytes) (moved_to (max s.moment now) s)
-answers_in w (Tick now) s = []
-answers_in w (Local ono change) s = []
+answers_in w _ s = []
 
 -- THE ANSWERS to an event after events.
 abbrev pub answers : DeviceSizes → List Object → List Event → Event → List Msg
@@ -97,8 +95,7 @@ count_of_command Reused = counts 0 0 0 1
 -- commands with and without response are both counted
 abbrev pub count_of_message : DeviceSizes → Peer → Msg → State → Counts
 count_of_message w p (Command respond c) s = count_of_command (judged_in w s p c)
-count_of_message w p (KeepAlive form) s = counts 0 0 0 0
-count_of_message w p (Response r) s = counts 0 0 0 0
+count_of_message w p _ s = counts 0 0 0 0
 
 -- all commands of messages
 abbrev pub counts_of_messages : DeviceSizes → Peer → List Msg → State → Counts

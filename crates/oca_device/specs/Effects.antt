@@ -36,8 +36,7 @@ outcome_of Old p c s = outcome.Old
 -- each command has one effect, and other messages have none
 abbrev pub effects_of_message : DeviceSizes → Peer → Msg → State → List Effect
 effects_of_message w p (Command respond c) s = effect_with (outcome_of (judged_in w s p c) p c s) respond c ∷ []
-effects_of_message w p (KeepAlive form) s = []
-effects_of_message w p (Response r) s = []
+effects_of_message w p _ s = []
 
 abbrev pub effects_of_messages : DeviceSizes → Peer → List Msg → State → List Effect
 effects_of_messages w p [] s = []

@@ -39,8 +39,7 @@ handed_of w tree events (Datagram from bytes now) =
       tree = (state_after w tree after).tree;
       written = written w tree after;
     }) ∷ [] else []
-handed_of w tree events (Quiet now) = []
-handed_of w tree events Failed = []
+handed_of w tree events _ = []
 
 -- WHAT IS HANDED of deliveries, after events, in order.
 abbrev pub handed : DeviceSizes → List Object → List Event → List Delivery → List Followed

@@ -20,14 +20,12 @@ IsGroup (Commands respond cs) = ⊥
 abbrev pub HasNoRoom : List ResponseFields → Pdu → Type 0
 HasNoRoom rs (Responses []) = ⊤
 HasNoRoom rs (Responses (r ∷ more)) = largest_datagram < length (pdu_encoding (Responses (rs ++ r ∷ [])))
-HasNoRoom rs (OneKeepAlive form) = ⊤
-HasNoRoom rs (Commands respond cs) = ⊤
+HasNoRoom rs _ = ⊤
 
 -- A group of responses ends only at a keep-alive, or where the next response would make its PDU too long.
 abbrev pub IsFullBefore : Pdu → Pdu → Type 0
 IsFullBefore (Responses rs) next = HasNoRoom rs next
-IsFullBefore (OneKeepAlive form) next = ⊤
-IsFullBefore (Commands respond cs) next = ⊤
+IsFullBefore _ next = ⊤
 
 -- THE GROUPS of answers hold the answers in order, and of two neighbours the first is full before the second.
 pub record AreGroups (answers : List Msg) (groups : List Pdu) : Type 0 where

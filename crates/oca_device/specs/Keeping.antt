@@ -48,8 +48,7 @@ abbrev pub is_writing : DeviceSizes → List Object → List Event → Delivery 
 is_writing w tree events (Datagram from bytes now) =
     nat_le (length bytes) largest_datagram &&
     not (length (written w tree (event.Datagram from bytes now ∷ events)) == 0)
-is_writing w tree events (Quiet now) = false
-is_writing w tree events Failed = false
+is_writing w tree events _ = false
 
 -- a datagram holds a duplicate, whose answer is that of an earlier one
 abbrev pub is_repeating : DeviceSizes → List Object → List Event → Delivery → Bool

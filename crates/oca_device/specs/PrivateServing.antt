@@ -56,14 +56,12 @@ JoinsLast false m before after = (after ≡ before)
 -- a command has at most so many bytes of parameters
 abbrev pub IsShort : ℕ → Msg → Type 0
 IsShort room (Command respond c) = length c.params ≤ room
-IsShort room (Response r) = ⊤
-IsShort room (KeepAlive form) = ⊤
+IsShort room _ = ⊤
 
 -- how many commands a message is
 abbrev pub commands_of : Msg → ℕ
 commands_of (Command respond c) = 1
-commands_of (KeepAlive form) = 0
-commands_of (Response r) = 0
+commands_of _ = 0
 
 abbrev pub all_commands : List Msg → ℕ
 all_commands [] = 0

@@ -22,8 +22,7 @@ abbrev pub sent_for : DeviceSizes → List Object → List Event → Delivery �
 sent_for w tree events (Datagram from bytes now) =
     if nat_le (length bytes) largest_datagram then sent_to from (packets w tree events (event.Datagram from bytes now))
     else []
-sent_for w tree events (Quiet now) = []
-sent_for w tree events Failed = []
+sent_for w tree events _ = []
 
 -- ALL THAT IS SENT for deliveries, after events, in order.
 abbrev pub sent_in_all : DeviceSizes → List Object → List Event → List Delivery → List Sent

@@ -68,9 +68,7 @@ abbrev pub after_command : Judgement → Peer → CommandFields → State → St
 after_command Fresh p c s =
     noted p (Executed s.tree c (reply_of s.tree p c))
     (record { tree = (execution s.tree p c).tree; moment = s.moment; notes = s.notes })
-after_command (Duplicate reply) p c s = s
-after_command Reused p c s = s
-after_command Old p c s = s
+after_command _ p c s = s
 
 -- the time of a keep-alive, in milliseconds
 abbrev pub time_of : Form → ℕ

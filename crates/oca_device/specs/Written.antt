@@ -25,14 +25,11 @@ written_by_execution tree p c = if wrote tree p c then c.target ∷ [] else []
 -- a command is executed where it is fresh
 abbrev pub written_by_command : Judgement → Peer → CommandFields → State → List ℕ
 written_by_command Fresh p c s = written_by_execution s.tree p c
-written_by_command (Duplicate reply) p c s = []
-written_by_command Reused p c s = []
-written_by_command Old p c s = []
+written_by_command _ p c s = []
 
 abbrev pub written_by_message : DeviceSizes → Peer → Msg → State → List ℕ
 written_by_message w p (Command respond c) s = written_by_command (judged_in w s p c) p c s
-written_by_message w p (KeepAlive form) s = []
-written_by_message w p (Response r) s = []
+written_by_message w p _ s = []
 
 abbrev pub written_by_messages : DeviceSizes → Peer → List Msg → State → List ℕ
 written_by_messages w p [] s = []

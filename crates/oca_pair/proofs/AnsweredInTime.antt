@@ -171,9 +171,7 @@ step_due law s i k now left n sound timed g (Some x) e =
 
         by_decision : (d : Decision) → Of (after_due d t x.link)
         by_decision (GivesCommand c) = with_same (stamps (map (marked_sent t c.handle) x.link.untaken)) (stamps_marked_sent t c.handle x.link.untaken)
-        by_decision GivesKeepAlive = with_same (stamps x.link.untaken) refl
-        by_decision GivesNothing = with_same (stamps x.link.untaken) refl
-        by_decision IsLost = with_same (stamps x.link.untaken) refl
+        by_decision _ = with_same (stamps x.link.untaken) refl
 
 step_beside : WrittenIsReadBack → (s : Setup) (i now : ℕ) (left : List Departure) (n : Network) → StragglingAt s i left n → (o : Option PeerLink) → StragglingAt s i (left ++ leaving_beside s n now o) (after_beside o n)
 step_beside law s i now left n g None = λ l own. rw append-nil (g l own)
@@ -410,9 +408,7 @@ stamped_submit h t now r l (Ok x) e g =
 
 stamped_due : (h t now : ℕ) (l : LinkState) (d : Decision) → Stamped h t l → Stamped h t (after_due d now l)
 stamped_due h t now l (GivesCommand c) g = (rw (stamps_marked_sent now c.handle l.untaken) g.0, g.1)
-stamped_due h t now l GivesKeepAlive g = g
-stamped_due h t now l GivesNothing g = g
-stamped_due h t now l IsLost g = g
+stamped_due h t now l _ g = g
 
 stamped_taken : (h t x : ℕ) (l : LinkState) (o : Option AnswerFields) → Stamped h t l → AllByRecursion (λ q. q.0 ≡ h → q.1 ≡ t) (stamps (cond (is_some o) (without_handle x l.untaken) l.untaken))
 stamped_taken h t x l None g = g.0

@@ -7,14 +7,11 @@ use Rattle.oca_pair.proofs.Words.{reply_of, after_command, after_message, after_
 
 moment_command : (j : Judgement) (p : Peer) (c : CommandFields) (s : State) → (after_command j p c s).moment ≡ s.moment
 moment_command Fresh p c s = refl
-moment_command (Duplicate r) p c s = refl
-moment_command Reused p c s = refl
-moment_command Old p c s = refl
+moment_command _ p c s = refl
 
 moment_message : (w : DeviceSizes) (p : Peer) (m : Msg) (s : State) → (after_message w p m s).moment ≡ s.moment
 moment_message w p (Command respond c) s = moment_command (judged_in w s p c) p c s
-moment_message w p (KeepAlive form) s = refl
-moment_message w p (Response r) s = refl
+moment_message w p _ s = refl
 
 moment_messages : (w : DeviceSizes) (p : Peer) (ms : List Msg) (s : State) → (after_messages w p ms s).moment ≡ s.moment
 moment_messages w p [] s = refl
@@ -51,9 +48,7 @@ grows_message w q t (Command respond c) s e = by_judgement (judged_in w s q c)
   where
     by_judgement : (j : Judgement) → Grows q t s.notes (after_command j q c s).notes
     by_judgement Fresh = grows_noted q t (Executed s.tree c (reply_of s.tree q c)) s e
-    by_judgement (Duplicate r) = grows_not q t s.notes
-    by_judgement Reused = grows_not q t s.notes
-    by_judgement Old = grows_not q t s.notes
+    by_judgement _ = grows_not q t s.notes
 grows_message w q t (KeepAlive form) s e = grows_noted q t (Heartbeat (time_of form)) s e
 grows_message w q t (Response r) s e = grows_not q t s.notes
 

@@ -278,8 +278,7 @@ none_has (e ∷ es) h p =
 abbrev pub IsServed : Judgement → Type 0
 IsServed Fresh = Unit {0}
 IsServed (Duplicate reply) = Unit {0}
-IsServed Reused = ⊥
-IsServed Old = ⊥
+IsServed _ = ⊥
 
 -- what an accepted command under the same handle makes of a command that asks the same
 same_served : (e : Entry) (c : CommandFields) → asks_the_same e.command c ≡ true → IsServed (duplicate_or_reused e c)

@@ -381,8 +381,7 @@ fair_gone_on p now l g out back handed f = by_decision (decision now l) (marked_
         Fair p (after_due d (present_moment now l) l).next (after_due d (present_moment now l) l).untaken g (out ++ sendings_in p (given_by d)) back handed
     by_decision (GivesCommand c) new = with_untaken (map (marked_sent (present_moment now l) c.handle) l.untaken) (sendings_in p (given_by (GivesCommand c))) (fair_marked_sent p g (present_moment now l) c.handle l.untaken f.untaken) new
     by_decision GivesKeepAlive new = with_untaken l.untaken (sendings_in p (given_by GivesKeepAlive)) f.untaken new
-    by_decision GivesNothing new = with_untaken l.untaken [] f.untaken new
-    by_decision IsLost new = with_untaken l.untaken [] f.untaken new
+    by_decision _ new = with_untaken l.untaken [] f.untaken new
 
 -- a keep-alive is sent beside a link, its own or another one
 pub fair_alive : (p q : Peer) (next : Option ℕ) (us : List Untaken) (g : Past) (out back : List SentDatagram) (handed : List TakenAnswer) →

@@ -126,9 +126,7 @@ runs_step first born s i p calls step n never g = one step never
         on_bool (nat_eq h c.handle) (λ b. AreSentBy p (n.to_device ++ steps.sendings_in l.peer (given_by (GivesCommand c))) (cond b ((let x : Sending = record { at = max (clock_of_calls born calls) now; bytes = due_bytes (GivesCommand c) } in x) ∷ sendings born h calls) (sendings born h calls)))
         ((in_behind _ n.to_device (steps.sendings_in l.peer (given_by (GivesCommand c))) (inl (ap (λ (q : Peer). let d : SentDatagram = record { peer = q; bytes = due_bytes (GivesCommand c) } in d) same)), a))
         a
-    gives l now GivesKeepAlive same h a = a
-    gives l now GivesNothing same h a = a
-    gives l now LosesLink same h a = a
+    gives l now _ same h a = a
 
     by_due : (k now : ℕ) (o : Option PeerLink) → slice_get n.links k ≡ o →
         Runs first born s i p (cond (nat_eq k i) (called (λ l. SendsDue now (due_answer (decision now l)) (due_bytes (decision now l))) (slice_get n.links i)) [] ++ calls) (after_due_step k now o n)
@@ -318,9 +316,7 @@ span_made l (SendsDue now a bytes) after c = ap (λ (x : LinkState). x.span) c.2
   where
     by : (d : Decision) → (after_due d (present_moment now l) l).span ≡ l.span
     by (GivesCommand c) = refl
-    by GivesKeepAlive = refl
-    by GivesNothing = refl
-    by LosesLink = refl
+    by _ = refl
 span_made l (Receives from bytes content now a) after c = ap (λ (x : LinkState). x.span) c
 span_made l (TakesAnswer h a) after c = ap (λ (x : LinkState). x.span) c.1
 

@@ -154,9 +154,7 @@ delivers p m bytes now g read kind keeps k = by_room (admits g.sizes s1 p) refl
 
         fresh : (h : ℕ) (ns : List Note) → has h (accepted (notes_of p ns)) ≡ false → AllByRecursion (λ y. eqb h y ≡ false) (handles_for p ns)
         fresh h ns e = each_map (λ y t. flipped y h t) (handles_for p ns) (none_passes (λ y. eqb y h) (handles_for p ns) (sym (has_executed h p ns) ∙ e))
-    by_judgement c room (Duplicate r) q state_is = made s2 state_is (kept2 room)
-    by_judgement c room Reused q state_is = made s2 state_is (kept2 room)
-    by_judgement c room Old q state_is = made s2 state_is (kept2 room)
+    by_judgement c room _ q state_is = made s2 state_is (kept2 room)
 
     by_room : (b : Bool) → admits g.sizes s1 p ≡ b → Kept p (and_then (Datagram p bytes now) g)
     by_room true room = elim kind [
@@ -211,9 +209,7 @@ grows_once p m bytes now g read kind once = by_room (admits g.sizes (looked_at n
 
         new : IsDistinct eqb (c.handle ∷ handles_for p (state_of g).notes) → has c.handle (accepted_by p g) ≡ false
         new d = has_executed c.handle p (state_of g).notes ∙ none (handles_for p (state_of g).notes) d.0
-    by_judgement c is (Duplicate r) state_is = made s2 state_is (λ d. inl accepted2)
-    by_judgement c is Reused state_is = made s2 state_is (λ d. inl accepted2)
-    by_judgement c is Old state_is = made s2 state_is (λ d. inl accepted2)
+    by_judgement c is _ state_is = made s2 state_is (λ d. inl accepted2)
 
     by_room : (b : Bool) → admits g.sizes (looked_at now g) p ≡ b → IsGrown m (accepted_by p g) (accepted_by p (and_then (Datagram p bytes now) g))
     by_room true room = elim kind [

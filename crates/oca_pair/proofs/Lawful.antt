@@ -221,8 +221,7 @@ answered_now law s late few n k now d next us u c wide there fair trails good he
         (verdict_read ∙ ap (λ j. served (plus (count_of_command j) (counts 0 0 0 0))) q)
         (inr (refl, let_in_none, subst (λ (xs : List Execution). IsIn x xs) let_in_none a.0.executed))
         (fair.unique f.0.command c a.0.honest.submitted sub (eqb-true f.0.command.handle c.handle a.1)) (sym f.2)
-    by_judgement Reused q t = absurd t
-    by_judgement Old q t = absurd t
+    by_judgement _ q t = absurd t
 
 pub delivered : WrittenIsReadBack → (s : Peer → ℕ) (few : List ℕ) (n : Network) (k now : ℕ) (d : SentDatagram) (l : PeerLink) (c : CommandFields) → 0 < l.link.span → 2 * l.link.span + length few ≤ n.sizes.window + 1 →
     slice_get n.to_device k ≡ Some d → LinkSound s n l → (of : CarriesUntaken d l c) → Trails of.untaken.command.handle (left_by n.renewed l.peer) few (accepted_by l.peer (past n)) → FindsRoom d.peer now n → Once l.peer (past n) →

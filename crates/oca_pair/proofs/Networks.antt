@@ -169,24 +169,18 @@ sound_due s i now n g (Some l) e = record {
 
     span_kept : (d : Decision) → (after_due d (present_moment now l.link) l.link).span ≡ l.link.span
     span_kept (GivesCommand c) = refl
-    span_kept GivesKeepAlive = refl
-    span_kept GivesNothing = refl
-    span_kept IsLost = refl
+    span_kept _ = refl
 
     next_kept : (d : Decision) → (after_due d (present_moment now l.link) l.link).next ≡ l.link.next
     next_kept (GivesCommand c) = refl
-    next_kept GivesKeepAlive = refl
-    next_kept GivesNothing = refl
-    next_kept IsLost = refl
+    next_kept _ = refl
 
     Of : LinkState → Type 0
     Of x = GoodSince (one_or x.span) (left_by n.renewed l.peer) l.peer x.next x.untaken n.submitted (accepted_by l.peer (past n))
 
     good_kept : (d : Decision) → Of l.link → Of (after_due d (present_moment now l.link) l.link)
     good_kept (GivesCommand c) w = since_by (λ f. good_marked_sent (one_or l.link.span) f (left_by n.renewed l.peer) l.peer l.link.next l.link.untaken n.submitted (accepted_by l.peer (past n)) (present_moment now l.link) c.handle) w
-    good_kept GivesKeepAlive w = w
-    good_kept GivesNothing w = w
-    good_kept IsLost w = w
+    good_kept _ w = w
 
     mine : LinkSound s n' y
     mine = record {

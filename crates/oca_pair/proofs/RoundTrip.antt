@@ -108,9 +108,7 @@ to_device_step step n a = after_each (λ _ m. AreToDevice m) n (record {
 
     by_decision : (l : LinkState) (now : ℕ) (d : Decision) → (after_due d now l).device ≡ l.device
     by_decision l now (GivesCommand c) = refl
-    by_decision l now GivesKeepAlive = refl
-    by_decision l now GivesNothing = refl
-    by_decision l now IsLost = refl
+    by_decision l now _ = refl
 
     put : (i : ℕ) (l : PeerLink) (state : LinkState) → slice_get n.links i ≡ Some l → state.device ≡ l.link.device → AreTo n.address (with_link i l state n.links)
     put i l state e same = each_set (λ (x : PeerLink). x.link.device ≡ n.address) n.links i (record { peer = l.peer; link = state })
@@ -217,9 +215,7 @@ stands_step i h p step n never g = after_each (λ _ m. RenewsNothing p n m → S
 
     by_decision : (l : LinkState) (now : ℕ) (d : Decision) → holds h l.untaken ≡ true → holds h (after_due d now l).untaken ≡ true
     by_decision l now (GivesCommand c) q = holds_marked_sent now c.handle h l.untaken ∙ q
-    by_decision l now GivesKeepAlive q = q
-    by_decision l now GivesNothing q = q
-    by_decision l now IsLost q = q
+    by_decision l now _ q = q
 
     hearing : (d : SentDatagram) (now : ℕ) (l : PeerLink) → holds h (hears_datagram n.address d now l).link.untaken ≡ holds h l.link.untaken
     hearing d now l =

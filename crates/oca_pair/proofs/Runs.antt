@@ -232,16 +232,13 @@ device_gone_on now l = by_decision (decision now l)
   where
     by_decision : (d : Decision) → (after_due d (present_moment now l) l).device ≡ l.device
     by_decision (GivesCommand c) = refl
-    by_decision GivesKeepAlive = refl
-    by_decision GivesNothing = refl
-    by_decision IsLost = refl
+    by_decision _ = refl
 
 -- the outcome of what a link gave out
 sent_outcome : (number : ℕ) (d : Decision) (bytes : List ℕ) → given_by d ≡ bytes ∷ [] → due_outcome number d ≡ outcomes.Sent number
 sent_outcome number (GivesCommand c) bytes e = refl
 sent_outcome number GivesKeepAlive bytes e = refl
-sent_outcome number GivesNothing bytes e = cc
-sent_outcome number IsLost bytes e = cc
+sent_outcome number _ bytes e = cc
 
 -- a peer of a link is that of one
 one_of : (l : PeerLink) (links : List PeerLink) (i : ℕ) → slice_get links i ≡ Some l → has_link l.peer links ≡ true

@@ -44,8 +44,7 @@ TimedDeparture born end p x = x.datagram.peer ≡ p → TimedBytes born end x.at
 -- nothing was executed before its submit
 abbrev pub TimedNoted : (ℕ → ℕ) → ℕ → ℕ → Noted → Type 0
 TimedNoted born end at (Executed objects c r) = (born c.handle ≤ at) × (c.handle < end)
-TimedNoted born end at (Admitted ms) = Unit {0}
-TimedNoted born end at (Heartbeat ms) = Unit {0}
+TimedNoted born end at _ = Unit {0}
 
 abbrev pub TimedNote : (ℕ → ℕ) → ℕ → Peer → Note → Type 0
 TimedNote born end p n = n.peer ≡ p → TimedNoted born end n.at n.what
@@ -84,8 +83,7 @@ timed_behind zs d p end m us left out ns le g = record {
 
     still : (what : Noted) (at : ℕ) → TimedNoted (λ h. by_device zs (g.born h)) end at what → TimedNoted (λ h. by_device (record { link = zs.link; device = d }) (g.born h)) end at what
     still (Executed objects c r) at a = (earlier (g.born c.handle) at a.0, a.1)
-    still (Admitted ms) at a = tt
-    still (Heartbeat ms) at a = tt
+    still _ at a = tt
 
 -- ---- untaken commands
 
@@ -151,9 +149,7 @@ of_decision p t d = map (λ bytes. record { datagram = record { peer = p; bytes 
 
 of_decision_are : (p : Peer) (t : ℕ) (d : Decision) → map (λ (x : Departure). x.datagram) (of_decision p t d) ≡ sendings_in p (given_by d)
 of_decision_are p t (GivesCommand c) = refl
-of_decision_are p t GivesKeepAlive = refl
-of_decision_are p t GivesNothing = refl
-of_decision_are p t IsLost = refl
+of_decision_are p t _ = refl
 
 pub first_due_in : (t : ℕ) (us : List Untaken) (u : Untaken) → first_due t us ≡ Some u → IsIn u us × (is_due t u ≡ true)
 first_due_in t [] u e = cc
@@ -329,8 +325,7 @@ timed_submit zs p r now l left out ns g = by_answer (submission r l) refl
 
         noted_before : (at : ℕ) (x : Noted) → TimedNoted (λ y. by_device zs (g.born y)) (end_of l.next) at x → TimedNoted (λ y. by_device zs (born' y)) (end_of (handle_after h.0)) at x
         noted_before at (Executed objects c r) a = (moved (by_device zs (g.born c.handle)) (by_device zs (born' c.handle)) at (ap (by_device zs) (older c.handle a.1)) a.0, more c.handle a.1)
-        noted_before at (Admitted ms) a = tt
-        noted_before at (Heartbeat ms) a = tt
+        noted_before at _ a = tt
 
 pub timed_received : (from : Peer) (zs : Zeros) (p : Peer) (content : Option (List Msg)) (now : ℕ) (l : LinkState) (left : List Departure) (out : List SentDatagram) (ns : List Note) → Timed zs p (end_of l.next) l.moment l.untaken left out ns →
     Timed zs p (end_of (received from content now l).next) (received from content now l).moment (received from content now l).untaken left out ns
@@ -375,8 +370,7 @@ timed_renewed zs p origin end first m now us left out ns above g = record {
 
     was_noted : (at : ℕ) (x : Noted) → TimedNoted (λ y. by_device zs (g.born y)) end at x → TimedNoted (λ y. by_device zs (g.born y)) first at x
     was_noted at (Executed objects c r) a = (a.0, more c.handle a.1)
-    was_noted at (Admitted ms) a = tt
-    was_noted at (Heartbeat ms) a = tt
+    was_noted at _ a = tt
 
 -- ---- a datagram comes to the device
 
@@ -502,6 +496,4 @@ timed_own zs p end m us left out g bytes now at f kind arrives = elim kind [
         new = on_bool (list_any (λ y. eqb y c.handle) (handles_for p (state_of g).notes)) (λ b. list_any (λ y. eqb y c.handle) (handles_for p (state_of g).notes) ≡ b → b ≡ false)
             (λ e. sym (accepted_then zs p end m us left out g now at c.handle (Command true c ∷ []) f i.not_late arrives.not_late e) ∙ judged_fresh g.sizes.window (accepted (run p (let_in p (Command true c) now g).notes)) c q)
             (λ e. refl) refl
-    by_judgement c read i room (Duplicate r) q = made (Command true c) read room (let_in p (Command true c) now g) (ap (λ j. after_command j p c (let_in p (Command true c) now g)) q) (executed2 (Command true c)) (once2 (Command true c))
-    by_judgement c read i room Reused q = made (Command true c) read room (let_in p (Command true c) now g) (ap (λ j. after_command j p c (let_in p (Command true c) now g)) q) (executed2 (Command true c)) (once2 (Command true c))
-    by_judgement c read i room Old q = made (Command true c) read room (let_in p (Command true c) now g) (ap (λ j. after_command j p c (let_in p (Command true c) now g)) q) (executed2 (Command true c)) (once2 (Command true c))
+    by_judgement c read i room _ q = made (Command true c) read room (let_in p (Command true c) now g) (ap (λ j. after_command j p c (let_in p (Command true c) now g)) q) (executed2 (Command true c)) (once2 (Command true c))

@@ -55,12 +55,7 @@ call_in i (Due link now) n =
 call_in i (ToLink k now) n = receiving n.address now (slice_get n.to_links k) (slice_get n.links i)
 call_in i (Take link handle) n =
     if link == i then called (λ l. TakesAnswer handle (answer_under handle l.untaken)) (slice_get n.links i) else []
-call_in i (ToDevice k now) n = []
-call_in i (Other from bytes now) n = []
-call_in i (Tick now) n = []
-call_in i (Local ono change) n = []
-call_in i (Renew link first span now origin) n = []
-call_in i (Beside link now) n = []
+call_in i _ n = []
 
 abbrev pub calls_in : ℕ → List Step → Network → List Call
 calls_in i [] n = []

@@ -97,8 +97,7 @@ submit_outcome (Err fault) = outcomes.Refused fault
 abbrev pub given_by : Decision → List (List ℕ)
 given_by (GivesCommand c) = due_bytes (GivesCommand c) ∷ []
 given_by GivesKeepAlive = due_bytes GivesKeepAlive ∷ []
-given_by GivesNothing = []
-given_by IsLost = []
+given_by _ = []
 
 abbrev pub after_due_step : ℕ → ℕ → Option PeerLink → Network → Network
 after_due_step i now None n = n

@@ -35,11 +35,7 @@ BeginsAsking target of asked (Ok handle) old new = BeginsRequest target of asked
 BeginsAsking target of asked (Err (trouble.NotSubmitted fault)) old new = BeginsRequest target of asked
     (Err fault) old new
 BeginsAsking target of asked (Err trouble.NoValue) old new = AsksNothing of asked old new
-BeginsAsking target of asked (Err (trouble.Refused status)) old new = ⊥
-BeginsAsking target of asked (Err trouble.Unreadable) old new = ⊥
-BeginsAsking target of asked (Err trouble.NoSuchWord) old new = ⊥
-BeginsAsking target of asked (Err trouble.Lost) old new = ⊥
-BeginsAsking target of asked (Err trouble.Unanswered) old new = ⊥
+BeginsAsking target of asked _ old new = ⊥
 
 -- what the answer to a method of an object of the class says
 abbrev pub model_answered : Class → Method → Outcome → Result Answer Trouble

@@ -37,8 +37,7 @@ pub record IsOpened (device : Peer) (first span wait : ℕ) (before : EndState) 
 abbrev pub is_lost_or_unanswered : Outcome → Bool
 is_lost_or_unanswered (outcomes.Answered a) = false
 is_lost_or_unanswered (outcomes.Refused fault) = false
-is_lost_or_unanswered outcomes.Lost = true
-is_lost_or_unanswered outcomes.Unanswered = true
+is_lost_or_unanswered _ = true
 
 -- The request was begun: it got its handle and what was due was sent, or it was refused, which changes nothing.
 pub record BeginsIn (request : RequestFields) (returned : Result Handle ControlFault)

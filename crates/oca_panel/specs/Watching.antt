@@ -21,10 +21,7 @@ state_watched w = w.end_state
 -- the moment of the last datagram from a peer, behind a receive
 abbrev pub heard_after : Heard → Peer → Option ℕ → Option ℕ
 heard_after (heards.Datagram from now) peer before = if same_peer from peer then Some now else before
-heard_after (heards.Quiet now) peer before = before
-heard_after (heards.Oversize now) peer before = before
-heard_after heards.Failed peer before = before
-heard_after heards.Closed peer before = before
+heard_after _ peer before = before
 
 -- THE WATCH GOES ON: the same peer is watched. If it was heard before, some moment is known still: that one, or another
 -- one, at which it was heard anew.

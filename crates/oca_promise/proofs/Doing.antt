@@ -71,8 +71,7 @@ done_device (Submits request now) l = by (submission request l)
     by (Ok h) = refl
     by (Err fault) = refl
 done_device (Sends now) l = after_due_device (decision now l) (present_moment now l) l
-done_device (Hears bytes now) l = refl
-done_device (Takes h) l = refl
+done_device _ l = refl
 
 all_done_device : (xs : List Doing) (l : LinkState) → (all_done xs l).device ≡ l.device
 unfolding all_done
@@ -295,13 +294,11 @@ hears_by_length law false from bytes now old new answered long h is = (h.long (g
 hears : ReadingIsExact → (d : Delivery) (old new : LinkState) (answered : ℕ) → HearsDelivery d old new answered → IsOfDevice old.device d → new ≡ all_done (hearing_of d) old
 unfolding all_done
 hears law (Datagram from bytes now) old new answered h is = hears_by_length law (nat_le (length bytes) 1472) from bytes now old new answered refl h is
-hears law (Quiet now) old new answered h is = h.0
-hears law Failed old new answered h is = h.0
+hears law _ old new answered h is = h.0
 
 all_heard : (d : Delivery) → hearings (hearing_of d) ≡ hearing_of d
 all_heard (Datagram from bytes now) = on_bool (nat_le (length bytes) 1472) (λ b. hearings (if b then Hears bytes now ∷ [] else []) ≡ (if b then Hears bytes now ∷ [] else [])) refl refl
-all_heard (Quiet now) = refl
-all_heard Failed = refl
+all_heard _ = refl
 
 -- ---- turns
 
@@ -316,8 +313,7 @@ one_delivery d old between new decisions answered law heard gives are =
 none_sent : (d : Delivery) (l : LinkState) → sent_by (hearing_of d) l ≡ []
 unfolding sent_by
 none_sent (Datagram from bytes now) l = on_bool (nat_le (length bytes) 1472) (λ b. sent_by (if b then Hears bytes now ∷ [] else []) l ≡ []) refl refl
-none_sent (Quiet now) l = refl
-none_sent Failed l = refl
+none_sent _ l = refl
 
 sent_in_turn : (d : Delivery) (old between new : LinkState) (decisions : List Decision) (answered : ℕ) → ReadingIsExact → HearsDelivery d old between answered → GivesAfter d between new decisions → AreOfDevice old.device (d ∷ []) → all_given_to old.device decisions ≡ sent_by (turn_doings d old between) old
 sent_in_turn d old between new decisions answered law heard gives are =
@@ -335,14 +331,12 @@ heard_in_turn d old between =
 
 only_hearing : (d : Delivery) → asked_in (hearing_of d) ≡ []
 only_hearing (Datagram from bytes now) = on_bool (nat_le (length bytes) 1472) (λ b. asked_in (if b then Hears bytes now ∷ [] else []) ≡ []) refl refl
-only_hearing (Quiet now) = refl
-only_hearing Failed = refl
+only_hearing _ = refl
 
 calm_hearing : (d : Delivery) (l : LinkState) → AreSentInTime (hearing_of d) l
 unfolding AreSentInTime
 calm_hearing (Datagram from bytes now) l = on_bool (nat_le (length bytes) 1472) (λ b. AreSentInTime (if b then Hears bytes now ∷ [] else []) l) tt tt
-calm_hearing (Quiet now) l = tt
-calm_hearing Failed l = tt
+calm_hearing _ l = tt
 
 turn_in_time : ReadingIsExact → (d : Delivery) (old between : LinkState) (answered : ℕ) → HearsDelivery d old between answered → AreOfDevice old.device (d ∷ []) → AreSentInTime (turn_doings d old between) old
 turn_in_time law d old between answered heard are =

@@ -69,9 +69,7 @@ above_own request now h l e =
 
 due_next : (d : Decision) (now : ℕ) (l : LinkState) → (after_due d now l).next ≡ l.next
 due_next (GivesCommand c) now l = refl
-due_next GivesKeepAlive now l = refl
-due_next GivesNothing now l = refl
-due_next IsLost now l = refl
+due_next _ now l = refl
 
 next_above : (h : ℕ) (r : RequestFields) (k : Handle) (l : LinkState) → IsAbove h l.next → submission r l ≡ Ok k → h < k.0
 next_above h r k l a e = subst (λ (o : Option ℕ). IsAbove h o) (is_accepted r k l e).next a
@@ -83,8 +81,7 @@ above_done h (Submits r now) l a = by (submission r l) refl
     by (Err fault) e = a
     by (Ok k) e = let less = next_above h r k l a e in above_after h k.0 (omega (arith, less))
 above_done h (Sends now) l a = subst (λ (o : Option ℕ). IsAbove h o) (sym (due_next (decision now l) (present_moment now l) l)) a
-above_done h (Hears bytes now) l a = a
-above_done h (Takes k) l a = a
+above_done h _ l a = a
 
 -- ---- what is not held stays so
 
@@ -109,9 +106,7 @@ none_received false content h us a = a
 
 none_due : (d : Decision) (now h : ℕ) (l : LinkState) → NoneHeld h l.untaken → NoneHeld h (after_due d now l).untaken
 none_due (GivesCommand c) now h l a = none_marked now c.handle h l.untaken a
-none_due GivesKeepAlive now h l a = a
-none_due GivesNothing now h l a = a
-none_due IsLost now h l a = a
+none_due _ now h l a = a
 
 unlike : (a b : ℕ) → a < b → eqb b a ≡ false
 unlike a b less = grind (arith, nat_tests)

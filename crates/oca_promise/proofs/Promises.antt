@@ -108,9 +108,7 @@ answered_parameters a params e =
 
 ok_parameters : (o : Outcome) (params : List ℕ) → parameters_answered o ≡ Ok params → IsOk o params
 ok_parameters (outcomes.Answered a) params e = record { answer = a; is = refl; ok = answered_ok a params e; params_are = answered_parameters a params e }
-ok_parameters (outcomes.Refused fault) params e = absurd (cc)
-ok_parameters outcomes.Lost params e = absurd (cc)
-ok_parameters outcomes.Unanswered params e = absurd (cc)
+ok_parameters _ params e = absurd (cc)
 
 done_parameters : (r : Result (List ℕ) Trouble) → Ok tt ≡ done_or_trouble r → (params : List ℕ) × (r ≡ Ok params)
 done_parameters (Ok params) e = (params, refl)
@@ -130,9 +128,7 @@ refused_status (outcomes.Answered a) status e = (a, refl, (by (a.status == 0) re
     by : (b : Bool) → (a.status == 0) ≡ b → Err (trouble.Refused status) ≡ done_or_trouble (if b then Ok a.params.items else Err (trouble.Refused a.status)) → (a.status ≡ status) × ((a.status == 0) ≡ false)
     by true t q = absurd (cc)
     by false t q = (let same : status ≡ a.status = cc in sym same, t)
-refused_status (outcomes.Refused fault) status e = absurd (cc)
-refused_status outcomes.Lost status e = absurd (cc)
-refused_status outcomes.Unanswered status e = absurd (cc)
+refused_status _ status e = absurd (cc)
 
 -- ---- a command of a call asks what the request asks
 

@@ -63,14 +63,11 @@ AreSentInTime (Takes h ∷ xs) l = AreSentInTime xs (taken h l)
 -- what a delivery has a link hear: a datagram of at most 1,472 bytes
 abbrev pub hearing_of : Delivery → List Doing
 hearing_of (Datagram from bytes now) = if nat_le (length bytes) largest_datagram then Hears bytes now ∷ [] else []
-hearing_of (Quiet now) = []
-hearing_of Failed = []
+hearing_of _ = []
 
 abbrev pub is_hearing : Doing → Bool
 is_hearing (Hears bytes now) = true
-is_hearing (Submits request now) = false
-is_hearing (Sends now) = false
-is_hearing (Takes h) = false
+is_hearing _ = false
 
 -- the datagrams that were heard
 abbrev pub hearings : List Doing → List Doing
@@ -87,8 +84,7 @@ sent_by (Takes h ∷ xs) l = sent_by xs (taken h l)
 -- a datagram that was delivered came from the device's address
 abbrev pub IsOfDevice : Peer → Delivery → Type 0
 IsOfDevice device (Datagram from bytes now) = (from ≡ device) × AreBytes bytes
-IsOfDevice device (Quiet now) = Unit {0}
-IsOfDevice device Failed = Unit {0}
+IsOfDevice device _ = Unit {0}
 
 -- so did each
 abbrev pub AreOfDevice : Peer → List Delivery → Type 0

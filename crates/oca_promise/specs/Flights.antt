@@ -38,9 +38,7 @@ begun_by request now (Err fault) = []
 -- the answer that was taken, where one came
 abbrev pub takes_by : ℕ → Outcome → List Doing
 takes_by handle (outcomes.Answered a) = Takes handle ∷ []
-takes_by handle (outcomes.Refused fault) = []
-takes_by handle outcomes.Lost = []
-takes_by handle outcomes.Unanswered = []
+takes_by handle _ = []
 
 -- CALLS WERE MADE on a panel, one after another: each began a command, waited for one, looked one up, or took a turn.
 -- What they began and took, in order.

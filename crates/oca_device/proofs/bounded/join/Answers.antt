@@ -17,5 +17,4 @@ returns-then-holds_responses c = λ p e. by p e (c.if-holds_responses.ensures p 
         subst (λ (b : Bool). Joins b (Responses rs) (response c.args.handle.0 (reply_in c.args.reply)) old new) (sym c.is_ok.ensures.value)
         (extended rs (response_with c.args.handle (reply_in c.args.reply)) old new c.extend_response_of.result
         (c.extend_response_of.ensures.size rs e) (c.extend_response_of.ensures.ok rs e) (items_kept c.args.packet.now c.extend_response_of.new.packet c.extend_response_of.result c.extend_response_of.ensures.err))
-    by (OneKeepAlive form) e is = absurd cc
-    by (Commands respond cs) e is = absurd cc
+    by _ e is = absurd cc
