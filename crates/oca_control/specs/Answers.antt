@@ -1,6 +1,5 @@
 -- What a device answered to a command (AES70-3).
-use Rattle.std.specs.Prelude.{ℕ, List}
-use Rattle.oca_pdu.specs.Messages.{ResponseFields}
+use Rattle.oca_control.specs.Words.{List, ResponseFields, ℕ}
 use Rattle.oca_control.specs.declared.answer.Answer.{Answer}
 
 -- the number of the status, ParamCount and the parameters

@@ -1,9 +1,7 @@
 -- The outcome of a command that is asked of a link over an end.
-use Rattle.std.specs.Prelude.{◌≡◌, ℕ, ◌+◌, ◌≤◌, Bool, true, false, ◌||◌, if◌then◌else◌, Some, None, Result, Ok, Err}
-use Rattle.oca_types.specs.declared.words.Handle.{Handle}
-use Rattle.oca_types.specs.Peers.{RequestFields}
+use Rattle.oca_control.specs.Words.{◌+◌, ◌||◌, ◌≡◌, ◌≤◌, Bool, EndState, Err, Handle, None, Ok, RequestFields, Result}
+use Rattle.oca_control.specs.Words.{Some, false, if◌then◌else◌, true, ℕ}
 pub use Rattle.oca_net.specs.EndStates.{IsPresent}
-use Rattle.oca_net.specs.EndStates.{EndState}
 use Rattle.oca_control.specs.declared.fault.ControlFault.{ControlFault}
 use Rattle.oca_control.specs.declared.fault.ControlFault.TheVariants as faults
 use Rattle.oca_control.specs.declared.outcome.Outcome.{Outcome}

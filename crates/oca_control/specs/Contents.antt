@@ -1,8 +1,5 @@
 -- What bytes hold (AES70-3): messages where they are a datagram, and else nothing.
-use Rattle.std.specs.Prelude.{◌≡◌, ℕ, List, Option, Some, None}
-use Rattle.std.specs.List.{flat_map}
-use Rattle.oca_pdu.specs.Messages.{Msg, Pdu, messages_of}
-use Rattle.oca_pdu.specs.Encoding.{IsDatagram}
+use Rattle.oca_control.specs.Words.{◌≡◌, IsDatagram, List, Msg, None, Option, Pdu, Some, flat_map, messages_of, ℕ}
 
 -- The bytes are a datagram of PDUs with these messages; or no list of PDUs makes them a datagram.
 abbrev pub IsContent : Option (List Msg) → List ℕ → Type 0

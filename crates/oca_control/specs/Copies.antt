@@ -1,14 +1,9 @@
 -- COPIES IN TIME, over whole histories of the calls of a link. As in Histories the latest call and the latest sending
 -- stand first.
-use Rattle.std.specs.Prelude.{◌≡◌, ℕ, ◌+◌, ◌==◌, ◌<◌, ◌≤◌, nat_le, max, Bool, true, false, ⊤, if◌then◌else◌, List, []}
-use Rattle.std.specs.Prelude.{◌∷◌, ◌++◌, length, Option, Some, None, Result, Ok, Err}
-use Rattle.std.specs.List.{flat_map, AllByRecursion}
-use Rattle.oca_types.specs.declared.words.Peer.{Peer}
-use Rattle.oca_types.specs.declared.words.Handle.{Handle}
-use Rattle.oca_types.specs.Peers.{RequestFields}
-use Rattle.oca_net.specs.Deliveries.{Delivery, Datagram, Quiet, Failed, Sent}
-use Rattle.oca_net.specs.Ends.{largest_datagram}
-use Rattle.oca_net.specs.EndStates.{EndState, DeliversAndTakes}
+use Rattle.oca_control.specs.Words.{[], ⊤, ◌++◌, ◌+◌, ◌<◌, ◌==◌, ◌∷◌, ◌≡◌, ◌≤◌, AllByRecursion, Bool, Datagram}
+use Rattle.oca_control.specs.Words.{DeliversAndTakes, Delivery, EndState, Err, Failed, Handle, List, None, Ok, Option}
+use Rattle.oca_control.specs.Words.{Peer, Quiet, RequestFields, Result, Sent, Some, false, flat_map, if◌then◌else◌}
+use Rattle.oca_control.specs.Words.{largest_datagram, length, max, nat_le, true, ℕ}
 use Rattle.oca_control.specs.declared.due.Due.{Due}
 use Rattle.oca_control.specs.declared.due.Due.TheVariants as dues
 use Rattle.oca_control.specs.declared.fault.ControlFault.{ControlFault}

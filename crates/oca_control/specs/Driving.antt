@@ -1,11 +1,8 @@
 -- What the loop makes of a link and an end.
-use Rattle.std.specs.Prelude.{◌≡◌, ℕ, zero, suc, ◌+◌, ◌<◌, ◌≤◌, nat_lt, min, Bool, true, false, not, ◌&&◌, ◌||◌}
-use Rattle.std.specs.Prelude.{if◌then◌else◌, List, [], ◌∷◌, ◌++◌, length, count_by}
-use Rattle.std.specs.List.{list_any, flat_map}
-use Rattle.oca_types.specs.declared.words.Peer.{Peer}
-use Rattle.oca_net.specs.Deliveries.{Delivery, Datagram, Quiet, Failed, Sent}
-use Rattle.oca_net.specs.Ends.{largest_datagram, last_u64}
-use Rattle.oca_net.specs.EndStates.{EndState, SendsAllBut, DeliversAndTakes}
+use Rattle.oca_control.specs.Words.{[], ◌&&◌, ◌++◌, ◌+◌, ◌<◌, ◌||◌, ◌∷◌, ◌≡◌, ◌≤◌, Bool, Datagram, DeliversAndTakes}
+use Rattle.oca_control.specs.Words.{Delivery, EndState, Failed, List, Peer, Quiet, SendsAllBut, Sent, count_by, false}
+use Rattle.oca_control.specs.Words.{flat_map, if◌then◌else◌, largest_datagram, last_u64, length, list_any, min, nat_lt}
+use Rattle.oca_control.specs.Words.{not, suc, true, zero, ℕ}
 use Rattle.oca_control.specs.declared.reception.Reception.{Reception}
 use Rattle.oca_control.specs.declared.reception.Reception.TheVariants as receptions
 use Rattle.oca_control.specs.declared.report.DriveReport.{DriveReport}

@@ -1,16 +1,11 @@
 -- THE LAW OF A LINK over whole histories of its calls. Of calls, commands and sendings the LATEST STANDS FIRST, so that
 -- what stands after a member (`before`) came before it. Messages and answers stand in order, the first one first.
 -- Moments are in milliseconds.
-use Rattle.std.specs.Prelude.{◌≡◌, ◌⊎◌, ℕ, ◌+◌, ◌-◌, ◌==◌, ◌<◌, ◌≤◌, nat_le, max, Bool, true, false, not, ◌&&◌, ◌||◌, ⊤}
-use Rattle.std.specs.Prelude.{if◌then◌else◌, List, [], ◌∷◌, ◌++◌, length, Option, Some, None, is_none, is_some, Result}
-use Rattle.std.specs.Prelude.{Ok, Err}
-use Rattle.std.specs.List.{AllByRecursion}
-use Rattle.oca_types.specs.declared.words.Peer.{Peer}
-use Rattle.oca_types.specs.declared.words.Handle.{Handle}
-use Rattle.oca_types.specs.Peers.{CommandFields, same_peer}
-use Rattle.oca_pdu.specs.declared.message.Form.TheVariants.{Seconds}
-use Rattle.oca_pdu.specs.Messages.{Msg, Command, Response, KeepAlive, Commands, OneKeepAlive}
-use Rattle.oca_pdu.specs.Encoding.{pdu_encoding}
+use Rattle.oca_control.specs.Words.{[], ⊤, ◌&&◌, ◌++◌, ◌+◌, ◌-◌, ◌<◌, ◌==◌, ◌||◌, ◌∷◌, ◌≡◌, ◌≤◌, ◌⊎◌, AllByRecursion}
+use Rattle.oca_control.specs.Words.{Bool, Command, CommandFields, Commands, Err, Handle, KeepAlive, List, Msg, None, Ok}
+use Rattle.oca_control.specs.Words.{OneKeepAlive, Option, Peer, Response, Result, Seconds, Some, false, if◌then◌else◌}
+use Rattle.oca_control.specs.Words.{is_none, is_some, length, max, most_command_parameter_bytes, nat_le, not}
+use Rattle.oca_control.specs.Words.{pdu_encoding, same_peer, true, ℕ}
 use Rattle.oca_control.specs.declared.fault.ControlFault.{ControlFault}
 use Rattle.oca_control.specs.declared.fault.ControlFault.TheVariants as faults
 use Rattle.oca_control.specs.declared.due.Due.{Due}
@@ -19,7 +14,6 @@ use Rattle.oca_control.specs.declared.reception.Reception.{Reception}
 use Rattle.oca_control.specs.Answers.{AnswerFields, answer_of_response}
 use Rattle.oca_control.specs.Contents.{IsContent}
 use Rattle.oca_control.specs.Untaken.{answer_under, first_answered}
-use Rattle.oca_types.specs.Sizes.{most_command_parameter_bytes}
 use Rattle.oca_control.specs.Limits.{repeat_time, most_sendings, keep_alive_time, last_handle}
 use Rattle.oca_control.specs.Links.{LinkState, Request, new_link, command_under, submission, submitted, decision}
 use Rattle.oca_control.specs.Links.{due_answer, due_bytes, gone_on, reception, received, taken}

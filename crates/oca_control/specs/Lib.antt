@@ -1,3 +1,4 @@
+pub mod Words
 pub use Rattle.oca_types.specs.Peers
 pub use Rattle.oca_pdu.specs.Messages
 pub use Rattle.oca_pdu.specs.Encoding

@@ -1,5 +1,5 @@
 -- The limits of a link (*profile*). Times are in milliseconds.
-use Rattle.std.specs.Prelude.{ℕ}
+use Rattle.oca_control.specs.Words.{ℕ}
 
 -- a command is sent again after so long without an answer
 abbrev pub repeat_time : ℕ

@@ -1,15 +1,10 @@
 -- THE CONTROLLER: its link to a device, and what each call makes of it (*profile*). Moments are in milliseconds.
-use Rattle.std.specs.Prelude.{◌≡◌, ℕ, ◌+◌, ◌-◌, ◌^◌, ◌==◌, ◌<◌, ◌≤◌, nat_lt, nat_le, max, Bool, true, false, ◌&&◌}
-use Rattle.std.specs.Prelude.{if◌then◌else◌, List, [], ◌∷◌, ◌++◌, map, length, Option, Some, None, is_some, Result, Ok}
-use Rattle.std.specs.Prelude.{Err}
-use Rattle.std.specs.List.{list_any}
-use Rattle.oca_types.specs.declared.words.Peer.{Peer}
-use Rattle.oca_types.specs.declared.words.Handle.{Handle}
+use Rattle.oca_control.specs.Words.{[], ◌&&◌, ◌++◌, ◌+◌, ◌-◌, ◌<◌, ◌==◌, ◌^◌, ◌∷◌, ◌≡◌, ◌≤◌, Bool, Commands, Err}
+use Rattle.oca_control.specs.Words.{Handle, List, Msg, None, Ok, OneKeepAlive, Option, Peer, Result, Seconds, Some}
+use Rattle.oca_control.specs.Words.{false, if◌then◌else◌, is_some, length, list_any, map, max, nat_le, nat_lt}
+use Rattle.oca_control.specs.Words.{pdu_encoding, true, ℕ}
 pub use Rattle.oca_types.specs.Peers.{CommandFields, RequestFields, same_peer}
 pub use Rattle.oca_types.specs.Sizes.{most_command_parameter_bytes}
-use Rattle.oca_pdu.specs.declared.message.Form.TheVariants.{Seconds}
-use Rattle.oca_pdu.specs.Messages.{Msg, Commands, OneKeepAlive}
-use Rattle.oca_pdu.specs.Encoding.{pdu_encoding}
 use Rattle.oca_control.specs.declared.fault.ControlFault.{ControlFault}
 use Rattle.oca_control.specs.declared.fault.ControlFault.TheVariants as faults
 use Rattle.oca_control.specs.declared.due.Due.{Due}

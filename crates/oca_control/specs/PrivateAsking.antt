@@ -1,12 +1,11 @@
 -- For private contracts: what a link shows of a command without a turn.
-use Rattle.std.specs.Prelude.{◌≡◌, ◌⊎◌, ℕ, Bool, true, false, ◌||◌, Option, Some, None}
+use Rattle.oca_control.specs.Words.{◌||◌, ◌≡◌, ◌⊎◌, Bool, EndState, None, Option, Some, false, true, ℕ}
 use Rattle.oca_control.specs.declared.outcome.Outcome.{Outcome}
 use Rattle.oca_control.specs.declared.outcome.Outcome.TheVariants as outcomes
 use Rattle.oca_control.specs.Answers.{answer_fields}
 use Rattle.oca_control.specs.Untaken.{answer_under}
 use Rattle.oca_control.specs.Links.{LinkState, taken}
 use Rattle.oca_control.specs.Waiting.{IsBefore, HasCome}
-use Rattle.oca_net.specs.EndStates.{EndState}
 
 -- The answer under the handle, which is taken; or that none is held and the link is lost, or was found late; or
 -- neither.

@@ -1,9 +1,7 @@
 -- For private contracts: what a part of a turn does and reports.
-use Rattle.std.specs.Prelude.{◌≡◌, ℕ, ◌≤◌, Bool, List, [], ◌∷◌, Option, Some, None}
+use Rattle.oca_control.specs.Words.{[], ◌∷◌, ◌≡◌, ◌≤◌, Bool, DeliversAndTakes, Delivery, EndState, List, None, Option}
+use Rattle.oca_control.specs.Words.{Receives, SendsAllBut, Some, one_more, ℕ}
 use Rattle.oca_net.specs.declared.end.Heard.TheVariants as heard
-use Rattle.oca_net.specs.Deliveries.{Delivery}
-use Rattle.oca_net.specs.Ends.{one_more}
-use Rattle.oca_net.specs.EndStates.{EndState, Receives, SendsAllBut, DeliversAndTakes}
 use Rattle.oca_control.specs.declared.report.DriveReport.{DriveReport}
 use Rattle.oca_control.specs.Links.{LinkState, Decision, decision, gone_on}
 use Rattle.oca_control.specs.Driving.{DrivesTurn, drive_report_of, goes_on, given_to, all_given_to}

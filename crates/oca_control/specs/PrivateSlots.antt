@@ -1,15 +1,13 @@
 -- For private contracts: where the untaken commands lie in memory. The command of the handle h lies in the slot number
 -- h modulo 32, and the handle itself is not stored.
-use Rattle.std.specs.Prelude.{◌≡◌, ℕ, zero, suc, ◌+◌, ◌-◌, ◌%◌, ◌<◌, ◌≤◌, ◌==◌, nat_lt, nat_le, Bool, true, false}
-use Rattle.std.specs.Prelude.{◌&&◌, ◌||◌, if◌then◌else◌, List, [], ◌∷◌, ◌++◌, map, length, Option, Some, None, is_none}
-use Rattle.std.specs.Prelude.{is_some, slice_index_or}
-use Rattle.std.specs.List.{AllByRecursion}
-use Rattle.std.specs.Option.{option_map}
+use Rattle.oca_control.specs.Words.{[], ◌%◌, ◌&&◌, ◌++◌, ◌+◌, ◌-◌, ◌<◌, ◌==◌, ◌||◌, ◌∷◌, ◌≡◌, ◌≤◌, AllByRecursion, Bool}
+use Rattle.oca_control.specs.Words.{List, None, Option, Some, false, if◌then◌else◌, is_none, is_some, length, map}
+use Rattle.oca_control.specs.Words.{most_parameter_bytes, nat_le, nat_lt, option_map, slice_index_or, suc, true, zero}
+use Rattle.oca_control.specs.Words.{ℕ}
 pub use Rattle.oca_pdu.specs.Messages.{Msg, Command, Response, KeepAlive, msg_of}
 pub use Rattle.oca_pdu.specs.Limits.{most_messages}
 pub use Rattle.oca_pdu.specs.Datagrams.{messages_left}
 use Rattle.oca_control.specs.Answers.{AnswerFields}
-use Rattle.oca_types.specs.Sizes.{most_parameter_bytes}
 use Rattle.oca_control.specs.Limits.{repeat_time, most_sendings, longest_life}
 use Rattle.oca_control.specs.Untaken.{Untaken, first_due, marked_sent}
 use Rattle.oca_control.specs.Links.{Request, command_under, due_bytes, Decision, GivesCommand, GivesKeepAlive}

@@ -1,10 +1,6 @@
 -- WHAT BECAME OF EACH DATAGRAM over histories of calls. As in Histories the latest call stands first.
-use Rattle.std.specs.Prelude.{◌≡◌, ℕ, ◌==◌, ◌<◌, Bool, true, false, ◌&&◌, ⊤, List, [], ◌∷◌, length, Option, Some, None}
-use Rattle.std.specs.Prelude.{is_none, is_some}
-use Rattle.std.specs.List.{AllByRecursion, list_any}
-use Rattle.oca_types.specs.declared.words.Peer.{Peer}
-use Rattle.oca_types.specs.Peers.{same_peer}
-use Rattle.oca_pdu.specs.Messages.{Msg}
+use Rattle.oca_control.specs.Words.{[], ⊤, ◌&&◌, ◌<◌, ◌==◌, ◌∷◌, ◌≡◌, AllByRecursion, Bool, List, Msg, None, Option}
+use Rattle.oca_control.specs.Words.{Peer, Some, false, is_none, is_some, length, list_any, same_peer, true, ℕ}
 use Rattle.oca_control.specs.declared.reception.Reception.{Reception}
 use Rattle.oca_control.specs.declared.reception.Reception.TheVariants as receptions
 use Rattle.oca_control.specs.Links.{LinkState}

@@ -1,15 +1,9 @@
 -- A LINK THAT RUNS OVER AN END: what is done with it by the calls of this crate, at which moments, and that it is asked
 -- in time where the receives of the end return in time. Moments are in milliseconds, and stand in the order of time
 -- here.
-use Rattle.std.specs.Prelude.{◌≡◌, ℕ, ◌+◌, ◌-◌, ◌*◌, ◌<◌, ◌≤◌, max, true, false, ⊤, IsTrue, List, [], ◌∷◌, ◌++◌, Result}
-use Rattle.std.specs.Prelude.{Ok, Err, is_none, length}
-use Rattle.std.specs.List.{flat_map, AllByRecursion}
-use Rattle.oca_types.specs.declared.words.Peer.{Peer}
-use Rattle.oca_types.specs.declared.words.Handle.{Handle}
-use Rattle.oca_types.specs.Peers.{RequestFields}
-use Rattle.oca_net.specs.Deliveries.{Delivery, Datagram, Quiet, Failed}
-use Rattle.oca_net.specs.Ends.{largest_datagram}
-use Rattle.oca_net.specs.EndStates.{EndState}
+use Rattle.oca_control.specs.Words.{[], ⊤, ◌*◌, ◌++◌, ◌+◌, ◌-◌, ◌<◌, ◌∷◌, ◌≡◌, ◌≤◌, AllByRecursion, Datagram, Delivery}
+use Rattle.oca_control.specs.Words.{EndState, Err, Failed, Handle, IsTrue, List, Ok, Peer, Quiet, RequestFields, Result}
+use Rattle.oca_control.specs.Words.{false, flat_map, is_none, largest_datagram, length, max, true, ℕ}
 use Rattle.oca_net.specs.Memory.{MemoryState, state_of_memory, after_receive, after_send}
 use Rattle.oca_control.specs.declared.fault.ControlFault.{ControlFault}
 use Rattle.oca_control.specs.declared.outcome.Outcome.{Outcome}

@@ -1,10 +1,8 @@
 -- Answers that a link has no room for: such an answer is shortened to its handle and a status.
-use Rattle.std.specs.Prelude.{ℕ, nat_lt, nat_le, if◌then◌else◌, List, [], map, length, Option}
-use Rattle.std.specs.Option.{option_map}
-use Rattle.oca_types.specs.Sizes.{most_parameter_bytes}
+use Rattle.oca_control.specs.Words.{[], Command, KeepAlive, List, Msg, Option, Response, if◌then◌else◌, length, map}
+use Rattle.oca_control.specs.Words.{most_parameter_bytes, nat_le, nat_lt, option_map, ℕ}
 use Rattle.oca_types.specs.Status.{status_number}
 use Rattle.oca_types.specs.declared.status.Status.TheVariants as status
-use Rattle.oca_pdu.specs.Messages.{Msg, Command, Response, KeepAlive}
 use Rattle.oca_control.specs.Answers.{AnswerFields, answer_of_response}
 
 -- An answer with more than so many bytes of parameters becomes BufferOverflow (AES70-2, OcaStatus) without parameters.

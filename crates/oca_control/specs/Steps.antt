@@ -1,8 +1,5 @@
 -- What a datagram does, by its bytes (AES70-3; *profile*).
-use Rattle.std.specs.Prelude.{◌≡◌, ℕ, List, Option}
-use Rattle.oca_types.specs.declared.words.Peer.{Peer}
-use Rattle.oca_types.specs.Sizes.{most_parameter_bytes}
-use Rattle.oca_pdu.specs.Messages.{Msg}
+use Rattle.oca_control.specs.Words.{◌≡◌, List, Msg, Option, Peer, most_parameter_bytes, ℕ}
 use Rattle.oca_control.specs.declared.reception.Reception.{Reception}
 use Rattle.oca_control.specs.Contents.{IsContent}
 use Rattle.oca_control.specs.Links.{LinkState, reception, received}

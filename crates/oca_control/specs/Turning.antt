@@ -1,10 +1,9 @@
 -- What is sent in time, and a turn: a copy of a command is sent at most 15,000 ms after its submit, or never. Where the
 -- link is late, nothing is sent, and it counts as lost.
-use Rattle.std.specs.Prelude.{◌≡◌, ◌⊎◌, ℕ, ◌+◌, ◌≤◌, min, Bool, true, false, if◌then◌else◌, List, [], ◌∷◌}
+use Rattle.oca_control.specs.Words.{[], ◌+◌, ◌∷◌, ◌≡◌, ◌≤◌, ◌⊎◌, Bool, Datagram, DeliversAndTakes, Delivery, EndState}
+use Rattle.oca_control.specs.Words.{Failed, IsPresent, List, Quiet, Receives, false, if◌then◌else◌, last_u64, min}
+use Rattle.oca_control.specs.Words.{one_more, true, ℕ}
 use Rattle.oca_net.specs.declared.end.Heard.TheVariants as heard
-use Rattle.oca_net.specs.Deliveries.{Delivery, Datagram, Quiet, Failed}
-use Rattle.oca_net.specs.Ends.{last_u64, one_more}
-use Rattle.oca_net.specs.EndStates.{EndState, IsPresent, Receives, DeliversAndTakes}
 use Rattle.oca_control.specs.declared.report.DriveReport.{DriveReport}
 use Rattle.oca_control.specs.Links.{LinkState, Decision, GivesNothing, IsLost, decision, late_at}
 use Rattle.oca_control.specs.Driving.{HearsDelivery, SendsDue, decisions_from, link_from, all_given_to, drive_report_of}

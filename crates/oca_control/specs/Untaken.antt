@@ -1,9 +1,7 @@
 -- The commands whose answers have not been taken. In a list of them the lowest handle stands first.
-use Rattle.std.specs.Prelude.{ℕ, ◌+◌, ◌-◌, ◌==◌, nat_lt, nat_le, Bool, not, ◌&&◌, ◌||◌, if◌then◌else◌, List, [], ◌∷◌}
-use Rattle.std.specs.Prelude.{map, filter, Option, Some, None, is_none, is_some}
-use Rattle.std.specs.List.{list_any, list_all}
-use Rattle.oca_types.specs.Peers.{CommandFields}
-use Rattle.oca_pdu.specs.Messages.{Msg, Command, Response, KeepAlive}
+use Rattle.oca_control.specs.Words.{[], ◌&&◌, ◌+◌, ◌-◌, ◌==◌, ◌||◌, ◌∷◌, Bool, Command, CommandFields, KeepAlive, List}
+use Rattle.oca_control.specs.Words.{Msg, None, Option, Response, Some, filter, if◌then◌else◌, is_none, is_some}
+use Rattle.oca_control.specs.Words.{list_all, list_any, map, nat_le, nat_lt, not, ℕ}
 use Rattle.oca_control.specs.Limits.{repeat_time, longest_life}
 use Rattle.oca_control.specs.Answers.{AnswerFields, answer_of_response}
 

@@ -1,16 +1,8 @@
 -- What a device answers to a datagram, and how it counts the datagram's commands (AES70-3; the profile's window
 -- decides).
-use Rattle.std.specs.Prelude.{ℕ, ◌+◌, max, if◌then◌else◌, List, [], ◌∷◌, ◌++◌, Result, Ok, Err}
-use Rattle.oca_types.specs.declared.words.Peer.{Peer}
-use Rattle.oca_types.specs.Replies.{Reply}
-use Rattle.oca_types.specs.Status.{status_number}
-use Rattle.oca_types.specs.Peers.{CommandFields}
-use Rattle.oca_types.specs.Sizes.{DeviceSizes}
-use Rattle.oca_pdu.specs.declared.fault.PduFault.{PduFault}
-use Rattle.oca_pdu.specs.Messages.{Msg, Command, Response, KeepAlive}
-use Rattle.oca_pdu.specs.Reading.{read_datagram}
-use Rattle.oca_tree.specs.declared.object.Object.{Object}
-use Rattle.oca_session.specs.Accepted.{Judgement, Fresh, Duplicate, Reused, Old}
+use Rattle.oca_device.specs.Words.{[], ◌++◌, ◌+◌, ◌∷◌, Command, CommandFields, DeviceSizes, Duplicate, Err, Fresh}
+use Rattle.oca_device.specs.Words.{Judgement, KeepAlive, List, Msg, Object, Ok, Old, PduFault, Peer, Reply, Response}
+use Rattle.oca_device.specs.Words.{Result, Reused, if◌then◌else◌, max, read_datagram, status_number, ℕ}
 use Rattle.oca_device.specs.declared.counts.Counts.{Counts}
 use Rattle.oca_device.specs.declared.verdict.Verdict.{Verdict}
 use Rattle.oca_device.specs.declared.verdict.Verdict.TheVariants as verdicts

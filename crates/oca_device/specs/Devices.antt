@@ -1,14 +1,11 @@
 -- A device represents an opening tree and events where it is what they say.
-use Rattle.std.specs.Prelude.{◌≡◌, ℕ, List, ◌∷◌, map}
-use Rattle.oca_types.specs.declared.words.Peer.{Peer}
+use Rattle.oca_device.specs.Words.{◌∷◌, ◌≡◌, List, Object, Peer, map, retained_of, ℕ}
 pub use Rattle.std.specs.Result.{result_err}
 pub use Rattle.oca_types.specs.Sizes.{DeviceSizes, most_parameter_bytes, window_size, sizes_of}
 pub use Rattle.oca_pdu.specs.Limits.{most_answered, most_commands}
-use Rattle.oca_tree.specs.declared.object.Object.{Object}
 pub use Rattle.oca_tree.specs.Settings.{set_fault}
 pub use Rattle.oca_tree.specs.LocalChanges.{front_fault, ToValue, ToLabel, ToEnabled, ToUnlocked, ToFailing}
 pub use Rattle.oca_tree.specs.Readers.{failing_at}
-use Rattle.oca_session.specs.Accepted.{retained_of}
 pub use Rattle.oca_session.specs.Table.{Session, Table, peers_of}
 use Rattle.oca_device.specs.declared.effect.Effect.{Effect}
 pub use Rattle.oca_device.specs.Events.{Event, Datagram, Tick, Local}

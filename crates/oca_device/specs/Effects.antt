@@ -1,14 +1,7 @@
 -- What became of each command of the last datagram.
-use Rattle.std.specs.Prelude.{max, Bool, if◌then◌else◌, List, [], ◌∷◌, ◌++◌, Result, Ok, Err}
-use Rattle.oca_types.specs.declared.words.Peer.{Peer}
-use Rattle.oca_types.specs.Peers.{CommandFields}
-use Rattle.oca_types.specs.Sizes.{DeviceSizes}
-use Rattle.oca_pdu.specs.declared.fault.PduFault.{PduFault}
-use Rattle.oca_pdu.specs.Messages.{Msg, Command, Response, KeepAlive}
-use Rattle.oca_pdu.specs.Reading.{read_datagram}
-use Rattle.oca_tree.specs.declared.object.Object.{Object}
-use Rattle.oca_tree.specs.Execution.{execution}
-use Rattle.oca_session.specs.Accepted.{Judgement, Fresh, Duplicate, Reused, Old}
+use Rattle.oca_device.specs.Words.{[], ◌++◌, ◌∷◌, Bool, Command, CommandFields, DeviceSizes, Duplicate, Err, Fresh}
+use Rattle.oca_device.specs.Words.{Judgement, KeepAlive, List, Msg, Object, Ok, Old, PduFault, Peer, Response, Result}
+use Rattle.oca_device.specs.Words.{Reused, execution, if◌then◌else◌, max, read_datagram}
 use Rattle.oca_device.specs.declared.effect.Effect.{Effect}
 use Rattle.oca_device.specs.declared.effect.CommandOutcome.{CommandOutcome}
 use Rattle.oca_device.specs.declared.effect.CommandOutcome.TheVariants as outcome

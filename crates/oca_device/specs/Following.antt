@@ -1,10 +1,6 @@
 -- What the electronics of a device are handed.
-use Rattle.std.specs.Prelude.{◌≡◌, ℕ, Bool, IsTrue, nat_le, if◌then◌else◌, List, [], ◌∷◌, ◌++◌, length}
-use Rattle.oca_types.specs.Sizes.{DeviceSizes}
-use Rattle.oca_net.specs.Deliveries.{Delivery, Datagram, Quiet, Failed}
-use Rattle.oca_net.specs.Ends.{largest_datagram}
-use Rattle.oca_net.specs.EndStates.{EndState}
-use Rattle.oca_tree.specs.declared.object.Object.{Object}
+use Rattle.oca_device.specs.Words.{[], ◌++◌, ◌∷◌, ◌≡◌, Bool, Datagram, Delivery, DeviceSizes, EndState, Failed, IsTrue}
+use Rattle.oca_device.specs.Words.{List, Object, Quiet, if◌then◌else◌, largest_datagram, length, nat_le, ℕ}
 use Rattle.oca_device.specs.declared.report.Report.{Report}
 use Rattle.oca_device.specs.Events.{Event}
 use Rattle.oca_device.specs.Events as event

@@ -1,12 +1,9 @@
 -- How the answers to a datagram are grouped: neighbouring responses leave in one PDU, and a keep-alive in one of its
 -- own. Each group is the one PDU of a datagram (*profile*). In each list the first one stands first.
-use Rattle.std.specs.Prelude.{◌≡◌, ℕ, ◌<◌, ◌≤◌, nat_le, ⊤, if◌then◌else◌, List, [], ◌∷◌, ◌++◌, map, length}
-use Rattle.std.specs.List.{flat_map, AllByRecursion}
-use Rattle.oca_types.specs.Sizes.{most_parameter_bytes}
-use Rattle.oca_net.specs.Ends.{largest_datagram}
-use Rattle.oca_pdu.specs.Messages.{ResponseFields, Msg, Command, Response, KeepAlive, Pdu, Commands, Responses}
-use Rattle.oca_pdu.specs.Messages.{OneKeepAlive, messages_of}
-use Rattle.oca_pdu.specs.Encoding.{pdu_encoding}
+use Rattle.oca_device.specs.Words.{[], ⊤, ◌++◌, ◌<◌, ◌∷◌, ◌≡◌, ◌≤◌, AllByRecursion, Command, Commands, KeepAlive, List}
+use Rattle.oca_device.specs.Words.{Msg, OneKeepAlive, Pdu, Response, ResponseFields, Responses, flat_map, if◌then◌else◌}
+use Rattle.oca_device.specs.Words.{largest_datagram, length, map, messages_of, most_parameter_bytes, nat_le}
+use Rattle.oca_device.specs.Words.{pdu_encoding, ℕ}
 
 -- ---- what is promised of the groups
 

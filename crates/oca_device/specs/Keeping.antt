@@ -1,12 +1,7 @@
 -- What was answered is stored: which answers wait until the objects are stored, and when they leave.
-use Rattle.std.specs.Prelude.{◌≡◌, ◌+◌, ◌<◌, IsTrue, Bool, false, ◌&&◌, ◌||◌, ◌==◌, not, nat_le, if◌then◌else◌, List}
-use Rattle.std.specs.Prelude.{◌≤◌, [], ◌∷◌, ◌++◌, length}
-use Rattle.std.specs.List.{AllByRecursion}
-use Rattle.oca_types.specs.Sizes.{DeviceSizes}
-use Rattle.oca_net.specs.Deliveries.{Delivery, Datagram, Quiet, Failed, Sent}
-use Rattle.oca_net.specs.Ends.{largest_datagram, last_u64, TakesAllBut}
-use Rattle.oca_net.specs.EndStates.{EndState}
-use Rattle.oca_tree.specs.declared.object.Object.{Object}
+use Rattle.oca_device.specs.Words.{[], ◌&&◌, ◌++◌, ◌+◌, ◌<◌, ◌==◌, ◌||◌, ◌∷◌, ◌≡◌, ◌≤◌, AllByRecursion, Bool, Datagram}
+use Rattle.oca_device.specs.Words.{Delivery, DeviceSizes, EndState, Failed, IsTrue, List, Object, Quiet, Sent}
+use Rattle.oca_device.specs.Words.{TakesAllBut, false, if◌then◌else◌, largest_datagram, last_u64, length, nat_le, not}
 use Rattle.oca_device.specs.declared.report.Report.{Report}
 use Rattle.oca_device.specs.Events.{Event}
 use Rattle.oca_device.specs.Events as event

@@ -1,13 +1,8 @@
 -- Everything that is noted of the peers of a device. Nothing is ever taken away from the notes; a session is what the
 -- notes of its peer say. In a list of notes the latest stands first, and in a list of peers or commands last.
-use Rattle.std.specs.Prelude.{ℕ, ◌*◌, ◌-◌, nat_le, nat_lt, Bool, false, not, if◌then◌else◌, List, [], ◌∷◌, ◌++◌, filter}
-use Rattle.oca_types.specs.declared.words.Peer.{Peer}
-use Rattle.oca_types.specs.Replies.{Reply}
-use Rattle.oca_types.specs.Peers.{same_peer, CommandFields}
-use Rattle.oca_pdu.specs.Messages.{Msg}
-use Rattle.oca_tree.specs.declared.object.Object.{Object}
-use Rattle.oca_session.specs.Accepted.{Entry}
-use Rattle.oca_session.specs.Limits.{longest_silence, first_heartbeat, within_heartbeats}
+use Rattle.oca_device.specs.Words.{[], ◌*◌, ◌++◌, ◌-◌, ◌∷◌, Bool, CommandFields, Entry, List, Msg, Object, Peer, Reply}
+use Rattle.oca_device.specs.Words.{false, filter, first_heartbeat, if◌then◌else◌, longest_silence, nat_le, nat_lt, not}
+use Rattle.oca_device.specs.Words.{same_peer, within_heartbeats, ℕ}
 
 -- What is noted of a peer: a datagram of these messages was admitted, a keep-alive set the heartbeat, or a command was
 -- executed on a tree and gave a reply.

@@ -1,8 +1,7 @@
 -- The packets of an outbox, as their bytes; and what an outbox keeps that has room for some of them only.
-use Rattle.std.specs.Prelude.{ℕ, nat_lt, Bool, not, List, map, take, length, count_by}
+use Rattle.oca_device.specs.Words.{Bool, List, count_by, length, map, nat_lt, not, read_datagram, take, ℕ}
 use Rattle.arrayvec.specs.ArrayVec.{ArrayVec}
 use Rattle.oca_pdu.specs.Limits.{is_response}
-use Rattle.oca_pdu.specs.Reading.{read_datagram}
 use Rattle.oca_pdu.specs.Datagrams.{read_or_none}
 
 abbrev pub bytes_of_packets : List (ArrayVec ℕ) → List (List ℕ)

@@ -1,13 +1,8 @@
 -- What is taken in and held until the objects are stored.
-use Rattle.std.specs.Prelude.{◌≡◌, ℕ, ◌+◌, ◌<◌, IsTrue, Bool, ◌&&◌, not, if◌then◌else◌, List, [], ◌++◌, length, map}
-use Rattle.std.specs.Prelude.{Option, Some, None}
-use Rattle.oca_types.specs.declared.words.Peer.{Peer}
-use Rattle.oca_types.specs.Sizes.{DeviceSizes}
-use Rattle.oca_net.specs.Deliveries.{Delivery, Sent}
-use Rattle.oca_net.specs.Ends.{last_u64, TakesAllBut}
+use Rattle.oca_device.specs.Words.{[], ◌&&◌, ◌++◌, ◌+◌, ◌<◌, ◌≡◌, Bool, Delivery, DeviceSizes, EndState, IsTrue, List}
+use Rattle.oca_device.specs.Words.{None, Object, Option, Peer, Receives, SendsAllBut, Sent, Some, TakesAllBut}
+use Rattle.oca_device.specs.Words.{if◌then◌else◌, last_u64, length, map, not, ℕ}
 use Rattle.oca_net.specs.declared.end.Heard.TheVariants as heard
-use Rattle.oca_net.specs.EndStates.{EndState, Receives, SendsAllBut}
-use Rattle.oca_tree.specs.declared.object.Object.{Object}
 use Rattle.oca_device.specs.declared.report.Report.{Report}
 use Rattle.oca_device.specs.declared.keeping.Answer.{Answer}
 use Rattle.oca_device.specs.declared.keeping.Turn.{Turn}

@@ -1,9 +1,6 @@
 -- For private contracts: which locks silence releases.
-use Rattle.std.specs.Prelude.{ℕ, Bool, false, List, Option, Some, None}
-use Rattle.std.specs.List.{list_any}
-use Rattle.oca_tree.specs.declared.object.Object.{Object}
+use Rattle.oca_device.specs.Words.{Bool, List, None, Object, Option, Session, Some, false, list_any, ℕ}
 use Rattle.oca_tree.specs.declared.object.Lock.{Lock}
-use Rattle.oca_session.specs.Table.{Session}
 use Rattle.oca_session.specs.Lapses.{lapses}
 
 -- at this moment the holder of the lock is lapsed

@@ -1,5 +1,5 @@
 -- For private contracts: the reply of an execution, where a device makes it.
-use Rattle.oca_types.specs.Replies.{Reply}
+use Rattle.oca_device.specs.Words.{Reply}
 use Rattle.oca_device.specs.declared.made.Made.{Made}
 
 -- its status, ParamCount and parameters

@@ -1,12 +1,10 @@
 -- What serving a datagram, its messages or one message makes of a device and its outbox.
-use Rattle.std.specs.Prelude.{◌≡◌, ℕ, ◌+◌, ◌≤◌, Bool, true, false, ⊤, List, [], ◌∷◌, ◌++◌, length}
-use Rattle.oca_types.specs.declared.words.Peer.{Peer}
-use Rattle.oca_types.specs.Sizes.{DeviceSizes}
+use Rattle.oca_device.specs.Words.{[], ⊤, ◌++◌, ◌+◌, ◌∷◌, ◌≡◌, ◌≤◌, Bool, DeviceSizes, List, Peer, false, length}
+use Rattle.oca_device.specs.Words.{pdu_encoding, true, ℕ}
 pub use Rattle.std.specs.List.{AllByRecursion}
 pub use Rattle.oca_types.specs.Peers.{fields_of}
 pub use Rattle.oca_pdu.specs.Messages.{Msg, Command, Response, KeepAlive, Pdu, msg_of}
 pub use Rattle.oca_pdu.specs.Datagrams.{messages_left}
-use Rattle.oca_pdu.specs.Encoding.{pdu_encoding}
 pub use Rattle.oca_pdu.specs.Reading.{read_datagram}
 pub use Rattle.oca_tree.specs.Execution.{execution}
 pub use Rattle.oca_session.specs.Table.{session_of}

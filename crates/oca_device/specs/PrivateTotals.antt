@@ -1,8 +1,6 @@
 -- What a turn returns, and numbers of reports that fit.
-use Rattle.std.specs.Prelude.{◌≡◌, ℕ, ◌≤◌, [], Option, Some, None}
+use Rattle.oca_device.specs.Words.{[], ◌≡◌, ◌≤◌, EndState, None, Option, Receives, Some, one_more, ℕ}
 use Rattle.oca_net.specs.declared.end.Heard.TheVariants as heard
-use Rattle.oca_net.specs.Ends.{one_more}
-use Rattle.oca_net.specs.EndStates.{EndState, Receives}
 use Rattle.oca_device.specs.declared.report.Report.{Report}
 use Rattle.oca_device.specs.Devices.{DeviceState}
 use Rattle.oca_device.specs.Following.{ElectronicsState, ServesEndWith}

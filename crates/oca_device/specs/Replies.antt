@@ -1,11 +1,7 @@
 -- What the loop sends: the packets of each datagram, to its sender.
-use Rattle.std.specs.Prelude.{◌≡◌, ℕ, ◌+◌, ◌<◌, IsTrue, nat_le, if◌then◌else◌, List, [], ◌∷◌, ◌++◌, map, length}
-use Rattle.oca_types.specs.declared.words.Peer.{Peer}
-use Rattle.oca_types.specs.Sizes.{DeviceSizes}
-use Rattle.oca_net.specs.Deliveries.{Delivery, Datagram, Quiet, Failed, Sent}
-use Rattle.oca_net.specs.Ends.{largest_datagram, last_u64, TakesAllBut}
-use Rattle.oca_net.specs.EndStates.{EndState}
-use Rattle.oca_tree.specs.declared.object.Object.{Object}
+use Rattle.oca_device.specs.Words.{[], ◌++◌, ◌+◌, ◌<◌, ◌∷◌, ◌≡◌, Datagram, Delivery, DeviceSizes, EndState, Failed}
+use Rattle.oca_device.specs.Words.{IsTrue, List, Object, Peer, Quiet, Sent, TakesAllBut, if◌then◌else◌}
+use Rattle.oca_device.specs.Words.{largest_datagram, last_u64, length, map, nat_le, ℕ}
 use Rattle.oca_device.specs.declared.report.Report.{Report}
 use Rattle.oca_device.specs.Events.{Event}
 use Rattle.oca_device.specs.Events as event

@@ -1,9 +1,6 @@
 -- What a report says of the turns of the loop: a turn is one delivery of the end.
-use Rattle.std.specs.Prelude.{ℕ, ◌+◌, min, nat_le, nat_lt, if◌then◌else◌, List, [], ◌∷◌, length}
-use Rattle.oca_types.specs.Sizes.{DeviceSizes}
-use Rattle.oca_net.specs.Deliveries.{Delivery, Datagram, Quiet, Failed}
-use Rattle.oca_net.specs.Ends.{largest_datagram, last_u64}
-use Rattle.oca_tree.specs.declared.object.Object.{Object}
+use Rattle.oca_device.specs.Words.{[], ◌+◌, ◌∷◌, Datagram, Delivery, DeviceSizes, Failed, List, Object, Quiet}
+use Rattle.oca_device.specs.Words.{if◌then◌else◌, largest_datagram, last_u64, length, min, nat_le, nat_lt, ℕ}
 use Rattle.oca_device.specs.declared.verdict.Verdict.{Verdict}
 use Rattle.oca_device.specs.declared.verdict.Verdict.TheVariants as verdicts
 use Rattle.oca_device.specs.declared.report.Report.{Report}

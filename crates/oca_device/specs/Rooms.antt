@@ -1,14 +1,9 @@
 -- What a device answers, retains and takes that has room for so many bytes of parameters.
-use Rattle.std.specs.Prelude.{ℕ, ◌+◌, nat_lt, nat_le, ◌&&◌, ◌||◌, Bool, if◌then◌else◌, List, [], map, length}
-use Rattle.oca_types.specs.declared.words.Peer.{Peer}
+use Rattle.oca_device.specs.Words.{[], ◌&&◌, ◌+◌, ◌||◌, Bool, Command, DeviceSizes, Entry, KeepAlive, List, Msg, Object}
+use Rattle.oca_device.specs.Words.{Peer, Reply, Response, if◌then◌else◌, length, map, most_command_parameter_bytes}
+use Rattle.oca_device.specs.Words.{most_parameter_bytes, nat_le, nat_lt, status_number, ℕ}
 use Rattle.oca_types.specs.declared.status.Status.TheVariants as status
-use Rattle.oca_types.specs.Replies.{Reply}
-use Rattle.oca_types.specs.Status.{status_number}
-use Rattle.oca_types.specs.Sizes.{DeviceSizes, most_parameter_bytes, most_command_parameter_bytes}
 use Rattle.oca_pdu.specs.declared.fault.PduFaultKind.TheVariants.{TooLong}
-use Rattle.oca_pdu.specs.Messages.{Msg, Command, Response, KeepAlive}
-use Rattle.oca_tree.specs.declared.object.Object.{Object}
-use Rattle.oca_session.specs.Accepted.{Entry}
 use Rattle.oca_device.specs.declared.verdict.Verdict.{Verdict}
 use Rattle.oca_device.specs.declared.verdict.Verdict.TheVariants as verdicts
 use Rattle.oca_device.specs.Events.{Event}

@@ -1,20 +1,9 @@
 -- The state after events: the objects, the clock, and the notes (profile; execution is AES70-2's).
-use Rattle.std.specs.Prelude.{ℕ, ◌*◌, nat_lt, max, Bool, ◌||◌, if◌then◌else◌, List, [], ◌∷◌, filter, length, Result, Ok}
-use Rattle.std.specs.Prelude.{Err}
-use Rattle.oca_types.specs.declared.words.Peer.{Peer}
-use Rattle.oca_types.specs.Replies.{Reply}
-use Rattle.oca_types.specs.Peers.{CommandFields}
-use Rattle.oca_types.specs.Sizes.{DeviceSizes}
-use Rattle.oca_pdu.specs.declared.fault.PduFault.{PduFault}
+use Rattle.oca_device.specs.Words.{[], ◌*◌, ◌||◌, ◌∷◌, Bool, Command, CommandFields, DeviceSizes, Duplicate, Err, Fresh}
+use Rattle.oca_device.specs.Words.{Judgement, KeepAlive, List, LocalChange, Millis, Msg, Object, Ok, Old, PduFault}
+use Rattle.oca_device.specs.Words.{Peer, Reply, Response, Result, Reused, Seconds, after_change, execution, filter}
+use Rattle.oca_device.specs.Words.{if◌then◌else◌, judgement, length, max, nat_lt, read_datagram, released, ℕ}
 use Rattle.oca_pdu.specs.declared.message.Form.{Form}
-use Rattle.oca_pdu.specs.declared.message.Form.TheVariants.{Seconds, Millis}
-use Rattle.oca_pdu.specs.Messages.{Msg, Command, Response, KeepAlive}
-use Rattle.oca_pdu.specs.Reading.{read_datagram}
-use Rattle.oca_tree.specs.declared.object.Object.{Object}
-use Rattle.oca_tree.specs.Execution.{execution}
-use Rattle.oca_tree.specs.Locks.{released}
-use Rattle.oca_tree.specs.LocalChanges.{LocalChange, after_change}
-use Rattle.oca_session.specs.Accepted.{Judgement, Fresh, Duplicate, Reused, Old, judgement}
 use Rattle.oca_device.specs.Events.{Event, Datagram, Tick, Local}
 use Rattle.oca_device.specs.Notes.{Noted, Admitted, Heartbeat, Executed, Note, run, is_noted, noted_peers, accepted}
 use Rattle.oca_device.specs.Notes.{has_lapsed}

@@ -1,15 +1,8 @@
 -- Which objects the last datagram wrote to.
-use Rattle.std.specs.Prelude.{ℕ, max, if◌then◌else◌, List, [], ◌∷◌, ◌++◌, map, Result, Ok, Err}
+use Rattle.oca_device.specs.Words.{[], ◌++◌, ◌∷◌, Command, CommandFields, DeviceSizes, Duplicate, Err, Fresh, Judgement}
+use Rattle.oca_device.specs.Words.{KeepAlive, List, Msg, Object, Ok, Old, PduFault, Peer, Response, Result, Reused}
+use Rattle.oca_device.specs.Words.{if◌then◌else◌, map, max, read_datagram, wrote, ℕ}
 use Rattle.oca_types.specs.declared.words.Ono.{Ono}
-use Rattle.oca_types.specs.declared.words.Peer.{Peer}
-use Rattle.oca_types.specs.Peers.{CommandFields}
-use Rattle.oca_types.specs.Sizes.{DeviceSizes}
-use Rattle.oca_pdu.specs.declared.fault.PduFault.{PduFault}
-use Rattle.oca_pdu.specs.Messages.{Msg, Command, Response, KeepAlive}
-use Rattle.oca_pdu.specs.Reading.{read_datagram}
-use Rattle.oca_tree.specs.declared.object.Object.{Object}
-use Rattle.oca_tree.specs.Written.{wrote}
-use Rattle.oca_session.specs.Accepted.{Judgement, Fresh, Duplicate, Reused, Old}
 use Rattle.oca_device.specs.Events.{Event, Datagram, Tick, Local}
 use Rattle.oca_device.specs.Notes.{Admitted}
 use Rattle.oca_device.specs.States.{State, noted, moved_to, admits, judged_in, after_message, state_after}

@@ -1,16 +1,10 @@
 -- THE LAW OF ANSWERS IN TIME, over every schedule: where a link and the network are in time, each command in flight is
 -- answered when a copy of it finds room, whatever the device forgot meanwhile. Of the commands that earlier links of
 -- the peer left behind, only those take room in the window whose link left off at most 100,000 ms before the submit.
-use Rattle.std.specs.Prelude.{◌≡◌, ℕ, ◌+◌, ◌*◌, ◌<◌, ◌≤◌, nat_le, true, ◌&&◌, if◌then◌else◌}
-use Rattle.std.specs.Prelude.{false, is_none, List, [], ◌∷◌, ◌++◌, length, Some}
-use Rattle.std.specs.List.{slice_get, AllByRecursion}
-use Rattle.oca_types.specs.declared.words.Peer.{Peer}
-use Rattle.oca_types.specs.declared.words.Handle.{Handle}
-use Rattle.oca_types.specs.Peers.{CommandFields, same_peer}
-use Rattle.oca_types.specs.Sizes.{DeviceSizes}
-use Rattle.oca_tree.specs.declared.object.Object.{Object}
-use Rattle.oca_control.specs.Links.{Request, command_under, present_moment}
-use Rattle.oca_control.specs.Answering.{IsAskedEvery}
+use Rattle.oca_pair.specs.Words.{[], ◌&&◌, ◌*◌, ◌++◌, ◌+◌, ◌<◌, ◌∷◌, ◌≡◌, ◌≤◌, AllByRecursion, CommandFields}
+use Rattle.oca_pair.specs.Words.{DeviceSizes, Handle, IsAskedEvery, List, Object, Peer, Request, Some, command_under}
+use Rattle.oca_pair.specs.Words.{false, if◌then◌else◌, is_none, length, nat_le, present_moment, same_peer, slice_get}
+use Rattle.oca_pair.specs.Words.{true, ℕ}
 use Rattle.oca_pair.specs.declared.outcome.Outcome.TheVariants as outcomes
 use Rattle.oca_pair.specs.declared.start.Start.{Start}
 use Rattle.oca_pair.specs.Networks.{Network, PeerLink, SentDatagram, Renewal, Setup, opening, zero_after, zero_of}

@@ -1,20 +1,12 @@
 -- THE LAW OF GETTING THROUGH, over every schedule: a link that is asked often enough gives each command out to the
 -- device until it has the command's answer or is lost; and one copy that arrives, and the one response that comes back,
 -- are enough.
-use Rattle.std.specs.Prelude.{◌≡◌, ◌⊎◌, ℕ, ◌==◌, true, if◌then◌else◌, List, [], ◌∷◌, ◌++◌, Option, Some, None}
-use Rattle.std.specs.List.{slice_get, AllByRecursion, Contains}
-use Rattle.oca_types.specs.declared.words.Peer.{Peer}
-use Rattle.oca_types.specs.declared.words.Handle.{Handle}
-use Rattle.oca_types.specs.Peers.{CommandFields, same_peer}
-use Rattle.oca_types.specs.Sizes.{DeviceSizes}
-use Rattle.oca_pdu.specs.Messages.{Msg, Commands}
-use Rattle.oca_pdu.specs.Encoding.{pdu_encoding}
-use Rattle.oca_tree.specs.declared.object.Object.{Object}
-use Rattle.oca_control.specs.Untaken.{answer_under}
-use Rattle.oca_control.specs.Links.{LinkState, Request, command_under, submission, decision, due_answer}
-use Rattle.oca_control.specs.Links.{due_bytes, present_moment, reception}
+use Rattle.oca_pair.specs.Words.{[], ◌++◌, ◌==◌, ◌∷◌, ◌≡◌, ◌⊎◌, AllByRecursion, CommandFields, Commands, Contains}
+use Rattle.oca_pair.specs.Words.{DeviceSizes, Handle, IsAskedEvery, IsSentInTime, LinkState, List, Msg, None, Object}
+use Rattle.oca_pair.specs.Words.{Option, Peer, Request, Some, answer_under, command_under, decision, due_answer}
+use Rattle.oca_pair.specs.Words.{due_bytes, if◌then◌else◌, pdu_encoding, present_moment, reception, same_peer}
+use Rattle.oca_pair.specs.Words.{slice_get, submission, true, ℕ}
 use Rattle.oca_control.specs.Histories.{Call, Submits, SendsDue, Receives, TakesAnswer, clock_of_calls, sendings}
-use Rattle.oca_control.specs.Answering.{IsAskedEvery, IsSentInTime}
 use Rattle.oca_pair.specs.declared.outcome.Outcome.TheVariants as outcomes
 use Rattle.oca_pair.specs.declared.start.Start.{Start}
 use Rattle.oca_pair.specs.Networks.{Network, PeerLink, SentDatagram, Setup, opening}

@@ -1,12 +1,7 @@
 -- WHAT HAPPENED TO THE DEVICE of a network, in the words of the device's law by events. Of events and happenings the
 -- latest stands first.
-use Rattle.std.specs.Prelude.{List, [], ◌∷◌, ◌++◌, Result, Ok, Err}
-use Rattle.oca_types.specs.declared.words.Peer.{Peer}
-use Rattle.oca_pdu.specs.declared.fault.PduFault.{PduFault}
-use Rattle.oca_pdu.specs.Messages.{Msg}
-use Rattle.oca_pdu.specs.Reading.{read_datagram}
-use Rattle.oca_device.specs.Events.{Event, Datagram, Tick, Local}
-use Rattle.oca_device.specs.LawByEvents.{Happening, Passes, Says, Sets, Happened, EventsAreBytes}
+use Rattle.oca_pair.specs.Words.{[], ◌++◌, ◌∷◌, Datagram, Err, Event, EventsAreBytes, Happened, Happening, List, Local}
+use Rattle.oca_pair.specs.Words.{Msg, Ok, Passes, PduFault, Peer, Result, Says, Sets, Tick, read_datagram}
 
 -- what a peer says with bytes of which this was read: the messages of a datagram, and nothing with other bytes
 abbrev pub sayings : Peer → Result (List Msg) PduFault → List Happening

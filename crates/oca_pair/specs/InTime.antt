@@ -1,16 +1,10 @@
 -- THE LAW OF COPIES IN TIME, over every schedule: where a link is not asked what is due while it is late, and none of
 -- its datagrams is on its way for longer than 100,000 ms, each of its commands is executed at most once, whatever the
 -- device forgets meanwhile.
-use Rattle.std.specs.Prelude.{◌≡◌, ◌⊎◌, ◌==◌, ℕ, ◌+◌, ◌≤◌, true, false, List, [], ◌∷◌, ◌++◌, map, Option, Some, None}
-use Rattle.std.specs.List.{slice_get, list_any, IsDistinct}
-use Rattle.oca_types.specs.declared.words.Peer.{Peer}
-use Rattle.oca_types.specs.Peers.{CommandFields}
-use Rattle.oca_types.specs.Sizes.{DeviceSizes}
-use Rattle.oca_tree.specs.declared.object.Object.{Object}
-use Rattle.oca_device.specs.LawByEvents.{Passes, clock, admitted, accepted_by}
-use Rattle.oca_control.specs.Answers.{AnswerFields}
-use Rattle.oca_control.specs.Untaken.{answer_under}
-use Rattle.oca_control.specs.Links.{GivesKeepAlive, present_moment, late_at, decision}
+use Rattle.oca_pair.specs.Words.{[], ◌++◌, ◌+◌, ◌==◌, ◌∷◌, ◌≡◌, ◌≤◌, ◌⊎◌, AnswerFields, CommandFields, DeviceSizes}
+use Rattle.oca_pair.specs.Words.{GivesKeepAlive, IsDistinct, List, None, Object, Option, Passes, Peer, Some}
+use Rattle.oca_pair.specs.Words.{accepted_by, admitted, answer_under, clock, decision, false, late_at, list_any, map}
+use Rattle.oca_pair.specs.Words.{present_moment, slice_get, true, ℕ}
 use Rattle.oca_pair.specs.declared.start.Start.{Start}
 use Rattle.oca_pair.specs.Networks.{Network, PeerLink, SentDatagram, Setup, device_zero_of, opening, zero_of}
 use Rattle.oca_pair.specs.Steps.{Step, Submit, Due, ToDevice, ToLink, Other, Tick, Local, Take, Renew, Beside}

@@ -1,27 +1,11 @@
 -- THE LAWS OF A NETWORK, over every schedule.
-use Rattle.std.specs.Prelude.{◌≡◌, ◌==◌, ◌⊎◌, ℕ, ◌+◌, ◌<◌, true, false, if◌then◌else◌, List, [], ◌∷◌, ◌++◌}
-use Rattle.std.specs.Prelude.{map, filter, Some}
-use Rattle.std.specs.List.{slice_get, AllByRecursion, Contains, IsDistinct}
-use Rattle.oca_types.specs.declared.words.Peer.{Peer}
-use Rattle.oca_types.specs.Replies.{Reply}
-use Rattle.oca_types.specs.Peers.{CommandFields, same_peer}
-use Rattle.oca_types.specs.Status.{status_number}
-use Rattle.oca_types.specs.Sizes.{DeviceSizes}
-use Rattle.oca_pdu.specs.Messages.{Commands}
-use Rattle.oca_pdu.specs.Encoding.{pdu_encoding}
-use Rattle.oca_tree.specs.declared.object.Object.{Object}
-use Rattle.oca_tree.specs.Execution.{execution}
-use Rattle.oca_tree.specs.Locks.{released}
-use Rattle.oca_tree.specs.LocalChanges.{after_change}
+use Rattle.oca_pair.specs.Words.{[], ◌++◌, ◌+◌, ◌<◌, ◌==◌, ◌∷◌, ◌≡◌, ◌⊎◌, AllByRecursion, AnswerFields, Change}
+use Rattle.oca_pair.specs.Words.{CommandFields, Commands, Contains, Datagram, DeviceSizes, Event, Executes, IsDistinct}
+use Rattle.oca_pair.specs.Words.{List, Object, Peer, Releases, Reply, Sets, Some, Tick, Untaken, after_change}
+use Rattle.oca_pair.specs.Words.{answer_under, changes, execution, false, filter, if◌then◌else◌, map, pdu_encoding}
+use Rattle.oca_pair.specs.Words.{pdu_of, released, reply_of, response, same_peer, slice_get, status_number, true, ℕ}
 use Rattle.oca_device.specs.declared.verdict.Verdict.TheVariants as verdicts
-use Rattle.oca_device.specs.Events.{Event, Datagram, Tick}
-use Rattle.oca_device.specs.States.{reply_of}
-use Rattle.oca_device.specs.LawByEvents.{Change, Executes, Releases, Sets, changes}
 use Rattle.oca_device.specs.LawByEvents as law
-use Rattle.oca_device.specs.Groups.{pdu_of}
-use Rattle.oca_device.specs.Answers.{response}
-use Rattle.oca_control.specs.Answers.{AnswerFields}
-use Rattle.oca_control.specs.Untaken.{Untaken, answer_under}
 use Rattle.oca_pair.specs.declared.outcome.Outcome.TheVariants as outcomes
 use Rattle.oca_pair.specs.declared.start.Start.{Start}
 use Rattle.oca_pair.specs.Networks.{Network, PeerLink, SentDatagram, SubmittedCommand, TakenAnswer, Setup}

@@ -1,3 +1,4 @@
+pub mod Words
 pub mod Networks
 pub mod Steps
 pub mod Happenings

@@ -1,15 +1,9 @@
 -- Both ends over a network: a device, links to it, each of a peer of its own, and every datagram that was sent between
 -- them. No list of a network ever loses a member, so a datagram can be delivered late, again, in any order, or never.
 -- Of events the latest stands first; of datagrams, submitted commands and taken answers the latest stands last.
-use Rattle.std.specs.Prelude.{ℕ, ◌+◌, Bool, if◌then◌else◌, List, [], ◌∷◌, ◌++◌, map, filter, length}
-use Rattle.std.specs.List.{list_any}
-use Rattle.oca_types.specs.declared.words.Peer.{Peer}
-use Rattle.oca_types.specs.Peers.{CommandFields, same_peer}
-use Rattle.oca_types.specs.Sizes.{DeviceSizes}
-use Rattle.oca_tree.specs.declared.object.Object.{Object}
-use Rattle.oca_device.specs.Events.{Event}
-use Rattle.oca_control.specs.Answers.{AnswerFields}
-use Rattle.oca_control.specs.Links.{LinkState, new_link}
+use Rattle.oca_pair.specs.Words.{[], ◌++◌, ◌+◌, ◌∷◌, AnswerFields, Bool, CommandFields, DeviceSizes, Event, LinkState}
+use Rattle.oca_pair.specs.Words.{List, Object, Peer, filter, if◌then◌else◌, length, list_any, map, new_link, same_peer}
+use Rattle.oca_pair.specs.Words.{ℕ}
 use Rattle.oca_pair.specs.declared.start.Start.{Start}
 
 -- HOW A NETWORK IS SET UP: the device's address; and for the first link of each peer its span, and the moment at which

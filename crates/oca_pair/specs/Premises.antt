@@ -1,14 +1,9 @@
 -- WHAT THE LAWS ASK of a schedule, by the steps and by the datagrams that came to the device.
-use Rattle.std.specs.Prelude.{◌≡◌, ℕ, ◌+◌, ◌-◌, ◌*◌, ◌<◌, ◌≤◌, ◌^◌, Bool, true, not, ◌&&◌, List, []}
-use Rattle.std.specs.Prelude.{◌∷◌, filter, length}
-use Rattle.std.specs.List.{list_any, list_all, AllByRecursion}
-use Rattle.oca_types.specs.declared.words.Peer.{Peer}
-use Rattle.oca_types.specs.Peers.{same_peer}
-use Rattle.oca_types.specs.Sizes.{DeviceSizes}
+use Rattle.oca_pair.specs.Words.{[], ◌&&◌, ◌*◌, ◌+◌, ◌-◌, ◌<◌, ◌^◌, ◌∷◌, ◌≡◌, ◌≤◌, AllByRecursion, Arrival, Bool}
+use Rattle.oca_pair.specs.Words.{DeviceSizes, Happening, List, Passes, Peer, Request, Says, Sets, admitted, clock}
+use Rattle.oca_pair.specs.Words.{filter, has_room, last_moment, length, list_all, list_any, not, same_peer, session}
+use Rattle.oca_pair.specs.Words.{true, ℕ}
 use Rattle.oca_session.specs.Limits.{longest_silence}
-use Rattle.oca_device.specs.LawByEvents.{Happening, Passes, Says, Sets, Arrival, clock, admitted}
-use Rattle.oca_device.specs.LawByEvents.{session, last_moment, has_room}
-use Rattle.oca_control.specs.Links.{Request}
 use Rattle.oca_pair.specs.declared.start.Start.{Start}
 use Rattle.oca_pair.specs.Networks.{Network, PeerLink, left_behind}
 use Rattle.oca_pair.specs.Steps.{Step, Submit, Renew}

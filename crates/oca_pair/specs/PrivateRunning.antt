@@ -1,14 +1,10 @@
 -- What a network that runs shows of the network that a schedule speaks of.
-use Rattle.std.specs.Prelude.{◌≡◌, ℕ, if◌then◌else◌, Bool, true, false, List, [], ◌∷◌, Option, Some, None}
-use Rattle.std.specs.Prelude.{Result, Ok, Err}
-use Rattle.std.specs.List.{AllByRecursion}
+use Rattle.oca_pair.specs.Words.{[], ◌∷◌, ◌≡◌, AllByRecursion, Bool, Decision, Err, GivesNothing, IsLost, List, None}
+use Rattle.oca_pair.specs.Words.{Ok, Option, Peer, Represents, Result, Some, false, if◌then◌else◌, reception, same_peer}
+use Rattle.oca_pair.specs.Words.{true, ℕ}
 use Rattle.std.specs.Option.{option_or}
-use Rattle.oca_types.specs.declared.words.Peer.{Peer}
-use Rattle.oca_types.specs.Peers.{same_peer}
-use Rattle.oca_device.specs.Devices.{Represents}
 use Rattle.oca_pair.specs.declared.outcome.Outcome.{Outcome}
 use Rattle.oca_control.specs.declared.reception.Reception.{Reception}
-use Rattle.oca_control.specs.Links.{Decision, GivesNothing, IsLost, reception}
 use Rattle.oca_pair.specs.declared.start.Start.{Start}
 use Rattle.oca_pair.specs.declared.given.Given.{Given}
 use Rattle.oca_pair.specs.declared.given.Given.TheVariants as gives

@@ -1,18 +1,9 @@
 -- THE LAW OF THE ROUND TRIP, over every schedule: a command that a link holds untaken comes to the device, what the
 -- device sends comes to the link, and the link has the command's answer, whatever happens in between but a renewal of
 -- the link.
-use Rattle.std.specs.Prelude.{◌≡◌, ◌⊎◌, ℕ, true, List, [], ◌∷◌, ◌++◌, length, Some}
-use Rattle.std.specs.List.{slice_get, AllByRecursion, Contains}
-use Rattle.oca_types.specs.declared.words.Peer.{Peer}
-use Rattle.oca_types.specs.Replies.{Reply}
-use Rattle.oca_types.specs.Peers.{CommandFields}
-use Rattle.oca_types.specs.Sizes.{DeviceSizes}
-use Rattle.oca_pdu.specs.Encoding.{pdu_encoding}
-use Rattle.oca_tree.specs.declared.object.Object.{Object}
-use Rattle.oca_device.specs.Groups.{pdu_of}
-use Rattle.oca_device.specs.Answers.{response}
-use Rattle.oca_control.specs.Answers.{AnswerFields}
-use Rattle.oca_control.specs.Untaken.{Untaken, answer_under}
+use Rattle.oca_pair.specs.Words.{[], ◌++◌, ◌∷◌, ◌≡◌, ◌⊎◌, AllByRecursion, AnswerFields, CommandFields, Contains}
+use Rattle.oca_pair.specs.Words.{DeviceSizes, List, Object, Peer, Reply, Some, Untaken, answer_under, length}
+use Rattle.oca_pair.specs.Words.{pdu_encoding, pdu_of, response, slice_get, true, ℕ}
 use Rattle.oca_pair.specs.declared.start.Start.{Start}
 use Rattle.oca_pair.specs.Networks.{Network, PeerLink, SentDatagram, Setup, opening, times_renewed}
 use Rattle.oca_pair.specs.Steps.{Step, ToDevice, ToLink, after_step, after_steps}

@@ -1,38 +1,16 @@
 -- THE LAW OF WHAT A PANEL SAYS OF A DEVICE, over every schedule: where a link and the network are in time, each answer
 -- to a command of the link is that of one execution, which lies between the call and its answer; and what it says is
 -- what the device then held.
-use Rattle.std.specs.Prelude.{◌≡◌, ◌≢◌, ◌⊎◌, ℕ, Bool, true, false, List, [], ◌∷◌, ◌++◌, Some}
-use Rattle.std.specs.List.{All, slice_get}
-use Rattle.oca_types.specs.declared.class.Class.{Class}
-use Rattle.oca_types.specs.declared.class.Method.{Method}
-use Rattle.oca_types.specs.declared.words.Peer.{Peer}
-use Rattle.oca_types.specs.declared.words.Handle.{Handle}
-use Rattle.oca_types.specs.Peers.{CommandFields}
-use Rattle.oca_types.specs.Sizes.{DeviceSizes}
-use Rattle.oca_types.specs.Status.{status_number}
+use Rattle.oca_pair.specs.Words.{[], ◌++◌, ◌∷◌, ◌≡◌, ◌≢◌, ◌⊎◌, All, AnswerFields, AskedBy, Bool, Class, CommandFields}
+use Rattle.oca_pair.specs.Words.{DeviceSizes, Handle, IsCallFor, IsOfItsTypes, IsRequest, IsTree, List, Method, Object}
+use Rattle.oca_pair.specs.Words.{Peer, Reading, Request, Some, Value, answer_given, answer_in, answer_under, changed_by}
+use Rattle.oca_pair.specs.Words.{changes, class_of, class_of_ono, class_of_value, command_under, execution, false}
+use Rattle.oca_pair.specs.Words.{held_set_to, object_of, reading_held, reading_set_to, reply_of, slice_get}
+use Rattle.oca_pair.specs.Words.{status_number, status_of, true, value_without_limits, with_object, ℕ}
 use Rattle.oca_model.specs.declared.answer.Answer.TheVariants as answers
-use Rattle.oca_model.specs.declared.reading.Reading.{Reading}
 use Rattle.oca_model.specs.declared.request.Request.{Request as Asked}
 use Rattle.oca_model.specs.declared.request.Request.TheVariants as asked
-use Rattle.oca_model.specs.declared.value.Value.{Value}
-use Rattle.oca_model.specs.Answers.{answer_in}
-use Rattle.oca_model.specs.Readings.{value_without_limits}
-use Rattle.oca_model.specs.Requests.{AskedBy, IsCallFor, IsRequest}
-use Rattle.oca_model.specs.Values.{class_of_value}
-use Rattle.oca_tree.specs.declared.object.Object.{Object}
-use Rattle.oca_tree.specs.Objects.{class_of, object_of, with_object}
-use Rattle.oca_tree.specs.Execution.{execution, status_of}
-use Rattle.oca_tree.specs.Readers.{class_of_ono}
-use Rattle.oca_tree.specs.Trees.{IsTree}
-use Rattle.oca_model.specs.Settings.{reading_set_to}
-use Rattle.oca_tree.specs.Typed.{held_set_to, reading_held, answer_given, changed_by}
-use Rattle.oca_tree.specs.TypedLaws.{IsOfItsTypes}
-use Rattle.oca_device.specs.LawByEvents.{changes}
 use Rattle.oca_device.specs.LawByEvents as law
-use Rattle.oca_device.specs.States.{reply_of}
-use Rattle.oca_control.specs.Answers.{AnswerFields}
-use Rattle.oca_control.specs.Untaken.{answer_under}
-use Rattle.oca_control.specs.Links.{Request, command_under}
 use Rattle.oca_pair.specs.declared.outcome.Outcome.TheVariants as outcomes
 use Rattle.oca_pair.specs.declared.start.Start.{Start}
 use Rattle.oca_pair.specs.Networks.{Network, PeerLink, Setup, opening}

@@ -1,29 +1,14 @@
 -- THE STEPS OF A NETWORK. A schedule is any list of steps, of which the first comes first.
-use Rattle.std.specs.Prelude.{ℕ, ◌+◌, Bool, true, false, not, if◌then◌else◌, nat_le, List, [], ◌∷◌, ◌++◌, map, filter}
-use Rattle.std.specs.Prelude.{length, Option, Some, None, is_none, is_some, Result, Ok, Err}
-use Rattle.std.specs.List.{list_any, slice_get, slice_set}
-use Rattle.oca_types.specs.declared.words.Peer.{Peer}
-use Rattle.oca_types.specs.declared.words.Handle.{Handle}
-use Rattle.oca_types.specs.Peers.{same_peer}
-use Rattle.oca_pdu.specs.declared.fault.PduFault.{PduFault}
-use Rattle.oca_pdu.specs.Messages.{Msg}
-use Rattle.oca_pdu.specs.Reading.{read_datagram}
-use Rattle.oca_device.specs.Events.{Datagram}
+use Rattle.oca_pair.specs.Words.{[], ◌++◌, ◌+◌, ◌∷◌, AnswerFields, Bool, ControlFault, Datagram, Decision, Err}
+use Rattle.oca_pair.specs.Words.{FrontFault, GivesCommand, GivesKeepAlive, GivesNothing, Handle, IsLost, LinkState}
+use Rattle.oca_pair.specs.Words.{List, LocalChange, Msg, None, Object, Ok, Option, PduFault, Peer, Request, Result}
+use Rattle.oca_pair.specs.Words.{SetFault, Some, ToEnabled, ToFailing, ToLabel, ToUnlocked, ToValue, Untaken}
+use Rattle.oca_pair.specs.Words.{after_submission, answer_under, command_under, decision, due_bytes, false, filter}
+use Rattle.oca_pair.specs.Words.{front_fault, gone_on, if◌then◌else◌, is_none, is_some, length, list_any, map, nat_le}
+use Rattle.oca_pair.specs.Words.{new_link, not, packets, read_datagram, received, reception, same_peer, set_fault}
+use Rattle.oca_pair.specs.Words.{slice_get, slice_set, state_after, submission, taken, true, verdict, ℕ}
 use Rattle.oca_device.specs.Events as event
-use Rattle.oca_device.specs.Answers.{packets, verdict}
-use Rattle.oca_device.specs.States.{state_after}
 use Rattle.oca_model.specs.declared.request.Request.TheVariants as asked
-use Rattle.oca_tree.specs.declared.front.FrontFault.{FrontFault}
-use Rattle.oca_tree.specs.declared.object.Object.{Object}
-use Rattle.oca_tree.specs.declared.setting.SetFault.{SetFault}
-use Rattle.oca_tree.specs.Settings.{set_fault}
-use Rattle.oca_tree.specs.LocalChanges.{LocalChange, ToValue, ToLabel, ToEnabled, ToUnlocked, ToFailing, front_fault}
-use Rattle.oca_control.specs.declared.fault.ControlFault.{ControlFault}
-use Rattle.oca_control.specs.Answers.{AnswerFields}
-use Rattle.oca_control.specs.Untaken.{Untaken, answer_under}
-use Rattle.oca_control.specs.Links.{LinkState, Request, new_link, command_under, submission, after_submission, Decision}
-use Rattle.oca_control.specs.Links.{GivesCommand, GivesKeepAlive, GivesNothing, IsLost, decision, due_bytes, gone_on}
-use Rattle.oca_control.specs.Links.{reception, received, taken}
 use Rattle.oca_pair.specs.declared.outcome.Outcome.{Outcome}
 use Rattle.oca_pair.specs.declared.outcome.Outcome.TheVariants as outcomes
 use Rattle.oca_pair.specs.Networks.{Network, PeerLink, SentDatagram, SubmittedCommand, TakenAnswer, Renewal}

@@ -1,9 +1,6 @@
 -- WHAT RUNNING A SCHEDULE ANSWERS.
-use Rattle.std.specs.Prelude.{◌≡◌, ℕ, true, false, List, map, Result, Ok, Err, Some, None}
-use Rattle.oca_types.specs.Sizes.{DeviceSizes, span_size}
-use Rattle.oca_tree.specs.declared.object.Object.{Object}
-use Rattle.oca_tree.specs.LocalChanges.{ToValue, ToLabel, ToEnabled, ToUnlocked, ToFailing}
-use Rattle.oca_device.specs.Devices.{Represents}
+use Rattle.oca_pair.specs.Words.{◌≡◌, DeviceSizes, Err, List, None, Object, Ok, Represents, Result, Some, ToEnabled}
+use Rattle.oca_pair.specs.Words.{ToFailing, ToLabel, ToUnlocked, ToValue, false, map, span_size, true, ℕ}
 use Rattle.oca_pair.specs.declared.fault.PairFault.{PairFault}
 use Rattle.oca_pair.specs.declared.fault.PairFault.TheVariants as faults
 use Rattle.oca_pair.specs.declared.pair.Transcript.{Transcript}

@@ -1,11 +1,8 @@
 -- A device that is asked whether it answers.
 use Rattle.std.proofs.Common.{◌≡◌, ◌+◌, ℕ, Bool, Option, Some, None, sym, ap, ◌∙◌, subst}
-use Rattle.oca_types.specs.declared.words.Handle.{Handle}
-use Rattle.oca_types.specs.declared.words.Peer.{Peer}
-use Rattle.oca_net.specs.EndStates.{EndState, IsPresent}
-use Rattle.oca_control.specs.declared.report.DriveReport.{DriveReport}
+use Rattle.oca_panel.specs.Words.{DriveReport, EndState, Handle, IsPresent, LinkState, Peer, new_link, submitted}
 use Rattle.oca_control.specs.Driving.{SendsDue}
-use Rattle.oca_control.specs.Links.{LinkState, new_link, submission, submitted}
+use Rattle.oca_control.specs.Links.{submission}
 use Rattle.oca_panel.specs.Probes.{AsksQuestion, AsksRounds, handle_in, question}
 
 abbrev number_or_none : Option Handle → ℕ

@@ -3,22 +3,15 @@ use Rattle.std.proofs.Common.{◌≡◌, ℕ, ◌+◌, ◌≤◌, List, [], leng
 use Rattle.std.proofs.lemmas.List.{length-append}
 use Rattle.std.specs.Int.{w16}
 use Rattle.std.specs.Str.{chars}
-use Rattle.oca_types.specs.declared.class.Class.{Class}
+use Rattle.oca_panel.specs.Words.{Class, ControlFault, Handle, Method, Outcome, Reading, Request, RequestFields}
 use Rattle.oca_types.specs.declared.class.Class.TheVariants as class
-use Rattle.oca_types.specs.declared.class.Method.{Method}
 use Rattle.oca_types.specs.declared.class.Method.TheVariants as method
 use Rattle.oca_types.specs.declared.class.MethodKind.TheVariants.{Known}
-use Rattle.oca_types.specs.declared.words.Handle.{Handle}
 use Rattle.oca_types.specs.declared.words.MethodId.{MethodId}
 use Rattle.oca_types.specs.Methods.{method_kind, access}
 use Rattle.oca_types.specs.Numbers.{unsigned_encoding}
-use Rattle.oca_types.specs.Peers.{RequestFields}
 use Rattle.oca_types.specs.Sizes.{most_parameter_bytes}
 use Rattle.oca_types.specs.Texts.{text_encoding}
-use Rattle.oca_control.specs.declared.fault.ControlFault.{ControlFault}
-use Rattle.oca_control.specs.declared.outcome.Outcome.{Outcome}
-use Rattle.oca_model.specs.declared.reading.Reading.{Reading}
-use Rattle.oca_model.specs.declared.request.Request.{Request}
 use Rattle.oca_model.specs.declared.request.Request.TheVariants.{GetClassIdentification, LockTotal, Unlock, GetLabel, SetLabel, GetRole, GetEnabled, GetMembers, GetPositionName, GetPositionNames, Get, Set}
 use Rattle.oca_model.specs.declared.request.RequestFault.TheVariants.{OtherClass, Full}
 use Rattle.oca_model.specs.declared.value.Value.{Value}

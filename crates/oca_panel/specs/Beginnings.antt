@@ -1,17 +1,7 @@
 -- Commands of any method that are begun, and what their answers say (AES70-2).
-use Rattle.std.specs.Prelude.{◌≡◌, ℕ, ◌==◌, if◌then◌else◌, Result, Ok, Err}
-use Rattle.oca_types.specs.declared.class.Class.{Class}
-use Rattle.oca_types.specs.declared.class.Method.{Method}
-use Rattle.oca_types.specs.declared.words.Handle.{Handle}
-use Rattle.oca_types.specs.Peers.{RequestFields}
-use Rattle.oca_control.specs.declared.outcome.Outcome.{Outcome}
+use Rattle.oca_panel.specs.Words.{◌==◌, ◌≡◌, Answer, Class, ControlFault, Err, Handle, IsRefusedCall, Method, Ok}
+use Rattle.oca_panel.specs.Words.{Outcome, Request, RequestFault, RequestFields, Result, answer_in, if◌then◌else◌, ℕ}
 use Rattle.oca_control.specs.declared.outcome.Outcome.TheVariants as outcomes
-use Rattle.oca_control.specs.declared.fault.ControlFault.{ControlFault}
-use Rattle.oca_model.specs.declared.answer.Answer.{Answer}
-use Rattle.oca_model.specs.declared.request.Request.{Request}
-use Rattle.oca_model.specs.declared.request.RequestFault.{RequestFault}
-use Rattle.oca_model.specs.Answers.{answer_in}
-use Rattle.oca_model.specs.Requests.{IsRefusedCall}
 use Rattle.oca_panel.specs.declared.trouble.Trouble.{Trouble}
 use Rattle.oca_panel.specs.declared.trouble.Trouble.TheVariants as trouble
 use Rattle.oca_panel.specs.Outcomes.{readable}

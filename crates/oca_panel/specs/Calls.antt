@@ -1,8 +1,5 @@
 -- A keep-alive that is sent beside a panel's link.
-use Rattle.std.specs.Prelude.{◌≡◌, ℕ, List}
-use Rattle.oca_types.specs.declared.words.Peer.{Peer}
-use Rattle.oca_net.specs.declared.end.Heard.{Heard}
-use Rattle.oca_net.specs.EndStates.{EndState, Receives}
+use Rattle.oca_panel.specs.Words.{◌≡◌, EndState, Heard, List, Peer, Receives, ℕ}
 use Rattle.oca_panel.specs.Panels.{PanelState}
 use Rattle.oca_panel.specs.Probes.{SendsKeepAlive}
 

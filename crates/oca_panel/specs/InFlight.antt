@@ -1,14 +1,8 @@
 -- Commands in flight on a panel, in the order in which they were begun. Of each there is its handle, and what its
 -- caller says of it.
-use Rattle.std.specs.Prelude.{◌≡◌, ℕ, ◌==◌, Bool, true, false, List, [], ◌∷◌, ◌++◌, length, Option, Some, None}
-use Rattle.std.specs.Prelude.{Result, Ok, Err}
-use Rattle.oca_types.specs.declared.words.Handle.{Handle}
-use Rattle.oca_types.specs.Peers.{RequestFields}
-use Rattle.oca_control.specs.declared.fault.ControlFault.{ControlFault}
+use Rattle.oca_panel.specs.Words.{[], ◌++◌, ◌==◌, ◌∷◌, ◌≡◌, Bool, ControlFault, Err, Handle, LinkState, List, None, Ok}
+use Rattle.oca_panel.specs.Words.{Option, Outcome, RequestFields, Result, Some, answer_under, false, length, true, ℕ}
 use Rattle.oca_control.specs.declared.fault.ControlFault.TheVariants.{SpanFull}
-use Rattle.oca_control.specs.declared.outcome.Outcome.{Outcome}
-use Rattle.oca_control.specs.Links.{LinkState}
-use Rattle.oca_control.specs.Untaken.{answer_under}
 use Rattle.oca_panel.specs.Panels.{PanelState, BeginsIn, FinishesIn, SettlesIn}
 
 -- as many as the largest span has handles

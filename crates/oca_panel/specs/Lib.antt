@@ -1,3 +1,4 @@
+pub mod Words
 pub mod Panels
 pub mod InFlight
 pub mod Outcomes

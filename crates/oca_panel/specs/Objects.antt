@@ -1,19 +1,10 @@
 -- What a panel asks of an object, and what comes of it (AES70-2).
-use Rattle.std.specs.Prelude.{◌≡◌, ℕ, Option, Some, None, Result, Ok, Err}
-use Rattle.oca_types.specs.declared.class.Class.{Class}
+use Rattle.oca_panel.specs.Words.{◌≡◌, Class, ControlFault, Err, Handle, IsCallFor, Method, None, Ok, Option, Outcome}
+use Rattle.oca_panel.specs.Words.{Reading, Request, RequestFields, Result, Some, value_without_limits, ℕ}
 use Rattle.oca_types.specs.declared.class.Class.TheVariants as class
-use Rattle.oca_types.specs.declared.class.Method.{Method}
-use Rattle.oca_types.specs.declared.words.Handle.{Handle}
-use Rattle.oca_types.specs.Peers.{RequestFields}
-use Rattle.oca_control.specs.declared.fault.ControlFault.{ControlFault}
-use Rattle.oca_control.specs.declared.outcome.Outcome.{Outcome}
-use Rattle.oca_model.specs.declared.reading.Reading.{Reading}
-use Rattle.oca_model.specs.declared.request.Request.{Request}
 use Rattle.oca_model.specs.declared.request.Request.TheVariants as requests
 use Rattle.oca_model.specs.declared.value.Value.{Value}
-use Rattle.oca_model.specs.Requests.{IsCallFor}
 use Rattle.oca_model.specs.Values.{get_method, class_of_value}
-use Rattle.oca_model.specs.Readings.{value_without_limits}
 use Rattle.oca_panel.specs.declared.trouble.Trouble.{Trouble}
 use Rattle.oca_panel.specs.declared.trouble.Trouble.TheVariants as trouble
 use Rattle.oca_panel.specs.Panels.{PanelState, AsksIn, BeginsIn, FinishesIn}

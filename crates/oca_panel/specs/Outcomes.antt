@@ -1,18 +1,13 @@
 -- What the answer to a command says (AES70-2).
-use Rattle.std.specs.Prelude.{ℕ, Bool, ◌==◌, if◌then◌else◌, List, Option, Some, None, Result, Ok, Err}
-use Rattle.oca_types.specs.declared.class.Class.{Class}
+use Rattle.oca_panel.specs.Words.{◌==◌, Answer, Bool, Class, Err, List, None, Ok, Option, Outcome, Reading, Result}
+use Rattle.oca_panel.specs.Words.{Some, answer_in, class_id_in, class_with, if◌then◌else◌, members_in, reading_in}
+use Rattle.oca_panel.specs.Words.{switch_names_in, ℕ}
 use Rattle.oca_types.specs.declared.class.Class.TheVariants as class
 use Rattle.oca_types.specs.declared.class.Method.TheVariants as method
 use Rattle.oca_types.specs.Reading.{text_at}
-use Rattle.oca_control.specs.declared.outcome.Outcome.{Outcome}
 use Rattle.oca_control.specs.declared.outcome.Outcome.TheVariants as outcomes
-use Rattle.oca_model.specs.declared.answer.Answer.{Answer}
 use Rattle.oca_model.specs.declared.answer.Answer.TheVariants as answers
-use Rattle.oca_model.specs.declared.reading.Reading.{Reading}
 use Rattle.oca_model.specs.Parameters.{whole}
-use Rattle.oca_model.specs.Readings.{reading_in}
-use Rattle.oca_model.specs.Members.{class_id_in, class_with, members_in}
-use Rattle.oca_model.specs.Answers.{answer_in, switch_names_in}
 use Rattle.oca_panel.specs.declared.trouble.Trouble.{Trouble}
 use Rattle.oca_panel.specs.declared.trouble.Trouble.TheVariants as trouble
 

@@ -1,17 +1,9 @@
 -- A panel: its link, the end that it is driven over, and what its calls do.
-use Rattle.std.specs.Prelude.{◌≡◌, ℕ, Bool, true, false, ◌==◌, ◌||◌, ◌&&◌, not, None, Option, Some, Result, Ok, Err}
-use Rattle.oca_types.specs.declared.words.Handle.{Handle}
-use Rattle.oca_types.specs.declared.words.Peer.{Peer}
-use Rattle.oca_types.specs.Peers.{RequestFields}
-use Rattle.oca_net.specs.EndStates.{EndState}
-use Rattle.oca_control.specs.declared.fault.ControlFault.{ControlFault}
-use Rattle.oca_control.specs.declared.outcome.Outcome.{Outcome}
+use Rattle.oca_panel.specs.Words.{◌&&◌, ◌==◌, ◌||◌, ◌≡◌, Begins, Bool, ControlFault, DriveReport, EndState, Err, Handle}
+use Rattle.oca_panel.specs.Words.{LinkState, None, Ok, Option, Outcome, Peer, RequestFields, Result, Some, Turns, Waits}
+use Rattle.oca_panel.specs.Words.{answer_under, false, new_link, not, true, ℕ}
 use Rattle.oca_control.specs.declared.outcome.Outcome.TheVariants as outcomes
-use Rattle.oca_control.specs.declared.report.DriveReport.{DriveReport}
-use Rattle.oca_control.specs.Untaken.{answer_under}
-use Rattle.oca_control.specs.Links.{LinkState, new_link}
-use Rattle.oca_control.specs.Turning.{Turns}
-use Rattle.oca_control.specs.Asking.{Begins, Waits, IsPresent}
+use Rattle.oca_control.specs.Asking.{IsPresent}
 use Rattle.oca_control.specs.Waiting.{WaitsWhile}
 
 -- A link, what the end that it is driven over says of itself, for how many milliseconds a command waits for its answer,

@@ -1,6 +1,5 @@
 -- For private contracts: the first of a queue.
-use Rattle.std.specs.Prelude.{◌≡◌, ℕ, List, [], ◌∷◌, Option, Some, None}
-use Rattle.oca_types.specs.declared.words.Handle.{Handle}
+use Rattle.oca_panel.specs.Words.{[], ◌∷◌, ◌≡◌, Handle, List, None, Option, Some, ℕ}
 
 -- the first was taken off, where there is one
 abbrev pub TakesOff : {T : Type 0} → Option (Handle × T) → (queue rest : List (ℕ × T)) → Type 0

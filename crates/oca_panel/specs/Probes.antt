@@ -1,19 +1,12 @@
 -- Whether a device answers the commands of a port: how it is asked (AES70-3; that it is asked is the profile's).
-use Rattle.std.specs.Prelude.{◌≡◌, ◌+◌, ◌<◌, ℕ, Bool, true, false, [], Option, Some, None, Result, Ok, Err}
-use Rattle.oca_types.specs.declared.words.Handle.{Handle}
-use Rattle.oca_types.specs.declared.words.Peer.{Peer}
-use Rattle.oca_types.specs.Peers.{RequestFields}
+use Rattle.oca_panel.specs.Words.{[], ◌+◌, ◌<◌, ◌≡◌, Bool, ControlFault, DriveReport, EndState, Err, Handle, IsPresent}
+use Rattle.oca_panel.specs.Words.{LinkState, None, Ok, Option, Outcome, Peer, RequestFields, Result, Sends, Some, Waits}
+use Rattle.oca_panel.specs.Words.{false, new_link, submitted, true, ℕ}
 use Rattle.oca_pdu.specs.declared.message.Form.TheVariants.{Seconds}
 use Rattle.oca_pdu.specs.Messages.{OneKeepAlive}
 use Rattle.oca_pdu.specs.Encoding.{pdu_encoding}
-use Rattle.oca_net.specs.EndStates.{EndState, IsPresent, Sends}
-use Rattle.oca_control.specs.declared.fault.ControlFault.{ControlFault}
-use Rattle.oca_control.specs.declared.outcome.Outcome.{Outcome}
 use Rattle.oca_control.specs.declared.outcome.Outcome.TheVariants as outcomes
-use Rattle.oca_control.specs.declared.report.DriveReport.{DriveReport}
-use Rattle.oca_control.specs.Asking.{Waits}
 use Rattle.oca_control.specs.Driving.{SendsDue}
-use Rattle.oca_control.specs.Links.{LinkState, new_link, submitted}
 use Rattle.oca_panel.specs.Watching.{WatchState, found_by}
 use Rattle.oca_panel.specs.declared.answering.Probed.{Probed}
 

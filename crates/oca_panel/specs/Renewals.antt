@@ -1,10 +1,6 @@
 -- A panel that goes on with a new link over the same end, and a turn with its report.
-use Rattle.std.specs.Prelude.{◌≡◌, ℕ, Bool, ◌||◌}
-use Rattle.oca_types.specs.declared.words.Peer.{Peer}
-use Rattle.oca_control.specs.declared.report.DriveReport.{DriveReport}
+use Rattle.oca_panel.specs.Words.{◌||◌, ◌≡◌, Bool, DriveReport, Peer, Turns, late_at, new_link, ℕ}
 use Rattle.oca_control.specs.Asking.{IsPresent}
-use Rattle.oca_control.specs.Links.{late_at, new_link}
-use Rattle.oca_control.specs.Turning.{Turns}
 use Rattle.oca_panel.specs.Panels.{PanelState}
 
 -- The link is a new one, made at the end's present moment; all else is as it was.

@@ -1,12 +1,9 @@
 -- A walk through the objects of a device: what is asked, in which order, and what is found (AES70-2, OcaBlock).
-use Rattle.std.specs.Prelude.{◌≡◌, ◌⊎◌, ℕ, ◌≤◌, ◌==◌, Bool, true, false, List, [], ◌∷◌, ◌++◌, length, Option, Some}
-use Rattle.std.specs.Prelude.{None, Result, Ok, Err}
+use Rattle.oca_panel.specs.Words.{[], ◌++◌, ◌==◌, ◌∷◌, ◌≡◌, ◌≤◌, ◌⊎◌, Bool, Class, Err, List, None, Ok, Ono, Option}
+use Rattle.oca_panel.specs.Words.{Result, Some, class_with, false, length, true, ℕ}
 use Rattle.std.specs.List.{list_any}
-use Rattle.oca_types.specs.declared.class.Class.{Class}
 use Rattle.oca_types.specs.declared.class.Class.TheVariants as class
-use Rattle.oca_types.specs.declared.words.Ono.{Ono}
 use Rattle.oca_model.specs.declared.request.Request.TheVariants as requests
-use Rattle.oca_model.specs.Members.{class_with}
 use Rattle.oca_panel.specs.declared.trouble.Trouble.{Trouble}
 use Rattle.oca_panel.specs.declared.walk.Description.{Description}
 use Rattle.oca_panel.specs.declared.walk.Found.{Found}

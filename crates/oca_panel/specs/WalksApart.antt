@@ -1,6 +1,5 @@
 -- The places of a walk, taken one by one (AES70-2, OcaBlock).
-use Rattle.std.specs.Prelude.{◌≡◌, ◌⊎◌, ℕ, ◌≤◌, Bool, List, [], ◌∷◌, ◌++◌, length, Option, Some, None}
-use Rattle.oca_types.specs.declared.words.Ono.{Ono}
+use Rattle.oca_panel.specs.Words.{[], ◌++◌, ◌∷◌, ◌≡◌, ◌≤◌, ◌⊎◌, Bool, List, None, Ono, Option, Some, length, ℕ}
 use Rattle.oca_panel.specs.declared.walk.Place.{Place}
 use Rattle.oca_panel.specs.Walks.{PutsLastMembers, WalkState, is_visited, most_places}
 

@@ -1,11 +1,8 @@
 -- An end that remembers when a peer was last heard, and what is found by that.
-use Rattle.std.specs.Prelude.{◌≡◌, ℕ, Bool, true, false, if◌then◌else◌, Option, Some, None}
+use Rattle.oca_panel.specs.Words.{◌≡◌, Bool, EndState, Heard, None, Option, Peer, Some, false, if◌then◌else◌, same_peer}
+use Rattle.oca_panel.specs.Words.{true, ℕ}
 use Rattle.std.specs.Option.{option_or}
-use Rattle.oca_types.specs.declared.words.Peer.{Peer}
-use Rattle.oca_types.specs.Peers.{same_peer}
-use Rattle.oca_net.specs.declared.end.Heard.{Heard}
 use Rattle.oca_net.specs.declared.end.Heard.TheVariants as heards
-use Rattle.oca_net.specs.EndStates.{EndState}
 use Rattle.oca_panel.specs.declared.answering.Probed.{Probed}
 use Rattle.oca_panel.specs.declared.answering.Probed.TheVariants as probed
 

@@ -1,39 +1,32 @@
 -- What the calls of a panel do with its link.
 use Rattle.oca_pair.proofs.Words.{on_bool}
 use Rattle.std.proofs.Common.{◌≡◌, ℕ, ◌+◌, ◌<◌, ◌≤◌, ◌⊎◌, Bool, true, false, List, [], ◌∷◌, ◌++◌, length, Option, Some, None, Result, Ok, Err, refl, sym, ap, ◌∙◌, subst, arith, zero, suc, inl, inr, append_assoc, append-nil}
-use Rattle.std.specs.Prelude.{IsTrue, nat_le, if◌then◌else◌}
-use Rattle.std.specs.List.{filter, flat_map, list_any}
+use Rattle.oca_promise.specs.Words.{Answer, AnswerFields, AsksIn, BeginsIn, ControlFault, EndState, FinishesIn, Handle, IsTrue, LinkState, Outcome, PanelState, Peer}
+use Rattle.oca_promise.specs.Words.{RequestFields, SettlesIn, answer_fields, content_read, decision, filter, flat_map, gone_on, if◌then◌else◌, late_at, list_any, nat_le}
+use Rattle.oca_promise.specs.Words.{received, submission, submitted, taken}
 use Rattle.std.proofs.lemmas.Grind.{flat_map-append}
 use Rattle.std.proofs.lemmas.List.Elements.{filter-append}
-use Rattle.oca_types.specs.declared.words.Peer.{Peer}
-use Rattle.oca_types.specs.declared.words.Handle.{Handle}
-use Rattle.oca_types.specs.Peers.{RequestFields}
 use Rattle.oca_net.specs.Deliveries.{Delivery, Datagram, Quiet, Failed, Sent}
 use Rattle.oca_net.specs.Ends.{last_u64, TakesAllBut}
-use Rattle.oca_net.specs.EndStates.{EndState}
 use Rattle.oca_net.proofs.Sending.{takes_none, takes_more, counts_more}
 use Rattle.oca_pdu.specs.Laws.{AreBytes, ReadingIsExact}
 use Rattle.oca_pdu.specs.Messages.{Msg}
 use Rattle.oca_pdu.specs.Reading.{read_datagram}
 use Rattle.oca_pdu.specs.declared.fault.PduFault.{PduFault}
-use Rattle.oca_control.specs.declared.fault.ControlFault.{ControlFault}
 use Rattle.oca_control.specs.declared.fault.ControlFault.TheVariants as faults
-use Rattle.oca_control.specs.declared.answer.Answer.{Answer}
-use Rattle.oca_control.specs.declared.outcome.Outcome.{Outcome}
 use Rattle.oca_control.specs.declared.outcome.Outcome.TheVariants as outcomes
 use Rattle.oca_control.specs.declared.report.DriveReport.{DriveReport}
-use Rattle.oca_control.specs.Answers.{AnswerFields, answer_fields}
 use Rattle.oca_control.specs.Contents.{IsContent}
 use Rattle.oca_control.specs.Untaken.{answer_under}
-use Rattle.oca_control.specs.Links.{LinkState, Decision, GivesCommand, IsLost, after_due, after_submission, present_moment, decision, gone_on, late_at, received, submission, submitted, taken}
+use Rattle.oca_control.specs.Links.{Decision, GivesCommand, IsLost, after_due, after_submission, present_moment}
 use Rattle.oca_control.specs.Driving.{HearsDelivery, HearsDatagram, all_given_to, decisions_from, given_to, goes_on, link_from}
 use Rattle.oca_control.specs.Turning.{Turns, GivesAfter, decisions_in_time, link_in_time}
 use Rattle.oca_control.specs.Asking.{Begins, TakesTurns, Waits, beginning}
 use Rattle.oca_control.specs.Asking as asking
 use Rattle.oca_control.specs.Waiting.{TakesTurnsBefore, WaitsUntil}
 use Rattle.oca_control.specs.Waiting as waiting
-use Rattle.oca_pair.specs.Steps.{content_read, messages_read}
-use Rattle.oca_panel.specs.Panels.{PanelState, AsksIn, BeginsIn, EndsIn, FinishesIn, SettlesIn}
+use Rattle.oca_pair.specs.Steps.{messages_read}
+use Rattle.oca_panel.specs.Panels.{EndsIn}
 use Rattle.oca_promise.specs.Doings.{Doing, Submits, Sends, Hears, Takes, done, all_done, hearing_of, is_hearing, hearings, IsOfDevice, AreOfDevice, WasDone, sent_by, is_begun_or_taken, is_taking, AreSentInTime}
 use Rattle.oca_control.proofs.Copies.{calm_after, calm_submitted}
 use Rattle.oca_promise.specs.Calls.{IsDoneByCall, IsAll, NothingIsSentLate, EveryCallIsInTime}

@@ -1,20 +1,18 @@
 -- No other call takes the answer that a call takes: each answer is taken once, and no handle is given twice.
 use Rattle.oca_pair.proofs.Words.{on_bool}
 use Rattle.std.proofs.Common.{◌≡◌, ℕ, ◌+◌, ◌<◌, Bool, true, false, cond, not, ◌||◌, List, [], ◌∷◌, ◌++◌, map, Option, Some, None, Result, Ok, Err, is_some, refl, sym, ap, ◌∙◌, subst, arith}
-use Rattle.std.specs.List.{AllByRecursion, filter, list_any}
+use Rattle.oca_promise.specs.Words.{AllByRecursion, AnswerFields, ControlFault, Handle, LinkState, RequestFields, command_under, content_read, decision, filter, gone_on}
+use Rattle.oca_promise.specs.Words.{list_any, received, submission, submitted, taken}
 use Rattle.std.proofs.Math.Dec.{eqb}
 use Rattle.std.proofs.lemmas.Bool.Decides.{nat_tests}
 use Rattle.std.proofs.lemmas.Bool.{eqb-true}
-use Rattle.oca_types.specs.declared.words.Handle.{Handle}
-use Rattle.oca_types.specs.Peers.{RequestFields, same_peer}
+use Rattle.oca_types.specs.Peers.{same_peer}
 use Rattle.oca_pdu.specs.Messages.{Msg, Command, Response, KeepAlive}
-use Rattle.oca_control.specs.declared.fault.ControlFault.{ControlFault}
-use Rattle.oca_control.specs.Answers.{AnswerFields, answer_of_response}
+use Rattle.oca_control.specs.Answers.{answer_of_response}
 use Rattle.oca_control.specs.Untaken.{Untaken, new_untaken, marked_sent, answered, hears_all, answer_under, without_handle}
-use Rattle.oca_control.specs.Links.{LinkState, Decision, GivesCommand, GivesKeepAlive, GivesNothing, IsLost, after_due, after_submission, command_under, decision, gone_on, handle_after, hears_content, present_moment, received, submission, submitted, taken}
+use Rattle.oca_control.specs.Links.{Decision, GivesCommand, GivesKeepAlive, GivesNothing, IsLost, after_due, after_submission, handle_after, hears_content, present_moment}
 use Rattle.oca_control.proofs.Calls.{is_accepted, each_without}
 use Rattle.oca_control.proofs.Following.{each_append}
-use Rattle.oca_pair.specs.Steps.{content_read}
 use Rattle.oca_promise.specs.Doings.{Doing, Submits, Sends, Hears, Takes, done, all_done, is_begun_or_taken, is_taking}
 
 -- ---- each answer that is taken is there

@@ -1,19 +1,12 @@
 -- A command that was in flight and answered keeps what holds of each answer, and so does a call.
 use Rattle.std.proofs.Common.{◌≡◌, ℕ, List, [], ◌∷◌, ◌++◌, refl, sym, ap, ◌∙◌, subst, inr, append_assoc}
-use Rattle.std.specs.List.{slice_get}
-use Rattle.oca_types.specs.declared.words.Handle.{Handle}
-use Rattle.oca_types.specs.Peers.{RequestFields}
+use Rattle.oca_promise.specs.Words.{AnswerFields, AreInTime, Fit, Handle, LinkState, Network, PanelState, RequestFields, Step, Submit, after_step, after_steps}
+use Rattle.oca_promise.specs.Words.{answer_fields, command_under, opening, slice_get, submitted}
 use Rattle.oca_pdu.specs.Laws.{ReadingIsExact}
-use Rattle.oca_control.specs.Answers.{AnswerFields, answer_fields}
-use Rattle.oca_control.specs.Links.{LinkState, submitted, command_under}
-use Rattle.oca_pair.specs.Networks.{Network, PeerLink, opening}
-use Rattle.oca_pair.specs.Steps.{Step, Submit, after_step, after_steps}
-use Rattle.oca_pair.specs.Premises.{Fit}
-use Rattle.oca_pair.specs.InTime.{AreInTime}
+use Rattle.oca_pair.specs.Networks.{PeerLink}
 use Rattle.oca_pair.specs.Saying.{OfEachAnswer}
 use Rattle.oca_pair.proofs.Lists.{in_contains}
 use Rattle.oca_pair.proofs.RoundTrip.{AreToDevice, to_device_step, to_device_steps, to_device_opening}
-use Rattle.oca_panel.specs.Panels.{PanelState}
 use Rattle.oca_promise.specs.Doings.{Doing, Takes, all_done, AreOfDevice, Plays}
 use Rattle.oca_promise.specs.Calls.{OfAnAnswer, IsDoneByCall, HoldsInEachNetwork, EveryAnsweredCallKeeps}
 use Rattle.oca_promise.specs.Flights.{EveryAnsweredFlightKeeps}

@@ -1,24 +1,20 @@
 -- What holds where a schedule plays what was done with a link.
 use Rattle.oca_pair.proofs.Words.{same_self, on_bool}
 use Rattle.std.proofs.Common.{◌≡◌, ℕ, Bool, true, List, [], ◌∷◌, ◌++◌, Option, Some, Result, Ok, refl, sym, ap, ◌∙◌, subst, zero, suc, inl, inr}
-use Rattle.std.specs.Prelude.{map, if◌then◌else◌}
-use Rattle.std.specs.List.{slice_get, slice_set}
+use Rattle.oca_promise.specs.Words.{AnswerFields, ControlFault, Due, Handle, LinkState, Network, PanelState, Peer, Renew, Request, Step, Submit, Take, ToLink, after_step}
+use Rattle.oca_promise.specs.Words.{after_steps, content_read, gone_on, if◌then◌else◌, map, outcome_of_step, received, slice_get, submission, submitted, taken}
+use Rattle.std.specs.List.{slice_set}
 use Rattle.std.proofs.lemmas.Bool.{le-leb}
-use Rattle.oca_types.specs.declared.words.Peer.{Peer}
-use Rattle.oca_types.specs.declared.words.Handle.{Handle}
 use Rattle.oca_types.specs.Peers.{same_peer}
-use Rattle.oca_control.specs.declared.fault.ControlFault.{ControlFault}
-use Rattle.oca_control.specs.Answers.{AnswerFields}
 use Rattle.oca_control.specs.Untaken.{answer_under}
-use Rattle.oca_control.specs.Links.{LinkState, Request, submission, submitted, gone_on, received, taken, GivesKeepAlive, due_bytes}
-use Rattle.oca_pair.specs.Networks.{Network, PeerLink, SentDatagram, TakenAnswer}
+use Rattle.oca_control.specs.Links.{GivesKeepAlive, due_bytes}
+use Rattle.oca_pair.specs.Networks.{PeerLink, SentDatagram, TakenAnswer}
 use Rattle.oca_pair.specs.declared.outcome.Outcome.TheVariants as outcomes
-use Rattle.oca_pair.specs.Steps.{Step, Submit, Due, ToLink, Take, content_read, hears_datagram, after_submit, after_due_step, after_reception, taken_by, after_take, after_step, after_steps, on_link, submit_outcome, outcome_of_step, Renew, after_beside, with_link, is_no_lower, renewal_of, renewed_link, after_renewal}
+use Rattle.oca_pair.specs.Steps.{hears_datagram, after_submit, after_due_step, after_reception, taken_by, after_take, on_link, submit_outcome, after_beside, with_link, is_no_lower, renewal_of, renewed_link, after_renewal}
 use Rattle.oca_pair.specs.InTime.{leaving_beside}
 use Rattle.oca_pair.proofs.EachStep.{after_each}
 use Rattle.oca_pair.proofs.Lists.{IsIn, in_more, in_last, each_at}
 use Rattle.oca_pair.proofs.RoundTrip.{AreToDevice, to_device_step}
-use Rattle.oca_panel.specs.Panels.{PanelState}
 use Rattle.oca_promise.specs.Renewals.{EveryRenewalIsAStep, EveryKeepAliveIsAStep, EveryCallBesideIsAStep}
 use Rattle.oca_promise.specs.Doings.{Doing, Submits, Sends, Hears, Takes, done, all_done, IsStepFor, GoesOnWith, Plays}
 

@@ -1,56 +1,41 @@
 -- What a panel says is so.
 use Rattle.oca_pair.proofs.Words.{on_bool}
 use Rattle.std.proofs.Common.{◌≡◌, ℕ, ◌==◌, Bool, true, false, List, [], ◌∷◌, ◌++◌, Option, Some, None, Result, Ok, Err, refl, sym, ap, ◌∙◌, subst, inl, inr, eqb-true, append_assoc, ◌≢◌, ◌⊎◌}
-use Rattle.std.specs.Prelude.{if◌then◌else◌, map}
-use Rattle.std.specs.List.{slice_get, AllByRecursion}
+use Rattle.oca_promise.specs.Words.{AllByRecursion, Answer, AnswerFields, AreInTime, AskedBy, AsksClass, AsksIn, Class, Fit, IsOfItsType, IsOfOneExecutionSince}
+use Rattle.oca_promise.specs.Words.{IsRequest, IsRequestTo, LinkState, Method, Network, Object, Outcome, PanelState, Peer, ReadSo, Reading, Reads, ReadsBy, RequestFields}
+use Rattle.oca_promise.specs.Words.{SetsObject, Setup, Start, Step, Submit, Total, Value, after_step, after_steps, answer_fields, class_of_ono}
+use Rattle.oca_promise.specs.Words.{class_of_value, class_with, command_under, departures_in, done_answered, get_method, if◌then◌else◌, is_of_every_class, map, members}
+use Rattle.oca_promise.specs.Words.{model_answered, object_of, objects_left, opening, slice_get, text_answered, value_without_limits, with_object}
 use Rattle.std.specs.Option.{option_map, option_and_then}
-use Rattle.oca_types.specs.declared.class.Class.{Class}
 use Rattle.oca_types.specs.declared.class.Class.TheVariants as class
-use Rattle.oca_types.specs.declared.class.Method.{Method}
 use Rattle.oca_types.specs.declared.class.Method.TheVariants as method
-use Rattle.oca_types.specs.declared.words.Peer.{Peer}
-use Rattle.oca_types.specs.Peers.{RequestFields}
 use Rattle.oca_types.specs.Reading.{text_at}
 use Rattle.oca_pdu.specs.Laws.{ReadingIsExact}
 use Rattle.oca_model.specs.declared.answer.Answer.{Answer as Typed}
 use Rattle.oca_model.specs.declared.answer.Answer.TheVariants as answers
 use Rattle.oca_model.specs.declared.answer.Shape.{Shape}
 use Rattle.oca_model.specs.declared.answer.Shape.TheVariants as shape
-use Rattle.oca_model.specs.declared.reading.Reading.{Reading}
 use Rattle.oca_model.specs.declared.request.Request.{Request as Asked}
 use Rattle.oca_model.specs.declared.request.Request.TheVariants as asked
-use Rattle.oca_model.specs.declared.value.Value.{Value}
 use Rattle.oca_model.specs.Answers.{answer_in, answer_count, shaped_in, shape_of}
 use Rattle.oca_model.specs.declared.member.Member.{Member}
-use Rattle.oca_model.specs.Members.{class_at, class_id_at, class_id_in, class_in, class_with, members_at, members_in}
+use Rattle.oca_model.specs.Members.{class_at, class_id_at, class_id_in, class_in, members_at, members_in}
 use Rattle.oca_model.specs.Parameters.{whole}
-use Rattle.oca_model.specs.Readings.{reading_in, value_without_limits}
-use Rattle.oca_model.specs.Requests.{AskedBy, IsRequest}
-use Rattle.oca_model.specs.Values.{class_of_value, get_method, IsOfItsType}
-use Rattle.oca_tree.specs.declared.object.LockKind.TheVariants.{Total}
-use Rattle.oca_tree.specs.declared.object.Object.{Object}
-use Rattle.oca_tree.specs.Objects.{class_of, members, object_of, with_object}
-use Rattle.oca_tree.specs.Readers.{class_of_ono}
-use Rattle.oca_tree.specs.Typed.{answer_given, changed_by, member_of}
-use Rattle.oca_control.specs.declared.answer.Answer.{Answer}
-use Rattle.oca_control.specs.declared.outcome.Outcome.{Outcome}
+use Rattle.oca_model.specs.Readings.{reading_in}
+use Rattle.oca_tree.specs.Objects.{class_of}
+use Rattle.oca_tree.specs.Typed.{member_of, answer_given, changed_by}
 use Rattle.oca_control.specs.declared.outcome.Outcome.TheVariants as outcomes
-use Rattle.oca_control.specs.Answers.{AnswerFields, answer_fields}
-use Rattle.oca_control.specs.Links.{LinkState, command_under}
-use Rattle.oca_pair.specs.declared.start.Start.{Start}
-use Rattle.oca_pair.specs.Networks.{Network, PeerLink, Setup, opening}
-use Rattle.oca_pair.specs.Steps.{Step, Submit, ToDevice, after_step, after_steps}
-use Rattle.oca_pair.specs.Premises.{StepFits, Fit}
-use Rattle.oca_pair.specs.InTime.{Departure, departures_in, AreInTime}
-use Rattle.oca_pair.specs.Saying.{OfEachAnswer, is_of_every_class, IsOfOneExecutionSince, RefusalsChangeNothing, OksSayWhatIsHeld, ReadingsWereHeld, SettingsWereMade, ClassesMetAreThoseAtFirst, CommandAsks, SetsObject, ReadSo, objects_left, objects_met}
+use Rattle.oca_pair.specs.Networks.{PeerLink}
+use Rattle.oca_pair.specs.Steps.{ToDevice}
+use Rattle.oca_pair.specs.Premises.{StepFits}
+use Rattle.oca_pair.specs.InTime.{Departure}
+use Rattle.oca_pair.specs.Saying.{OfEachAnswer, RefusalsChangeNothing, OksSayWhatIsHeld, ReadingsWereHeld, SettingsWereMade, ClassesMetAreThoseAtFirst, CommandAsks, objects_met}
 use Rattle.oca_pair.proofs.Fixed.{tree_kept}
 use Rattle.oca_pair.proofs.RoundTrip.{to_device_opening, to_device_steps}
 use Rattle.oca_panel.specs.declared.trouble.Trouble.{Trouble}
 use Rattle.oca_panel.specs.declared.trouble.Trouble.TheVariants as trouble
-use Rattle.oca_panel.specs.Panels.{PanelState, AsksIn}
-use Rattle.oca_panel.specs.Objects.{IsRequestTo, AsksFor, AsksClass, Reads, ReadsBy, ReadsFor, ReadsObject}
-use Rattle.oca_panel.specs.Outcomes.{on_ok, parameters_answered, readable, read_from, done_or_trouble, done_answered, known_class, class_of_fields, class_answered, fields_answered, text_answered}
-use Rattle.oca_panel.specs.Beginnings.{model_answered}
+use Rattle.oca_panel.specs.Objects.{AsksFor, ReadsFor, ReadsObject}
+use Rattle.oca_panel.specs.Outcomes.{on_ok, parameters_answered, readable, read_from, done_or_trouble, known_class, class_of_fields, class_answered, fields_answered}
 use Rattle.oca_panel.specs.Walks.{DescribesFrom, both}
 use Rattle.oca_promise.specs.Doings.{Doing, Plays}
 use Rattle.oca_promise.specs.Calls.{OfAnAnswer, KeepsInNetworks}

@@ -1,24 +1,12 @@
 -- WHAT A CALL OF A PANEL IS IN A NETWORK: what was done with its link, and what then holds where a schedule plays that.
-use Rattle.std.specs.Prelude.{◌≡◌, ℕ, true, false, List, [], ◌∷◌, ◌++◌, Some, Ok}
-use Rattle.std.specs.List.{filter, list_any, slice_get}
-use Rattle.oca_types.specs.declared.words.Peer.{Peer}
-use Rattle.oca_types.specs.Peers.{CommandFields, RequestFields}
-use Rattle.oca_types.specs.Sizes.{DeviceSizes}
-use Rattle.oca_net.specs.EndStates.{IsPresent}
-use Rattle.oca_tree.specs.declared.object.Object.{Object}
-use Rattle.oca_control.specs.declared.answer.Answer.{Answer}
-use Rattle.oca_control.specs.declared.outcome.Outcome.{Outcome}
+use Rattle.oca_promise.specs.Words.{[], ◌++◌, ◌∷◌, ◌≡◌, Answer, AnswerFields, AreInTime, AsksIn, CommandFields}
+use Rattle.oca_promise.specs.Words.{DeviceSizes, Fit, IsPresent, List, Network, Object, Ok, Outcome, PanelState, Peer}
+use Rattle.oca_promise.specs.Words.{RequestFields, Setup, Some, Start, Step, Submit, after_step, after_steps}
+use Rattle.oca_promise.specs.Words.{answer_fields, are_apart, command_under, false, filter, list_any, opening}
+use Rattle.oca_promise.specs.Words.{outcome_of_step, slice_get, submission, true, ℕ}
 use Rattle.oca_control.specs.declared.outcome.Outcome.TheVariants as outcomes
-use Rattle.oca_control.specs.Answers.{AnswerFields, answer_fields}
-use Rattle.oca_control.specs.Links.{submission, command_under}
 use Rattle.oca_control.specs.Untaken.{answer_under}
 use Rattle.oca_pair.specs.declared.outcome.Outcome.TheVariants as step_outcomes
-use Rattle.oca_pair.specs.declared.start.Start.{Start}
-use Rattle.oca_pair.specs.Networks.{Network, Setup, opening}
-use Rattle.oca_pair.specs.Steps.{Step, Submit, after_step, after_steps, outcome_of_step}
-use Rattle.oca_pair.specs.Premises.{are_apart, Fit}
-use Rattle.oca_pair.specs.InTime.{AreInTime}
-use Rattle.oca_panel.specs.Panels.{PanelState, AsksIn}
 use Rattle.oca_promise.specs.Doings.{Doing, Submits, Takes, all_done, is_begun_or_taken, is_taking, AreSentInTime}
 use Rattle.oca_promise.specs.Doings.{AreOfDevice, WasDone, Plays}
 

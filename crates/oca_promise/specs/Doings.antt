@@ -1,17 +1,13 @@
 -- WHAT IS DONE WITH A LINK, and a schedule of a network in which that is done. Of doings the first stands first;
 -- moments are in milliseconds.
-use Rattle.std.specs.Prelude.{◌≡◌, ◌⊎◌, ℕ, ◌+◌, ◌<◌, ◌≤◌, Bool, true, false, IsTrue, if◌then◌else◌, nat_le, ◌==◌, List}
-use Rattle.std.specs.Prelude.{[], ◌∷◌, ◌++◌, length, Some}
-use Rattle.std.specs.List.{filter, flat_map, slice_get, AllByRecursion}
-use Rattle.oca_types.specs.declared.words.Peer.{Peer}
+use Rattle.oca_promise.specs.Words.{[], ◌++◌, ◌+◌, ◌<◌, ◌==◌, ◌∷◌, ◌≡◌, ◌≤◌, ◌⊎◌, AllByRecursion, Bool, Due, EndState}
+use Rattle.oca_promise.specs.Words.{IsTrue, LinkState, List, Network, Peer, Request, Some, Step, Submit, Take, ToLink}
+use Rattle.oca_promise.specs.Words.{after_step, content_read, decision, false, filter, flat_map, gone_on, if◌then◌else◌}
+use Rattle.oca_promise.specs.Words.{late_at, length, nat_le, received, slice_get, submitted, taken, true, ℕ}
 use Rattle.oca_net.specs.Deliveries.{Delivery, Datagram, Quiet, Failed, Sent}
 use Rattle.oca_net.specs.Ends.{largest_datagram, last_u64, TakesAllBut}
-use Rattle.oca_net.specs.EndStates.{EndState}
 use Rattle.oca_pdu.specs.Laws.{AreBytes}
 use Rattle.oca_control.specs.Driving.{given_to}
-use Rattle.oca_control.specs.Links.{LinkState, Request, submitted, decision, gone_on, late_at, received, taken}
-use Rattle.oca_pair.specs.Networks.{Network}
-use Rattle.oca_pair.specs.Steps.{Step, Submit, Due, ToLink, Take, content_read, after_step}
 
 -- ---- what is done
 

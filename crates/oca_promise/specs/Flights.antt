@@ -1,31 +1,15 @@
 -- COMMANDS IN FLIGHT: one call of a panel begins a command, another one takes its answer, and other calls lie between:
 -- for other commands, or earlier waits for this one.
-use Rattle.std.specs.Prelude.{◌≡◌, ◌⊎◌, ℕ, Bool, true, List, [], ◌∷◌, ◌++◌, Some, Result, Ok, Err}
-use Rattle.oca_types.specs.declared.class.Class.{Class}
-use Rattle.oca_types.specs.declared.class.Method.{Method}
-use Rattle.oca_types.specs.declared.words.Handle.{Handle}
-use Rattle.oca_types.specs.Peers.{RequestFields}
+use Rattle.oca_promise.specs.Words.{[], ◌++◌, ◌∷◌, ◌≡◌, ◌⊎◌, Answer, AskedBy, BeginsIn, Bool, Class, ControlFault, Err}
+use Rattle.oca_promise.specs.Words.{FinishesIn, Handle, IsOfItsType, IsOfOneExecutionSince, IsRequest, IsRequestTo}
+use Rattle.oca_promise.specs.Words.{List, Method, Object, Ok, Outcome, PanelState, Reading, RequestFields, Result}
+use Rattle.oca_promise.specs.Words.{SettlesIn, Some, TurnsOnce, Value, answer_fields, answer_given, changed_by}
+use Rattle.oca_promise.specs.Words.{class_of_ono, class_of_value, done_answered, is_of_every_class, model_answered}
+use Rattle.oca_promise.specs.Words.{object_of, objects_left, reading_answered, true, with_object, ℕ}
 use Rattle.oca_model.specs.declared.answer.Answer.{Answer as Typed}
-use Rattle.oca_model.specs.declared.reading.Reading.{Reading}
 use Rattle.oca_model.specs.declared.request.Request.{Request as Asked}
 use Rattle.oca_model.specs.declared.request.Request.TheVariants as asked
-use Rattle.oca_model.specs.declared.value.Value.{Value}
-use Rattle.oca_model.specs.Requests.{AskedBy, IsRequest}
-use Rattle.oca_model.specs.Values.{class_of_value, IsOfItsType}
-use Rattle.oca_tree.specs.declared.object.Object.{Object}
-use Rattle.oca_tree.specs.Objects.{object_of, with_object}
-use Rattle.oca_tree.specs.Readers.{class_of_ono}
-use Rattle.oca_tree.specs.Typed.{answer_given, changed_by}
-use Rattle.oca_control.specs.declared.answer.Answer.{Answer}
-use Rattle.oca_control.specs.declared.fault.ControlFault.{ControlFault}
-use Rattle.oca_control.specs.declared.outcome.Outcome.{Outcome}
 use Rattle.oca_control.specs.declared.outcome.Outcome.TheVariants as outcomes
-use Rattle.oca_control.specs.Answers.{answer_fields}
-use Rattle.oca_pair.specs.Saying.{is_of_every_class, IsOfOneExecutionSince, objects_left}
-use Rattle.oca_panel.specs.Beginnings.{model_answered}
-use Rattle.oca_panel.specs.Objects.{IsRequestTo}
-use Rattle.oca_panel.specs.Outcomes.{done_answered, reading_answered}
-use Rattle.oca_panel.specs.Panels.{PanelState, BeginsIn, FinishesIn, SettlesIn, TurnsOnce}
 use Rattle.oca_promise.specs.Calls.{OfAnAnswer, NothingIsSentLate, KeepsInNetworks}
 use Rattle.oca_promise.specs.Doings.{Doing, Submits, Takes}
 use Rattle.oca_promise.specs.Promises.{IsRightAtFirst, WasSetTo, HadReading}

@@ -1,3 +1,4 @@
+pub mod Words
 pub mod Doings
 pub mod Calls
 pub mod Promises

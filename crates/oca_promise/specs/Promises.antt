@@ -1,40 +1,19 @@
 -- WHAT A PANEL SAYS, in its own words: what `set`, `get`, `reading_of`, `class`, `role`, `label`, `members`, `lock` and
 -- `unlock` tell, and what a walk finds of an object, is so of the device's objects, in each network in which the call
 -- is made.
-use Rattle.std.specs.Prelude.{◌≡◌, ℕ, true, List, [], ◌++◌, map, Some, None, Ok, Err}
-use Rattle.std.specs.List.{All, slice_get}
-use Rattle.oca_types.specs.declared.class.Class.{Class}
+use Rattle.oca_promise.specs.Words.{[], ◌++◌, ◌≡◌, All, Answer, AreInTime, AsksClass, AsksIn, ChangedNothing, Class}
+use Rattle.oca_promise.specs.Words.{Describes, DeviceSizes, Err, Fit, GetsValue, IsOfItsType, IsOfItsTypes}
+use Rattle.oca_promise.specs.Words.{IsOfOneExecutionSince, IsRequestTo, IsTree, List, Network, None, Object, Ok}
+use Rattle.oca_promise.specs.Words.{PanelState, Peer, ReadSo, Reading, Reads, ReadsBy, RequestFields, SetsObject}
+use Rattle.oca_promise.specs.Words.{SetsValue, Setup, Some, Start, Step, Total, Value, after_steps, answer_fields}
+use Rattle.oca_promise.specs.Words.{are_apart, class_of_ono, class_of_value, class_with, done_answered, get_method, map}
+use Rattle.oca_promise.specs.Words.{members, members_answered, object_of, objects_left, opening, slice_get}
+use Rattle.oca_promise.specs.Words.{text_answered, true, value_without_limits, with_object, ℕ}
 use Rattle.oca_types.specs.declared.class.Class.TheVariants as class
-use Rattle.oca_types.specs.declared.words.Peer.{Peer}
-use Rattle.oca_types.specs.Peers.{RequestFields}
-use Rattle.oca_types.specs.Sizes.{DeviceSizes}
-use Rattle.oca_model.specs.declared.reading.Reading.{Reading}
 use Rattle.oca_model.specs.declared.request.Request.{Request as Asked}
 use Rattle.oca_model.specs.declared.request.Request.TheVariants as asked
-use Rattle.oca_model.specs.declared.value.Value.{Value}
-use Rattle.oca_model.specs.Members.{class_with}
-use Rattle.oca_model.specs.Readings.{value_without_limits}
-use Rattle.oca_model.specs.Values.{class_of_value, get_method, IsOfItsType}
-use Rattle.oca_tree.specs.declared.object.LockKind.TheVariants.{Total}
-use Rattle.oca_tree.specs.declared.object.Object.{Object}
-use Rattle.oca_tree.specs.Objects.{members, object_of, with_object}
-use Rattle.oca_tree.specs.Readers.{class_of_ono}
-use Rattle.oca_tree.specs.Trees.{IsTree}
-use Rattle.oca_tree.specs.TypedLaws.{IsOfItsTypes}
-use Rattle.oca_control.specs.declared.answer.Answer.{Answer}
 use Rattle.oca_control.specs.declared.outcome.Outcome.TheVariants as outcomes
-use Rattle.oca_control.specs.Answers.{answer_fields}
-use Rattle.oca_pair.specs.declared.start.Start.{Start}
-use Rattle.oca_pair.specs.Networks.{Network, Setup, opening}
-use Rattle.oca_pair.specs.Steps.{Step, after_steps}
-use Rattle.oca_pair.specs.Premises.{are_apart, Fit}
-use Rattle.oca_pair.specs.InTime.{AreInTime}
-use Rattle.oca_pair.specs.Saying.{IsOfOneExecutionSince, ChangedNothing, SetsObject, ReadSo, objects_left}
 use Rattle.oca_panel.specs.declared.trouble.Trouble.TheVariants as trouble
-use Rattle.oca_panel.specs.Panels.{PanelState, AsksIn}
-use Rattle.oca_panel.specs.Objects.{AsksClass, IsRequestTo, Reads, ReadsBy, SetsValue, GetsValue}
-use Rattle.oca_panel.specs.Outcomes.{done_answered, members_answered, text_answered}
-use Rattle.oca_panel.specs.Walks.{Describes}
 use Rattle.oca_promise.specs.Doings.{Doing, AreOfDevice, Plays}
 use Rattle.oca_promise.specs.Calls.{OfAnAnswer, IsDoneByCall, KeepsInNetworks}
 

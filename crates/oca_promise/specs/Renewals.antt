@@ -1,15 +1,9 @@
 -- A PANEL IS RENEWED, or sends a keep-alive beside its link, and goes on in the same network.
-use Rattle.std.specs.Prelude.{◌≡◌, ℕ, ◌+◌, ◌≤◌, Bool, List, [], ◌∷◌, ◌++◌, Some}
-use Rattle.std.specs.List.{slice_get}
-use Rattle.oca_types.specs.declared.words.Peer.{Peer}
+use Rattle.oca_promise.specs.Words.{[], ◌++◌, ◌+◌, ◌∷◌, ◌≡◌, ◌≤◌, Beside, Bool, EndState, LinkState, List, Network}
+use Rattle.oca_promise.specs.Words.{PanelState, Peer, Renew, Sends, Setup, Some, after_step, departures_in, slice_get}
+use Rattle.oca_promise.specs.Words.{zero_of, ℕ}
 use Rattle.oca_net.specs.declared.end.Heard.{Heard}
-use Rattle.oca_net.specs.EndStates.{EndState, Sends}
-use Rattle.oca_control.specs.Links.{LinkState}
-use Rattle.oca_pair.specs.Networks.{Network, Setup, zero_of}
-use Rattle.oca_pair.specs.Steps.{Renew, Beside, after_step}
-use Rattle.oca_pair.specs.InTime.{departures_in}
 use Rattle.oca_panel.specs.Calls.{CallsBeside}
-use Rattle.oca_panel.specs.Panels.{PanelState}
 use Rattle.oca_panel.specs.Probes.{SendsKeepAlive}
 use Rattle.oca_panel.specs.Renewals.{IsRenewed}
 
