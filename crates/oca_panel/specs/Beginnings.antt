@@ -1,10 +1,8 @@
--- Commands of any method that are begun, and what their answers say (AES70-2).
-use Rattle.oca_panel.specs.Words.{◌==◌, ◌≡◌, Answer, Class, ControlFault, Err, Handle, IsRefusedCall, Method, Ok}
-use Rattle.oca_panel.specs.Words.{Outcome, Request, RequestFault, RequestFields, Result, answer_in, if◌then◌else◌, ℕ}
-use Rattle.oca_control.specs.declared.outcome.Outcome.TheVariants as outcomes
+-- Commands of any method that are begun (AES70-2).
+use Rattle.oca_panel.specs.Words.{◌≡◌, Class, ControlFault, Err, Handle, IsRefusedCall, Ok, Request, RequestFault}
+use Rattle.oca_panel.specs.Words.{RequestFields, Result, ℕ}
 use Rattle.oca_panel.specs.declared.trouble.Trouble.{Trouble}
 use Rattle.oca_panel.specs.declared.trouble.Trouble.TheVariants as trouble
-use Rattle.oca_panel.specs.Outcomes.{readable}
 use Rattle.oca_panel.specs.Panels.{PanelState, BeginsIn}
 use Rattle.oca_panel.specs.Objects.{IsRequestTo}
 
@@ -26,11 +24,3 @@ BeginsAsking target of asked (Err (trouble.NotSubmitted fault)) old new = Begins
     (Err fault) old new
 BeginsAsking target of asked (Err trouble.NoValue) old new = AsksNothing of asked old new
 BeginsAsking target of asked _ old new = ⊥
-
--- what the answer to a method of an object of the class says
-abbrev pub model_answered : Class → Method → Outcome → Result Answer Trouble
-model_answered of method (outcomes.Answered a) = if a.status == 0
-    then readable (answer_in of method a.count a.params.items) else Err (trouble.Refused a.status)
-model_answered of method (outcomes.Refused fault) = Err (trouble.NotSubmitted fault)
-model_answered of method outcomes.Lost = Err trouble.Lost
-model_answered of method outcomes.Unanswered = Err trouble.Unanswered

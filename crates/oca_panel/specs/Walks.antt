@@ -95,12 +95,13 @@ Finds false ono rest old new is waiting =
     (described : Result Description Trouble) × (s : PanelState) × Describes ono.0 old s (on_ok parts_of described)
     × FindsDescribed described ono rest s new is waiting
 
--- THE NEXT PLACE WAS VISITED, and this was found there: nothing was set.
-pub record VisitsNext (old : WalkState) (before after : PanelState) (visit : Visit) (new : WalkState) : Type 0 where
+-- THE NEXT PLACE WAS VISITED, asked unless it counts as visited again, and this was found there: nothing was set.
+pub record VisitsPlace (again : Bool) (old : WalkState) (before after : PanelState) (visit : Visit) (new : WalkState)
+    : Type 0 where
   pub rest : List Place
   pub next : old.waiting ≡ rest ++ visit.place ∷ []
   pub visited : new.visited ≡ old.visited ++ visit.place.ono ∷ []
-  pub finds : Finds (is_visited visit.place.ono old.visited) visit.place.ono rest before after visit.found new.waiting
+  pub finds : Finds again visit.place.ono rest before after visit.found new.waiting
 
 -- No place is left, or so many were visited: nothing was asked.
 pub record WalkEnds (old : WalkState) (before after : PanelState) (new : WalkState) : Type 0 where
@@ -110,18 +111,13 @@ pub record WalkEnds (old : WalkState) (before after : PanelState) (new : WalkSta
 
 abbrev pub StepsTo : WalkState → PanelState → PanelState → Option Visit → WalkState → Type 0
 StepsTo old before after None new = WalkEnds old before after new
-StepsTo old before after (Some visit) new = VisitsNext old before after visit new
+StepsTo old before after (Some visit) new =
+    VisitsPlace (is_visited visit.place.ono old.visited) old before after visit new
 
--- THE NEXT PLACE WAS VISITED, also where its object was visited before, and this was found there: nothing was set.
-pub record VisitsPlace (old : WalkState) (before after : PanelState) (visit : Visit) (new : WalkState) : Type 0 where
-  pub rest : List Place
-  pub next : old.waiting ≡ rest ++ visit.place ∷ []
-  pub visited : new.visited ≡ old.visited ++ visit.place.ono ∷ []
-  pub finds : Finds false visit.place.ono rest before after visit.found new.waiting
-
+-- the same, where an object that was visited before is asked again
 abbrev pub StepsToPlace : WalkState → PanelState → PanelState → Option Visit → WalkState → Type 0
 StepsToPlace old before after None new = WalkEnds old before after new
-StepsToPlace old before after (Some visit) new = VisitsPlace old before after visit new
+StepsToPlace old before after (Some visit) new = VisitsPlace false old before after visit new
 
 -- ---- memory was refused
 

@@ -157,13 +157,9 @@ impl<T: Copy + Default> InFlight<T> {
         if self.is_full() {
             return Err(ControlFault::SpanFull);
         }
-        match panel.begin(request) {
-            Ok(handle) => {
-                self.push(handle, item);
-                Ok(handle)
-            }
-            Err(fault) => Err(fault),
-        }
+        let handle = panel.begin(request)?;
+        self.push(handle, item);
+        Ok(handle)
     }
 
     /// Takes the first command out of the queue and waits for its answer, for at most the panel's `wait` milliseconds.

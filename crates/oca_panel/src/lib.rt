@@ -27,9 +27,8 @@ mod watched;
 mod way;
 
 pub use answering::{Probed, keep_alive, probe};
-pub use beginning::answer_of;
 pub use in_flight::InFlight;
-pub use outcomes::done_in;
+pub use outcomes::{answer_of, done_in};
 pub use own_port::{OwnPort, law_of_turns};
 pub use panel::Panel;
 pub use trouble::Trouble;

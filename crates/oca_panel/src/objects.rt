@@ -26,14 +26,9 @@ impl<E: End> Panel<E> {
     /// Asks the device for the class of the object `ono`, by GetClassIdentification of OcaRoot (AES70-2). The command
     /// changes no object. The call waits for the answer for at most the panel's `wait` milliseconds.
     ///
-    /// Faults ([`Trouble`]):
-    /// - `NotSubmitted` with the reason if the link refuses the command ([`begin`](Panel::begin)): nothing is sent.
-    /// - `Lost` if the link becomes lost or late before an answer comes. `Unanswered` if no answer comes in time: the
-    ///   command then stays in flight.
-    /// - `Refused` with the status if the status of the answer is not OK, as BadONo for an object that the device does
-    ///   not have.
-    /// - `Unreadable` if the answer's parameters are no class identifier of at most 16 fields.
-    /// - `NoValue` if the class is not a class of this profile.
+    /// Faults: those of a command ([`Panel`]). `Refused` has BadONo for an object that the device does not have.
+    /// `Unreadable` if the answer's parameters are no class identifier of at most 16 fields. `NoValue` if the class is
+    /// not a class of this profile.
     #[tactic(auto, using(crate::proofs::RequestLemmas::ask_class))]
     pub fn class(&mut self, ono: Ono) -> Result<Class, Trouble>
         ensures { AsksClass ono.0 self.old self.new result }
@@ -46,13 +41,8 @@ impl<E: End> Panel<E> {
     /// (AES70-2). Returns at most 16 fields, also for a class that is not in this profile. The command changes no
     /// object. The call waits for the answer for at most the panel's `wait` milliseconds.
     ///
-    /// Faults ([`Trouble`]):
-    /// - `NotSubmitted` with the reason if the link refuses the command ([`begin`](Panel::begin)): nothing is sent.
-    /// - `Lost` if the link becomes lost or late before an answer comes. `Unanswered` if no answer comes in time: the
-    ///   command then stays in flight.
-    /// - `Refused` with the status if the status of the answer is not OK, as BadONo for an object that the device does
-    ///   not have.
-    /// - `Unreadable` if the answer's parameters are no class identifier of at most 16 fields.
+    /// Faults: those of a command ([`Panel`]). `Refused` has BadONo for an object that the device does not have.
+    /// `Unreadable` if the answer's parameters are no class identifier of at most 16 fields.
     #[tactic(auto, using(crate::proofs::RequestLemmas::ask_class))]
     pub fn class_fields(&mut self, ono: Ono) -> Result<ClassFields, Trouble>
         ensures { Reads ono.0 Block GetClassIdentification fields_answered self.old self.new
@@ -66,21 +56,13 @@ impl<E: End> Panel<E> {
     /// method of the class (AES70-2). The two commands change no object. The call waits for each answer for at most the
     /// panel's `wait` milliseconds.
     ///
-    /// Faults ([`Trouble`]); after a fault of the first command the second is not sent:
-    /// - `NotSubmitted` with the reason if the link refuses a command ([`begin`](Panel::begin)): that command is not
-    ///   sent.
-    /// - `Lost` if the link becomes lost or late before an answer comes. `Unanswered` if no answer comes in time: the
-    ///   command then stays in flight.
-    /// - `Refused` with the status if the status of an answer is not OK.
-    /// - `Unreadable` if the parameters of an answer are not those of the method.
-    /// - `NoValue` if the object is a block, or its class is not a class of this profile.
+    /// Faults: those of a command ([`Panel`]); after a fault of the first command the second is not sent. `Unreadable`
+    /// if the parameters of an answer are not those of the method. `NoValue` if the object is a block, or its class is
+    /// not a class of this profile.
     pub fn get(&mut self, ono: Ono) -> Result<Value, Trouble>
         ensures { GetsValue ono.0 self.old self.new result }
     {
-        match self.reading(ono) {
-            Ok(reading) => Ok(reading.value()),
-            Err(trouble) => Err(trouble),
-        }
+        Ok(self.reading(ono)?.value())
     }
 
     /// Reads the value of the object `ono` with its limits: asks the device for the object's class, and then for its
@@ -88,34 +70,22 @@ impl<E: End> Panel<E> {
     /// too. The two commands change no object. The call waits for each answer for at most the panel's `wait`
     /// milliseconds.
     ///
-    /// Faults ([`Trouble`]); after a fault of the first command the second is not sent:
-    /// - `NotSubmitted` with the reason if the link refuses a command ([`begin`](Panel::begin)): that command is not
-    ///   sent.
-    /// - `Lost` if the link becomes lost or late before an answer comes. `Unanswered` if no answer comes in time: the
-    ///   command then stays in flight.
-    /// - `Refused` with the status if the status of an answer is not OK.
-    /// - `Unreadable` if the parameters of an answer are not those of the method.
-    /// - `NoValue` if the object is a block, or its class is not a class of this profile.
+    /// Faults: those of a command ([`Panel`]); after a fault of the first command the second is not sent. `Unreadable`
+    /// if the parameters of an answer are not those of the method. `NoValue` if the object is a block, or its class is
+    /// not a class of this profile.
     pub fn reading(&mut self, ono: Ono) -> Result<Reading, Trouble>
         ensures { ReadsObject ono.0 self.old self.new result }
     {
-        match self.class(ono) {
-            Ok(class) => self.reading_of(ono, class),
-            Err(trouble) => Err(trouble),
-        }
+        let class = self.class(ono)?;
+        self.reading_of(ono, class)
     }
 
     /// Reads the value of the object `ono` of the class `class` with its limits, by the get method of the class
     /// (AES70-2). A switch and an integer have the least and the greatest value too. The object's class is not asked.
     /// The command changes no object. The call waits for the answer for at most the panel's `wait` milliseconds.
     ///
-    /// Faults ([`Trouble`]):
-    /// - `NoValue` if `class` is a block: nothing is sent.
-    /// - `NotSubmitted` with the reason if the link refuses the command ([`begin`](Panel::begin)): nothing is sent.
-    /// - `Lost` if the link becomes lost or late before an answer comes. `Unanswered` if no answer comes in time: the
-    ///   command then stays in flight.
-    /// - `Refused` with the status if the status of the answer is not OK.
-    /// - `Unreadable` if the answer's parameters are not those of the get method of `class`.
+    /// Faults: those of a command ([`Panel`]). `NoValue` if `class` is a block: nothing is sent. `Unreadable` if the
+    /// answer's parameters are not those of the get method of `class`.
     pub fn reading_of(&mut self, ono: Ono, class: Class) -> Result<Reading, Trouble>
         ensures { ReadsBy ono.0 class (get_method class) self.old self.new result }
     {
@@ -132,12 +102,8 @@ impl<E: End> Panel<E> {
     /// answer for at most the panel's `wait` milliseconds. The object must be of this class. If not, the device refuses
     /// the command, or takes the value as one of the object's own class.
     ///
-    /// Faults ([`Trouble`]):
-    /// - `NotSubmitted` with the reason if the link refuses the command ([`begin`](Panel::begin)): nothing is sent.
-    /// - `Lost` if the link becomes lost or late before an answer comes. `Unanswered` if no answer comes in time: the
-    ///   command then stays in flight. After both the device may have carried out the command, or may still do that.
-    /// - `Refused` with the status if the status of the answer is not OK, as ParameterOutOfRange for a value outside
-    ///   the object's limits. A device of this profile then changed nothing.
+    /// Faults: those of a command ([`Panel`]). `Refused` has ParameterOutOfRange for a value outside the object's
+    /// limits. After `Refused` a device of this profile changed nothing.
     pub fn set(&mut self, ono: Ono, value: Value) -> Result<(), Trouble>
         ensures { SetsValue ono.0 value self.old self.new result }
     {
@@ -168,12 +134,8 @@ impl<E: End> Panel<E> {
     /// also if this panel has the lock already. The device releases the lock once it hears nothing from this panel for
     /// more than 15,000 ms.
     ///
-    /// Faults ([`Trouble`]):
-    /// - `NotSubmitted` with the reason if the link refuses the command ([`begin`](Panel::begin)): nothing is sent.
-    /// - `Lost` if the link becomes lost or late before an answer comes. `Unanswered` if no answer comes in time: the
-    ///   command then stays in flight. After both the device may have carried out the command, or may still do that.
-    /// - `Refused` with the status if the status of the answer is not OK: Locked if another controller has the lock,
-    ///   InvalidRequest if the object cannot be locked. A device of this profile then changed nothing.
+    /// Faults: those of a command ([`Panel`]). `Refused` has Locked if another controller has the lock, InvalidRequest
+    /// if the object cannot be locked. After `Refused` a device of this profile changed nothing.
     #[tactic(auto, using(crate::proofs::RequestLemmas::ask_lock))]
     pub fn lock(&mut self, ono: Ono) -> Result<(), Trouble>
         ensures { Reads ono.0 Block LockTotal done_answered self.old self.new result }
@@ -185,12 +147,8 @@ impl<E: End> Panel<E> {
     /// Releases this panel's lock of the object `ono`, by Unlock of OcaRoot (AES70-2), and waits for the answer for at
     /// most the panel's `wait` milliseconds.
     ///
-    /// Faults ([`Trouble`]):
-    /// - `NotSubmitted` with the reason if the link refuses the command ([`begin`](Panel::begin)): nothing is sent.
-    /// - `Lost` if the link becomes lost or late before an answer comes. `Unanswered` if no answer comes in time: the
-    ///   command then stays in flight. After both the device may have carried out the command, or may still do that.
-    /// - `Refused` with the status if the status of the answer is not OK: Locked if another controller holds the lock,
-    ///   InvalidRequest if the object is not locked. A device of this profile then changed nothing.
+    /// Faults: those of a command ([`Panel`]). `Refused` has Locked if another controller holds the lock, InvalidRequest
+    /// if the object is not locked. After `Refused` a device of this profile changed nothing.
     #[tactic(auto, using(crate::proofs::RequestLemmas::ask_unlock))]
     pub fn unlock(&mut self, ono: Ono) -> Result<(), Trouble>
         ensures { Reads ono.0 Block Unlock done_answered self.old self.new result }
@@ -203,12 +161,8 @@ impl<E: End> Panel<E> {
     /// bytes of UTF-8. The command changes no object. The call waits for the answer for at most the panel's `wait`
     /// milliseconds.
     ///
-    /// Faults ([`Trouble`]):
-    /// - `NotSubmitted` with the reason if the link refuses the command ([`begin`](Panel::begin)): nothing is sent.
-    /// - `Lost` if the link becomes lost or late before an answer comes. `Unanswered` if no answer comes in time: the
-    ///   command then stays in flight.
-    /// - `Refused` with the status if the status of the answer is not OK.
-    /// - `Unreadable` if the answer's parameters are not exactly one text of at most 64 bytes of UTF-8.
+    /// Faults: those of a command ([`Panel`]). `Unreadable` if the answer's parameters are not exactly one text of at
+    /// most 64 bytes of UTF-8.
     #[tactic(auto, using(crate::proofs::RequestLemmas::ask_label))]
     pub fn label(&mut self, ono: Ono) -> Result<Text, Trouble>
         ensures { Reads ono.0 Block GetLabel text_answered self.old self.new result }
@@ -220,12 +174,7 @@ impl<E: End> Panel<E> {
     /// Gives the object `ono` the label `label`, by SetLabel of OcaWorker (AES70-2), and waits for the answer for at
     /// most the panel's `wait` milliseconds. The label has 0 to 64 bytes: a longer one is no [`Text`].
     ///
-    /// Faults ([`Trouble`]):
-    /// - `NotSubmitted` with the reason if the link refuses the command ([`begin`](Panel::begin)): nothing is sent.
-    /// - `Lost` if the link becomes lost or late before an answer comes. `Unanswered` if no answer comes in time: the
-    ///   command then stays in flight. After both the device may have carried out the command, or may still do that.
-    /// - `Refused` with the status if the status of the answer is not OK. A device of this profile then changed
-    ///   nothing.
+    /// Faults: those of a command ([`Panel`]). After `Refused` a device of this profile changed nothing.
     #[tactic(auto, using(crate::proofs::RequestLemmas::ask_set_label))]
     pub fn set_label(&mut self, ono: Ono, label: Text) -> Result<(), Trouble>
         ensures { Reads ono.0 Block (SetLabel label) done_answered self.old self.new result }
@@ -239,12 +188,8 @@ impl<E: End> Panel<E> {
     /// bytes of UTF-8. The command changes no object. The call waits for the answer for at most the panel's `wait`
     /// milliseconds.
     ///
-    /// Faults ([`Trouble`]):
-    /// - `NotSubmitted` with the reason if the link refuses the command ([`begin`](Panel::begin)): nothing is sent.
-    /// - `Lost` if the link becomes lost or late before an answer comes. `Unanswered` if no answer comes in time: the
-    ///   command then stays in flight.
-    /// - `Refused` with the status if the status of the answer is not OK.
-    /// - `Unreadable` if the answer's parameters are not exactly one text of at most 64 bytes of UTF-8.
+    /// Faults: those of a command ([`Panel`]). `Unreadable` if the answer's parameters are not exactly one text of at
+    /// most 64 bytes of UTF-8.
     #[tactic(auto, using(crate::proofs::RequestLemmas::ask_role))]
     pub fn role(&mut self, ono: Ono) -> Result<Text, Trouble>
         ensures { Reads ono.0 Block GetRole text_answered self.old self.new result }
@@ -256,12 +201,7 @@ impl<E: End> Panel<E> {
     /// Asks the device whether the object `ono` is enabled, by GetEnabled of OcaWorker (AES70-2). The command changes
     /// no object. The call waits for the answer for at most the panel's `wait` milliseconds.
     ///
-    /// Faults ([`Trouble`]):
-    /// - `NotSubmitted` with the reason if the link refuses the command ([`begin`](Panel::begin)): nothing is sent.
-    /// - `Lost` if the link becomes lost or late before an answer comes. `Unanswered` if no answer comes in time: the
-    ///   command then stays in flight.
-    /// - `Refused` with the status if the status of the answer is not OK.
-    /// - `Unreadable` if the answer is not exactly one Boolean.
+    /// Faults: those of a command ([`Panel`]). `Unreadable` if the answer is not exactly one Boolean.
     #[tactic(auto, using(crate::proofs::RequestLemmas::ask_enabled))]
     pub fn enabled(&mut self, ono: Ono) -> Result<bool, Trouble>
         ensures { Reads ono.0 Block GetEnabled truth_answered self.old self.new result }
@@ -274,13 +214,8 @@ impl<E: End> Panel<E> {
     /// 0 to 181 numbers, in the order of the answer. The command changes no object. The call waits for the answer for
     /// at most the panel's `wait` milliseconds.
     ///
-    /// Faults ([`Trouble`]):
-    /// - `NotSubmitted` with the reason if the link refuses the command ([`begin`](Panel::begin)): nothing is sent.
-    /// - `Lost` if the link becomes lost or late before an answer comes. `Unanswered` if no answer comes in time: the
-    ///   command then stays in flight.
-    /// - `Refused` with the status if the status of the answer is not OK: BufferOverflow if the block has more members
-    ///   than a response has room for.
-    /// - `Unreadable` if the answer's parameters are no list of members.
+    /// Faults: those of a command ([`Panel`]). `Refused` has BufferOverflow if the block has more members than a
+    /// response has room for. `Unreadable` if the answer's parameters are no list of members.
     #[tactic(auto, using(crate::proofs::RequestLemmas::ask_members))]
     pub fn members(&mut self, ono: Ono) -> Result<MemberNumbers, Trouble>
         ensures { Reads ono.0 Block GetMembers members_answered self.old self.new
@@ -294,13 +229,8 @@ impl<E: End> Panel<E> {
     /// Returns a text of 0 to 64 bytes of UTF-8. `position` is counted from 0. The command changes no object. The call
     /// waits for the answer for at most the panel's `wait` milliseconds.
     ///
-    /// Faults ([`Trouble`]):
-    /// - `NotSubmitted` with the reason if the link refuses the command ([`begin`](Panel::begin)): nothing is sent.
-    /// - `Lost` if the link becomes lost or late before an answer comes. `Unanswered` if no answer comes in time: the
-    ///   command then stays in flight.
-    /// - `Refused` with the status if the status of the answer is not OK: ParameterOutOfRange if the switch has no such
-    ///   position.
-    /// - `Unreadable` if the answer's parameters are not exactly one text of at most 64 bytes of UTF-8.
+    /// Faults: those of a command ([`Panel`]). `Refused` has ParameterOutOfRange if the switch has no such position.
+    /// `Unreadable` if the answer's parameters are not exactly one text of at most 64 bytes of UTF-8.
     #[tactic(auto, using(crate::proofs::RequestLemmas::ask_name))]
     pub fn position_name(&mut self, ono: Ono, position: u16) -> Result<Text, Trouble>
         ensures { Reads ono.0 Switch (GetPositionName position) text_answered self.old self.new result }
@@ -313,12 +243,8 @@ impl<E: End> Panel<E> {
     /// Returns at most 16 names of 0 to 64 bytes of UTF-8 each, in the order of the positions. The command changes no
     /// object. The call waits for the answer for at most the panel's `wait` milliseconds.
     ///
-    /// Faults ([`Trouble`]):
-    /// - `NotSubmitted` with the reason if the link refuses the command ([`begin`](Panel::begin)): nothing is sent.
-    /// - `Lost` if the link becomes lost or late before an answer comes. `Unanswered` if no answer comes in time: the
-    ///   command then stays in flight.
-    /// - `Refused` with the status if the status of the answer is not OK.
-    /// - `Unreadable` if the answer has more than 16 names, a name of more than 64 bytes, or is no list of texts.
+    /// Faults: those of a command ([`Panel`]). `Unreadable` if the answer has more than 16 names, a name of more than
+    /// 64 bytes, or is no list of texts.
     #[tactic(auto, using(crate::proofs::RequestLemmas::ask_names))]
     pub fn position_names(&mut self, ono: Ono) -> Result<Names, Trouble>
         ensures { Reads ono.0 Switch GetPositionNames names_answered self.old self.new

@@ -3,8 +3,7 @@ ghost use Rattle.std.specs.Prelude.{◌≡◌, ◌++◌, IfErr, IfOk};
 ghost use Rattle.oca_model.specs.Members.{class_with};
 ghost use Rattle.oca_panel.specs.Outcomes.{on_ok};
 ghost use Rattle.oca_panel.specs.Walks.{Describes, Finds, FindsObject, FindsRefused, ListsRefused, PutsLastMembers};
-ghost use Rattle.oca_panel.specs.Walks.{RefusedNext, RefusedPlace, StepsTo, StepsToPlace, is_block_class};
-ghost use Rattle.oca_panel.specs.Walks.{is_visited, parts_of, places_of};
+ghost use Rattle.oca_panel.specs.Walks.{RefusedNext, RefusedPlace, is_block_class, is_visited, parts_of, places_of};
 
 use crate::panel::Panel;
 use crate::trouble::Trouble;
@@ -144,28 +143,25 @@ impl Walk {
         ensures steps { IfOk result (λ found. StepsTo self.old panel.old panel.new found self.new) }
         ensures refused { IfErr result (λ why. RefusedNext self.old panel.old panel.new self.new) }
     {
-        step(&mut self.waiting, &mut self.visited, panel)
+        let Some((place, again)) = self.take_place()? else {
+            return Ok(None);
+        };
+        let found = find(panel, place.ono, again, &mut self.waiting)?;
+        Ok(Some(Visit { place, found }))
     }
 
-    /// Visits the next place of the walk as [`next`](Walk::next) does, but asks its object even if it was visited
-    /// before. The object is asked for its class, then for its role, and a block then for its members, which are
-    /// visited next. A block that contains itself is visited until 4,096 places were visited. The call waits for each
-    /// answer for at most the panel's `wait` milliseconds. If a question gets no usable answer, the [`Visit`] has the
-    /// reason instead: the object's other questions are not asked then, and members that were not read are not visited
-    /// from this place. The next call goes on with the next place.
-    ///
-    /// `None` if no place is left, or 4,096 places were visited: then nothing is asked or changed. The call takes
-    /// memory for the places.
-    ///
-    /// Refusal: `NoMemory` if memory is refused. The place is then left out. If memory for the place was refused,
-    /// nothing was asked, and its object does not count as visited. If memory for a member of a block was refused, the
-    /// block was asked, and counts as visited. Only the members behind that one are visited next. All other places
-    /// still wait.
+    /// Visits the next place of the walk as [`next`](Walk::next) does, with the same commands, results and refusal, but
+    /// asks its object even if it was visited before. A block that contains itself is visited until 4,096 places were
+    /// visited.
     pub fn next_place<E: End>(&mut self, panel: &mut Panel<E>) -> Result<Option<Visit>, NoMemory>
         ensures steps { IfOk result (λ found. StepsToPlace self.old panel.old panel.new found self.new) }
         ensures refused { IfErr result (λ why. RefusedPlace self.old panel.old panel.new self.new) }
     {
-        step_to_place(&mut self.waiting, &mut self.visited, panel)
+        let Some((place, _)) = self.take_place()? else {
+            return Ok(None);
+        };
+        let found = find(panel, place.ono, false, &mut self.waiting)?;
+        Ok(Some(Visit { place, found }))
     }
 
     /// Whether places are left to visit. `true` for a new walk, whose root is not visited yet. `false` once all were
@@ -174,67 +170,6 @@ impl Walk {
         ensures { result ≡ nat_lt 0 (length self.now.waiting) }
     {
         !self.waiting.is_empty()
-    }
-}
-
-/// Visits the next place of those that wait, unless 4,096 were visited.
-fn step<E: End>(
-    waiting: &mut Vec<Place>,
-    visited: &mut Vec<Ono>,
-    panel: &mut Panel<E>,
-) -> Result<Option<Visit>, NoMemory>
-    ensures steps { IfOk result
-        (λ found. StepsTo (record { waiting = waiting.old.items; visited = visited.old.items })
-        panel.old panel.new found
-        (record { waiting = waiting.new.items; visited = visited.new.items })) }
-    ensures refused { IfErr result
-        (λ why. RefusedNext (record { waiting = waiting.old.items; visited = visited.old.items })
-        panel.old panel.new
-        (record { waiting = waiting.new.items; visited = visited.new.items })) }
-{
-    if visited.len() >= MOST_PLACES {
-        return Ok(None);
-    }
-    let Some(place) = waiting.pop() else {
-        return Ok(None);
-    };
-    let again = is_in(visited.as_slice(), place.ono);
-    if visited.push(place.ono).is_err() {
-        return Err(NoMemory);
-    }
-    match find(panel, place.ono, again, waiting) {
-        Ok(found) => Ok(Some(Visit { place, found })),
-        Err(NoMemory) => Err(NoMemory),
-    }
-}
-
-/// Visits the next place of those that wait, also where its object was visited before, unless 4,096 were visited.
-fn step_to_place<E: End>(
-    waiting: &mut Vec<Place>,
-    visited: &mut Vec<Ono>,
-    panel: &mut Panel<E>,
-) -> Result<Option<Visit>, NoMemory>
-    ensures steps { IfOk result
-        (λ found. StepsToPlace
-        (record { waiting = waiting.old.items; visited = visited.old.items }) panel.old panel.new found
-        (record { waiting = waiting.new.items; visited = visited.new.items })) }
-    ensures refused { IfErr result
-        (λ why. RefusedPlace
-        (record { waiting = waiting.old.items; visited = visited.old.items }) panel.old panel.new
-        (record { waiting = waiting.new.items; visited = visited.new.items })) }
-{
-    if visited.len() >= MOST_PLACES {
-        return Ok(None);
-    }
-    let Some(place) = waiting.pop() else {
-        return Ok(None);
-    };
-    if visited.push(place.ono).is_err() {
-        return Err(NoMemory);
-    }
-    match find(panel, place.ono, false, waiting) {
-        Ok(found) => Ok(Some(Visit { place, found })),
-        Err(NoMemory) => Err(NoMemory),
     }
 }
 

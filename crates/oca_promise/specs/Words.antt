@@ -20,7 +20,7 @@ pub use Rattle.oca_pair.specs.Saying.{objects_left}
 pub use Rattle.oca_pair.specs.Steps.{Beside, Due, Renew, Step, Submit, Take, ToLink, after_step, after_steps}
 pub use Rattle.oca_pair.specs.Steps.{content_read, outcome_of_step}
 pub use Rattle.oca_pair.specs.declared.start.Start.{Start}
-pub use Rattle.oca_panel.specs.Beginnings.{model_answered}
+pub use Rattle.oca_panel.specs.Outcomes.{model_answered}
 pub use Rattle.oca_panel.specs.Objects.{AsksClass, GetsValue, IsRequestTo, Reads, ReadsBy, SetsValue}
 pub use Rattle.oca_panel.specs.Outcomes.{done_answered, members_answered, reading_answered, text_answered}
 pub use Rattle.oca_panel.specs.Panels.{AsksIn, BeginsIn, FinishesIn, PanelState, SettlesIn, TurnsOnce}
