@@ -1,7 +1,7 @@
 -- Deliveries that are taken in, groups of them, and which answers wait.
 use Rattle.oca_device.proofs.Words.{◌≡◌, ℕ, ◌+◌, ◌≤◌, ◌<◌, Bool, true, false, cond, List, [], ◌∷◌, ◌++◌, length, refl, sym, ap, ◌∙◌, subst, arith, take, slice_index_or, IsTrue, ◌||◌, ◌&&◌, ◌==◌, not}
 use Rattle.oca_device.proofs.Words.{le-leb, lt-leb, ArrayVec, bytes_of_packets, append_assoc, append-nil, take_more, get_or-map, length-map, map-append, Peer, DeviceSizes, Heard, Delivery, Datagram}
-use Rattle.oca_device.proofs.Words.{Quiet, Failed, Sent, is_failed, largest_datagram, last_u64, TakesAllBut, EndState, Receives, Sends, SendsAllBut, Object, Report, Verdict, Answer, Event, packets}
+use Rattle.oca_device.proofs.Words.{Quiet, Failed, Sent, is_failed, largest_datagram, last_u64, TakesAllBut, EndState, Receives, Sends, SendsAllBut, Object, Report, Verdict, HeldPacket, Event, packets}
 use Rattle.oca_device.proofs.Words.{verdict, DeviceState, Represents, no_turns, one_turn, verdict_turn, added, capped, turn_report, events_after, events_after_all, Serves, sent_for, sent_to}
 use Rattle.oca_device.proofs.Words.{state_after, Followed, ElectronicsState, Follows, handed, handed_of, KeepingState, Storing, StoreState, Group, is_writing, is_repeating, answers_wait, behind_after}
 use Rattle.oca_device.proofs.Words.{behind_all, waiting, at_once, some_wait, behind_group, storings_of, sent_for_group, all_deliveries, behind_groups, storings_in_all, sent_of_all, ServesKeeping}
@@ -82,8 +82,8 @@ none_exactly d e x k =
       waited = λ w tree events h. refl;
     }
 
-pub in_none : (q : Bool) (d : DeviceState) (e : EndState) (x : ElectronicsState) (k : KeepingState) (r : Report) → q ≡ false → r ≡ no_turns → TakesIn q d d e e x x k k r
-in_none q d e x k r none_due is = record { report = no_turns; returns = is; takes = subst (λ (v : Bool). TakesExactly v d d e e x x k k no_turns) (sym none_due) (none_exactly d e x k) }
+pub in_none : (d : DeviceState) (e : EndState) (x : ElectronicsState) (k : KeepingState) (r : Report) → r ≡ no_turns → TakesIn false d d e e x x k k r
+in_none d e x k r is = record { report = no_turns; returns = is; takes = none_exactly d e x k }
 
 delivered_in : {q : Bool} {a b : DeviceState} {e f : EndState} {x y : ElectronicsState} {k l : KeepingState} {r : Report} → (t : TakesExactly q a b e f x y k l r) →
     Delivered t.deliveries r.failed_receives r.failed_sends e f
@@ -548,11 +548,11 @@ keeps_due {a} {b} {e} {f} {g} {x} {y} {k} {l} {m} {s} {t} {q} {r} {failed} none 
 -- ---- what waits is held, and sent
 
 -- one more of them was sent, and all
-pub held_further : (i k n : ℕ) (answers : List Answer) (d : Answer) (to : Peer) (bytes : List ℕ) {a b c : EndState} {was_taken : Bool} → i < length answers →
+pub held_further : (i k n : ℕ) (answers : List HeldPacket) (d : HeldPacket) (to : Peer) (bytes : List ℕ) {a b c : EndState} {was_taken : Bool} → i < length answers →
     SendsAllBut k a b (take i (packets_held answers)) → Sends was_taken to bytes b c → to ≡ (slice_index_or answers i d).to → bytes ≡ (slice_index_or answers i d).packet.items → n ≡ k + cond was_taken 0 1 →
     SendsAllBut n a c (take (i + 1) (packets_held answers))
 held_further i k n answers d to bytes {a} {b} {c} {was_taken} h f s to_is bytes_is e =
-    let one : Answer → Sent = λ x. record { to = x.to; bytes = x.packet.items } in
+    let one : HeldPacket → Sent = λ x. record { to = x.to; bytes = x.packet.items } in
     let none : Sent = one d in
     let inside : i < length (packets_held answers) = omega (arith, length-map answers one) in
     let this : slice_index_or (packets_held answers) i none ≡ one (slice_index_or answers i d) = get_or-map one answers i d none h in
@@ -564,8 +564,8 @@ held_further i k n answers d to bytes {a} {b} {c} {was_taken} h f s to_is bytes_
     (sends_more f (sends_one sends)))
 
 -- one answer more is held
-pub held_more : (xs : List Answer) (a : Answer) → packets_held (xs ++ a ∷ []) ≡ packets_held xs ++ (record { to = a.to; bytes = a.packet.items }) ∷ []
-held_more xs a = map-append (λ (x : Answer). let s : Sent = record { to = x.to; bytes = x.packet.items } in s) xs (a ∷ [])
+pub held_more : (xs : List HeldPacket) (a : HeldPacket) → packets_held (xs ++ a ∷ []) ≡ packets_held xs ++ (record { to = a.to; bytes = a.packet.items }) ∷ []
+held_more xs a = map-append (λ (x : HeldPacket). let s : Sent = record { to = x.to; bytes = x.packet.items } in s) xs (a ∷ [])
 
 -- one packet more of them is held
 pub held_next : (p : Peer) (i : ℕ) (xs : List (ArrayVec ℕ)) (d : ArrayVec ℕ) (was held now : List Sent) (bytes : List ℕ) → i < length xs → bytes ≡ (slice_index_or xs i d).items →
@@ -593,13 +593,10 @@ none_if_true b e xs h = subst (λ (v : Bool). SendsAllBut 0 e e (cond v [] xs)) 
 pub none_if_false : (b : Bool) (e : EndState) (xs : List Sent) → b ≡ false → SendsAllBut 0 e e (cond b xs [])
 none_if_false b e xs h = subst (λ (v : Bool). SendsAllBut 0 e e (cond v xs [])) (sym h) (sends_none e)
 
-pub undue : {q : Bool} {a b : DeviceState} {e f : EndState} {x y : ElectronicsState} {k l : KeepingState} {r : Report} → q ≡ false → TakesExactly false a b e f x y k l r → TakesExactly q a b e f x y k l r
-undue {q} {a} {b} {e} {f} {x} {y} {k} {l} {r} is h = subst (λ (v : Bool). TakesExactly v a b e f x y k l r) (sym is) h
-
 -- what is behind is told by another name
 pub begun : {p q o : Bool} {a b : DeviceState} {e f : EndState} {x y : ElectronicsState} {s t : StoreState} {r : Report} → o ≡ q → ServesKeeping p q a b e f x y s t r → ServesKeeping p o a b e f x y s t r
 begun {p} {q} {o} {a} {b} {e} {f} {x} {y} {s} {t} {r} is h = subst (λ (v : Bool). ServesKeeping p v a b e f x y s t r) (sym is) h
 
--- and not-false is what a store was before
+-- and so is what a store was before
 pub stored_from : {p q : Bool} {a b : DeviceState} {e f : EndState} {x y : ElectronicsState} {s t u : StoreState} {r : Report} → s ≡ u → ServesKeeping p q a b e f x y s t r → ServesKeeping p q a b e f x y u t r
 stored_from {p} {q} {a} {b} {e} {f} {x} {y} {s} {t} {u} {r} is h = subst (λ (v : StoreState). ServesKeeping p q a b e f x y v t r) is h

@@ -39,7 +39,7 @@ pub use Rattle.oca_device.specs.States.{after_local, known_after}
 pub use Rattle.oca_device.specs.Written.{written_by_execution, written_by_command, written_by_messages, written_by_reading, written_by_message, numbers_of}
 pub use Rattle.oca_device.specs.declared.counts.Counts.{Counts}
 pub use Rattle.oca_device.specs.declared.effect.Effect.{Effect}
-pub use Rattle.oca_device.specs.declared.keeping.Answer.{Answer}
+pub use Rattle.oca_device.specs.declared.keeping.HeldPacket.{HeldPacket}
 pub use Rattle.oca_device.specs.declared.report.Report.{Report}
 pub use Rattle.oca_device.specs.declared.verdict.Verdict.{Verdict}
 pub use Rattle.oca_net.specs.Deliveries.{Delivery, Datagram, Quiet, Failed, Sent}

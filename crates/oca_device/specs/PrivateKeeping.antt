@@ -4,7 +4,7 @@ use Rattle.oca_device.specs.Words.{None, Object, Option, Peer, Receives, SendsAl
 use Rattle.oca_device.specs.Words.{if◌then◌else◌, last_u64, length, map, not, ℕ}
 use Rattle.oca_net.specs.declared.end.Heard.TheVariants as heard
 use Rattle.oca_device.specs.declared.report.Report.{Report}
-use Rattle.oca_device.specs.declared.keeping.Answer.{Answer}
+use Rattle.oca_device.specs.declared.keeping.HeldPacket.{HeldPacket}
 use Rattle.oca_device.specs.declared.keeping.Turn.{Turn}
 use Rattle.oca_device.specs.Events.{Event}
 use Rattle.oca_device.specs.Devices.{DeviceState, Represents}
@@ -14,7 +14,7 @@ use Rattle.oca_device.specs.Following.{ElectronicsState, handed}
 use Rattle.oca_device.specs.Keeping.{KeepingState, StoreState, Stores, at_once, waiting, behind_all, some_wait}
 
 -- what these answers are, and to whom
-abbrev pub packets_held : List Answer → List Sent
+abbrev pub packets_held : List HeldPacket → List Sent
 packets_held answers = map (λ a. record { to = a.to; bytes = a.packet.items }) answers
 
 -- Deliveries were taken in: what does not wait was sent, and what waits is held. They are due where the answers to one

@@ -3,7 +3,7 @@ ghost use Rattle.std.specs.Prelude.{◌≡◌, ◌+◌, ◌<◌, ◌≤◌, ◌^
 ghost use Rattle.std.specs.Prelude.{IfOk, length, if◌then◌else◌, IfSome, min};
 ghost use Rattle.oca_pdu.specs.Limits.{most_answered};
 ghost use Rattle.oca_net.specs.EndStates.{Receives, SendsAllBut};
-ghost use Rattle.oca_device.specs.Reports.{added, capped, no_turns, one_turn, receives_of};
+ghost use Rattle.oca_device.specs.Reports.{added, capped, receives_of};
 ghost use Rattle.oca_net.specs.Ends.{last_u64, one_more};
 ghost use Rattle.oca_device.specs.Replies.{sent_to};
 ghost use Rattle.oca_device.specs.Keeping.{ServesKeeping};
@@ -14,7 +14,7 @@ use crate::device::Device;
 use crate::electronics::Electronics;
 use crate::outbox::Outbox;
 use crate::report::Report;
-use crate::serving::{a_turn, nothing, of_verdict, send_all};
+use crate::serving::{failed_turn, nothing, of_verdict, oversize_turn, quiet_turn, send_all};
 use crate::store::Store;
 use oca_net::{End, Heard};
 use oca_types::{NoMemory, Packet, Peer};
@@ -31,9 +31,9 @@ const ROOM: usize = 366;
 /// With so many packets that wait there is room for the answers to one datagram more.
 const NEARLY_FULL: usize = 244;
 
-/// An answer that waits, and who it is for.
+/// A packet of answers that waits, and who it is for.
 #[derive(Drop)]
-struct Answer {
+struct HeldPacket {
     to: Peer,
     packet: Packet,
 }
@@ -46,7 +46,7 @@ struct Answer {
 #[derive(Drop)]
 pub struct Keeping {
     is_behind: bool,
-    places: Vec<Answer>,
+    places: Vec<HeldPacket>,
 }
 
 impl Model for Keeping {
@@ -255,13 +255,13 @@ fn with_group(report: Report, group: Taken, left: u64) -> Report
 }
 
 /// An answer with these bytes.
-fn answer_of(to: Peer, packet: &Packet) -> Answer
+fn answer_of(to: Peer, packet: &Packet) -> HeldPacket
     ensures to { result.to ≡ to }
     ensures bytes { result.packet.items ≡ packet.now.items }
 {
     let mut copy = Packet::new();
     let _ = copy.try_extend_from_slice(packet.as_slice());
-    Answer { to, packet: copy }
+    HeldPacket { to, packet: copy }
 }
 
 /// What was taken in: the report of it, its turns, whether the answers to a datagram wait, and whether the end is
@@ -391,7 +391,12 @@ fn take_in<E: End, S: Store, L: Electronics>(
     ensures fewer { IsTrue result.is_closed → result.turns < most }
     ensures outbox { outbox.new ≡ [] }
 {
-    let mut taken = none_taken();
+    let mut taken = Taken {
+        report: nothing(),
+        turns: 0,
+        is_due: false,
+        is_closed: false,
+    };
     for _turn in 0..most.min(MOST_TURNS) {
         let wait = !taken.is_due;
         match take_turn(
@@ -410,25 +415,15 @@ fn take_in<E: End, S: Store, L: Electronics>(
                     return taken;
                 }
             }
-            None => return closed(taken),
+            None => {
+                return Taken {
+                    is_closed: true,
+                    ..taken
+                };
+            }
         }
     }
     taken
-}
-
-/// Nothing was taken in.
-fn none_taken() -> Taken
-    ensures report { result.report ≡ no_turns }
-    ensures turns { result.turns ≡ 0 }
-    ensures due { result.is_due ≡ false }
-    ensures closed { result.is_closed ≡ false }
-{
-    Taken {
-        report: nothing(),
-        turns: 0,
-        is_due: false,
-        is_closed: false,
-    }
 }
 
 /// What was taken in, and a turn more.
@@ -453,19 +448,6 @@ fn goes_on(taken: Taken, turn: Turn, keeping: &Keeping) -> bool
     ensures { IsTrue result → length keeping.now.held ≤ 244 }
 {
     taken.is_due && turn.is_datagram && keeping.has_room()
-}
-
-/// What was taken in, and the end is closed.
-fn closed(taken: Taken) -> Taken
-    ensures report { result.report ≡ taken.report }
-    ensures turns { result.turns ≡ taken.turns }
-    ensures due { result.is_due ≡ taken.is_due }
-    ensures closed { IsTrue result.is_closed }
-{
-    Taken {
-        is_closed: true,
-        ..taken
-    }
 }
 
 /// What a turn did, whether the answers to its datagram wait, and whether it had one.
@@ -508,62 +490,32 @@ fn take_turn<E: End, S: Store, L: Electronics>(
             device.tick(now);
             let report = quiet_turn();
             store.tell(Heard::Quiet { now }, &[], outbox, &report, device);
-            Some(without_datagram(report))
+            Some(Turn {
+                report,
+                waits: false,
+                is_datagram: false,
+            })
         }
         Heard::Oversize { now } => {
             device.tick(now);
             let report = oversize_turn();
             store.tell(Heard::Oversize { now }, &[], outbox, &report, device);
-            Some(without_datagram(report))
+            Some(Turn {
+                report,
+                waits: false,
+                is_datagram: false,
+            })
         }
         Heard::Failed => {
             let report = failed_turn();
             store.tell(Heard::Failed, &[], outbox, &report, device);
-            Some(without_datagram(report))
+            Some(Turn {
+                report,
+                waits: false,
+                is_datagram: false,
+            })
         }
         Heard::Closed => None,
-    }
-}
-
-/// A turn without a datagram.
-fn without_datagram(report: Report) -> Turn
-    ensures report { result.report ≡ report }
-    ensures waits { result.waits ≡ false }
-{
-    Turn {
-        report,
-        waits: false,
-        is_datagram: false,
-    }
-}
-
-/// A turn in which no datagram came.
-fn quiet_turn() -> Report
-    ensures { result ≡ (record one_turn { quiet = 1 }) }
-{
-    Report {
-        quiet: 1,
-        ..a_turn()
-    }
-}
-
-/// A turn with an oversize datagram.
-fn oversize_turn() -> Report
-    ensures { result ≡ (record one_turn { oversize = 1 }) }
-{
-    Report {
-        oversize: 1,
-        ..a_turn()
-    }
-}
-
-/// A turn in which the end failed.
-fn failed_turn() -> Report
-    ensures { result ≡ (record one_turn { failed_receives = 1 }) }
-{
-    Report {
-        failed_receives: 1,
-        ..a_turn()
     }
 }
 

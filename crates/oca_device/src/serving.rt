@@ -29,15 +29,7 @@ use oca_types::{Packet, Peer};
 /// The loop ends after `turns` turns. It ends earlier if the end is closed, which does not count as a turn. With 0
 /// turns nothing is received.
 ///
-/// The report has these numbers:
-/// - `turns`, `quiet` (no datagram came), `oversize`, `failed_receives` and `failed_sends`.
-/// - `executed`: the commands that were executed. `kept`: the duplicates, which are commands that came again. They were
-///   not executed again. Those that ask for a response got the reply of the execution.
-/// - `old`: the commands that are too old for the reply window. `reused`: the commands that ask something else under
-///   the handle of a command in the reply window. Both are ignored. The reply window has the peer's last commands with
-///   their replies ([`Device`]).
-/// - `malformed`: the datagrams that are not well-formed. `no_room`: those for whose peer there is no room for a
-///   session.
+/// [`Report`] explains its numbers.
 pub fn serve<E: End>(device: &mut Device, end: &mut E, outbox: &mut Outbox, turns: u32) -> Report
     ensures served { ServesEnd device.old device.new (E.state end.old) (E.state end.new) result }
     ensures turns { result.turns ≤ turns }
@@ -126,27 +118,18 @@ fn take_turn<E: End, L: Electronics>(
         }
         Heard::Quiet { now } => {
             device.tick(now);
-            let turn = Report {
-                quiet: 1,
-                ..a_turn()
-            };
+            let turn = quiet_turn();
             electronics.tell(Heard::Quiet { now }, &[], outbox, &turn, device);
             Some(turn)
         }
         Heard::Oversize { now } => {
             device.tick(now);
-            let turn = Report {
-                oversize: 1,
-                ..a_turn()
-            };
+            let turn = oversize_turn();
             electronics.tell(Heard::Oversize { now }, &[], outbox, &turn, device);
             Some(turn)
         }
         Heard::Failed => {
-            let turn = Report {
-                failed_receives: 1,
-                ..a_turn()
-            };
+            let turn = failed_turn();
             electronics.tell(Heard::Failed, &[], outbox, &turn, device);
             Some(turn)
         }
@@ -176,12 +159,42 @@ pub(crate) fn nothing() -> Report
 }
 
 /// One turn.
-pub(crate) fn a_turn() -> Report
+fn a_turn() -> Report
     ensures { result ≡ one_turn }
 {
     Report {
         turns: 1,
         ..nothing()
+    }
+}
+
+/// A turn in which no datagram came.
+pub(crate) fn quiet_turn() -> Report
+    ensures { result ≡ (record one_turn { quiet = 1 }) }
+{
+    Report {
+        quiet: 1,
+        ..a_turn()
+    }
+}
+
+/// A turn with an oversize datagram.
+pub(crate) fn oversize_turn() -> Report
+    ensures { result ≡ (record one_turn { oversize = 1 }) }
+{
+    Report {
+        oversize: 1,
+        ..a_turn()
+    }
+}
+
+/// A turn in which the end failed.
+pub(crate) fn failed_turn() -> Report
+    ensures { result ≡ (record one_turn { failed_receives = 1 }) }
+{
+    Report {
+        failed_receives: 1,
+        ..a_turn()
     }
 }
 

@@ -1,15 +1,15 @@
-use Rattle.oca_device.proofs.Words.{ℕ, ◌+◌, refl, sym, ap, ◌∙◌, arith, Report}
+use Rattle.oca_device.proofs.Words.{ℕ, ◌+◌, refl, ap, ◌∙◌, arith, Report}
 use Rattle.oca_net.proofs.Running.{received_more}
 use Rattle.oca_device.proofs.Keepings.{in_none, in_more, in_closed, room_none}
 use Rattle.oca_device.proofs.keeping.take_in.Goals as goal
 
 pub loop-turn-init : goal.loop-turn-init
 loop-turn-init g c = record {
-  taken = in_none _ c.args.device.now (g.E.End.state c.args.end.now) (g.L.Electronics.state c.args.electronics.now) c.args.keeping.now _ c.none_taken-taken.ensures.due c.none_taken-taken.ensures.report;
+  taken = in_none c.args.device.now (g.E.End.state c.args.end.now) (g.L.Electronics.state c.args.electronics.now) c.args.keeping.now _ c.nothing.ensures;
   store = refl;
-  turns = c.none_taken-taken.ensures.turns;
-  same = ap (λ (r : Report). r.turns) c.none_taken-taken.ensures.report ∙ sym c.none_taken-taken.ensures.turns;
-  open_yet = c.none_taken-taken.ensures.closed;
+  turns = refl;
+  same = ap (λ (r : Report). r.turns) c.nothing.ensures;
+  open_yet = refl;
   empty = c.requires.outbox;
   receives = λ _. omega arith;
   room = room_none _ c.requires.none;
@@ -34,4 +34,4 @@ returns-then-not-goes_on-clause-taken g c =
     in_more c.loop-turn.invariant.taken c.in-Some.ensures.turn c.more-taken.ensures.due c.more-taken.ensures.report
 
 pub returns-in-None-clause-taken : goal.returns-in-None-clause-taken
-returns-in-None-clause-taken g c = in_closed c.loop-turn.invariant.taken c.in-None.ensures.turn c.closed.ensures.due c.closed.ensures.report
+returns-in-None-clause-taken g c = in_closed c.loop-turn.invariant.taken c.in-None.ensures.turn refl refl

@@ -1,4 +1,4 @@
-use Rattle.oca_device.proofs.Words.{refl, ap, subst, List, ℕ, Receives, Report}
+use Rattle.oca_device.proofs.Words.{refl, subst, List, ℕ, Receives}
 use Rattle.oca_net.specs.declared.end.Heard.TheVariants as heard
 use Rattle.oca_device.proofs.Turns.{quiet_turn, oversize_turn, failed_turn, datagram_turn, told_turn}
 use Rattle.oca_device.proofs.serving.take_turn.Goals as goal
@@ -11,15 +11,15 @@ returns-in-Datagram-clause-turn g c =
 
 pub returns-in-Quiet-clause-turn : goal.returns-in-Quiet-clause-turn
 returns-in-Quiet-clause-turn g c =
-    told_turn c.tell-in-Quiet.ensures (quiet_turn _ (ap (λ (q : Report). let r : Report = record q { quiet = 1 } in r) c.a_turn.ensures) c.in-Quiet.ensures c.tick.ensures)
+    told_turn c.tell-in-Quiet.ensures (quiet_turn _ c.quiet_turn-turn.ensures c.in-Quiet.ensures c.tick.ensures)
 
 pub returns-in-Oversize-clause-turn : goal.returns-in-Oversize-clause-turn
 returns-in-Oversize-clause-turn g c =
-    told_turn c.tell-in-Oversize.ensures (oversize_turn _ (ap (λ (q : Report). let r : Report = record q { oversize = 1 } in r) c.a_turn-in-Oversize.ensures) c.in-Oversize.ensures c.tick-in-Oversize.ensures)
+    told_turn c.tell-in-Oversize.ensures (oversize_turn _ c.oversize_turn-turn.ensures c.in-Oversize.ensures c.tick-in-Oversize.ensures)
 
 pub returns-in-Failed-clause-turn : goal.returns-in-Failed-clause-turn
 returns-in-Failed-clause-turn g c =
-    told_turn c.tell-in-Failed.ensures (failed_turn _ (ap (λ (q : Report). let r : Report = record q { failed_receives = 1 } in r) c.a_turn-in-Failed.ensures) c.in-Failed.ensures refl)
+    told_turn c.tell-in-Failed.ensures (failed_turn _ c.failed_turn-turn.ensures c.in-Failed.ensures refl)
 
 pub returns-in-Closed-clause-turn : goal.returns-in-Closed-clause-turn
 returns-in-Closed-clause-turn g c = record {

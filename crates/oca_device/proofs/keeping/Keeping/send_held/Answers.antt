@@ -1,4 +1,4 @@
-use Rattle.oca_device.proofs.Words.{◌≡◌, ℕ, ◌+◌, Bool, cond, ap, ◌∙◌, sym, arith, Answer}
+use Rattle.oca_device.proofs.Words.{◌≡◌, ℕ, ◌+◌, Bool, cond, ap, ◌∙◌, sym, arith, HeldPacket}
 use Rattle.oca_net.proofs.Sending.{sends_none}
 use Rattle.oca_device.proofs.Keepings.{held_further}
 use Rattle.oca_device.proofs.keeping.Keeping.send_held.Goals as goal
@@ -10,8 +10,8 @@ loop-answer-init g c = record { sends = sends_none (g.E.End.state c.args.end.now
 pub loop-answer-preserved : goal.loop-answer-preserved
 loop-answer-preserved g c =
     let inv = c.loop-answer.invariant in
-    let to = ap (λ (x : Answer). x.to) c.answer-item.is in
-    let bytes = c.as_slice.ensures.value ∙ ap (λ (x : Answer). x.packet.items) c.answer-item.is in
+    let to = ap (λ (x : HeldPacket). x.to) c.answer-item.is in
+    let bytes = c.as_slice.ensures.value ∙ ap (λ (x : HeldPacket). x.packet.items) c.answer-item.is in
     record {
       sends = elim c.if-not-send.branch [
         | then-not-send w ↦
