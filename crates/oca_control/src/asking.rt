@@ -151,22 +151,9 @@ pub fn wait_until<E: End>(link: &mut Link, end: &mut E, handle: Handle, until: u
     }
 }
 
-/// Waits for the answer to the command with the handle `handle` for at most `milliseconds` from the present moment on,
-/// and takes the answer. The *present moment* is what [`now`](End::now) of the end returns, or the latest moment that
-/// the link was given, if that is later. To take an answer is to return it and to remove its command from the link.
-/// [`Link`] explains the words *lost* and *late*.
-///
-/// The call takes turns ([`turn`]). The last turn may end later than `milliseconds`, at a socket by at most 50 ms. With
-/// 0 milliseconds the call looks once and takes no turn. Before each turn the first that applies:
-/// - `Answered` with the answer if the answer is in the link, even if the time is over. The command is then removed
-///   from the link.
-/// - `Lost` if the link is lost, or the last turn found the link late. The command stays in the link. An answer that
-///   still comes can be taken later.
-/// - `Unanswered` if the time is over, or the last turn found the end closed. The command stays in the link: later
-///   turns send it again, and a later wait may take its answer.
-///
-/// A handle that no command has is treated like that of a command without an answer. If the clock stands still, the
-/// wait ends after 4,294,967,295 turns, as [`wait_until`] says. The call never returns `Refused`.
+/// Waits for the answer to the command with the handle `handle` as [`wait_until`] does, with the same outcomes, until
+/// `milliseconds` after the present moment, and takes the answer. The last turn may end later, at a socket by at most
+/// 50 ms. With 0 milliseconds the call looks once and takes no turn.
 pub fn wait_while<E: End>(
     link: &mut Link,
     end: &mut E,

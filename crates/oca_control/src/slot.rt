@@ -35,7 +35,7 @@ const MOST_SENDINGS: u8 = 20;
 /// bytes of parameters, and for an answer with `ANSWER` bytes of parameters. A slot is never copied: its calls write
 /// into it.
 #[derive(Drop)]
-pub struct Slot<const COMMAND: usize, const ANSWER: usize> {
+pub struct CommandSlot<const COMMAND: usize, const ANSWER: usize> {
     held: bool,
     answered: bool,
     times: u8,
@@ -50,7 +50,7 @@ pub struct Slot<const COMMAND: usize, const ANSWER: usize> {
     answer_params: ArrayVec<u8, ANSWER>,
 }
 
-impl<const COMMAND: usize, const ANSWER: usize> Model for Slot<COMMAND, ANSWER> {
+impl<const COMMAND: usize, const ANSWER: usize> Model for CommandSlot<COMMAND, ANSWER> {
     ghost use Rattle.std.specs.Prelude.{◌≤◌, length, Option, Some, None, if◌then◌else◌};
     ghost use Rattle.oca_types.specs.Sizes.{most_command_parameter_bytes, most_parameter_bytes};
     ghost use Rattle.oca_control.specs.PrivateSlots.{Held};
@@ -81,10 +81,10 @@ impl<const COMMAND: usize, const ANSWER: usize> Model for Slot<COMMAND, ANSWER> 
     } };
 }
 
-impl<const COMMAND: usize, const ANSWER: usize> Default for Slot<COMMAND, ANSWER> {
+impl<const COMMAND: usize, const ANSWER: usize> Default for CommandSlot<COMMAND, ANSWER> {
     /// A place that holds no command.
     fn default() -> Self {
-        Slot {
+        CommandSlot {
             held: false,
             answered: false,
             times: 0,
@@ -101,7 +101,7 @@ impl<const COMMAND: usize, const ANSWER: usize> Default for Slot<COMMAND, ANSWER
     }
 }
 
-impl<const COMMAND: usize, const ANSWER: usize> Slot<COMMAND, ANSWER> {
+impl<const COMMAND: usize, const ANSWER: usize> CommandSlot<COMMAND, ANSWER> {
     /// Whether the slot holds a command.
     pub fn is_held(&self) -> bool
         ensures { result ≡ is_some self.now }
@@ -119,9 +119,8 @@ impl<const COMMAND: usize, const ANSWER: usize> Slot<COMMAND, ANSWER> {
             && (self.times == 0 || now.saturating_sub(self.last) >= REPEAT_MS)
     }
 
-    /// Whether the slot has a command that is late at the moment `now`, in milliseconds of the link's clock: the
-    /// command is unanswered, and was submitted more than 15,000 ms before. `false` for an empty slot. Nothing is
-    /// changed.
+    /// Whether the slot has a command that is late at the moment `now`, in milliseconds of the link's clock: it is
+    /// unanswered, and was submitted more than 15,000 ms before.
     pub fn is_late(&self, now: u64) -> bool
         ensures { result ≡ held_is_late now self.now }
     {
@@ -166,8 +165,7 @@ impl<const COMMAND: usize, const ANSWER: usize> Slot<COMMAND, ANSWER> {
     }
 
     /// Puts a command into the slot, as submitted at the moment `now`, in milliseconds of the link's clock, and not
-    /// sent yet. `request` is the command; it must have at most `COMMAND` bytes of parameters, and at most 1,445
-    /// (premises). What the slot held before is lost.
+    /// sent yet. What the slot held before is lost.
     pub fn put(&mut self, request: Request<'_>, now: u64)
         requires { length request.params.now ≤ min COMMAND most_command_parameter_bytes }
         ensures { self.new ≡ Some (new_held now (request_of request.entry)) }
@@ -185,8 +183,7 @@ impl<const COMMAND: usize, const ANSWER: usize> Slot<COMMAND, ANSWER> {
     }
 
     /// Writes a PDU with the slot's command under the handle `handle` into the packet (AES70-3), and counts a
-    /// transmission at the moment `now`, in milliseconds of the link's clock. The call sends nothing. Premises, which
-    /// the caller must prove: the slot has a command that was sent fewer than 20 times, and the packet is empty.
+    /// transmission at the moment `now`, in milliseconds of the link's clock. The call sends nothing.
     pub fn send_due(&mut self, handle: Handle, now: u64, packet: &mut Packet)
         requires few { IsSomeAnd self.old (λ k. k.times < most_sendings) }
         requires empty { packet.old.items ≡ [] }
@@ -207,8 +204,8 @@ impl<const COMMAND: usize, const ANSWER: usize> Slot<COMMAND, ANSWER> {
     }
 
     /// Stores the answer to the command in the slot: its status, its ParamCount (`count`) and its parameters
-    /// (`params`), at most 1,452 bytes (a premise). If the parameters have more than `ANSWER` bytes, the answer is
-    /// stored with the status BufferOverflow, and without parameters. An earlier answer is lost.
+    /// (`params`). If these have more than `ANSWER` bytes, the answer is stored with the status BufferOverflow, and
+    /// without parameters. An earlier answer is lost.
     pub fn store(&mut self, status: u8, count: u8, params: &[u8])
         requires { length params.now ≤ most_parameter_bytes }
         ensures { self.new

@@ -17,7 +17,7 @@ ghost use Rattle.oca_control.specs.PrivateSlots.{IsLowestDueSlot, IsPlaceOf};
 
 use crate::answer::Answer;
 use crate::due::Due;
-use crate::slot::Slot;
+use crate::slot::CommandSlot;
 use oca_types::{Handle, Packet, Request, sooner};
 use std::marker::Model;
 
@@ -29,7 +29,7 @@ use std::marker::Model;
 pub struct Table<const COMMAND: usize, const ANSWER: usize> {
     low: u64,
     next: u64,
-    slots: [Slot<COMMAND, ANSWER>; 32],
+    slots: [CommandSlot<COMMAND, ANSWER>; 32],
 }
 
 impl<const COMMAND: usize, const ANSWER: usize> Model for Table<COMMAND, ANSWER> {
@@ -71,8 +71,7 @@ impl<const COMMAND: usize, const ANSWER: usize> Table<COMMAND, ANSWER> {
     }
 
     /// Adds a command after the others, under the next handle, as submitted at the moment `now`, in milliseconds of the
-    /// link's clock. A handle must be left, the next handle must lie below the lowest one in flight plus 32, and the
-    /// parameters must have at most `COMMAND` bytes, and at most 1,445 (premises).
+    /// link's clock.
     pub fn submit(&mut self, request: Request<'_>, now: u64)
         requires left { self.old.next < 4294967296 }
         requires room { span_has_room 32 self.old.next self.old.untaken ≡ true }
@@ -86,8 +85,8 @@ impl<const COMMAND: usize, const ANSWER: usize> Table<COMMAND, ANSWER> {
         self.next += 1;
     }
 
-    /// Puts the due command with the lowest handle into the packet, which must be empty (a premise). The call counts a
-    /// transmission at the moment `now`, in milliseconds of the link's clock, and returns `Send` with the handle.
+    /// Puts the due command with the lowest handle into the packet, counts a transmission at the moment `now`, in
+    /// milliseconds of the link's clock, and returns `Send` with the handle.
     /// `Lost` if that command was sent 20 times: then the packet stays empty, and nothing is changed. `None` if no
     /// command is due: then nothing is changed.
     pub fn give_first(&mut self, now: u64, packet: &mut Packet) -> Option<Due>
@@ -111,18 +110,15 @@ impl<const COMMAND: usize, const ANSWER: usize> Table<COMMAND, ANSWER> {
         Some(Due::Send(handle))
     }
 
-    /// Whether a command of the table is late at the moment `now`, in milliseconds of the link's clock: the command is
-    /// unanswered, and was submitted more than 15,000 ms before. `false` for a table without commands. Nothing is
-    /// changed.
+    /// Whether a command of the table is late at the moment `now`, in milliseconds of the link's clock.
     pub fn is_late(&self, now: u64) -> bool
         ensures { result ≡ list_any (is_late now) self.now.untaken }
     {
         some_late(&self.slots, self.low, self.next, now)
     }
 
-    /// The earliest moment, in milliseconds of the link's clock, from which on some unanswered command is due: 0 if one
-    /// was never sent, otherwise 250 ms after the last transmission of the one whose last transmission is the oldest.
-    /// So the moment may be past. `None` if no command waits for an answer, or the moment does not fit 64 bits.
+    /// The earliest moment, in milliseconds of the link's clock, from which on some command is due. It may be past.
+    /// `None` if no command waits for an answer, or the moment does not fit 64 bits.
     pub fn due_from(&self) -> Option<u64>
         ensures { HoldsFrom (some_due self.now.untaken) result }
     {
@@ -149,10 +145,8 @@ impl<const COMMAND: usize, const ANSWER: usize> Table<COMMAND, ANSWER> {
         self.slots[at].waits()
     }
 
-    /// Stores an answer: its status, its ParamCount (`count`) and its parameters (`params`), at most 1,452 bytes (a
-    /// premise). If the parameters have more than `ANSWER` bytes, the answer is stored with the status BufferOverflow,
-    /// and without parameters. Returns whether a command with this handle waited for it. `false` if none did: then
-    /// nothing is changed.
+    /// Stores an answer, as [`CommandSlot::store`] does, and returns whether a command with this handle waited for it.
+    /// If none did, nothing is changed.
     pub fn answer(&mut self, handle: Handle, status: u8, count: u8, params: &[u8]) -> bool
         requires { length params.now ≤ most_parameter_bytes }
         ensures new { result ≡ list_any (waits handle.0) self.old.untaken }
@@ -194,11 +188,9 @@ impl<const COMMAND: usize, const ANSWER: usize> Table<COMMAND, ANSWER> {
     }
 }
 
-/// The earliest moment, in milliseconds of the link's clock, from which on some unanswered command is due: 0 if one was
-/// never sent, otherwise 250 ms after the last transmission of the one whose last transmission is the oldest. So the
-/// moment may be past. `None` if no command waits for an answer, or the moment does not fit 64 bits.
+/// The earliest moment from which on some command is due of those from `low` on and below `next`.
 fn due_from<const COMMAND: usize, const ANSWER: usize>(
-    slots: &[Slot<COMMAND, ANSWER>; 32],
+    slots: &[CommandSlot<COMMAND, ANSWER>; 32],
     low: u64,
     next: u64,
 ) -> Option<u64>
@@ -214,7 +206,7 @@ fn due_from<const COMMAND: usize, const ANSWER: usize>(
 
 /// Whether a command is late of those from `low` on and below `next`.
 fn some_late<const COMMAND: usize, const ANSWER: usize>(
-    slots: &[Slot<COMMAND, ANSWER>; 32],
+    slots: &[CommandSlot<COMMAND, ANSWER>; 32],
     low: u64,
     next: u64,
     now: u64,
@@ -232,7 +224,7 @@ fn some_late<const COMMAND: usize, const ANSWER: usize>(
 
 /// The lowest handle from `low` on and below `next` that has its answer.
 fn lowest_answered<const COMMAND: usize, const ANSWER: usize>(
-    slots: &[Slot<COMMAND, ANSWER>; 32],
+    slots: &[CommandSlot<COMMAND, ANSWER>; 32],
     low: u64,
     next: u64,
 ) -> Option<u64>
@@ -270,7 +262,7 @@ fn place_of(handle: Handle, low: u64, next: u64) -> Option<usize>
 
 /// The lowest due handle from `low` on and below `next`.
 fn lowest_due<const COMMAND: usize, const ANSWER: usize>(
-    slots: &[Slot<COMMAND, ANSWER>; 32],
+    slots: &[CommandSlot<COMMAND, ANSWER>; 32],
     low: u64,
     next: u64,
     now: u64,
@@ -288,7 +280,7 @@ fn lowest_due<const COMMAND: usize, const ANSWER: usize>(
 
 /// The lowest held handle from `low` on and below `next`, or `next`.
 fn lowest_held<const COMMAND: usize, const ANSWER: usize>(
-    slots: &[Slot<COMMAND, ANSWER>; 32],
+    slots: &[CommandSlot<COMMAND, ANSWER>; 32],
     low: u64,
     next: u64,
 ) -> u64

@@ -66,24 +66,9 @@ pub fn run_pair(
     run_pair_with_sizes(alloc, tree, Sizes { window, peers }, span, starts, steps)
 }
 
-/// Runs the steps of a schedule over a device and some links, for tests, and returns what each step did, in the order
-/// of the steps. A *schedule* is a list of steps: what is submitted, sent, delivered, taken, renewed or set ([`Step`]).
-/// Datagrams go from list to list: nothing is sent over a network. The call takes memory from `alloc` for the run. The
-/// arguments:
-/// - `tree` has the objects of the device, which is at 127.0.0.1:65000.
-/// - `sizes` has the device's sizes. The reply window keeps the last 1 to 64 accepted commands of each peer with their
-///   replies. At most 1 to 64 peers have a session at once.
-/// - `span` is the span of each link until it is renewed, 1 to 32: a new handle is below the lowest handle in flight
-///   plus the span.
-/// - `starts` has the address and port of each link, and the handle of its first command. Each link is made at moment
-///   0.
-/// - `steps` are run in order. [`Step`] says which steps have a moment, in milliseconds.
-///
-/// Refusals, after which nothing of the run is returned:
-/// - `SamePeer` if two starts have the same address and port, or a start has the device's. This is checked first.
-/// - `BadStep` with the number, from 0, of the first step that can't be run. The step names a link or a datagram that
-///   is not there, or is an `Other` from a link's peer.
-/// - `NoMemory` if memory was refused before such a step.
+/// Runs the steps of a schedule as [`run_pair`] does, with the same arguments and refusals but for the device's sizes,
+/// which are `sizes`: the reply window keeps the last 1 to 64 accepted commands of each peer with their replies, and at
+/// most 1 to 64 peers have a session at once.
 pub fn run_pair_with_sizes(
     alloc: Global,
     tree: Tree,
