@@ -9,8 +9,9 @@ pub use Rattle.std.proofs.lemmas.Bool.Decides.{nat_tests}
 pub use Rattle.std.proofs.lemmas.Grind.{flat_map-append}
 pub use Rattle.std.proofs.lemmas.List.{get_or-set_same, get_or-set_other, get_or_default, map-append, length-set, set-get_or}
 pub use Rattle.std.proofs.lemmas.List.Folds.{list_any-append, list_all-append}
-pub use Rattle.std.specs.List.{AllByRecursion, list_any, flat_map}
 pub use Rattle.std.specs.Prelude.{nat_eq, nat_le, filter, nat_lt, ◌==◌, IsTrue, count_by, IfSome}
+pub use Rattle.oca_control.specs.Words.{AllByRecursion, CommandFields, Datagram, DeliversAndTakes, Delivery, EndState, Failed, Handle, Peer, Quiet, RequestFields}
+pub use Rattle.oca_control.specs.Words.{SendsAllBut, Sent, flat_map, list_any, most_command_parameter_bytes, same_peer}
 pub use Rattle.oca_control.specs.Answering.{has_response, TakesNothingOf, CallsDueAt, is_given_in, is_among, last_asked, IsAskedEvery, IsWaiting, IsSentInTime, is_none_left}
 pub use Rattle.oca_control.specs.Answers.{AnswerFields, answer_of_response}
 pub use Rattle.oca_control.specs.Asking.{beginning, TakesATurn, TakesTurns, NoneTaken, OneTaken, Waits, ReceivesSoOften, Begins, Asks, refused_by, HasOutcome, IsPresent}
@@ -42,8 +43,6 @@ pub use Rattle.oca_control.specs.declared.fault.ControlFault.{ControlFault}
 pub use Rattle.oca_control.specs.declared.outcome.Outcome.{Outcome}
 pub use Rattle.oca_control.specs.declared.reception.Reception.{Reception}
 pub use Rattle.oca_control.specs.declared.report.DriveReport.{DriveReport}
-pub use Rattle.oca_net.specs.Deliveries.{Delivery, Datagram, Quiet, Failed, Sent}
-pub use Rattle.oca_net.specs.EndStates.{EndState, SendsAllBut, DeliversAndTakes}
 pub use Rattle.oca_net.specs.Ends.{last_u64, is_failed}
 pub use Rattle.oca_net.specs.declared.end.Heard.{Heard}
 pub use Rattle.oca_pdu.specs.Datagrams.{datagram_messages, messages_left}
@@ -51,10 +50,6 @@ pub use Rattle.oca_pdu.specs.Encoding.{pdu_encoding, IsDatagram, response_encodi
 pub use Rattle.oca_pdu.specs.Messages.{Msg, Command, Response, KeepAlive, Commands, Pdu, Responses, OneKeepAlive, ResponseFields, messages_of, msg_of}
 pub use Rattle.oca_pdu.specs.Reading.{read_datagram}
 pub use Rattle.oca_types.specs.Moments.{HoldsFrom}
-pub use Rattle.oca_types.specs.Peers.{RequestFields, same_peer, CommandFields}
-pub use Rattle.oca_types.specs.Sizes.{most_command_parameter_bytes}
-pub use Rattle.oca_types.specs.declared.words.Handle.{Handle}
-pub use Rattle.oca_types.specs.declared.words.Peer.{Peer}
 
 -- What holds at true and at false holds of each test.
 pub on_bool : (b : Bool) (P : Bool → Type 0) → P true → P false → P b

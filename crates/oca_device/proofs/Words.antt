@@ -11,6 +11,7 @@ pub use Rattle.std.specs.List.{list_any, list_all, AllByRecursion, flat_map, sli
 pub use Rattle.std.specs.Prelude.{map, not, nat_eq, nat_lt, ◌&&◌, ◌||◌, Option, Some, None, is_some, count_by, nat_le, Ok, is_none, Result, Err, ⊤, ◌↔◌, slice_index_or, slice_set, take, IsOk, OnOk}
 pub use Rattle.std.specs.Prelude.{OnErr, is_ok, IsTrue, ◌==◌, filter, max, min, ◌*◌, IsSome, option_map, if◌then◌else◌, IfSome}
 pub use Rattle.arrayvec.specs.ArrayVec.{ArrayVec}
+pub use Rattle.oca_device.specs.Words.{Datagram, Delivery, DeviceSizes, Failed, Object, PduFault, Peer, Quiet, Sent, most_parameter_bytes}
 pub use Rattle.oca_device.specs.Answers.{response, answer_to_command, answers_to_messages, answer_to, answers_to_reading, packets_of, packets, verdict, counts, plus, count_of_command}
 pub use Rattle.oca_device.specs.Answers.{counts_of_messages, answers_in, served, verdict_of_reading, count_of_message}
 pub use Rattle.oca_device.specs.Devices.{DeviceState, Represents, session_within, table_within, table_of, IsIn, RepresentsWithin}
@@ -42,7 +43,6 @@ pub use Rattle.oca_device.specs.declared.effect.Effect.{Effect}
 pub use Rattle.oca_device.specs.declared.keeping.HeldPacket.{HeldPacket}
 pub use Rattle.oca_device.specs.declared.report.Report.{Report}
 pub use Rattle.oca_device.specs.declared.verdict.Verdict.{Verdict}
-pub use Rattle.oca_net.specs.Deliveries.{Delivery, Datagram, Quiet, Failed, Sent}
 pub use Rattle.oca_net.specs.EndStates.{EndState, Receives, Sends, SendsAllBut}
 pub use Rattle.oca_net.specs.Ends.{is_failed, largest_datagram, last_u64, TakesAllBut}
 pub use Rattle.oca_net.specs.declared.end.Heard.{Heard}
@@ -51,7 +51,6 @@ pub use Rattle.oca_pdu.specs.Encoding.{command_encoding, command_type, pdu_frame
 pub use Rattle.oca_pdu.specs.Limits.{is_command, is_response, most_answered}
 pub use Rattle.oca_pdu.specs.Messages.{Msg, Command, Response, KeepAlive, ResponseFields, Pdu, Commands, Responses, OneKeepAlive, messages_of, response_with}
 pub use Rattle.oca_pdu.specs.Writing.{IsResponses, responses_size, is_of_responses}
-pub use Rattle.oca_pdu.specs.declared.fault.PduFault.{PduFault}
 pub use Rattle.oca_pdu.specs.declared.fault.PduFaultKind.TheVariants.{Empty, TooLong}
 pub use Rattle.oca_session.specs.Accepted.{Entry, window, outside, has_handle, is_below, accepts, entry_under, asks_the_same, Fresh, Duplicate, Reused, judge_unaccepted, Judgement, Old, judgement}
 pub use Rattle.oca_session.specs.Accepted.{retained_of, AgreesWithAccepted, greatest, higher_of}
@@ -61,12 +60,9 @@ pub use Rattle.oca_session.specs.Table.{with_heartbeat, with_accepted, with_sess
 pub use Rattle.oca_tree.specs.LocalChanges.{after_change, LocalChange, ToValue, ToEnabled, front_fault_in, ToFailing, ToLabel, ToUnlocked}
 pub use Rattle.oca_tree.specs.Locks.{is_held_by, without_lock_of, lock_of_one, lock_count}
 pub use Rattle.oca_tree.specs.Objects.{object_of}
-pub use Rattle.oca_tree.specs.declared.object.Object.{Object}
 pub use Rattle.oca_types.specs.Moments.{HoldsFrom}
 pub use Rattle.oca_types.specs.Peers.{CommandFields, same_peer, fields_of}
 pub use Rattle.oca_types.specs.Replies.{Reply, reply_in}
-pub use Rattle.oca_types.specs.Sizes.{DeviceSizes, most_parameter_bytes}
-pub use Rattle.oca_types.specs.declared.words.Peer.{Peer}
 
 -- What holds at true and at false holds of each test.
 pub on_bool : (b : Bool) (P : Bool → Type 0) → P true → P false → P b

@@ -18,16 +18,15 @@ pub use Rattle.oca_control.specs.Limits.{longest_life}
 pub use Rattle.oca_control.specs.Links.{LinkState, Request, command_under, submission, after_submission, handle_after, Decision, GivesCommand, GivesKeepAlive, GivesNothing, IsLost, decision_among}
 pub use Rattle.oca_control.specs.Links.{decision, after_due, gone_on, received, taken, present_moment, submission_under, submitted, hears_content, new_link, due_answer, due_bytes, reception, late_at}
 pub use Rattle.oca_control.specs.Untaken.{Untaken, new_untaken, first_due, marked_sent, answer_under, without_handle, span_has_room, is_due, answered, holds, hears_all, is_late}
-pub use Rattle.oca_control.specs.declared.fault.ControlFault.{ControlFault}
 pub use Rattle.oca_device.specs.Answers.{response, answer_to_command, answers_to_messages, answers_to_reading, packets_of, packets, count_of_command, counts, plus, served, verdict_of_reading, verdict}
-pub use Rattle.oca_device.specs.Events.{Event, Datagram, Tick, Local}
 pub use Rattle.oca_device.specs.LawByEvents.{Arrival, Happening, Passes, clock, admitted, session, last_moment, has_room, Says, Happened, nothing, tick, local, malformed, datagram, EventsAreBytes}
 pub use Rattle.oca_device.specs.LawByEvents.{changes, Sets, Change, Executes, Releases, lapsed_peers, accepts_handle, accepted_of, accepted_by, is_open, is_known, opened, known}
 pub use Rattle.oca_device.specs.Notes.{Note, is_recent, Noted, Admitted, Heartbeat, Executed, notes_of, run, accepted, is_noted, unbroken, accepted_after, peers_except}
 pub use Rattle.oca_device.specs.States.{State, moved_to, admits, after_reading, state_after, noted, judged_in, reply_of, after_command, after_message, after_messages, time_of}
 pub use Rattle.oca_device.specs.declared.verdict.Verdict.{Verdict}
 pub use Rattle.oca_model.specs.Answers.{answer_count, answer_encoding, answer_in, IsAnswer, AnswersAreRead}
-pub use Rattle.oca_model.specs.declared.reading.Reading.{Reading}
+pub use Rattle.oca_pair.specs.Words.{Class, CommandFields, ControlFault, Datagram, Event, Handle, Local, LocalChange, Object, PduFault, Peer, Reading, Reply, Tick}
+pub use Rattle.oca_pair.specs.Words.{after_change, class_of, class_of_ono, object_of, read_datagram, released, same_peer, status_number, with_object}
 pub use Rattle.oca_pair.specs.AnsweredInTime.{left_off, left_since, SpanFitsSince, AnswersUntakenInTime, RoundTripsInTime, ComesWithRoom, FewerMayStillCome, EveryRenewalIsNoted}
 pub use Rattle.oca_pair.specs.GettingThrough.{calls_in, copy_of, GetsThrough, called, received_from, receiving, call_in, WasSent, WaitsInTime, ComesInSession}
 pub use Rattle.oca_pair.specs.Happenings.{sayings, happenings}
@@ -52,27 +51,14 @@ pub use Rattle.oca_pair.specs.declared.start.Start.{Start}
 pub use Rattle.oca_pdu.specs.Encoding.{pdu_encoding, ResponseFits, CommandFits, PduFits}
 pub use Rattle.oca_pdu.specs.Laws.{WrittenIsReadBack, ReadingIsExact, AreBytes, ReadsExactly}
 pub use Rattle.oca_pdu.specs.Messages.{Msg, Command, KeepAlive, messages_of, Response, ResponseFields, Commands, OneKeepAlive, Pdu, Responses}
-pub use Rattle.oca_pdu.specs.Reading.{read_datagram}
-pub use Rattle.oca_pdu.specs.declared.fault.PduFault.{PduFault}
 pub use Rattle.oca_pdu.specs.declared.message.Form.{Form}
 pub use Rattle.oca_pdu.specs.declared.message.Form.TheVariants.{Seconds}
 pub use Rattle.oca_session.specs.Accepted.{Entry, Judgement, Fresh, Duplicate, Reused, Old, window, outside, has_handle, entry_under, asks_the_same, duplicate_or_reused, judge_unaccepted, judgement}
 pub use Rattle.oca_session.specs.Accepted.{is_below, accepts}
 pub use Rattle.oca_session.specs.Limits.{longest_silence}
 pub use Rattle.oca_tree.specs.Execution.{TreeAndReply, first_that_applies, status_lines, status_of, kind_at, asked_at, refused, by_status, carried_out}
-pub use Rattle.oca_tree.specs.LocalChanges.{LocalChange, after_change}
-pub use Rattle.oca_tree.specs.Locks.{released}
-pub use Rattle.oca_tree.specs.Objects.{object_of, class_of, with_object}
-pub use Rattle.oca_tree.specs.Readers.{class_of_ono}
-pub use Rattle.oca_tree.specs.declared.object.Object.{Object}
-pub use Rattle.oca_types.specs.Peers.{same_peer, CommandFields}
-pub use Rattle.oca_types.specs.Replies.{Reply}
 pub use Rattle.oca_types.specs.Sizes.{DeviceSizes, most_command_parameter_bytes, sizes_of, span_size}
-pub use Rattle.oca_types.specs.Status.{status_number}
-pub use Rattle.oca_types.specs.declared.class.Class.{Class}
 pub use Rattle.oca_types.specs.declared.status.Status.{Status}
-pub use Rattle.oca_types.specs.declared.words.Handle.{Handle}
-pub use Rattle.oca_types.specs.declared.words.Peer.{Peer}
 pub use Rattle.oca_device.proofs.Peers.{same_self, same_is, same_turned}
 pub use Rattle.oca_control.proofs.Following.{equal_self, each_map, each_both, each_append, end_of, end_after}
 pub use Rattle.oca_control.proofs.Calls.{room_each, holds_marked_sent, holds_answered, holds_received}
