@@ -5,7 +5,7 @@ use Rattle.oca_control.proofs.Words.{Reception, AnswerFields, answer_under, Link
 use Rattle.oca_control.proofs.Words.{answers_among, answers_of, answers_to, first_of, is_untaken, is_answered, may_be_sent, is_due_at, is_lost_answer, is_lost, IsDueAnswer, GivesWhatIsDue}
 use Rattle.oca_control.proofs.Words.{has_response, TakesNothingOf, CallsDueAt, is_given_in, is_among, on_bool}
 use Rattle.oca_control.specs.declared.due.Due.TheVariants as dues
-use Rattle.oca_control.proofs.Following.{each_map}
+use Rattle.oca_control.proofs.Following.{each_map, unequal}
 use Rattle.oca_control.proofs.Calls.{answer_is}
 use Rattle.oca_control.proofs.Dues.{each_held}
 use Rattle.oca_control.proofs.Histories.{holds_after}
@@ -39,9 +39,6 @@ answered_still device first opened s h (Submits r now (Ok x)) calls after some p
     and_from (is_untaken h calls || nat_eq x.0 h) (is_some (first_of (cond (nat_eq h x.0) [] (answers_to device h calls))))
     (ap (λ c. c || nat_eq x.0 h) b.0)
     (ap (λ c. is_some (first_of (cond c [] (answers_to device h calls)))) (unequal h x.0 (omega arith)) ∙ b.1)
-  where
-    unequal : (a b : ℕ) → a < b → nat_eq a b ≡ false
-    unequal a b p = grind (arith, nat_tests)
 answered_still device first opened s h (Submits r now (Err fault)) calls after some p none so = so
 answered_still device first opened s h (SendsDue now a bytes) calls after some p none so = so
 answered_still device first opened s h (Receives from bytes content now a) calls after some p none so =

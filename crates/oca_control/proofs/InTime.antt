@@ -5,6 +5,7 @@ use Rattle.oca_control.proofs.Words.{TakesAnswer, IsHistory, clock_of_calls, com
 use Rattle.oca_control.proofs.Words.{is_lost, NoneIsDue, IsDueAnswer, is_none_left, last_asked, IsAskedEvery, IsWaiting, IsSentInTime}
 use Rattle.std.proofs.lemmas.Nat.{row_fits}
 use Rattle.oca_control.specs.declared.due.Due.TheVariants as dues
+use Rattle.oca_control.proofs.Following.{unequal}
 use Rattle.oca_control.proofs.Histories.{IsMadeBy, is_made_by, holds_after_calls}
 
 none_more : (xs ys : List AnswerFields) → first_of (xs ++ ys) ≡ None → first_of xs ≡ None
@@ -131,9 +132,6 @@ module _ (device : Peer) (first opened s : ℕ) (some : 0 < s) (before : List Ca
       let its : x.0 ≡ first + length (commands (later ++ base)) = (holds_after_calls device first opened s (Submits q n (Ok x) ∷ (later ++ base)) after some p).now.handles.0 in
       let more : length (commands before) < length (commands (later ++ base)) = accepted_more later in
       omega arith
-
-  unequal : (a b : ℕ) → a < b → nat_eq a b ≡ false
-  unequal a b p = grind (arith, nat_tests)
 
   unequal_turned : (a b : ℕ) → a < b → nat_eq b a ≡ false
   unequal_turned a b p = grind (arith, nat_tests)

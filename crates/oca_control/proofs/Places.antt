@@ -6,6 +6,7 @@ use Rattle.oca_control.proofs.Words.{without_handle, span_has_room, Held, held_a
 use Rattle.std.specs.Prelude.{not, is_some, is_none, ◌&&◌, ◌||◌}
 use Rattle.std.proofs.lemmas.List.Elements.{filter-append}
 use Rattle.oca_control.specs.PrivateSlots.{untaken_from}
+use Rattle.oca_control.proofs.Following.{equal_self, unequal}
 
 -- handles less than 32 apart have slots of their own
 pub apart : (h k : ℕ) → h < k → k < h + 32 → k % 32 ≢ h % 32
@@ -143,12 +144,9 @@ pub removed_at : (lo hi h : ℕ) (slots : List (Option Held)) → lo ≤ h → h
     untaken_from lo (hi - lo) (set slots (h % 32) None) ≡ without_handle h (untaken_from lo (hi - lo) slots)
 removed_at lo hi h slots above below near all = by (h - lo) (hi - (h + 1)) (omega arith) (omega arith)
   where
-    same : (a : ℕ) → nat_eq a a ≡ true
-    same a = grind (arith, nat_tests)
-
     gone : (a : ℕ) (o : Option Held) → without_handle a (untaken_at a o) ≡ []
     gone a None = refl
-    gone a (Some k) = ap (λ b. cond (not b) (untaken_at a (Some k)) []) (same a)
+    gone a (Some k) = ap (λ b. cond (not b) (untaken_at a (Some k)) []) (equal_self a)
 
     by : (m n : ℕ) → lo + m ≡ h → m + (n + 1) ≡ hi - lo → untaken_from lo (hi - lo) (set slots (h % 32) None) ≡ without_handle h (untaken_from lo (hi - lo) slots)
     by m n e1 e2 =
@@ -223,12 +221,9 @@ answer_none h lo (suc n) slots far = one (held_at lo slots) (answer_none h (lo +
 pub waits_at : (lo hi h : ℕ) (slots : List (Option Held)) → lo ≤ h → h < hi → list_any (waits h) (untaken_from lo (hi - lo) slots) ≡ held_waits (held_at h slots)
 waits_at lo hi h slots above below = by (h - lo) (hi - (h + 1)) (omega arith) (omega arith)
   where
-    same : (a : ℕ) → nat_eq a a ≡ true
-    same a = grind (arith, nat_tests)
-
     one : (a : ℕ) (o : Option Held) → list_any (waits a) (untaken_at a o) ≡ held_waits o
     one a None = refl
-    one a (Some k) = ap (λ b. (b && is_none k.answer) || false) (same a) ∙ or-false (is_none k.answer)
+    one a (Some k) = ap (λ b. (b && is_none k.answer) || false) (equal_self a) ∙ or-false (is_none k.answer)
 
     by : (m n : ℕ) → lo + m ≡ h → m + (n + 1) ≡ hi - lo → list_any (waits h) (untaken_from lo (hi - lo) slots) ≡ held_waits (held_at h slots)
     by m n e1 e2 =
@@ -265,12 +260,9 @@ no_handle h lo (suc n) slots far =
 pub answer_at : (lo hi h : ℕ) (slots : List (Option Held)) → lo ≤ h → h < hi → answer_under h (untaken_from lo (hi - lo) slots) ≡ held_answer (held_at h slots)
 answer_at lo hi h slots above below = by (h - lo) (hi - (h + 1)) (omega arith) (omega arith)
   where
-    same : (a : ℕ) → nat_eq a a ≡ true
-    same a = grind (arith, nat_tests)
-
     one : (a : ℕ) (o : Option Held) (vs : List Untaken) → answer_under a vs ≡ None → answer_under a (untaken_at a o ++ vs) ≡ held_answer o
     one a None vs none = none
-    one a (Some k) vs none = ap (λ b. cond b k.answer (answer_under a vs)) (same a)
+    one a (Some k) vs none = ap (λ b. cond b k.answer (answer_under a vs)) (equal_self a)
 
     by : (m n : ℕ) → lo + m ≡ h → m + (n + 1) ≡ hi - lo → answer_under h (untaken_from lo (hi - lo) slots) ≡ held_answer (held_at h slots)
     by m n e1 e2 =
@@ -304,9 +296,6 @@ room_by_lowest s h lo hi slots ordered held = elim (cases lo hi ordered) [
   where
     cases : (a b : ℕ) → a ≤ b → (a ≡ b) ⊎ (a < b)
     cases a b p = grind arith
-
-    unequal : (a b : ℕ) → a < b → nat_eq a b ≡ false
-    unequal a b p = grind (arith, nat_tests)
 
     by_test : (b : Bool) → nat_lt h (lo + s) ≡ b → (b && span_has_room s h (untaken_from (lo + 1) (hi - (lo + 1)) slots)) ≡ b
     by_test true p = all_near s h (lo + 1) (hi - (lo + 1)) slots (let q : h < lo + s = ltb-true h (lo + s) p in omega arith)

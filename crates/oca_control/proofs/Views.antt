@@ -7,6 +7,7 @@ use Rattle.std.specs.Prelude.{is_some, is_none, ◌||◌, ◌&&◌}
 use Rattle.std.specs.Option.{option_map}
 use Rattle.oca_control.specs.declared.due.Due.TheVariants as dues
 use Rattle.oca_control.specs.PrivateSlots.{untaken_from}
+use Rattle.oca_control.proofs.Following.{equal_self}
 use Rattle.oca_control.proofs.Places.{slot_read, changed_at, removed_at, waits_at, waits_none, answer_at, answer_none}
 use Rattle.oca_control.proofs.Tables.{submitted_is}
 
@@ -17,9 +18,6 @@ view lo hi slots = record { next = hi; untaken = untaken_from lo (hi - lo) slots
 -- The table with this next handle and these untaken commands.
 abbrev pub table : ℕ → List Untaken → TableState
 table hi us = record { next = hi; untaken = us }
-
-same_nat : (a : ℕ) → nat_eq a a ≡ true
-same_nat a = grind (arith, nat_tests)
 
 in_range : (lo hi h : ℕ) → ((lo ≤ h) → (h < hi) → ⊥) → (k : ℕ) → lo ≤ k → k < lo + (hi - lo) → k ≢ h
 in_range lo hi h out k l u e = out (omega arith) (omega arith)
@@ -69,7 +67,7 @@ view_answered lo hi h p slots d x a t at wait is =
 
     by : (o : Option Held) → held_waits o ≡ true → untaken_at h (option_map (held_answered a) o) ≡ map (answered h a) (untaken_at h o)
     by None w = refl
-    by (Some k) w = sym (ap (λ b. (let v : Untaken = record { command = command_under h k.request; submitted = k.submitted; times = k.times; last = k.last; answer = cond (b && is_none k.answer) (Some a) k.answer } in v) ∷ []) (same_nat h)
+    by (Some k) w = sym (ap (λ b. (let v : Untaken = record { command = command_under h k.request; submitted = k.submitted; times = k.times; last = k.last; answer = cond (b && is_none k.answer) (Some a) k.answer } in v) ∷ []) (equal_self h)
         ∙ ap (λ b. (let v : Untaken = record { command = command_under h k.request; submitted = k.submitted; times = k.times; last = k.last; answer = cond b (Some a) k.answer } in v) ∷ []) w)
 
 -- SEND
@@ -87,7 +85,7 @@ view_given now lo hi h p slots d x t at place is =
   where
     by : (o : Option Held) → untaken_at h (option_map (held_given now) o) ≡ map (marked_sent now h) (untaken_at h o)
     by None = refl
-    by (Some k) = sym (ap (λ b. (let v : Untaken = record { command = command_under h k.request; submitted = k.submitted; times = cond b (k.times + 1) k.times; last = cond b now k.last; answer = k.answer } in v) ∷ []) (same_nat h))
+    by (Some k) = sym (ap (λ b. (let v : Untaken = record { command = command_under h k.request; submitted = k.submitted; times = cond b (k.times + 1) k.times; last = cond b now k.last; answer = k.answer } in v) ∷ []) (equal_self h))
 
 -- what is decided, from the slot of the lowest due command
 pub record FirstIs (now h : ℕ) (us : List Untaken) (k : Held) : Type 0 where

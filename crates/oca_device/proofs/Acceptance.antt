@@ -5,6 +5,7 @@ use Rattle.oca_device.proofs.Words.{Response, KeepAlive, Entry, window, outside,
 use Rattle.oca_device.proofs.Words.{with_command, on_bool}
 use Rattle.std.proofs.Common.{take}
 use Rattle.std.specs.List.{IsDistinct}
+use Rattle.oca_device.proofs.Peers.{equal_self}
 
 abbrev pub commands_of : List Entry → List CommandFields
 commands_of es = map (λ e. e.command) es
@@ -53,9 +54,6 @@ found_in_front h [] more e p = absurd cc
 found_in_front h (x ∷ es) more e p =
     on_bool (nat_eq x.command.handle h) (λ b. cond b (Some x) (entry_under h es) ≡ Some e → (entry_under h es ≡ Some e → entry_under h (es ++ more) ≡ Some e) → cond b (Some x) (entry_under h (es ++ more)) ≡ Some e)
     (λ q ih. q) (λ q ih. ih q) p (found_in_front h es more e)
-
-pub equal_self : (a : ℕ) → nat_eq a a ≡ true
-equal_self a = grind (arith, nat_tests)
 
 -- the entry of a handle that was not there before
 pub found_last : (es : List Entry) (e : Entry) → list_any (has_handle e.command.handle) es ≡ false → entry_under e.command.handle (es ++ e ∷ []) ≡ Some e

@@ -2,7 +2,7 @@
 use Rattle.oca_device.proofs.Words.{◌≡◌, ℕ, Bool, true, false, cond, List, [], ◌∷◌, refl, sym, ap, ◌∙◌, arith, map, filter, ◌&&◌, ◌||◌, nat_eq, Some, None, IsSome, is_some, list_any, nat_tests}
 use Rattle.oca_device.proofs.Words.{eqb-true, and_parts, or_parts, Peer, same_peer, Session, is_of, session_of, with_changed, peers_of, on_bool}
 
-equal_self : (a : ℕ) → nat_eq a a ≡ true
+pub equal_self : (a : ℕ) → nat_eq a a ≡ true
 equal_self a = grind (arith, nat_tests)
 
 equal_turned : (a b : ℕ) → nat_eq a b ≡ nat_eq b a

@@ -7,7 +7,9 @@ use Rattle.std.specs.Prelude.{◌-◌}
 use Rattle.std.proofs.lemmas.List.Folds.{list_any-append}
 use Rattle.oca_session.specs.Table as table
 use Rattle.oca_device.proofs.Rooms.{none_retained}
-use Rattle.oca_device.proofs.Lists.{filter_same, filter_both, filter_mapped, filter_appended, map_appended, map_back}
+use Rattle.std.proofs.lemmas.List.{map-append}
+use Rattle.std.proofs.lemmas.List.Elements.{filter-append}
+use Rattle.oca_device.proofs.Lists.{filter_same, filter_both, filter_mapped, map_back}
 use Rattle.oca_device.proofs.Peers.{same_self, same_is, same_turned, is_in, in_filtered, session_made, made_alike, changed_made}
 
 -- a peer has notes
@@ -84,7 +86,7 @@ known_goes_on n ns k =
 known_begins : (n : Note) (ns : List Note) → is_noted n.at ns n.peer ≡ false → noted_peers n.at (n ∷ ns) ≡ noted_peers n.at ns ++ n.peer ∷ []
 known_begins n ns k =
     ap (λ b. filter (is_noted n.at (n ∷ ns)) (cond b (noted_order ns) (peers_except n.peer (noted_order ns) ++ n.peer ∷ []))) k
-    ∙ filter_appended (is_noted n.at (n ∷ ns)) (peers_except n.peer (noted_order ns)) (n.peer ∷ [])
+    ∙ filter-append (is_noted n.at (n ∷ ns)) (peers_except n.peer (noted_order ns)) (n.peer ∷ [])
     ∙ ap (λ xs. xs ++ filter (is_noted n.at (n ∷ ns)) (n.peer ∷ [])) (filter_both (is_noted n.at (n ∷ ns)) (λ q. not (same_peer q n.peer)) (is_noted n.at ns) (λ q. by_same q (same_peer n.peer q) refl) (noted_order ns))
     ∙ ap (λ b. noted_peers n.at ns ++ cond b (n.peer ∷ []) []) (known_now n ns)
   where
@@ -152,5 +154,5 @@ table_opened most w s p messages k =
     ∙ ap (λ (own : List Note). let x : Session = record { peer = p; heard = last_noted own; heartbeat = heartbeat_noted own; retained = retained_of w.window (shortened_entries most (accepted own)) } in x) (sym (run_begins n s.notes k)) in
     ap (λ x. map (session_within most w s.notes) ks ++ x ∷ []) new
     ∙ ap (λ xs. xs ++ made p ∷ []) (made_alike (session_within most w s.notes) (λ _. refl) made p (other_session most w n s.notes) ks (known_has s.moment s.notes p ∙ k))
-    ∙ sym (map_appended made ks (p ∷ []))
+    ∙ sym (map-append made ks (p ∷ []))
     ∙ ap (map made) (sym (known_begins n s.notes k))

@@ -5,7 +5,8 @@ use Rattle.oca_device.proofs.Words.{session_within, table_of, response, Arrival,
 use Rattle.oca_device.proofs.Words.{greatest_handle, on_bool}
 use Rattle.std.specs.List.{IsDistinct}
 use Rattle.oca_device.specs.LawByEvents as law
-use Rattle.oca_device.proofs.Acceptance.{commands_of, AreDistinct, distinct_none, distinct_of, distinct_dropped, equal_self, found_after, window_mapped, outside_mapped}
+use Rattle.oca_device.proofs.Acceptance.{commands_of, AreDistinct, distinct_none, distinct_of, distinct_dropped, found_after, window_mapped, outside_mapped}
+use Rattle.oca_device.proofs.Peers.{equal_self}
 use Rattle.oca_device.proofs.Answering.{AnswersUnder, Replied}
 use Rattle.oca_device.proofs.Sessions.{latest, AllBridged, known_are, session_is}
 use Rattle.oca_device.proofs.Standing.{Stands}

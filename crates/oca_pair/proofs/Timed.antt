@@ -1,7 +1,7 @@
 -- What is known of one link that is in time: when its commands were submitted, left and were executed; and that each of its own
 -- steps and each datagram keeps it.
 use Rattle.oca_pair.proofs.Words.{◌≡◌, ℕ, ◌+◌, ◌-◌, ◌<◌, ◌≤◌, ◌≢◌, Bool, true, false, cond, List, [], ◌∷◌, ◌++◌, Option, Some, None, refl, sym, ap, ◌∙◌, subst, arith, ◌⊎◌, inl, inr, nat_eq, nat_lt}
-use Rattle.oca_pair.proofs.Words.{nat_le, not, ◌&&◌, ◌||◌, map, is_none, is_some, Result, Ok, Err, list_any, AllByRecursion, eqb, nat_tests, le-max_left, le_refl, and_parts, eqb-true, Peer, Handle}
+use Rattle.oca_pair.proofs.Words.{equal_self, unequal, nat_le, not, ◌&&◌, ◌||◌, map, is_none, is_some, Result, Ok, Err, list_any, AllByRecursion, eqb, nat_tests, le-max_left, le_refl, and_parts, eqb-true, Peer, Handle}
 use Rattle.oca_pair.proofs.Words.{Reply, same_peer, CommandFields, Form, Seconds, Msg, Command, Response, KeepAlive, read_datagram, WrittenIsReadBack, Object, Judgement, Fresh, Duplicate, Reused, Old}
 use Rattle.oca_pair.proofs.Words.{longest_silence, Datagram, Noted, Admitted, Heartbeat, Executed, Note, notes_of, unbroken, run, accepted, State, noted, admits, judged_in, reply_of, after_command}
 use Rattle.oca_pair.proofs.Words.{after_message, time_of, ControlFault, AnswerFields, answer_of_response, longest_life, Untaken, new_untaken, is_due, is_late, first_due, marked_sent, answered}
@@ -278,12 +278,6 @@ timed_submit zs p r now l left out ns g = by_answer (submission r l) refl
         is : end_of (handle_after h.0) ≡ h.0 + 1
         is = end_after h.0
 
-        unequal : (a b : ℕ) → a < b → nat_eq a b ≡ false
-        unequal a b q = grind (arith, nat_tests)
-
-        equal : (a : ℕ) → nat_eq a a ≡ true
-        equal a = grind (arith, nat_tests)
-
         below : (x : ℕ) → x < end_of l.next → x < h.0
         below x q = omega (arith, was)
 
@@ -291,7 +285,7 @@ timed_submit zs p r now l left out ns g = by_answer (submission r l) refl
         older x q = ap (λ b. cond b (zs.link + t) (g.born x)) (unequal x h.0 (below x q))
 
         here : born' h.0 ≡ zs.link + t
-        here = ap (λ b. cond b (zs.link + t) (g.born h.0)) (equal h.0)
+        here = ap (λ b. cond b (zs.link + t) (g.born h.0)) (equal_self h.0)
 
         more : (x : ℕ) → x < end_of l.next → x < end_of (handle_after h.0)
         more x q = omega (arith, was, is)

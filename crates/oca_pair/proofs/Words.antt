@@ -60,6 +60,6 @@ pub use Rattle.oca_tree.specs.Execution.{TreeAndReply, first_that_applies, statu
 pub use Rattle.oca_types.specs.Sizes.{DeviceSizes, most_command_parameter_bytes, sizes_of, span_size}
 pub use Rattle.oca_types.specs.declared.status.Status.{Status}
 pub use Rattle.oca_device.proofs.Peers.{same_self, same_is, same_turned}
-pub use Rattle.oca_control.proofs.Following.{equal_self, each_map, each_both, each_append, end_of, end_after}
+pub use Rattle.oca_control.proofs.Following.{equal_self, unequal, each_map, each_both, each_append, end_of, end_after}
 pub use Rattle.oca_control.proofs.Calls.{room_each, holds_marked_sent, holds_answered, holds_received}
 pub use Rattle.oca_control.proofs.Words.{on_bool}

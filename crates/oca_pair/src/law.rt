@@ -61,13 +61,11 @@ pub fn law_answers()
 
 /// Laws: over every schedule and under the premises below, a datagram with a command in flight is answered, and no
 /// command is executed twice. The function does nothing at run time. The words:
-/// - A *schedule* is a list of steps of one device and some links ([`Step`](crate::Step)). The *peer* of a link is its
-///   address and port: no two links have the same, and no link has the device's.
+/// - [`law_answers`] explains *schedule*, *peer* and *keeps its session*.
 /// - A command is *in flight* from its submit until its answer is taken from the link.
 /// - A peer is *known* for 120,000 ms after each of its admitted datagrams. A datagram *finds room* if its peer is
 ///   known when it comes, or fewer peers are known than there is room for. A well-formed datagram that finds room is
 ///   *admitted*.
-/// - A peer *keeps its session* if each of its admitted datagrams came at most 120,000 ms after the one before it.
 ///
 /// The first law has these premises:
 /// - The link's *span fits the window*: the span `s` ([`Span`](oca_types::Span)) is at least 1, and the reply window
@@ -98,13 +96,7 @@ pub fn law_never_old()
 }
 
 /// Law: over every schedule, one delivered command and the delivered response bring the answer to the link. The
-/// function does nothing at run time. The words:
-/// - A *schedule* is a list of steps of one device and some links with different addresses and ports
-///   ([`Step`](crate::Step)). The *peer* of a link is its address and port.
-/// - A command is *in flight* from its submit until its answer is taken from the link.
-/// - A peer *kept its session* if each of its admitted datagrams came at most 120,000 ms after the one before it. A
-///   datagram *finds room* if the device has a session for its peer, or room for one more. [`law_never_old`] has these
-///   words too.
+/// function does nothing at run time. [`law_never_old`] explains the words.
 ///
 /// The premises:
 /// - The link's span fits the reply window, as in [`law_never_old`]. So the link may have been renewed before.
@@ -124,12 +116,9 @@ pub fn law_round_trip()
     law_written_is_read_back();
 }
 
-/// Law: over every schedule, a command of a link that is asked often enough is answered, or the link is lost, or the
-/// command still waits and was sent in time. The function does nothing at run time. The words:
-/// - A *schedule* is a list of steps of one device and some links with different addresses and ports
-///   ([`Step`](crate::Step)).
-/// - A link is *asked* if its [`due`](oca_control::Link::due) is called.
-/// - A link is *lost* once a command got no answer to 20 transmissions.
+/// Law: over every schedule ([`law_answers`]), a command of a link that is asked often enough is answered, or the link
+/// is lost, or the command still waits and was sent in time. A link is *asked* if its [`due`](oca_control::Link::due)
+/// is called, and *lost* once a command got no answer to 20 transmissions. The function does nothing at run time.
 ///
 /// The premises:
 /// - The link's span fits the reply window at the submit of the command, as in [`law_never_old`]. So the link may have
