@@ -24,7 +24,7 @@ impl<E: End> Panel<E> {
     ghost use Rattle.oca_panel.specs.Objects.{AsksClass, Finishes, GetsValue, Reads, ReadsBy, ReadsObject, SetsValue};
 
     /// Asks the device for the class of the object `ono`, by GetClassIdentification of OcaRoot (AES70-2). The command
-    /// changes no object. The call waits for the answer for at most the panel's `wait` milliseconds.
+    /// changes no object.
     ///
     /// Faults: those of a command ([`Panel`]). `Refused` has BadONo for an object that the device does not have.
     /// `Unreadable` if the answer's parameters are no class identifier of at most 16 fields. `NoValue` if the class is
@@ -39,7 +39,7 @@ impl<E: End> Panel<E> {
 
     /// Asks the device for the fields of the class identifier of the object `ono`, by GetClassIdentification of OcaRoot
     /// (AES70-2). Returns at most 16 fields, also for a class that is not in this profile. The command changes no
-    /// object. The call waits for the answer for at most the panel's `wait` milliseconds.
+    /// object.
     ///
     /// Faults: those of a command ([`Panel`]). `Refused` has BadONo for an object that the device does not have.
     /// `Unreadable` if the answer's parameters are no class identifier of at most 16 fields.
@@ -53,8 +53,7 @@ impl<E: End> Panel<E> {
     }
 
     /// Reads the value of the object `ono`: asks the device for the object's class, and then for its value by the get
-    /// method of the class (AES70-2). The two commands change no object. The call waits for each answer for at most the
-    /// panel's `wait` milliseconds.
+    /// method of the class (AES70-2). The two commands change no object.
     ///
     /// Faults: those of a command ([`Panel`]); after a fault of the first command the second is not sent. `Unreadable`
     /// if the parameters of an answer are not those of the method. `NoValue` if the object is a block, or its class is
@@ -67,8 +66,7 @@ impl<E: End> Panel<E> {
 
     /// Reads the value of the object `ono` with its limits: asks the device for the object's class, and then for its
     /// value by the get method of the class (AES70-2). A switch and an integer have the least and the greatest value
-    /// too. The two commands change no object. The call waits for each answer for at most the panel's `wait`
-    /// milliseconds.
+    /// too. The two commands change no object.
     ///
     /// Faults: those of a command ([`Panel`]); after a fault of the first command the second is not sent. `Unreadable`
     /// if the parameters of an answer are not those of the method. `NoValue` if the object is a block, or its class is
@@ -82,7 +80,7 @@ impl<E: End> Panel<E> {
 
     /// Reads the value of the object `ono` of the class `class` with its limits, by the get method of the class
     /// (AES70-2). A switch and an integer have the least and the greatest value too. The object's class is not asked.
-    /// The command changes no object. The call waits for the answer for at most the panel's `wait` milliseconds.
+    /// The command changes no object.
     ///
     /// Faults: those of a command ([`Panel`]). `NoValue` if `class` is a block: nothing is sent. `Unreadable` if the
     /// answer's parameters are not those of the get method of `class`.
@@ -130,9 +128,8 @@ impl<E: End> Panel<E> {
     }
 
     /// Locks the object `ono`, by LockTotal of OcaRoot (AES70-2): other controllers can then neither read nor set the
-    /// object. Waits for the answer for at most the panel's `wait` milliseconds. A device of this profile answers OK
-    /// also if this panel has the lock already. The device releases the lock once it hears nothing from this panel for
-    /// more than 15,000 ms.
+    /// object. A device of this profile answers OK also if this panel has the lock already. The device releases the
+    /// lock once it hears nothing from this panel for more than 15,000 ms.
     ///
     /// Faults: those of a command ([`Panel`]). `Refused` has Locked if another controller has the lock, InvalidRequest
     /// if the object cannot be locked. After `Refused` a device of this profile changed nothing.
@@ -158,8 +155,7 @@ impl<E: End> Panel<E> {
     }
 
     /// Asks the device for the label of the object `ono`, by GetLabel of OcaWorker (AES70-2). Returns a text of 0 to 64
-    /// bytes of UTF-8. The command changes no object. The call waits for the answer for at most the panel's `wait`
-    /// milliseconds.
+    /// bytes of UTF-8. The command changes no object.
     ///
     /// Faults: those of a command ([`Panel`]). `Unreadable` if the answer's parameters are not exactly one text of at
     /// most 64 bytes of UTF-8.
@@ -185,8 +181,7 @@ impl<E: End> Panel<E> {
     }
 
     /// Asks the device for the role of the object `ono`, by GetRole of OcaRoot (AES70-2). Returns a text of 0 to 64
-    /// bytes of UTF-8. The command changes no object. The call waits for the answer for at most the panel's `wait`
-    /// milliseconds.
+    /// bytes of UTF-8. The command changes no object.
     ///
     /// Faults: those of a command ([`Panel`]). `Unreadable` if the answer's parameters are not exactly one text of at
     /// most 64 bytes of UTF-8.
@@ -199,7 +194,7 @@ impl<E: End> Panel<E> {
     }
 
     /// Asks the device whether the object `ono` is enabled, by GetEnabled of OcaWorker (AES70-2). The command changes
-    /// no object. The call waits for the answer for at most the panel's `wait` milliseconds.
+    /// no object.
     ///
     /// Faults: those of a command ([`Panel`]). `Unreadable` if the answer is not exactly one Boolean.
     #[tactic(auto, using(crate::proofs::RequestLemmas::ask_enabled))]
@@ -211,8 +206,7 @@ impl<E: End> Panel<E> {
     }
 
     /// Asks the device for the numbers of the members of the block `ono`, by GetMembers of OcaBlock (AES70-2). Returns
-    /// 0 to 181 numbers, in the order of the answer. The command changes no object. The call waits for the answer for
-    /// at most the panel's `wait` milliseconds.
+    /// 0 to 181 numbers, in the order of the answer. The command changes no object.
     ///
     /// Faults: those of a command ([`Panel`]). `Refused` has BufferOverflow if the block has more members than a
     /// response has room for. `Unreadable` if the answer's parameters are no list of members.
@@ -226,8 +220,7 @@ impl<E: End> Panel<E> {
     }
 
     /// Asks the device for the name of a position of the switch `ono`, by GetPositionName of OcaSwitch (AES70-2).
-    /// Returns a text of 0 to 64 bytes of UTF-8. `position` is counted from 0. The command changes no object. The call
-    /// waits for the answer for at most the panel's `wait` milliseconds.
+    /// Returns a text of 0 to 64 bytes of UTF-8. `position` is counted from 0. The command changes no object.
     ///
     /// Faults: those of a command ([`Panel`]). `Refused` has ParameterOutOfRange if the switch has no such position.
     /// `Unreadable` if the answer's parameters are not exactly one text of at most 64 bytes of UTF-8.
@@ -241,7 +234,7 @@ impl<E: End> Panel<E> {
 
     /// Asks the device for the names of the positions of the switch `ono`, by GetPositionNames of OcaSwitch (AES70-2).
     /// Returns at most 16 names of 0 to 64 bytes of UTF-8 each, in the order of the positions. The command changes no
-    /// object. The call waits for the answer for at most the panel's `wait` milliseconds.
+    /// object.
     ///
     /// Faults: those of a command ([`Panel`]). `Unreadable` if the answer has more than 16 names, a name of more than
     /// 64 bytes, or is no list of texts.

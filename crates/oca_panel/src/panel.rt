@@ -19,7 +19,8 @@ mod renewal;
 /// - The *link* gives each command its handle, sends it again each 250 ms until its answer comes, and stores the answer
 ///   ([`Link`]). The *span* says how far apart the handles in flight can be, 1 to 32 ([`Span`]).
 /// - A command is *in flight* from its submit until its answer is taken. Its *handle* is its 32-bit number (AES70-3).
-/// - `wait`: how many milliseconds a call waits for an answer. At a socket the last turn may end up to 50 ms later.
+/// - `wait`: how many milliseconds a call that asks or sets an object waits for each answer at most. At a socket the
+///   last turn may end up to 50 ms later.
 /// - A *turn* receives once and sends what is due ([`turn`](oca_control::turn)).
 /// - The link is *lost* once a command got no answer to 20 transmissions. The link is *late* while a command that was
 ///   submitted more than 15,000 ms ago has no answer. A lost or late link takes no new command.

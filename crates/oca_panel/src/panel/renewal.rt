@@ -30,20 +30,16 @@ impl<E: End> Panel<E> {
     /// Takes one turn as [`Panel::turn`] does, and returns what was done. The turn receives once, at a socket for at
     /// most 50 ms, and sends what is due.
     ///
-    /// `turns` is 1 in the report. It is 0 if the end is closed: then the link is unchanged. `sent` and `keep_alives`
-    /// count the commands and keep-alives that were given to the end to send, and `answered` the commands that got
-    /// their first answer. `failed_sends` counts those that the end did not take; they are in `sent` or `keep_alives`
-    /// too. `failed_receives` is 1 if the receive failed: then nothing is sent, and `lost` is `false`. After any other
-    /// turn `lost` says whether the link is lost or late.
+    /// [`DriveReport`] explains the numbers. `turns` is 1 in the report. It is 0 if the end is closed: then the link is
+    /// unchanged. `failed_receives` is 1 if the receive failed: then nothing is sent, and `lost` is `false`. After any
+    /// other turn `lost` says whether the link is lost or late.
     pub fn turn_with_report(&mut self) -> DriveReport
         ensures { TurnsWith result self.old self.new }
     {
         turn(&mut self.link, &mut self.end)
     }
 
-    /// Whether the panel's link is lost, or is late at the end's present moment: the same as [`Panel::is_lost`]. A link
-    /// is *lost* once a command got no answer to 20 transmissions. A link is *late* while a command that was submitted
-    /// more than 15,000 ms ago has no answer. `false` for a new link. Nothing is changed or sent.
+    /// Whether the panel's link is lost, or is late at the end's present moment: the same as [`Panel::is_lost`].
     pub fn finds_lost(&self) -> bool
         ensures { IsFoundLost self.now result }
     {
