@@ -5,6 +5,8 @@ use Rattle.oca_control.specs.Words.{false, if◌then◌else◌, is_some, length,
 use Rattle.oca_control.specs.Words.{pdu_encoding, true, ℕ}
 pub use Rattle.oca_types.specs.Peers.{CommandFields, RequestFields, same_peer}
 pub use Rattle.oca_types.specs.Sizes.{most_command_parameter_bytes}
+use Rattle.oca_types.specs.declared.words.MethodId.{MethodId}
+use Rattle.oca_types.specs.declared.words.Ono.{Ono}
 use Rattle.oca_control.specs.declared.fault.ControlFault.{ControlFault}
 use Rattle.oca_control.specs.declared.fault.ControlFault.TheVariants as faults
 use Rattle.oca_control.specs.declared.due.Due.{Due}
@@ -54,6 +56,11 @@ late_at now l = list_any (is_late (present_moment now l)) l.untaken
 abbrev pub command_under : ℕ → RequestFields → CommandFields
 command_under h r =
     record { handle = h; target = r.target; level = r.level; index = r.index; count = r.count; params = r.params }
+
+-- a request with these parts
+abbrev pub request_with : Ono → MethodId → ℕ → List ℕ → RequestFields
+request_with target method count params =
+    record { target = target.0; level = method.level; index = method.index; count = count; params = params }
 
 -- what is submitted: `RequestFields`, which stand for a request as `oca_types` has it, before it has a handle
 abbrev pub Request : Type 0

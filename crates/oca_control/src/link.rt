@@ -9,7 +9,7 @@ ghost use Rattle.oca_control.specs.Untaken.{answer_under, waits};
 ghost use Rattle.std.specs.List.{list_any};
 ghost use Rattle.oca_control.specs.Links.{reception_counted, late_at, new_link, submission_within, submitted_within};
 ghost use Rattle.oca_control.specs.Links.{decision, due_answer, due_bytes, gone_on, IsNextDue, NeverIsDue, reception};
-ghost use Rattle.oca_control.specs.Links.{present_moment, received, taken, RequestFields, most_command_parameter_bytes};
+ghost use Rattle.oca_control.specs.Links.{present_moment, received, request_with, taken, most_command_parameter_bytes};
 ghost use Rattle.oca_control.specs.Steps.{ReceivesWithin};
 ghost use Rattle.oca_control.specs.Shortening.{shortened, shortened_message};
 ghost use Rattle.oca_control.specs.PrivateSlots.{AreShortResponses, IsShortResponse};
@@ -150,21 +150,9 @@ impl<const COMMAND: usize, const ANSWER: usize> LinkOf<COMMAND, ANSWER> {
         params: &[u8],
         now: u64,
     ) -> Result<Handle, ControlFault>
-        ensures answer { let request : RequestFields = record {
-          target = target.0;
-          level = method.level;
-          index = method.index;
-          count = count;
-          params = params.now;
-        } in
+        ensures answer { let request = request_with target method count params.now in
             result ≡ submission_within (min COMMAND most_command_parameter_bytes) request self.old }
-        ensures link { let request : RequestFields = record {
-          target = target.0;
-          level = method.level;
-          index = method.index;
-          count = count;
-          params = params.now;
-        } in
+        ensures link { let request = request_with target method count params.now in
             self.new ≡ submitted_within (min COMMAND most_command_parameter_bytes) request now self.old }
     {
         if self.lost {

@@ -7,6 +7,7 @@ use Rattle.oca_pair.specs.declared.pair.Transcript.{Transcript}
 use Rattle.oca_pair.specs.declared.start.Start.{Start}
 use Rattle.oca_pair.specs.declared.step.Step as declared
 use Rattle.oca_pair.specs.declared.step.Step.TheVariants as given
+use Rattle.oca_control.specs.Links.{request_with}
 use Rattle.oca_pair.specs.Networks.{Network, run_setup, opening}
 use Rattle.oca_pair.specs.Steps.{Step, Submit, Due, ToDevice, ToLink, Other, Tick, Local, Take, Renew, Beside}
 use Rattle.oca_pair.specs.Steps.{after_steps, outcomes_of, first_missing}
@@ -15,13 +16,7 @@ use Rattle.oca_pair.specs.Premises.{are_apart}
 -- a step without where its bytes lie in memory; the clock of a renewed link shows the time of all clocks
 abbrev pub step_of : declared.Step → Step
 step_of (given.Submit link target method count params now) =
-    Submit link (record {
-      target = target.0;
-      level = method.level;
-      index = method.index;
-      count = count;
-      params = params.now;
-    }) now
+    Submit link (request_with target method count params.now) now
 step_of (given.Due link now) = Due link now
 step_of (given.ToDevice k now) = ToDevice k now
 step_of (given.ToLink k now) = ToLink k now

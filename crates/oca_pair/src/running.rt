@@ -3,7 +3,7 @@ ghost use Rattle.std.specs.Prelude.{◌≡◌, ◌++◌, ◌∷◌, [], ℕ, IfO
 ghost use Rattle.std.specs.Result.{result_err};
 ghost use Rattle.oca_types.specs.Sizes.{sizes_of, span_size};
 ghost use Rattle.oca_tree.specs.LocalChanges.{ToValue, ToLabel, ToEnabled, ToUnlocked, ToFailing};
-ghost use Rattle.oca_control.specs.Links.{Request, submitted, submission, decision, gone_on, received, reception};
+ghost use Rattle.oca_control.specs.Links.{request_with, submitted, submission, decision, gone_on, received, reception};
 ghost use Rattle.oca_control.specs.Links.{GivesKeepAlive, due_bytes, taken};
 ghost use Rattle.oca_control.specs.Untaken.{answer_under};
 ghost use Rattle.oca_pair.specs.Networks.{Network, SentDatagram, started, opening, device_address, run_setup};
@@ -71,21 +71,9 @@ impl PeerLink {
         params: &[u8],
         now: u64,
     ) -> Outcome
-        ensures answer { let request : Request = record {
-          target = target.0;
-          level = method.level;
-          index = method.index;
-          count = count;
-          params = params.now;
-        } in
+        ensures answer { let request = request_with target method count params.now in
             result ≡ submit_outcome (submission request self.old.link) }
-        ensures link { let request : Request = record {
-          target = target.0;
-          level = method.level;
-          index = method.index;
-          count = count;
-          params = params.now;
-        } in
+        ensures link { let request = request_with target method count params.now in
             self.new ≡ record { peer = self.old.peer; link = submitted request now self.old.link } }
     {
         match self.link.submit(target, method, count, params, now) {
@@ -256,13 +244,7 @@ impl Running {
         now: u64,
     ) -> Result<Outcome, StepFault>
         ensures { (n : Network) → Shows self.old n →
-            Took result (Submit link (record {
-              target = target.0;
-              level = method.level;
-              index = method.index;
-              count = count;
-              params = params.now;
-            }) now) n self.new }
+            Took result (Submit link (request_with target method count params.now) now) n self.new }
     {
         if link >= self.links.len() {
             return Err(StepFault::Missing);
