@@ -61,11 +61,8 @@ pub fn drive<E: End>(link: &mut Link, end: &mut E, turns: u32) -> DriveReport
 /// is *due* if it has no answer, and was never sent or was last sent 250 ms ago or earlier. A keep-alive is due if no
 /// command is due and nothing was sent for 2,500 ms.
 ///
-/// The report has these numbers, and all others are 0:
-/// - `sent` and `keep_alives`: the commands and the keep-alives that were given to the end to send.
-/// - `failed_sends`: how many of these sends failed. After a send that fails the next is made. Its command is due again
-///   after 250 ms.
-/// - `lost`: whether the link is lost, as a command got no answer to 20 transmissions ([`Link`]).
+/// The report has the numbers `sent`, `keep_alives` and `failed_sends` ([`DriveReport`](crate::DriveReport)), and
+/// `lost`; all others are 0. After a send that fails the next is made. Its command is due again after 250 ms.
 ///
 /// Afterwards nothing is left to send at that moment, or the link is lost and `lost` is `true`
 /// ([`law_of_sending`](crate::law_of_sending)). A link that was lost before sends nothing. The call does not check

@@ -42,12 +42,7 @@ pub fn is_late<const COMMAND: usize, const ANSWER: usize>(
 ///
 /// - If the link is late ([`is_late`]), nothing is changed or sent, and `lost` is `true` in the report.
 /// - Otherwise the call does what [`send_due`] does. `lost` is `true` if the link is lost or becomes lost. If `lost` is
-///   `false`, nothing is left to send at that moment.
-///
-/// The report has these numbers, and all others are 0:
-/// - `sent` and `keep_alives`: the commands and the keep-alives that were given to the end to send.
-/// - `failed_sends`: how many of these sends failed. After a send that fails the next is made. Its command is due again
-///   after 250 ms.
+///   `false`, nothing is left to send at that moment. The report has the numbers of [`send_due`].
 pub fn send_in_time<E: End, const COMMAND: usize, const ANSWER: usize>(
     link: &mut LinkOf<COMMAND, ANSWER>,
     end: &mut E,
@@ -71,12 +66,9 @@ pub fn send_in_time<E: End, const COMMAND: usize, const ANSWER: usize>(
 /// - The receive failed: nothing is sent, `failed_receives` is 1, and `lost` is `false`.
 /// - The end is closed: the link is unchanged, nothing is sent, and `turns` is 0. In all other cases `turns` is 1.
 ///
-/// The report has these numbers too ([`DriveReport`](crate::DriveReport)):
-/// - `answered`: the commands that got their first answer.
-/// - `sent` and `keep_alives`: the commands and the keep-alives that were given to the end to send. `failed_sends`: how
-///   many of these sends failed. Such a command is due again after 250 ms.
-/// - `lost`: `true` if [`send_in_time`] finds the link lost or late. If it is `false` and the receive did not fail,
-///   nothing is left to send at the moment of the link's clock.
+/// The report has the number `answered` too, and those of [`send_due`] ([`DriveReport`](crate::DriveReport)). `lost` is
+/// `true` if [`send_in_time`] finds the link lost or late. If it is `false` and the receive did not fail, nothing is
+/// left to send at the moment of the link's clock.
 pub fn turn<E: End>(link: &mut Link, end: &mut E) -> DriveReport
     ensures turns { Turns link.old link.new (E.state end.old) (E.state end.new) result }
     ensures left { LeavesNothing result link.new }
