@@ -59,7 +59,8 @@ use std::marker::Model;
 /// a retained command under the same handle. An *old* command is not retained, and its handle is not above that of a
 /// command that was retained before. The *local front panel* is the device's own: its changes are the calls
 /// [`set`](Device::set), [`set_label`](Device::set_label), [`set_enabled`](Device::set_enabled),
-/// [`unlock`](Device::unlock) and [`set_failing`](Device::set_failing).
+/// [`unlock`](Device::unlock) and [`set_failing`](Device::set_failing). No lock of a controller refuses them, and
+/// neither does `set_failing`. The clock and the sessions stay as they are, and no peer gets a message.
 ///
 /// The objects and the sessions of a device follow from its first tree and its events alone: datagrams, clock readings
 /// and changes at its local front panel. Moments are in milliseconds of the caller's clock. A moment that is earlier
@@ -142,12 +143,8 @@ impl<const COMMAND: usize, const ANSWER: usize> DeviceOf<COMMAND, ANSWER> {
         )
     }
 
-    /// Makes a device of the objects in `tree`, with the sizes in `sizes`: reply windows of 1 to 64 commands, and
-    /// sessions of 1 to 64 peers. No peer has a session yet, and the device's clock is at 0.
-    ///
-    /// The call takes all the memory that the device will need beside `tree` and an outbox. Refusal: `NoMemory` if that
-    /// memory is refused, or for a [`DeviceOf`] with `COMMAND` above 1,445 or `ANSWER` above 1,452; the objects are
-    /// then lost.
+    /// Makes a device as [`new`](Device::new) does, with the sizes in `sizes`: reply windows of 1 to 64 commands, and
+    /// sessions of 1 to 64 peers. Memory and the refusal are those of `new`.
     pub fn with_sizes(alloc: Global, tree: Tree, sizes: Sizes) -> Result<Self, NoMemory>
         ensures { IfOk result (λ device. RepresentsWithin ANSWER (sizes_of sizes) device tree []) }
     {
@@ -246,9 +243,8 @@ impl<const COMMAND: usize, const ANSWER: usize> DeviceOf<COMMAND, ANSWER> {
         self.move_clock(now);
     }
 
-    /// Sets the object `ono` to the value `value` at the local front panel, as the set method of the object's class
-    /// does (AES70-2). A lock of a controller does not refuse it, and neither does
-    /// [`set_failing`](Device::set_failing). The clock and the sessions stay as they are, and no peer gets a message.
+    /// Sets the object `ono` to the value `value` at the local front panel ([`DeviceOf`]), as the set method of the
+    /// object's class does (AES70-2).
     ///
     /// Refusals, the first that applies, which change nothing:
     /// - `NoObject` if no object has the number `ono`.
@@ -264,9 +260,8 @@ impl<const COMMAND: usize, const ANSWER: usize> DeviceOf<COMMAND, ANSWER> {
         self.tree.set(ono, value)
     }
 
-    /// Gives the object `ono` the label `label` at the local front panel, as SetLabel of OcaWorker does (AES70-2). The
-    /// label has 0 to 64 bytes of UTF-8. A lock of a controller does not refuse it, and neither does
-    /// [`set_failing`](Device::set_failing). The clock and the sessions stay as they are, and no peer gets a message.
+    /// Gives the object `ono` the label `label` at the local front panel ([`DeviceOf`]), as SetLabel of OcaWorker does
+    /// (AES70-2). The label has 0 to 64 bytes of UTF-8.
     ///
     /// Refusals, the first that applies, which change nothing: `NoObject` if no object has the number `ono`. `BadLabel`
     /// if the label has more than 64 bytes.
@@ -278,10 +273,9 @@ impl<const COMMAND: usize, const ANSWER: usize> DeviceOf<COMMAND, ANSWER> {
         self.tree.set_label(ono, label)
     }
 
-    /// Enables the object `ono` (`enabled` is `true`) or disables it at the local front panel, as SetEnabled of
-    /// OcaWorker does (AES70-2). A lock of a controller does not refuse it, and neither does
-    /// [`set_failing`](Device::set_failing). The clock and the sessions stay as they are, and no peer gets a message.
-    /// Refusal: `NoObject` if no object has the number `ono`; then nothing is changed.
+    /// Enables the object `ono` (`enabled` is `true`) or disables it at the local front panel ([`DeviceOf`]), as
+    /// SetEnabled of OcaWorker does (AES70-2). Refusal: `NoObject` if no object has the number `ono`; then nothing is
+    /// changed.
     pub fn set_enabled(&mut self, ono: Ono, enabled: bool) -> Result<(), FrontFault>
         ensures represents { Appends ANSWER self.old self.new (Local ono.0 (ToEnabled enabled)) }
         ensures fault { result_err result ≡ front_fault self.old.tree ono.0 (asked.SetEnabled enabled) }
