@@ -1,15 +1,9 @@
 -- An object is added at the end.
-use Rattle.std.proofs.Common.{◌≡◌, ℕ, ◌+◌, ◌<◌, ◌≤◌, true, false, List, [], ◌∷◌, ◌++◌, length, refl, ap, ◌∙◌, arith, length-append}
-use Rattle.std.specs.Prelude.{Option, Some, None, is_some, nat_le, nat_lt, ◌==◌}
-use Rattle.std.proofs.lemmas.List.Elements.{All-push}
-use Rattle.oca_tree.specs.declared.object.Object.{Object}
-use Rattle.oca_tree.specs.declared.object.Value.{Value}
+use Rattle.oca_tree.proofs.Words.{◌≡◌, ℕ, ◌+◌, ◌<◌, ◌≤◌, true, false, List, [], ◌∷◌, ◌++◌, length, refl, ap, ◌∙◌, arith, length-append, Option, Some, None, is_some, nat_le, nat_lt, ◌==◌, All-push, Object, Value, Store, object_of, place_of, places, is_block, depth, IsTree, IsSound, IsBuilt, IsFree, root, has_bad_name}
 use Rattle.oca_tree.specs.declared.builder.Spec.{Spec}
-use Rattle.oca_tree.specs.Objects.{Store, object_of}
-use Rattle.oca_tree.specs.Places.{place_of, places, is_block, depth}
-use Rattle.oca_tree.specs.Trees.{IsTree, IsSound, IsSoundValue, IsBuilt, IsFree}
+use Rattle.oca_tree.specs.Trees.{IsSoundValue}
 use Rattle.oca_tree.specs.Trees as trees
-use Rattle.oca_tree.specs.Building.{root, new_object, object_of_spec, value_of, has_bad_name, is_bad_value, add_fault}
+use Rattle.oca_tree.specs.Building.{new_object, object_of_spec, value_of, is_bad_value, add_fault}
 use Rattle.oca_tree.proofs.Chains.{place_absent}
 
 pub places_push : (tree : List Object) (o : Object) → places (tree ++ o ∷ []) ≡ places tree ++ place_of o ∷ []

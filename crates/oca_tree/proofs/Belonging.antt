@@ -1,19 +1,12 @@
 -- Which methods a value has.
-use Rattle.std.proofs.Common.{◌≡◌, ℕ, Bool, true, false, cond, List, [], ◌∷◌, refl, sym, ap, ◌∙◌}
-use Rattle.std.specs.Prelude.{Option, Some, None, ◌==◌, not}
-use Rattle.oca_types.specs.declared.class.Access.{Access}
-use Rattle.oca_types.specs.declared.class.Method.{Method}
+use Rattle.oca_tree.proofs.Words.{◌≡◌, ℕ, Bool, true, false, cond, List, [], ◌∷◌, refl, sym, ap, ◌∙◌, Option, Some, None, ◌==◌, not, Access, Method, Known, MethodId, kind_from, row_at, own_methods, is_left_out, Each, is_position_reading, is_block_value}
 use Rattle.oca_types.specs.declared.class.Method.TheVariants as methods
-use Rattle.oca_types.specs.declared.class.MethodKind.TheVariants.{Known}
-use Rattle.oca_types.specs.declared.words.MethodId.{MethodId}
-use Rattle.oca_types.specs.Methods.{method_kind, kind_from, row_at, own_methods, class_methods, is_left_out}
-use Rattle.oca_model.specs.Lists.{Each}
+use Rattle.oca_types.specs.Methods.{method_kind, class_methods}
 use Rattle.oca_model.specs.declared.reading.Reading.TheVariants as readings
 use Rattle.oca_tree.specs.declared.object.Value.{Value as Held}
 use Rattle.oca_tree.specs.declared.object.Value.TheVariants as held
-use Rattle.oca_tree.specs.Trees.{IsSoundValue, is_position_reading}
+use Rattle.oca_tree.specs.Trees.{IsSoundValue}
 use Rattle.oca_tree.specs.Objects.{class_of}
-use Rattle.oca_tree.specs.Places.{is_block_value}
 
 abbrev pub has_state : Held → Bool
 has_state (held.Reads (readings.Mute _)) = true

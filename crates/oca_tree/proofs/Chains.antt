@@ -1,12 +1,5 @@
 -- The place of an object.
-use Rattle.std.proofs.Common.{◌≡◌, ℕ, Bool, true, false, List, [], ◌∷◌, length, refl, ap, ◌∙◌}
-use Rattle.std.specs.Prelude.{Some, None, not, ◌==◌}
-use Rattle.std.specs.Option.{option_map, option_map_or}
-use Rattle.std.specs.List.{position, prefix_len}
-use Rattle.std.proofs.lemmas.List.{length-map}
-use Rattle.oca_tree.specs.declared.object.Object.{Object}
-use Rattle.oca_tree.specs.Objects.{has_number, object_of}
-use Rattle.oca_tree.specs.Places.{place_of, places, place_at, is_block_value, is_block}
+use Rattle.oca_tree.proofs.Words.{◌≡◌, ℕ, Bool, true, false, List, [], ◌∷◌, length, refl, ap, ◌∙◌, Some, None, not, ◌==◌, option_map, option_map_or, position, prefix_len, length-map, Object, has_number, object_of, place_of, places, place_at, is_block_value, is_block}
 
 -- the place with a number is that of the object with it
 pub place_at_places : (tree : List Object) (number : ℕ) → place_at (places tree) number ≡ option_map place_of (object_of tree number)

@@ -1,19 +1,12 @@
 -- Where the containers of objects stand.
-use Rattle.std.proofs.Common.{◌≡◌, ℕ, zero, suc, ◌<◌, ◌≤◌, Bool, true, false, cond, List, [], ◌∷◌, ◌++◌, length, get_or, take, drop, refl, sym, ap, ◌∙◌, arith, inl, inr, append_assoc, append-nil, length-append, eqb-true, eq-eqb, one-add}
-use Rattle.std.specs.Prelude.{Option, Some, None, is_some, ◌==◌, ◌||◌, ◌⊎◌}
-use Rattle.std.specs.Option.{option_or}
-use Rattle.std.specs.List.{position, position_or_len, find}
-use Rattle.std.proofs.lemmas.List.{take-append-drop, take-append-le, get_or-take, get_or-map}
-use Rattle.std.proofs.Math.ListN.{get_or-append, length-take}
-use Rattle.std.proofs.Math.Seq.{take-append_seam, get_or-append_seam}
-use Rattle.std.proofs.lemmas.List.Folds.{find-append, position_or_len_push}
-use Rattle.std.proofs.lemmas.Bool.{cases_lt}
-use Rattle.oca_tree.specs.declared.object.Object.{Object}
-use Rattle.oca_tree.specs.Objects.{has_number}
-use Rattle.oca_tree.specs.Places.{Place, place_of, places, place_at, depth, reaches}
-use Rattle.oca_tree.specs.Trees.{IsBuilt, IsFree, IsTree}
+use Rattle.oca_tree.proofs.Words.{◌≡◌, ℕ, zero, suc, ◌<◌, ◌≤◌, Bool, true, false, cond, List, [], ◌∷◌, ◌++◌, length, get_or, take, drop, refl, sym, ap, ◌∙◌, arith, inl, inr, append_assoc, length-append, eqb-true, eq-eqb, one-add, Option, Some, None, is_some, ◌==◌, ◌||◌, ◌⊎◌, option_or, position, position_or_len, find, get_or-map, get_or-append, get_or-append_seam, find-append, cases_lt, Object, has_number, Place, place_of, places, place_at, depth, reaches, IsBuilt, IsFree, IsTree, containers}
+use Rattle.std.proofs.Common.{append-nil}
+use Rattle.std.proofs.lemmas.List.{take-append-drop, take-append-le, get_or-take}
+use Rattle.std.proofs.Math.ListN.{length-take}
+use Rattle.std.proofs.Math.Seq.{take-append_seam}
+use Rattle.std.proofs.lemmas.List.Folds.{position_or_len_push}
 use Rattle.oca_tree.specs.Trees as trees
-use Rattle.oca_tree.specs.PrivateObjects.{containers_behind, containers}
+use Rattle.oca_tree.specs.PrivateObjects.{containers_behind}
 use Rattle.oca_tree.proofs.Chains.{length_places, position_places}
 use Rattle.oca_tree.proofs.Positions.{place_found, find_none, find_some, find_passes}
 use Rattle.oca_tree.proofs.Endings.{looked_up, block_there, depth_absent, depth_there, reaches_absent, reaches_there}

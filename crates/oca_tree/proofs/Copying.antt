@@ -1,27 +1,23 @@
 -- A description of an object makes it again.
-use Rattle.std.proofs.Common.{◌≡◌, ℕ, ◌==◌, Bool, true, false, List, [], ◌∷◌, map, refl, sym, ap, ◌∙◌}
-use Rattle.std.specs.Prelude.{Option, Some, None, if◌then◌else◌, ℤ, nat_abs}
+use Rattle.oca_tree.proofs.Words.{◌≡◌, ℕ, Bool, true, false, List, [], ◌∷◌, map, refl, sym, ap, ◌∙◌, Option, Some, None, if◌then◌else◌, Class, Reading, Object, Value, flags_of, with_flags, unlocked}
+use Rattle.std.proofs.Common.{◌==◌}
+use Rattle.std.specs.Prelude.{ℤ, nat_abs}
 use Rattle.arrayvec.specs.ArrayVec.{ArrayVec}
-use Rattle.oca_types.specs.declared.class.Class.{Class}
 use Rattle.oca_types.specs.declared.class.Class.TheVariants as class
 use Rattle.oca_model.specs.declared.value.MuteState.TheVariants.{Muted, Unmuted}
 use Rattle.oca_model.specs.declared.value.PolarityState.TheVariants.{NonInverted, Inverted}
 use Rattle.oca_model.specs.declared.reading.Ranged.{Ranged}
-use Rattle.oca_model.specs.declared.reading.Reading.{Reading}
 use Rattle.oca_model.specs.declared.reading.Reading.TheVariants as readings
 use Rattle.oca_model.specs.Values.{by_type, integer_type}
 use Rattle.oca_tree.specs.declared.builder.Kind.{Kind}
 use Rattle.oca_tree.specs.declared.builder.Kind.TheVariants as kinds
-use Rattle.oca_tree.specs.declared.object.Object.{Object}
-use Rattle.oca_tree.specs.declared.object.Value.{Value}
 use Rattle.oca_tree.specs.declared.object.Value.TheVariants as values
 use Rattle.oca_tree.specs.declared.tree.Setting.{Setting}
 use Rattle.oca_tree.specs.declared.tree.Setting.TheVariants as set
 use Rattle.oca_tree.specs.Objects.{class_of}
 use Rattle.oca_tree.specs.Readers.{value_setting, reading_setting}
 use Rattle.oca_tree.specs.Building.{value_of}
-use Rattle.oca_tree.specs.Starts.{flags_of, with_flags}
-use Rattle.oca_tree.specs.Copies.{DescriptionMakesAgain, flags_in, names_in, unlocked, Stored}
+use Rattle.oca_tree.specs.Copies.{DescriptionMakesAgain, flags_in, names_in, Stored}
 
 -- what a value is, by its class, its setting, the names and the flags of its positions
 abbrev whole : {X : Type 0} → (Ranged X → Reading) → (ℤ → X) → Option Setting → Value

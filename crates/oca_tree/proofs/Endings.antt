@@ -1,12 +1,7 @@
 -- Every chain of containers ends within as many steps as there are objects.
-use Rattle.std.proofs.Common.{◌≡◌, ℕ, zero, suc, Bool, true, false, cond, List, [], ◌∷◌, ◌++◌, length, refl, sym, ap, ◌∙◌, subst, arith, inl, inr, length-append, eqb-true, eq-eqb}
-use Rattle.std.specs.Prelude.{Option, Some, None, is_some, ◌==◌, ◌||◌, ◌⊎◌}
-use Rattle.std.specs.Option.{option_map_or, option_or}
-use Rattle.std.specs.List.{list_any}
-use Rattle.std.proofs.lemmas.List.Folds.{find-append}
-use Rattle.oca_tree.specs.Places.{Place, place_at, is_block, chain_within, chain, depth, reaches, ChainReaches}
+use Rattle.oca_tree.proofs.Words.{◌≡◌, ℕ, zero, suc, Bool, true, false, cond, List, [], ◌∷◌, ◌++◌, length, refl, sym, ap, ◌∙◌, subst, arith, inl, inr, length-append, eqb-true, eq-eqb, Option, Some, None, is_some, ◌==◌, ◌||◌, ◌⊎◌, option_map_or, option_or, list_any, find-append, Place, place_at, is_block, depth, reaches, IsBuilt, IsFree}
+use Rattle.oca_tree.specs.Places.{chain_within, chain, ChainReaches}
 use Rattle.oca_tree.specs.Places as places
-use Rattle.oca_tree.specs.Trees.{IsBuilt, IsFree}
 use Rattle.oca_tree.specs.Trees as trees
 
 abbrev single : Place → ℕ → Option Place

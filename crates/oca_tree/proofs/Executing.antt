@@ -1,34 +1,18 @@
 -- What a command does, from what each of its steps found.
-use Rattle.std.proofs.Common.{◌≡◌, ℕ, ◌<◌, ◌≤◌, Bool, true, false, cond, List, [], ◌∷◌, length, get_or, set, refl, sym, ap, ◌∙◌, arith, eqb-true}
-use Rattle.std.specs.Prelude.{Option, Some, None, Result, Ok, Err, not, nat_lt, ◌==◌, ◌&&◌}
-use Rattle.std.specs.List.{position}
+use Rattle.oca_tree.proofs.Words.{◌≡◌, ℕ, ◌<◌, ◌≤◌, Bool, true, false, cond, List, [], ◌∷◌, length, get_or, set, refl, sym, ap, ◌∙◌, arith, eqb-true, Option, Some, None, Result, Ok, Err, not, nat_lt, ◌==◌, ◌&&◌, position, Peer, Status, Method, Access, Known, Class, MethodId, access, kind_from, row_at, own_methods, is_left_out, CommandFields, Request, ValueFault, Malformed, Unlisted, answer_count, as_request, Object, object_of, has_number, with_object, cannot_be, fits_positions, kind_at, asked_at, is_write, is_failing, status_of, by_status, carried_out, refused, IsTree, IsSound, is_ok, plain_request, MayCall}
 use Rattle.std.proofs.lemmas.List.{set-get_or}
-use Rattle.oca_types.specs.declared.words.Peer.{Peer}
-use Rattle.oca_types.specs.declared.status.Status.{Status}
 use Rattle.oca_types.specs.declared.status.Status.TheVariants as statuses
-use Rattle.oca_types.specs.declared.class.Method.{Method}
 use Rattle.oca_types.specs.declared.class.Method.TheVariants as methods
-use Rattle.oca_types.specs.declared.class.Access.{Access}
-use Rattle.oca_types.specs.declared.class.MethodKind.TheVariants.{Known}
-use Rattle.oca_types.specs.declared.class.Class.{Class}
-use Rattle.oca_types.specs.declared.words.MethodId.{MethodId}
-use Rattle.oca_types.specs.Methods.{access, method_kind, kind_from, row_at, own_methods, is_left_out}
-use Rattle.oca_types.specs.Peers.{CommandFields}
-use Rattle.oca_model.specs.declared.request.Request.{Request}
+use Rattle.oca_types.specs.Methods.{method_kind}
 use Rattle.oca_model.specs.declared.request.Request.TheVariants as requests
 use Rattle.oca_model.specs.declared.value.Value.{Value as Setting}
-use Rattle.oca_model.specs.declared.value.ValueFault.{ValueFault}
-use Rattle.oca_model.specs.declared.value.ValueFault.TheVariants.{Malformed, Unlisted}
-use Rattle.oca_model.specs.Answers.{answer_encoding, answer_count}
-use Rattle.oca_model.specs.Requests.{as_request, request_in, set_in}
-use Rattle.oca_tree.specs.declared.object.Object.{Object}
-use Rattle.oca_tree.specs.Objects.{class_of, object_of, has_number, with_object}
-use Rattle.oca_tree.specs.Requests.{cannot_be, fits_positions, asks_out_of_range, asks_invalid}
+use Rattle.oca_model.specs.Answers.{answer_encoding}
+use Rattle.oca_model.specs.Requests.{request_in, set_in}
+use Rattle.oca_tree.specs.Objects.{class_of}
+use Rattle.oca_tree.specs.Requests.{asks_out_of_range, asks_invalid}
 use Rattle.oca_tree.specs.Typed.{answer_given, changed_by}
-use Rattle.oca_tree.specs.Execution.{kind_at, asked_at, is_write, is_failing, status_of, by_status, carried_out, refused, execution}
-use Rattle.oca_tree.specs.Trees.{IsTree, IsSound}
-use Rattle.oca_tree.specs.Written.{is_ok}
-use Rattle.oca_tree.specs.PrivateSteps.{plain_request, sets_value, setting_in, status_of_fault, refusal_of, MayCall, MaySet, IsRefusedAt, IsAskedRightly, PutsAnswer, Executes}
+use Rattle.oca_tree.specs.Execution.{execution}
+use Rattle.oca_tree.specs.PrivateSteps.{sets_value, setting_in, status_of_fault, refusal_of, MaySet, IsRefusedAt, IsAskedRightly, PutsAnswer, Executes}
 use Rattle.oca_tree.proofs.Plain.{plain}
 use Rattle.oca_tree.proofs.Positions.{find_some, find_passes, place_found, with_object_at, same_element}
 use Rattle.oca_tree.proofs.Sound.{changed_place, changed_ono, changed_sound, written_tree}

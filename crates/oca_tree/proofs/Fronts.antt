@@ -1,35 +1,21 @@
 -- What setting an object does, from what each of its steps found.
-use Rattle.std.proofs.Common.{◌≡◌, ℕ, Bool, true, false, cond, List, [], get_or, set, refl, sym, ap, ◌∙◌}
-use Rattle.std.specs.Prelude.{Some, None, Ok, not, is_some}
-use Rattle.std.specs.List.{position}
-use Rattle.oca_types.specs.Peers.{CommandFields}
+use Rattle.oca_tree.proofs.Words.{◌≡◌, ℕ, Bool, true, false, cond, List, [], get_or, set, refl, sym, ap, ◌∙◌, Some, None, Ok, not, is_some, position, CommandFields, Method, MethodKind, Known, LeftOut, Unknown, Object, class_of_value, SetFault, object_of, has_number, with_object, is_block_value, Access, Peer, cannot_be, TreeAndReply, kind_at, asked_at, carried_out, refused, makes, fault_at, set_fault_in, front, set_where, IsTree, IsSound}
 use Rattle.oca_types.specs.declared.class.Class.TheVariants as class
-use Rattle.oca_types.specs.declared.class.Method.{Method}
-use Rattle.oca_types.specs.declared.class.MethodKind.{MethodKind}
-use Rattle.oca_types.specs.declared.class.MethodKind.TheVariants.{Known, LeftOut, Unknown}
 use Rattle.oca_types.specs.declared.status.Status.TheVariants as statuses
-use Rattle.oca_tree.specs.declared.object.Object.{Object}
 use Rattle.oca_tree.specs.declared.object.Value.{Value as Held}
 use Rattle.oca_tree.specs.declared.object.Value.TheVariants as values
 use Rattle.oca_model.specs.declared.value.Value.{Value}
 use Rattle.oca_model.specs.declared.value.Value.TheVariants as to_set
-use Rattle.oca_model.specs.Values.{class_of_value}
-use Rattle.oca_tree.specs.declared.setting.SetFault.{SetFault}
 use Rattle.oca_tree.specs.declared.setting.SetFault.TheVariants as faults
-use Rattle.oca_tree.specs.Objects.{class_of, object_of, has_number, with_object}
+use Rattle.oca_tree.specs.Objects.{class_of}
 use Rattle.oca_tree.specs.Locks.{lock_refuses}
-use Rattle.oca_tree.specs.Places.{is_block_value}
-use Rattle.oca_types.specs.declared.class.Access.{Access}
-use Rattle.oca_types.specs.declared.words.Peer.{Peer}
 use Rattle.oca_model.specs.declared.request.Request.TheVariants as asks
 use Rattle.oca_model.specs.Answers.{answer_encoding}
 use Rattle.oca_model.specs.Requests.{request_in}
-use Rattle.oca_tree.specs.Requests.{cannot_be, asks_out_of_range, asks_invalid}
-use Rattle.oca_tree.specs.Execution.{TreeAndReply, kind_at, asked_at, is_locked, carried_out, refused, execution}
+use Rattle.oca_tree.specs.Requests.{asks_out_of_range, asks_invalid}
+use Rattle.oca_tree.specs.Execution.{is_locked, execution}
 use Rattle.oca_tree.specs.Typed.{answer_given, changed_by}
-use Rattle.oca_model.proofs.Settled.{makes}
-use Rattle.oca_tree.specs.Settings.{fault_at, is_of_its_class, set_fault_in, set_fault, front, set_where, after_set, AnyPeerSetsTheSame, status_for, SetsTheSame, FrontSetsAsPeersDo}
-use Rattle.oca_tree.specs.Trees.{IsTree, IsSound}
+use Rattle.oca_tree.specs.Settings.{is_of_its_class, set_fault, after_set, AnyPeerSetsTheSame, status_for, SetsTheSame, FrontSetsAsPeersDo}
 use Rattle.oca_tree.proofs.Executing.{found_at, within_at, sound_at, every_at, placed}
 use Rattle.oca_tree.proofs.Sound.{changed_place, changed_ono, changed_sound, written_tree}
 

@@ -1,17 +1,8 @@
 -- Keys and values of the map side by side.
-use Rattle.std.proofs.Common.{◌≡◌, ℕ, zero, suc, ◌+◌, ◌<◌, Bool, true, false, cond, List, [], ◌∷◌, length, get_or, set, map, take, drop, ◌++◌, refl, sym, ap, ◌∙◌, arith}
-use Rattle.std.specs.Prelude.{Some, None, not, ◌==◌}
-use Rattle.std.specs.List.{position, prefix_len, slice_get, find}
-use Rattle.std.specs.Map.{keys_of, values_of, lookup}
-use Rattle.indexmap.specs.IndexMap.{set_value_at}
-use Rattle.oca_types.specs.declared.words.Ono.{Ono}
-use Rattle.oca_types.specs.declared.words.Peer.{Peer}
-use Rattle.oca_tree.specs.declared.object.Object.{Object}
-use Rattle.oca_model.specs.declared.request.Request.{Request}
-use Rattle.std.proofs.lemmas.Option.{get_or_from_slice_get}
+use Rattle.oca_tree.proofs.Words.{◌≡◌, ℕ, zero, suc, ◌+◌, ◌<◌, Bool, true, false, cond, List, [], ◌∷◌, length, get_or, set, map, take, drop, ◌++◌, refl, sym, ap, ◌∙◌, arith, Some, None, not, ◌==◌, position, prefix_len, slice_get, find, values_of, set_value_at, Ono, Peer, Object, Request, get_or_from_slice_get, without_lock_of, is_held_by}
+use Rattle.std.specs.Map.{keys_of, lookup}
 use Rattle.std.proofs.Math.Seq.{map-set_same}
 use Rattle.oca_tree.specs.Typed.{changed_by}
-use Rattle.oca_tree.specs.Locks.{without_lock_of, is_held_by}
 use Rattle.oca_tree.specs.PrivateObjects.{IsKeyed}
 use Rattle.oca_tree.proofs.Sound.{shape_of, shapes}
 use Rattle.oca_tree.proofs.Writes.{written_so}

@@ -1,3 +1,4 @@
+mod Words
 pub mod Positions
 pub mod Puts
 pub mod Chains

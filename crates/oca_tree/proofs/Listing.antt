@@ -1,19 +1,8 @@
 -- Objects that are listed, and their number before them.
-use Rattle.std.proofs.Common.{◌≡◌, ℕ, zero, suc, ◌+◌, ◌<◌, ◌≤◌, Bool, true, false, List, [], ◌∷◌, ◌++◌, length, get_or, take, drop, refl, sym, ap, ◌∙◌, arith, append_assoc, length-append, eqb-true, eq-eqb}
-use Rattle.std.specs.Prelude.{Option, Some, None, map, ◌==◌, ◌||◌}
-use Rattle.std.specs.List.{filter, position}
-use Rattle.std.proofs.lemmas.List.{length-map}
-use Rattle.std.proofs.lemmas.List.Folds.{flat_map-map}
-use Rattle.oca_model.specs.Answers.{answer_encoding, answer_count}
-use Rattle.oca_model.specs.Lists.{list_encoding}
-use Rattle.oca_model.specs.Members.{member_encoding, descendant_encoding}
-use Rattle.oca_tree.specs.declared.object.Object.{Object}
-use Rattle.oca_tree.specs.Objects.{has_number, members, descendants}
-use Rattle.oca_tree.specs.Places.{places, place_at}
-use Rattle.oca_tree.specs.Trees.{IsTree}
-use Rattle.oca_tree.specs.PrivateObjects.{containers}
-use Rattle.oca_tree.specs.PrivateSteps.{is_listed, item_encoding, listed_answer}
-use Rattle.oca_tree.specs.Typed.{member_of, descendant_of}
+use Rattle.oca_tree.proofs.Words.{◌≡◌, ℕ, zero, suc, ◌+◌, ◌<◌, ◌≤◌, Bool, true, false, List, [], ◌∷◌, ◌++◌, length, get_or, take, drop, refl, sym, ap, ◌∙◌, arith, append_assoc, length-append, eqb-true, eq-eqb, Option, Some, None, ◌==◌, ◌||◌, filter, position, length-map, flat_map-map, answer_count, list_encoding, member_encoding, descendant_encoding, Object, has_number, members, descendants, places, place_at, IsTree, containers, is_listed, item_encoding, member_of, descendant_of}
+use Rattle.std.specs.Prelude.{map}
+use Rattle.oca_model.specs.Answers.{answer_encoding}
+use Rattle.oca_tree.specs.PrivateSteps.{listed_answer}
 use Rattle.oca_tree.proofs.Positions.{same_element}
 use Rattle.oca_tree.proofs.Containers.{container_below, container_number, container_absent, own, index_itself, lies_above, lies_nowhere}
 

@@ -1,24 +1,15 @@
 -- What a change at the front does, from what each of its steps found.
-use Rattle.std.proofs.Common.{◌≡◌, ℕ, ◌≤◌, ◌<◌, ◌^◌, chars, subst, Bool, true, false, cond, List, length, get_or, set, refl, ap, ◌∙◌, arith, IsUtf8, []}
-use Rattle.std.specs.Prelude.{Option, Some, None, IfSome, IsSome, not, ◌||◌, nat_lt}
-use Rattle.std.specs.List.{position}
-use Rattle.std.proofs.lemmas.Bool.Decides.{nat_tests}
+use Rattle.oca_tree.proofs.Words.{◌≡◌, ℕ, ◌≤◌, ◌<◌, subst, Bool, true, false, cond, List, length, get_or, set, refl, ap, ◌∙◌, arith, [], Option, Some, None, IfSome, not, ◌||◌, nat_lt, position, nat_tests, IsText, CommandFields, Request, Object, FrontFault, root, object_of, has_number, front, front_fault_in, changed_where, failing_where, IsTree, IsSound}
+use Rattle.std.proofs.Common.{◌^◌, chars, IsUtf8}
+use Rattle.std.specs.Prelude.{IsSome}
 use Rattle.std.specs.Str.{is_utf8}
 use Rattle.std.proofs.lemmas.Str.{is_utf8-from_IsUtf8, IsUtf8-from_is_utf8, encodes-chars, length-le-encodes}
 use Rattle.oca_model.proofs.Carried.{SetsTexts}
-use Rattle.oca_model.specs.Lists.{IsText}
-use Rattle.oca_types.specs.Peers.{CommandFields}
-use Rattle.oca_model.specs.declared.request.Request.{Request}
 use Rattle.oca_model.specs.declared.request.Request.TheVariants as asked
-use Rattle.oca_tree.specs.declared.object.Object.{Object}
-use Rattle.oca_tree.specs.declared.front.FrontFault.{FrontFault}
 use Rattle.oca_tree.specs.declared.front.FrontFault.TheVariants as faults
-use Rattle.oca_tree.specs.Building.{is_long, root}
-use Rattle.oca_tree.specs.Objects.{object_of, has_number}
+use Rattle.oca_tree.specs.Building.{is_long}
 use Rattle.oca_tree.specs.Typed.{changed_by}
-use Rattle.oca_tree.specs.Settings.{front}
-use Rattle.oca_tree.specs.LocalChanges.{is_bad_label, front_fault_in, front_fault, changed_where, after_request, failing_where, after_failing}
-use Rattle.oca_tree.specs.Trees.{IsTree, IsSound}
+use Rattle.oca_tree.specs.LocalChanges.{is_bad_label, front_fault, after_request, after_failing}
 use Rattle.oca_tree.proofs.Executing.{found_at, within_at, sound_at, placed}
 use Rattle.oca_tree.proofs.Positions.{place_found, same_element}
 use Rattle.oca_tree.proofs.Sound.{changed_place, changed_ono, written_tree}

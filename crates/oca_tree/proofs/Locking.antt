@@ -1,17 +1,8 @@
 -- Counting locks.
-use Rattle.std.proofs.Common.{◌≡◌, ℕ, zero, suc, ◌+◌, ◌<◌, ◌≤◌, false, cond, List, [], ◌∷◌, length, get_or, set, map, refl, sym, ap, ◌∙◌, arith}
-use Rattle.std.specs.Prelude.{Option, Some, None, is_some}
-use Rattle.std.specs.List.{slice_get}
-use Rattle.std.specs.Map.{values_of}
-use Rattle.std.proofs.lemmas.Option.{get_or_from_slice_get}
-use Rattle.indexmap.specs.IndexMap.{set_value_at}
-use Rattle.oca_types.specs.declared.words.Ono.{Ono}
+use Rattle.oca_tree.proofs.Words.{◌≡◌, ℕ, zero, suc, ◌+◌, ◌<◌, ◌≤◌, false, cond, List, [], ◌∷◌, length, get_or, set, map, refl, sym, ap, ◌∙◌, arith, Option, Some, None, is_some, slice_get, values_of, get_or_from_slice_get, set_value_at, Ono, Peer, Object, lock_of_one, lock_count, without_lock_of, is_held_by}
 use Rattle.oca_tree.proofs.Keyed.{values-set_value_at}
 use Rattle.std.proofs.lemmas.List.Sums.{sum_by-set, sum_by-cons, count_by-le-length}
-use Rattle.oca_types.specs.declared.words.Peer.{Peer}
-use Rattle.oca_tree.specs.declared.object.Object.{Object}
 use Rattle.oca_tree.specs.declared.object.Lock.{Lock}
-use Rattle.oca_tree.specs.Locks.{lock_of_one, lock_count, without_lock_of, is_held_by}
 
 -- no more locks than objects
 pub locks_few : (tree : List Object) (n : ℕ) → length tree ≤ n → lock_count tree ≤ n

@@ -1,16 +1,11 @@
 -- What a request leaves of the names of positions.
-use Rattle.std.proofs.Common.{◌≡◌, ℕ, List, set, refl, sym, subst}
-use Rattle.oca_model.specs.declared.request.Request.{Request}
+use Rattle.oca_tree.proofs.Words.{◌≡◌, ℕ, List, set, refl, sym, subst, Request, IsText, Each, Switch, Value, value_changed_by, held_set_to, with_positions, with_name, enabled_at}
 use Rattle.oca_model.specs.declared.request.Request.TheVariants as requests
 use Rattle.oca_model.specs.declared.value.Value.{Value as Setting}
 use Rattle.oca_model.specs.declared.value.Value.TheVariants as settings
-use Rattle.oca_model.specs.Lists.{IsText, Each}
 use Rattle.oca_model.proofs.Carried.{SetsTexts}
-use Rattle.oca_tree.specs.declared.object.Switch.{Switch}
-use Rattle.oca_tree.specs.declared.object.Value.{Value}
 use Rattle.oca_tree.specs.declared.object.Value.TheVariants as values
 use Rattle.oca_tree.specs.Copies.{names_in}
-use Rattle.oca_tree.specs.Typed.{value_changed_by, held_set_to, with_positions, with_name, enabled_at}
 
 set_names : (v : Value) (new : Setting) → names_in (held_set_to v new) ≡ names_in v
 unfolding names_in

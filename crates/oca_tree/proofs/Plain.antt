@@ -1,19 +1,9 @@
 -- What a method asks that only reads and has no parameters: it is in range and valid of any object, and changes none.
-use Rattle.std.proofs.Common.{◌≡◌, true, false, [], refl, subst}
-use Rattle.std.specs.Prelude.{Some, Ok}
-use Rattle.oca_types.specs.declared.class.Class.{Class}
-use Rattle.oca_types.specs.declared.class.Method.{Method}
+use Rattle.oca_tree.proofs.Words.{◌≡◌, true, false, [], refl, subst, Some, Ok, Class, Method, Known, Peer, access, Request, Object, fits_positions, is_write, plain_request}
 use Rattle.oca_types.specs.declared.class.Method.TheVariants as methods
-use Rattle.oca_types.specs.declared.class.MethodKind.TheVariants.{Known}
-use Rattle.oca_types.specs.declared.words.Peer.{Peer}
-use Rattle.oca_types.specs.Methods.{access}
-use Rattle.oca_model.specs.declared.request.Request.{Request}
 use Rattle.oca_model.specs.Requests.{request_in}
-use Rattle.oca_tree.specs.declared.object.Object.{Object}
-use Rattle.oca_tree.specs.Requests.{fits_positions, asks_out_of_range, asks_invalid}
-use Rattle.oca_tree.specs.Execution.{is_write}
+use Rattle.oca_tree.specs.Requests.{asks_out_of_range, asks_invalid}
 use Rattle.oca_tree.specs.Typed.{changed_by}
-use Rattle.oca_tree.specs.PrivateSteps.{plain_request}
 
 -- The method asks this of any object without parameters, nothing refuses it, and it changes nothing.
 pub record IsPlain (method : Method) (r : Request) : Type 0 where

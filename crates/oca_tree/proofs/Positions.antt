@@ -1,9 +1,6 @@
 -- The place of an object, and a write there.
-use Rattle.std.proofs.Common.{◌≡◌, ℕ, zero, suc, ◌<◌, Bool, true, false, List, [], ◌∷◌, length, get_or, set, ◌≤◌, refl, sym, ap, ◌∙◌, arith, one-add}
-use Rattle.oca_tree.specs.declared.object.Object.{Object}
-use Rattle.oca_tree.specs.Objects.{has_number, with_object}
-use Rattle.std.specs.Prelude.{Option, Some, None, IfNone, IfSome, is_some, ◌==◌}
-use Rattle.std.specs.List.{find, position, position_or_len, slice_get}
+use Rattle.oca_tree.proofs.Words.{◌≡◌, ℕ, zero, suc, ◌<◌, Bool, true, false, List, [], ◌∷◌, length, get_or, set, ◌≤◌, refl, sym, ap, ◌∙◌, arith, one-add, Object, has_number, with_object, Option, Some, None, IfSome, is_some, ◌==◌, find, position, position_or_len, slice_get}
+use Rattle.std.specs.Prelude.{IfNone}
 use Rattle.std.proofs.lemmas.List.Folds.{find_at}
 use Rattle.std.proofs.lemmas.List.Sums.{length-filter}
 use Rattle.std.proofs.lemmas.Option.{slice_get_past, slice_get-get_or}

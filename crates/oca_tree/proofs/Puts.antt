@@ -1,7 +1,6 @@
 -- What is left to put, as a loop goes on.
-use Rattle.std.proofs.Common.{◌≡◌, ℕ, ◌+◌, ◌<◌, Bool, true, false, cond, List, ◌∷◌, ◌++◌, length, drop, get_or, sym, ap, ◌∙◌, append_assoc, length-append, arith}
-use Rattle.std.specs.List.{flat_map, filter}
-use Rattle.std.specs.Prelude.{Result, Ok, Err, is_err}
+use Rattle.oca_tree.proofs.Words.{◌≡◌, ℕ, ◌+◌, ◌<◌, Bool, true, false, cond, List, ◌∷◌, ◌++◌, length, drop, get_or, sym, ap, ◌∙◌, append_assoc, length-append, arith, flat_map, filter, Result, Ok, Err}
+use Rattle.std.specs.Prelude.{is_err}
 use Rattle.oca_types.specs.Putting.{Puts}
 use Rattle.oca_model.proofs.Steps.{full_early, left}
 

@@ -1,13 +1,9 @@
 -- What was set reads as it was set.
-use Rattle.std.proofs.Common.{◌≡◌, refl, ap, ◌∙◌}
-use Rattle.oca_model.specs.declared.reading.Reading.{Reading}
+use Rattle.oca_tree.proofs.Words.{◌≡◌, refl, ap, ◌∙◌, Reading, class_of_reading, class_of_value, makes, Switch}
 use Rattle.oca_model.specs.declared.value.Value.{Value}
 use Rattle.oca_model.specs.declared.value.Value.TheVariants as set
 use Rattle.oca_model.specs.Readings.{value_without_limits}
-use Rattle.oca_model.specs.Settings.{class_of_reading, made_or, with_value}
-use Rattle.oca_model.specs.Values.{class_of_value}
-use Rattle.oca_model.proofs.Settled.{makes}
-use Rattle.oca_tree.specs.declared.object.Switch.{Switch}
+use Rattle.oca_model.specs.Settings.{made_or, with_value}
 use Rattle.oca_tree.specs.declared.object.Value.{Value as Held}
 use Rattle.oca_tree.specs.declared.object.Value.TheVariants as held
 use Rattle.oca_tree.specs.Objects.{class_of}

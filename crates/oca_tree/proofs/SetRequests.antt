@@ -1,14 +1,11 @@
 -- A device understands a set request as setting its value.
-use Rattle.std.proofs.Common.{◌≡◌, refl, ap, ◌∙◌}
-use Rattle.std.specs.Prelude.{Some}
-use Rattle.oca_types.specs.declared.class.MethodKind.TheVariants.{Known}
-use Rattle.oca_types.specs.Methods.{method_kind, access}
+use Rattle.oca_tree.proofs.Words.{◌≡◌, refl, ap, ◌∙◌, Some, Known, access, class_of_value, kind_at, command_for}
+use Rattle.oca_types.specs.Methods.{method_kind}
 use Rattle.oca_model.specs.declared.request.Request.TheVariants as asked
 use Rattle.oca_model.specs.Requests.{parameters_of}
-use Rattle.oca_model.specs.Values.{class_of_value, set_method}
+use Rattle.oca_model.specs.Values.{set_method}
 use Rattle.oca_model.proofs.Understood.{requests_understood}
-use Rattle.oca_tree.specs.Execution.{kind_at}
-use Rattle.oca_tree.specs.SetRequests.{command_for, IsUnderstood}
+use Rattle.oca_tree.specs.SetRequests.{IsUnderstood}
 
 pub is_understood : IsUnderstood
 unfolding parameters_of

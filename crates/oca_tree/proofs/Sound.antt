@@ -1,30 +1,20 @@
 -- What is asked and in range keeps a tree one.
-use Rattle.std.proofs.Common.{◌≡◌, ℕ, zero, suc, ◌<◌, Bool, true, false, cond, List, [], ◌∷◌, map, length, get_or, set as put, refl, sym, ap, ◌∙◌, arith, eqb-true}
-use Rattle.std.specs.Prelude.{None, ◌&&◌, not, IsTrue, nat_lt, ◌==◌}
-use Rattle.std.proofs.Math.ListN.{length-set}
-use Rattle.std.proofs.lemmas.List.{length-map}
+use Rattle.oca_tree.proofs.Words.{◌≡◌, ℕ, zero, suc, ◌<◌, Bool, true, false, cond, List, [], ◌∷◌, map, length, get_or, refl, sym, ap, ◌∙◌, arith, eqb-true, None, ◌&&◌, not, nat_lt, ◌==◌, length-set, length-map, Class, Peer, Request, Reading, class_of_reading, Object, Switch, Value, Place, place_of, places, is_block_value, without_lock_of, is_held_by, fits_positions, cannot_be, held_set_to, with_positions, with_name, enabled_at, value_changed_by, IsTree, IsSound, is_position_reading}
+use Rattle.std.proofs.Common.{set as put}
+use Rattle.std.specs.Prelude.{IsTrue}
 use Rattle.std.proofs.lemmas.List.Elements.{All-map, All-set, All-weaker}
-use Rattle.oca_types.specs.declared.class.Class.{Class}
 use Rattle.oca_types.specs.declared.class.Class.TheVariants as class
-use Rattle.oca_types.specs.declared.words.Peer.{Peer}
-use Rattle.oca_model.specs.declared.request.Request.{Request}
 use Rattle.oca_model.specs.declared.request.Request.TheVariants as asked
 use Rattle.oca_model.specs.declared.value.Value.{Value as Setting}
 use Rattle.oca_model.specs.declared.value.Value.TheVariants as set
-use Rattle.oca_model.specs.declared.reading.Reading.{Reading}
 use Rattle.oca_model.specs.declared.reading.Reading.TheVariants as readings
-use Rattle.oca_model.specs.Settings.{class_of_reading, reading_set_to}
+use Rattle.oca_model.specs.Settings.{reading_set_to}
 use Rattle.oca_model.proofs.Settled.{same_class, stays_typed, stays_within}
-use Rattle.oca_tree.specs.declared.object.Object.{Object}
-use Rattle.oca_tree.specs.declared.object.Switch.{Switch}
-use Rattle.oca_tree.specs.declared.object.Value.{Value}
 use Rattle.oca_tree.specs.declared.object.Value.TheVariants as values
 use Rattle.oca_tree.specs.Objects.{class_of}
-use Rattle.oca_tree.specs.Places.{Place, place_of, places, is_block_value}
-use Rattle.oca_tree.specs.Locks.{without_lock_of, is_held_by}
-use Rattle.oca_tree.specs.Requests.{positions, is_enabled, can_be_current, fits_positions, cannot_be, asks_out_of_range, asks_invalid}
-use Rattle.oca_tree.specs.Typed.{held_set_to, with_positions, with_name, enabled_at, value_changed_by, changed_by}
-use Rattle.oca_tree.specs.Trees.{IsTree, IsSound, IsSoundValue, IsSoundSwitch, is_position_reading}
+use Rattle.oca_tree.specs.Requests.{positions, is_enabled, can_be_current, asks_out_of_range, asks_invalid}
+use Rattle.oca_tree.specs.Typed.{changed_by}
+use Rattle.oca_tree.specs.Trees.{IsSoundValue, IsSoundSwitch}
 
 -- ---- changing an object
 

@@ -1,20 +1,12 @@
 -- What was stored of an object leaves its place as it is.
-use Rattle.std.proofs.Common.{◌≡◌, Bool, List, [], ◌∷◌, ◌++◌, refl, sym, ap, ◌∙◌, subst, arith, length-append}
-use Rattle.std.specs.Prelude.{Option, Some, None}
-use Rattle.std.specs.Option.{option_or, option_map}
-use Rattle.std.proofs.lemmas.List.Elements.{All-push}
-use Rattle.oca_tree.specs.declared.object.Object.{Object}
-use Rattle.oca_tree.specs.declared.object.Value.{Value}
+use Rattle.oca_tree.proofs.Words.{◌≡◌, Bool, List, [], ◌∷◌, ◌++◌, refl, sym, ap, ◌∙◌, subst, arith, length-append, Option, Some, None, option_or, option_map, All-push, Object, Value, Place, place_of, places, is_block_value, IsTree, IsSound, IsBuilt, flags_of, with_flags, IsText, IsOfItsTypes}
 use Rattle.oca_tree.specs.declared.object.Value.TheVariants as values
 use Rattle.oca_tree.specs.declared.start.Start.{Start}
 use Rattle.oca_tree.specs.declared.start.StartFault.TheVariants.{Add}
-use Rattle.oca_tree.specs.Places.{Place, place_of, places, is_block_value}
-use Rattle.oca_tree.specs.Trees.{IsTree, IsSound, IsSoundValue, IsSoundLock, IsBuilt}
+use Rattle.oca_tree.specs.Trees.{IsSoundValue, IsSoundLock}
 use Rattle.oca_tree.specs.Building.{add_fault, value_of}
-use Rattle.oca_tree.specs.Starts.{flags_of, with_flags, restored, start_fault, IsPlain, PlainAddsTheSame}
-use Rattle.oca_model.specs.Lists.{IsText}
+use Rattle.oca_tree.specs.Starts.{restored, start_fault, IsPlain, PlainAddsTheSame}
 use Rattle.oca_tree.specs.Copies.{names_in}
-use Rattle.oca_tree.specs.TypedLaws.{IsOfItsTypes}
 use Rattle.oca_tree.proofs.Adding.{places_push}
 
 flags_block : (flags : Option (List Bool)) (v : Value) → is_block_value (with_flags flags v) ≡ is_block_value v

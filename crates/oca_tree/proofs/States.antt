@@ -1,24 +1,16 @@
 -- The methods of a mute and of a polarity that ask for their state and set it.
-use Rattle.std.proofs.Common.{◌≡◌, ℕ, true, false, List, refl}
-use Rattle.std.specs.Prelude.{Some, None, Result, Ok, Err, OnOk}
+use Rattle.oca_tree.proofs.Words.{◌≡◌, ℕ, true, false, List, refl, Some, None, Result, Ok, Err, Known, Status, Peer, access, CommandFields, Object, Value, object_of, cannot_be, calls_a_write, MayCall}
+use Rattle.std.specs.Prelude.{OnOk}
 use Rattle.oca_types.specs.declared.class.Method.TheVariants as methods
-use Rattle.oca_types.specs.declared.class.MethodKind.TheVariants.{Known}
-use Rattle.oca_types.specs.declared.status.Status.{Status}
-use Rattle.oca_types.specs.declared.words.Peer.{Peer}
-use Rattle.oca_types.specs.Methods.{access, method_kind}
-use Rattle.oca_types.specs.Peers.{CommandFields}
+use Rattle.oca_types.specs.Methods.{method_kind}
 use Rattle.oca_model.specs.declared.reading.Reading.TheVariants as readings
 use Rattle.oca_model.specs.declared.value.Value.{Value as Setting}
 use Rattle.oca_model.specs.declared.value.Value.TheVariants as set
 use Rattle.oca_model.specs.Settings.{is_within, with_value}
-use Rattle.oca_tree.specs.declared.object.Object.{Object}
-use Rattle.oca_tree.specs.declared.object.Value.{Value}
 use Rattle.oca_tree.specs.declared.object.Value.TheVariants as values
 use Rattle.oca_tree.specs.Locks.{lock_refuses}
-use Rattle.oca_tree.specs.Objects.{class_of, object_of}
-use Rattle.oca_tree.specs.Requests.{cannot_be}
-use Rattle.oca_tree.specs.Written.{calls_a_write}
-use Rattle.oca_tree.specs.PrivateSteps.{has_state, MayCall}
+use Rattle.oca_tree.specs.Objects.{class_of}
+use Rattle.oca_tree.specs.PrivateSteps.{has_state}
 
 gets : (v : Value) → has_state v ≡ true → method_kind (class_of v) (record { level = 4; index = 1 }) ≡ Known methods.GetState (access methods.GetState)
 unfolding method_kind class_of

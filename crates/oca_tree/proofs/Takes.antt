@@ -1,25 +1,12 @@
 -- What a command can set an object to is a value of the object's class.
-use Rattle.std.proofs.Common.{◌≡◌, ℕ, Bool, true, false, cond, List, length, refl, sym, ap, ◌∙◌}
-use Rattle.std.specs.Prelude.{Some, Result, Ok, Err, ◌==◌, ◌&&◌}
-use Rattle.std.specs.Int.{w16}
-use Rattle.oca_types.specs.declared.class.Class.{Class}
+use Rattle.oca_tree.proofs.Words.{◌≡◌, ℕ, Bool, true, false, cond, List, length, refl, sym, ap, ◌∙◌, Some, Result, Ok, Err, ◌==◌, ◌&&◌, w16, Class, Method, MethodKind, Known, LeftOut, Unknown, unsigned_at, bool_at, text_at, Request, ValueFault, Malformed, list_of_most, pair_at, bare, counted, as_request, class_of_value, kind_at, asked_at}
 use Rattle.oca_types.specs.declared.class.Class.TheVariants as class
-use Rattle.oca_types.specs.declared.class.Method.{Method}
 use Rattle.oca_types.specs.declared.class.Method.TheVariants as methods
-use Rattle.oca_types.specs.declared.class.MethodKind.{MethodKind}
-use Rattle.oca_types.specs.declared.class.MethodKind.TheVariants.{Known, LeftOut, Unknown}
-use Rattle.oca_types.specs.Reading.{unsigned_at, bool_at, text_at}
-use Rattle.oca_model.specs.declared.request.Request.{Request}
 use Rattle.oca_model.specs.declared.request.Request.TheVariants as asked
 use Rattle.oca_model.specs.declared.value.Value.{Value}
-use Rattle.oca_model.specs.declared.value.ValueFault.{ValueFault}
-use Rattle.oca_model.specs.declared.value.ValueFault.TheVariants.{Malformed}
-use Rattle.oca_model.specs.Lists.{list_of_most}
-use Rattle.oca_model.specs.Parameters.{pair_at}
-use Rattle.oca_model.specs.Requests.{bare, counted, as_request, request_in}
-use Rattle.oca_model.specs.Values.{class_of_value, value_in, as_value, all}
+use Rattle.oca_model.specs.Requests.{request_in}
+use Rattle.oca_model.specs.Values.{value_in, as_value, all}
 use Rattle.oca_tree.specs.Objects.{class_of}
-use Rattle.oca_tree.specs.Execution.{kind_at, asked_at}
 use Rattle.oca_tree.specs.Settings.{EachSettingIsAValue}
 
 -- a value that was read is of the class

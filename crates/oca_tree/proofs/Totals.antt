@@ -1,24 +1,10 @@
 -- How many bytes are listed of what is in a block, as objects are added and changed.
-use Rattle.std.proofs.Common.{◌≡◌, ℕ, zero, suc, ◌+◌, ◌-◌, ◌*◌, ◌<◌, ◌≤◌, Bool, true, false, cond, List, [], ◌∷◌, ◌++◌, map, length, get_or, set, drop, refl, sym, ap, ◌∙◌, subst, arith, inl, inr, length-append, eqb-true, eq-eqb}
-use Rattle.std.specs.Prelude.{Some, None, ◌==◌, ◌||◌, ◌⊎◌}
-use Rattle.std.specs.List.{filter, flat_map, list_any}
-use Rattle.std.proofs.lemmas.List.{ext_get_or, drop_all, get_or-map, get_or-set_same, get_or-set_other, length-map}
-use Rattle.std.proofs.Math.ListN.{get_or-append}
-use Rattle.std.proofs.Math.Seq.{get_or-append_seam}
-use Rattle.std.proofs.lemmas.Bool.{cases_lt}
-use Rattle.std.specs.Int.{w32}
-use Rattle.oca_types.specs.Numbers.{unsigned_encoding}
-use Rattle.oca_types.specs.declared.class.Class.{Class}
+use Rattle.oca_tree.proofs.Words.{◌≡◌, ℕ, zero, suc, ◌+◌, ◌-◌, ◌*◌, ◌<◌, ◌≤◌, Bool, true, false, cond, List, [], ◌∷◌, ◌++◌, map, length, get_or, set, drop, refl, sym, ap, ◌∙◌, subst, arith, inl, inr, length-append, eqb-true, eq-eqb, Some, None, ◌==◌, ◌||◌, ◌⊎◌, filter, flat_map, list_any, get_or-map, length-map, get_or-append, get_or-append_seam, cases_lt, w32, unsigned_encoding, Class, class_identification_encoding, Lengths, Object, Place, place_of, places, reaches, IsTree, IsBuilt, IsFree, containers, is_listed, item_encoding, listed_bytes, lengths, nothing_listed}
+use Rattle.std.proofs.lemmas.List.{ext_get_or, drop_all, get_or-set_same, get_or-set_other}
 use Rattle.oca_types.specs.declared.class.Class.TheVariants as class
-use Rattle.oca_types.specs.Classes.{class_identification_encoding}
-use Rattle.oca_tree.specs.declared.lengths.Lengths.{Lengths}
-use Rattle.oca_tree.specs.declared.object.Object.{Object}
 use Rattle.oca_tree.specs.Objects.{class_of}
-use Rattle.oca_tree.specs.Places.{Place, place_of, places, reaches}
-use Rattle.oca_tree.specs.Trees.{IsTree, IsBuilt, IsFree}
 use Rattle.oca_tree.specs.Trees as trees
-use Rattle.oca_tree.specs.PrivateObjects.{containers}
-use Rattle.oca_tree.specs.PrivateSteps.{is_listed, item_encoding, listed_bytes, lengths_of, lengths, length_in, nothing_listed, LastIsNew}
+use Rattle.oca_tree.specs.PrivateSteps.{lengths_of, length_in, LastIsNew}
 use Rattle.oca_tree.proofs.Adding.{places_push}
 use Rattle.oca_tree.proofs.Chains.{length_places}
 use Rattle.oca_tree.proofs.Containers.{containers_length, container_below, itself, lies_nowhere, lies_above}

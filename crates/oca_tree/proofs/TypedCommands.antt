@@ -1,29 +1,14 @@
 -- What a command did whose status is OK; any other status leaves the tree.
-use Rattle.std.proofs.Common.{◌≡◌, ℕ, ◌≤◌, Bool, true, false, cond, List, length, refl, sym, ap, ◌∙◌, arith}
-use Rattle.std.specs.Prelude.{Option, Some, None, Result, Ok, Err, not, nat_lt, ◌||◌}
-use Rattle.std.proofs.lemmas.Bool.Decides.{nat_tests}
-use Rattle.oca_types.specs.declared.words.Peer.{Peer}
-use Rattle.oca_types.specs.declared.status.Status.{Status}
+use Rattle.oca_tree.proofs.Words.{◌≡◌, ℕ, ◌≤◌, Bool, true, false, cond, List, length, refl, sym, ap, ◌∙◌, arith, Option, Some, None, Result, Ok, Err, not, nat_lt, ◌||◌, nat_tests, Peer, Status, Access, Method, MethodKind, Known, LeftOut, Unknown, access, CommandFields, Request, ValueFault, Malformed, Unlisted, Object, object_of, fits_positions, TreeAndReply, kind_at, asked_at, is_write, is_failing, status_of, by_status, is_ok, CommandDid}
 use Rattle.oca_types.specs.declared.status.Status.TheVariants as statuses
-use Rattle.oca_types.specs.declared.class.Access.{Access}
-use Rattle.oca_types.specs.declared.class.Method.{Method}
-use Rattle.oca_types.specs.declared.class.MethodKind.{MethodKind}
-use Rattle.oca_types.specs.declared.class.MethodKind.TheVariants.{Known, LeftOut, Unknown}
-use Rattle.oca_types.specs.Methods.{access}
-use Rattle.oca_types.specs.Peers.{CommandFields}
-use Rattle.oca_model.specs.declared.request.Request.{Request}
-use Rattle.oca_model.specs.declared.value.ValueFault.{ValueFault}
-use Rattle.oca_model.specs.declared.value.ValueFault.TheVariants.{Malformed, Unlisted}
 use Rattle.oca_model.specs.Answers.{answer_encoding}
 use Rattle.oca_model.specs.Requests.{request_in}
-use Rattle.oca_tree.specs.declared.object.Object.{Object}
-use Rattle.oca_tree.specs.Objects.{class_of, object_of}
+use Rattle.oca_tree.specs.Objects.{class_of}
 use Rattle.oca_tree.specs.Locks.{lock_refuses}
-use Rattle.oca_tree.specs.Requests.{fits_positions, asks_out_of_range, asks_invalid}
-use Rattle.oca_tree.specs.Execution.{TreeAndReply, kind_at, asked_at, is_malformed, sets_unlisted, is_write, is_failing, status_of, by_status, execution}
+use Rattle.oca_tree.specs.Requests.{asks_out_of_range, asks_invalid}
+use Rattle.oca_tree.specs.Execution.{is_malformed, sets_unlisted, execution}
 use Rattle.oca_tree.specs.Typed.{answer_given}
-use Rattle.oca_tree.specs.Written.{is_ok}
-use Rattle.oca_tree.specs.TypedLaws.{CommandDid, CommandsAreTyped, RefusedKeepsTree, FailingRefusesWrites}
+use Rattle.oca_tree.specs.TypedLaws.{CommandsAreTyped, RefusedKeepsTree, FailingRefusesWrites}
 use Rattle.oca_tree.proofs.Executing.{known_access}
 
 not_fits : (b : Bool) → not b ≡ false → b ≡ true

@@ -1,43 +1,25 @@
 -- What an object answers is an answer of its class, of the kind that the method has.
-use Rattle.std.proofs.Common.{◌≡◌, ℕ, zero, suc, ◌+◌, ◌*◌, ◌<◌, ◌≤◌, Bool, true, false, cond, List, [], ◌∷◌, ◌++◌, length, refl, sym, ◌∙◌, subst, arith, lit<, lit≤, length-append}
-use Rattle.std.specs.Prelude.{Result, Ok, Err, map, slice_index_or, ◌==◌, ◌&&◌}
-use Rattle.std.specs.List.{All, flat_map}
-use Rattle.std.specs.Option.{option_map_or}
-use Rattle.std.specs.Int.{w16, w32}
-use Rattle.std.proofs.lemmas.List.{length-map}
-use Rattle.std.proofs.lemmas.List.Folds.{flat_map-map}
+use Rattle.oca_tree.proofs.Words.{◌≡◌, ℕ, zero, suc, ◌+◌, ◌*◌, ◌<◌, ◌≤◌, Bool, true, false, cond, List, [], ◌∷◌, ◌++◌, length, refl, sym, ◌∙◌, subst, arith, lit<, lit≤, length-append, Result, Ok, Err, ◌==◌, ◌&&◌, All, flat_map, option_map_or, w16, w32, length-map, flat_map-map, IsUtf8-nil, chars-nil, Class, Method, class_identification_encoding, unsigned_encoding, unsigned_at, bool_at, text_at, Request, ValueFault, Malformed, IsText, Each, list_encoding, list_of_most, member_encoding, descendant_encoding, bare, as_request, counted, pair_at, Object, members, descendants, places, reaches, IsSound, member_of, descendant_of, IsOfItsTypes}
+use Rattle.std.specs.Prelude.{map, slice_index_or}
 use Rattle.std.proofs.lemmas.List.Elements.{All-filter, All-head, All-tail}
-use Rattle.std.proofs.lemmas.Str.{IsUtf8-nil, chars-nil}
-use Rattle.oca_types.specs.declared.class.Class.{Class}
 use Rattle.oca_types.specs.declared.class.Class.TheVariants as class
-use Rattle.oca_types.specs.declared.class.Method.{Method}
 use Rattle.oca_types.specs.declared.class.Method.TheVariants as methods
-use Rattle.oca_types.specs.Classes.{class_identification_encoding}
-use Rattle.oca_types.specs.Numbers.{unsigned_encoding}
-use Rattle.oca_types.specs.Reading.{unsigned_at, bool_at, text_at}
 use Rattle.oca_model.specs.declared.answer.Answer.{Answer}
 use Rattle.oca_model.specs.declared.answer.Answer.TheVariants as answers
 use Rattle.oca_model.specs.declared.answer.Shape.{Shape}
 use Rattle.oca_model.specs.declared.answer.Shape.TheVariants as shape
-use Rattle.oca_model.specs.declared.request.Request.{Request}
 use Rattle.oca_model.specs.declared.request.Request.TheVariants as asked
-use Rattle.oca_model.specs.declared.value.ValueFault.{ValueFault}
-use Rattle.oca_model.specs.declared.value.ValueFault.TheVariants.{Malformed}
 use Rattle.oca_model.specs.Answers.{answer_encoding, shape_of, shape_of_answer, IsAnswer}
-use Rattle.oca_model.specs.Lists.{IsText, Each, list_encoding, list_of_most}
-use Rattle.oca_model.specs.Members.{member_encoding, descendant_encoding, IsMember, IsDescendant}
-use Rattle.oca_model.specs.Requests.{bare, as_request, counted, request_in}
-use Rattle.oca_model.specs.Parameters.{pair_at}
+use Rattle.oca_model.specs.Members.{IsMember, IsDescendant}
+use Rattle.oca_model.specs.Requests.{request_in}
 use Rattle.oca_model.specs.Values.{value_in, all as model_all}
-use Rattle.oca_tree.specs.declared.object.Object.{Object}
 use Rattle.oca_tree.specs.declared.object.Value.{Value as Held}
 use Rattle.oca_tree.specs.declared.object.Value.TheVariants as held
 use Rattle.oca_tree.specs.Copies.{names_in}
-use Rattle.oca_tree.specs.Objects.{class_of, members, descendants}
-use Rattle.oca_tree.specs.Places.{places, reaches}
-use Rattle.oca_tree.specs.Trees.{IsSound, IsSoundValue}
-use Rattle.oca_tree.specs.Typed.{reading_held, answer_given, of_positions, member_of, descendant_of}
-use Rattle.oca_tree.specs.TypedLaws.{IsOfItsTypes, IsRight, AnswersAreRight}
+use Rattle.oca_tree.specs.Objects.{class_of}
+use Rattle.oca_tree.specs.Trees.{IsSoundValue}
+use Rattle.oca_tree.specs.Typed.{reading_held, answer_given, of_positions}
+use Rattle.oca_tree.specs.TypedLaws.{IsRight, AnswersAreRight}
 use Rattle.oca_tree.proofs.Belonging.{known_belongs, belongs, has_state, has_positions, has_setting}
 
 -- An answer of the class, and of this kind.

@@ -1,31 +1,18 @@
 -- What holds of the objects after each change: they are a tree, their texts are texts, and their classes stay.
-use Rattle.std.proofs.Common.{◌≡◌, ℕ, zero, suc, ◌==◌, Bool, true, false, cond, List, [], ◌∷◌, length, map, set, Option, Some, None, refl, sym, ap, ◌∙◌, subst, eqb-true, ◌≢◌, ◌⊎◌, inl, inr, ◌++◌, lit<, lit≤}
-use Rattle.std.specs.List.{All, AllByRecursion}
+use Rattle.oca_tree.proofs.Words.{◌≡◌, ℕ, zero, suc, Bool, true, false, cond, List, [], ◌∷◌, length, map, set, refl, sym, ap, ◌∙◌, subst, eqb-true, inl, inr, ◌++◌, lit<, lit≤, All, IsUtf8-nil, chars-nil, Class, Status, Peer, CommandFields, IsText, Each, Request, Object, SetFault, FrontFault, ToLabel, ToEnabled, ToUnlocked, ToFailing, front_fault_in, changed_where, failing_where, Place, asked_at, kind_at, status_of, value_changed_by, is_ok, front, fault_at, set_fault_in, set_where, has_number, object_of, with_object, without_lock_of, is_held_by, IsTree, IsSound, IsOfItsTypes, CommandDid}
+use Rattle.std.proofs.Common.{◌==◌, Option, Some, None, ◌≢◌, ◌⊎◌}
+use Rattle.std.specs.List.{AllByRecursion}
 use Rattle.std.proofs.lemmas.Bool.{both_ways, eq-eqb}
 use Rattle.std.proofs.lemmas.List.Elements.{All-from_recursion, recursion_from_All}
-use Rattle.std.proofs.lemmas.Str.{IsUtf8-nil, chars-nil}
-use Rattle.oca_types.specs.declared.class.Class.{Class}
-use Rattle.oca_types.specs.declared.status.Status.{Status}
 use Rattle.oca_types.specs.declared.status.Status.TheVariants as statuses
-use Rattle.oca_types.specs.declared.words.Peer.{Peer}
-use Rattle.oca_types.specs.Peers.{CommandFields}
-use Rattle.oca_model.specs.Lists.{IsText, Each}
-use Rattle.oca_model.specs.declared.request.Request.{Request}
 use Rattle.oca_model.specs.declared.request.Request.TheVariants as requests
 use Rattle.oca_model.specs.declared.value.Value.{Value as Setting}
-use Rattle.oca_tree.specs.declared.object.Object.{Object}
-use Rattle.oca_tree.specs.declared.setting.SetFault.{SetFault}
-use Rattle.oca_tree.specs.declared.front.FrontFault.{FrontFault}
-use Rattle.oca_tree.specs.LocalChanges.{LocalChange, ToValue, ToLabel, ToEnabled, ToUnlocked, ToFailing, front_fault_in, front_fault, changed_where, after_request, failing_where, after_failing, after_change}
-use Rattle.oca_tree.specs.Places.{Place}
-use Rattle.oca_tree.specs.Execution.{execution, asked_at, kind_at, status_of}
-use Rattle.oca_tree.specs.Typed.{changed_by, value_changed_by}
-use Rattle.oca_tree.specs.Written.{is_ok}
-use Rattle.oca_tree.specs.Settings.{front, fault_at, set_fault_in, set_fault, set_where, after_set}
-use Rattle.oca_tree.specs.Objects.{class_of, has_number, object_of, with_object}
-use Rattle.oca_tree.specs.Locks.{without_lock_of, is_held_by, released}
-use Rattle.oca_tree.specs.Trees.{IsTree, IsSound}
-use Rattle.oca_tree.specs.TypedLaws.{IsOfItsTypes, CommandDid}
+use Rattle.oca_tree.specs.LocalChanges.{LocalChange, ToValue, front_fault, after_request, after_failing, after_change}
+use Rattle.oca_tree.specs.Execution.{execution}
+use Rattle.oca_tree.specs.Typed.{changed_by}
+use Rattle.oca_tree.specs.Settings.{set_fault, after_set}
+use Rattle.oca_tree.specs.Objects.{class_of}
+use Rattle.oca_tree.specs.Locks.{released}
 use Rattle.oca_tree.proofs.Fronts.{set_sound}
 use Rattle.oca_tree.proofs.LocalChanges.{label_sound, enabled_sound, unlock_sound, label_text, told, told_sound}
 use Rattle.oca_tree.proofs.TypedCommands.{commands_typed, refusals_change, same_end}

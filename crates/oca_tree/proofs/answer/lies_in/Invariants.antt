@@ -1,6 +1,4 @@
-use Rattle.std.proofs.Common.{◌≡◌, ◌+◌, ◌<◌, ◌≤◌, length, get_or, true}
-use Rattle.oca_tree.specs.declared.object.Object.{Object}
-use Rattle.oca_tree.specs.PrivateSteps.{is_listed}
+use Rattle.oca_tree.proofs.Words.{◌≡◌, ◌+◌, ◌<◌, ◌≤◌, length, get_or, true, Object, is_listed}
 use Rattle.oca_tree.proofs.answer.lies_in.Given as goal
 
 -- the object lies in the block as the one that was reached does, and each step goes to an earlier object

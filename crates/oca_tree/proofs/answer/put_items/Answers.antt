@@ -1,7 +1,4 @@
-use Rattle.std.specs.List.{flat_map}
-use Rattle.std.proofs.Common.{◌≡◌, ◌<◌, ◌++◌, length, sym, ap, ◌∙◌, arith, true, false}
-use Rattle.std.proofs.lemmas.Result.{err_from_is_err_and}
-use Rattle.oca_tree.specs.PrivateSteps.{is_listed, item_encoding}
+use Rattle.oca_tree.proofs.Words.{flat_map, ◌≡◌, ◌<◌, ◌++◌, length, sym, ap, ◌∙◌, arith, true, false, err_from_is_err_and, is_listed, item_encoding}
 use Rattle.oca_tree.proofs.Listing.{here_listed, all_behind}
 use Rattle.oca_tree.proofs.Puts.{put_step_kept, put_step_passed, put_full_kept, count_kept, count_passed}
 use Rattle.oca_tree.proofs.answer.put_items.Goals as goal

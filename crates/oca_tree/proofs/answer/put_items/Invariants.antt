@@ -1,6 +1,4 @@
-use Rattle.std.proofs.Common.{◌≡◌, ◌+◌, ◌≤◌, ◌++◌, drop, length}
-use Rattle.std.specs.List.{flat_map, filter}
-use Rattle.oca_tree.specs.PrivateSteps.{is_listed, item_encoding}
+use Rattle.oca_tree.proofs.Words.{◌≡◌, ◌+◌, ◌≤◌, ◌++◌, drop, length, flat_map, filter, is_listed, item_encoding}
 use Rattle.oca_tree.proofs.answer.put_items.Given as goal
 
 -- what is put so far and what is left make the whole, and the same of how many there are

@@ -1,9 +1,4 @@
-use Rattle.std.proofs.Common.{◌+◌, ◌++◌, take, drop, sym, ap, ◌∙◌, refl, arith}
-use Rattle.std.specs.List.{filter, flat_map}
-use Rattle.std.specs.Int.{w16}
-use Rattle.oca_types.specs.Numbers.{unsigned_encoding}
-use Rattle.oca_tree.specs.PrivateSteps.{is_listed, item_encoding, listed_bytes}
-use Rattle.oca_tree.specs.declared.object.Object.{Object}
+use Rattle.oca_tree.proofs.Words.{◌+◌, ◌++◌, take, drop, sym, ap, ◌∙◌, refl, arith, filter, flat_map, w16, unsigned_encoding, is_listed, item_encoding, listed_bytes, Object}
 use Rattle.oca_tree.proofs.Listing.{counted_over}
 use Rattle.oca_tree.proofs.answer.put_members.Goals as goal
 

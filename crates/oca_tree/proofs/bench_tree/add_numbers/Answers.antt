@@ -1,6 +1,5 @@
 -- Nothing refuses a number of the bench device: what each addition finds is computed.
-use Rattle.std.proofs.Common.{◌≡◌, refl, false, arith}
-use Rattle.std.specs.Prelude.{nat_le}
+use Rattle.oca_tree.proofs.Words.{◌≡◌, refl, false, arith, nat_le}
 use Rattle.oca_model.specs.Settings.{is_within}
 use Rattle.oca_tree.specs.Building.{value_of, add_fault, is_bad_value}
 use Rattle.oca_tree.specs.Places.{chain_within}

@@ -1,6 +1,4 @@
-use Rattle.std.proofs.Common.{◌≡◌, List, [], ◌∷◌, ◌++◌, refl, ap}
-use Rattle.oca_tree.specs.declared.object.Object.{Object}
-use Rattle.oca_tree.specs.Objects.{Store}
+use Rattle.oca_tree.proofs.Words.{◌≡◌, List, [], ◌∷◌, ◌++◌, refl, ap, Object, Store}
 use Rattle.oca_tree.specs.Building.{value_of}
 use Rattle.oca_tree.proofs.bench_tree.add_strip.Goals as goal
 

@@ -1,6 +1,5 @@
-use Rattle.std.proofs.Common.{◌≡◌, suc, ◌+◌, ◌*◌, ◌++◌, ap, ◌∙◌, arith, append_assoc}
-use Rattle.oca_tree.specs.Objects.{Store}
-use Rattle.oca_tree.specs.Bench.{bench_objects, strip, strips, bench_with}
+use Rattle.oca_tree.proofs.Words.{◌≡◌, suc, ◌+◌, ◌*◌, ◌++◌, ap, ◌∙◌, arith, append_assoc, Store, bench_with}
+use Rattle.oca_tree.specs.Bench.{bench_objects, strip, strips}
 use Rattle.oca_tree.proofs.bench_tree.bench_with_channels.Goals as goal
 
 pub loop-channel-preserved : goal.loop-channel-preserved

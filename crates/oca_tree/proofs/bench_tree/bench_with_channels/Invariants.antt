@@ -1,5 +1,4 @@
-use Rattle.std.proofs.Common.{◌≡◌}
-use Rattle.oca_tree.specs.Bench.{bench_with}
+use Rattle.oca_tree.proofs.Words.{◌≡◌, bench_with}
 use Rattle.oca_tree.proofs.bench_tree.bench_with_channels.Given as goal
 
 -- the strips so far

@@ -1,9 +1,5 @@
-use Rattle.std.proofs.Common.{◌≡◌, ◌≤◌, ◌<◌, refl, sym, length, arith, false, true}
-use Rattle.std.specs.Prelude.{◌==◌, None}
-use Rattle.oca_tree.specs.declared.object.Object.{Object}
-use Rattle.oca_tree.specs.Building.{is_bad_value, value_of, has_bad_name}
-use Rattle.oca_tree.specs.Places.{places, is_block, depth}
-use Rattle.oca_tree.specs.Trees.{IsSound}
+use Rattle.oca_tree.proofs.Words.{◌≡◌, ◌≤◌, ◌<◌, refl, sym, length, arith, false, true, ◌==◌, None, Object, has_bad_name, places, is_block, depth, IsSound}
+use Rattle.oca_tree.specs.Building.{is_bad_value, value_of}
 use Rattle.oca_tree.proofs.Adding.{no_fault, first_object, added_tree}
 use Rattle.oca_tree.proofs.TypesKept.{empty_text}
 use Rattle.oca_tree.proofs.builder.object_for.Goals as goal

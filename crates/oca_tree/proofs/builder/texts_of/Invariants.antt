@@ -1,5 +1,4 @@
-use Rattle.std.proofs.Common.{◌≡◌, map, take, length}
-use Rattle.oca_model.specs.Lists.{IsText, Each}
+use Rattle.oca_tree.proofs.Words.{◌≡◌, map, take, length, IsText, Each}
 use Rattle.oca_tree.proofs.builder.texts_of.Given as goal
 
 -- the texts so far

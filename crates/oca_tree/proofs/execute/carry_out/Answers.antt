@@ -1,11 +1,8 @@
-use Rattle.std.proofs.Common.{[], sym, refl, ap, ◌∙◌, arith, set}
-use Rattle.std.specs.Prelude.{Some}
-use Rattle.std.proofs.lemmas.Result.{err_from_is_err_and}
-use Rattle.oca_types.specs.Peers.{fields_of}
+use Rattle.oca_tree.proofs.Words.{[], sym, refl, ap, ◌∙◌, arith, set, Some, err_from_is_err_and, fields_of, Set}
 use Rattle.oca_types.specs.declared.class.Method.TheVariants.{GetState, SetState}
 use Rattle.oca_model.specs.HeldRequests.{asked_by}
 use Rattle.oca_model.specs.Requests.{request_in}
-use Rattle.oca_model.specs.declared.request.Request.TheVariants.{Get, Set}
+use Rattle.oca_model.specs.declared.request.Request.TheVariants.{Get}
 use Rattle.oca_tree.specs.Requests.{asks_out_of_range}
 use Rattle.oca_tree.specs.Typed.{answer_given, changed_by}
 use Rattle.oca_tree.proofs.Plain.{plain}

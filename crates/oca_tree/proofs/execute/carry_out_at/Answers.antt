@@ -1,9 +1,6 @@
-use Rattle.std.proofs.Common.{sym, ap, ◌∙◌, refl, arith, set}
-use Rattle.std.proofs.lemmas.Result.{err_from_is_err_and}
-use Rattle.oca_types.specs.Peers.{fields_of}
+use Rattle.oca_tree.proofs.Words.{sym, ap, ◌∙◌, refl, arith, set, err_from_is_err_and, fields_of, is_ok}
 use Rattle.oca_model.specs.HeldRequests.{asked_by}
 use Rattle.oca_tree.specs.Typed.{changed_by}
-use Rattle.oca_tree.specs.Written.{is_ok}
 use Rattle.oca_tree.proofs.Executing.{exec_refused, found_at, full_at, failed_at, done_at, tree_at}
 use Rattle.oca_tree.proofs.execute.carry_out_at.Goals as goal
 

@@ -1,5 +1,4 @@
-use Rattle.std.proofs.Common.{sym}
-use Rattle.oca_types.specs.Peers.{fields_of}
+use Rattle.oca_tree.proofs.Words.{sym, fields_of}
 use Rattle.oca_model.specs.HeldRequests.{asked_by}
 use Rattle.oca_tree.proofs.Executing.{understood, refuses}
 use Rattle.oca_tree.proofs.execute.check_request.Goals as goal

@@ -1,5 +1,4 @@
-use Rattle.std.proofs.Common.{sym}
-use Rattle.oca_types.specs.Peers.{fields_of}
+use Rattle.oca_tree.proofs.Words.{sym, fields_of}
 use Rattle.oca_tree.proofs.Executing.{setting_not_understood, setting_ok, setting_refused}
 use Rattle.oca_tree.proofs.execute.check_setting.Goals as goal
 

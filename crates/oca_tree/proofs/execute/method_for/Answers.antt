@@ -1,5 +1,4 @@
-use Rattle.std.proofs.Common.{sym, ap, ◌∙◌}
-use Rattle.oca_types.specs.declared.class.MethodKind.TheVariants.{Known}
+use Rattle.oca_tree.proofs.Words.{sym, ap, ◌∙◌, Known}
 use Rattle.oca_tree.specs.Objects.{class_of}
 use Rattle.oca_tree.specs.Locks.{lock_refuses}
 use Rattle.oca_tree.proofs.Executing.{known_access}

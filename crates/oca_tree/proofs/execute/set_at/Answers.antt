@@ -1,8 +1,5 @@
-use Rattle.std.proofs.Common.{[], sym, ap, ◌∙◌, refl, arith, set}
-use Rattle.std.proofs.lemmas.Result.{err_from_is_err_and}
-use Rattle.oca_types.specs.Peers.{fields_of}
+use Rattle.oca_tree.proofs.Words.{[], sym, ap, ◌∙◌, refl, arith, set, err_from_is_err_and, fields_of, Set}
 use Rattle.oca_model.specs.HeldRequests.{asked_by}
-use Rattle.oca_model.specs.declared.request.Request.TheVariants.{Set}
 use Rattle.oca_tree.specs.Typed.{changed_by}
 use Rattle.oca_tree.proofs.Executing.{exec_refused, found_at, every_at, fails_to_set, works, failed_at, done_at, tree_at, nothing_put}
 use Rattle.oca_tree.proofs.execute.set_at.Goals as goal

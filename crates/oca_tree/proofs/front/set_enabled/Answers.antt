@@ -1,8 +1,7 @@
-use Rattle.std.proofs.Common.{sym, ap, ◌∙◌, set, refl}
+use Rattle.oca_tree.proofs.Words.{sym, ap, ◌∙◌, set, refl, front}
 use Rattle.oca_model.specs.HeldRequests.{asked_by}
 use Rattle.oca_model.specs.declared.request.Request.TheVariants as asked
 use Rattle.oca_tree.specs.Requests.{asks_out_of_range}
-use Rattle.oca_tree.specs.Settings.{front}
 use Rattle.oca_tree.specs.Typed.{changed_by}
 use Rattle.oca_tree.proofs.LocalChanges.{no_object, unchanged, object_there, stands_there, fault_there, changed_there, tree_there, enabled_sound}
 use Rattle.oca_tree.proofs.front.set_enabled.Goals as goal

@@ -1,8 +1,6 @@
-use Rattle.std.proofs.Common.{sym, ap, ◌∙◌, set, refl}
-use Rattle.std.specs.Prelude.{Some, None, if◌then◌else◌}
+use Rattle.oca_tree.proofs.Words.{sym, ap, ◌∙◌, set, refl, Some, None, if◌then◌else◌, front}
 use Rattle.oca_model.specs.declared.request.Request.TheVariants as asked
 use Rattle.oca_tree.specs.declared.front.FrontFault.TheVariants as faults
-use Rattle.oca_tree.specs.Settings.{front}
 use Rattle.oca_tree.specs.Typed.{changed_by}
 use Rattle.oca_tree.proofs.LocalChanges.{no_object, unchanged, object_there, stands_there, fault_there, changed_there, tree_there, label_sound, good_label, long_label}
 use Rattle.oca_tree.proofs.front.set_label.Goals as goal

@@ -1,10 +1,8 @@
-use Rattle.std.proofs.Common.{sym, ap, ◌∙◌, set, refl}
-use Rattle.std.specs.Prelude.{Some, None, not, if◌then◌else◌}
+use Rattle.oca_tree.proofs.Words.{sym, ap, ◌∙◌, set, refl, Some, None, not, if◌then◌else◌, front}
 use Rattle.oca_model.specs.HeldRequests.{asked_by}
 use Rattle.oca_model.specs.declared.request.Request.TheVariants as asked
 use Rattle.oca_tree.specs.declared.front.FrontFault.TheVariants as faults
 use Rattle.oca_tree.specs.Requests.{asks_out_of_range}
-use Rattle.oca_tree.specs.Settings.{front}
 use Rattle.oca_tree.specs.Typed.{changed_by}
 use Rattle.oca_tree.proofs.LocalChanges.{no_object, unchanged, fault_there, changed_there, tree_there, unlock_sound}
 use Rattle.oca_tree.proofs.front.unlock.Goals as goal

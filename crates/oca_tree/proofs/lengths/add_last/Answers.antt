@@ -1,12 +1,5 @@
-use Rattle.std.proofs.Common.{◌+◌, ◌-◌, ◌++◌, length, get_or, refl, sym, ap, ◌∙◌, arith}
-use Rattle.std.specs.Prelude.{None}
-use Rattle.std.specs.Int.{w32}
-use Rattle.std.proofs.Math.ListN.{length-set}
+use Rattle.oca_tree.proofs.Words.{◌+◌, ◌-◌, ◌++◌, length, get_or, refl, sym, ap, ◌∙◌, arith, None, w32, length-set, unsigned_encoding, class_identification_encoding, Lengths, nothing_listed}
 use Rattle.std.proofs.lemmas.List.{get_or_default}
-use Rattle.oca_types.specs.Numbers.{unsigned_encoding}
-use Rattle.oca_types.specs.Classes.{class_identification_encoding}
-use Rattle.oca_tree.specs.declared.lengths.Lengths.{Lengths}
-use Rattle.oca_tree.specs.PrivateSteps.{nothing_listed}
 use Rattle.oca_tree.proofs.Containers.{container_below}
 use Rattle.oca_tree.proofs.Totals.{begun_at, containers_long, member_end, above_end, there, member_few, above_few, member_step, above_step, members_kept, descendants_kept, all_counted}
 use Rattle.oca_tree.proofs.lengths.add_last.Goals as goal

@@ -1,7 +1,5 @@
-use Rattle.std.proofs.Common.{◌<◌, length, ap, ◌∙◌, arith}
+use Rattle.oca_tree.proofs.Words.{◌<◌, length, ap, ◌∙◌, arith, values, Object}
 use Rattle.std.proofs.lemmas.Grind.{common_steps}
-use Rattle.indexmap.specs.IndexMap.{values}
-use Rattle.oca_tree.specs.declared.object.Object.{Object}
 use Rattle.oca_tree.specs.Locks.{released}
 use Rattle.oca_tree.proofs.Keyed.{keyed-set_value_at, length-set_value, release_step, released_ono, values_length}
 use Rattle.oca_tree.proofs.Locking.{lock_counted_get, lock_written_get}

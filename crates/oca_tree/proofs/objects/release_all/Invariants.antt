@@ -1,6 +1,5 @@
-use Rattle.std.proofs.Common.{◌≡◌, ◌++◌, drop, take, map, length}
-use Rattle.indexmap.specs.IndexMap.{values, spare, index_map_len}
-use Rattle.oca_tree.specs.Locks.{without_lock_of, lock_count}
+use Rattle.oca_tree.proofs.Words.{◌≡◌, ◌++◌, drop, take, map, length, values, without_lock_of, lock_count}
+use Rattle.indexmap.specs.IndexMap.{spare, index_map_len}
 use Rattle.oca_tree.specs.PrivateObjects.{IsMap}
 use Rattle.oca_tree.proofs.objects.release_all.Given as goal
 

@@ -1,7 +1,4 @@
-use Rattle.std.proofs.Common.{sym, ap, ◌∙◌, eqb-true}
-use Rattle.std.specs.Prelude.{Some}
-use Rattle.oca_tree.specs.Objects.{has_number}
-use Rattle.oca_tree.specs.Places.{places, depth}
+use Rattle.oca_tree.proofs.Words.{sym, ap, ◌∙◌, eqb-true, Some, has_number, places, depth}
 use Rattle.oca_tree.proofs.Chains.{block_there, block_absent}
 use Rattle.oca_tree.proofs.Positions.{find_passes}
 use Rattle.oca_tree.proofs.place.block_depth.Goals as goal

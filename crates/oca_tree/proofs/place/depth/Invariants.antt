@@ -1,6 +1,4 @@
-use Rattle.std.proofs.Common.{◌≡◌, ◌+◌, ◌<◌, ◌≤◌, suc, length, get_or}
-use Rattle.oca_tree.specs.declared.object.Object.{Object}
-use Rattle.oca_tree.specs.Places.{places, depth}
+use Rattle.oca_tree.proofs.Words.{◌≡◌, ◌+◌, ◌<◌, ◌≤◌, suc, length, get_or, Object, places, depth}
 use Rattle.oca_tree.proofs.place.depth.Given as goal
 
 -- the steps so far and the depth from here on are all, and each step goes to an earlier object

@@ -1,5 +1,4 @@
-use Rattle.std.proofs.Common.{◌≡◌, length, map}
-use Rattle.oca_tree.specs.Copies.{unlocked}
+use Rattle.oca_tree.proofs.Words.{◌≡◌, length, map, unlocked}
 use Rattle.oca_tree.proofs.same.same_objects.Given as goal
 
 abbrev pub invariant-loop-first : goal.invariant-loop-first

@@ -1,10 +1,7 @@
-use Rattle.std.proofs.Common.{sym, ap, ◌∙◌, set}
+use Rattle.oca_tree.proofs.Words.{sym, ap, ◌∙◌, set, err_from_is_err_and, Object, front}
 use Rattle.oca_model.specs.HeldRequests.{asked_by}
-use Rattle.std.proofs.lemmas.Result.{err_from_is_err_and}
-use Rattle.oca_tree.specs.declared.object.Object.{Object}
 use Rattle.oca_model.specs.declared.request.Request.TheVariants as asks
 use Rattle.oca_tree.specs.Typed.{changed_by}
-use Rattle.oca_tree.specs.Settings.{front}
 use Rattle.oca_tree.proofs.Fronts.{fault_none, unset, fault_there, range_there, set_there, tree_there}
 use Rattle.oca_tree.proofs.setting.set.Goals as goal
 

@@ -1,7 +1,4 @@
-use Rattle.std.proofs.Common.{ap, arith}
-use Rattle.std.proofs.lemmas.List.Elements.{All-push}
-use Rattle.oca_tree.specs.Objects.{Store}
-use Rattle.oca_tree.specs.TypedLaws.{IsOfItsTypes}
+use Rattle.oca_tree.proofs.Words.{ap, arith, All-push, Store, IsOfItsTypes}
 use Rattle.oca_tree.proofs.builder.TreeBuilder.add.Goals as goal
 
 pub invariant_of-self : goal.invariant_of-self

@@ -1,8 +1,4 @@
-use Rattle.std.proofs.Common.{ap, ◌∙◌, arith}
-use Rattle.std.proofs.lemmas.List.Elements.{All-push}
-use Rattle.oca_tree.specs.Objects.{Store}
-use Rattle.oca_tree.specs.Places.{place_of}
-use Rattle.oca_tree.specs.TypedLaws.{IsOfItsTypes}
+use Rattle.oca_tree.proofs.Words.{ap, ◌∙◌, arith, All-push, Store, place_of, IsOfItsTypes}
 use Rattle.oca_tree.proofs.Starting.{restored_place, restored_sound, restored_typed, replaced_tree}
 use Rattle.oca_tree.proofs.builder.TreeBuilder.add_with.Goals as goal
 

@@ -1,7 +1,5 @@
-use Rattle.std.proofs.Common.{[], ◌∷◌, ◌++◌, refl, ◌∙◌, ap, arith}
-use Rattle.oca_tree.specs.Objects.{Store}
-use Rattle.std.proofs.lemmas.List.Elements.{All-nil, All-push}
-use Rattle.oca_tree.specs.TypedLaws.{IsOfItsTypes}
+use Rattle.oca_tree.proofs.Words.{[], ◌∷◌, ◌++◌, refl, ◌∙◌, ap, arith, Store, All-push, IsOfItsTypes}
+use Rattle.std.proofs.lemmas.List.Elements.{All-nil}
 use Rattle.oca_tree.proofs.Adding.{alone_tree}
 use Rattle.oca_tree.proofs.builder.TreeBuilder.holding.Goals as goal
 

@@ -1,11 +1,5 @@
-use Rattle.std.proofs.Common.{sym, ap, ◌∙◌, arith}
-use Rattle.indexmap.specs.IndexMap.{values}
+use Rattle.oca_tree.proofs.Words.{sym, ap, ◌∙◌, arith, values, lock_count, Store, Place, Class, containers}
 use Rattle.oca_model.specs.HeldRequests.{asked_by}
-use Rattle.oca_tree.specs.Locks.{lock_count}
-use Rattle.oca_tree.specs.Objects.{Store}
-use Rattle.oca_tree.specs.Places.{Place}
-use Rattle.oca_types.specs.declared.class.Class.{Class}
-use Rattle.oca_tree.specs.PrivateObjects.{containers}
 use Rattle.oca_tree.proofs.Keyed.{keyed-set_value_at, length-set_value, shapes_kept, change_there, same_ono}
 use Rattle.oca_tree.proofs.Locking.{locks_few, lock_counted_get, lock_written_get}
 use Rattle.oca_tree.proofs.Sound.{shape_of, changed_shape, same_places}

@@ -1,7 +1,4 @@
-use Rattle.std.proofs.Common.{[], length, ap, ◌∙◌, arith}
-use Rattle.indexmap.specs.IndexMap.{values}
-use Rattle.oca_tree.specs.Objects.{Store}
-use Rattle.oca_tree.specs.Places.{places}
+use Rattle.oca_tree.proofs.Words.{[], length, ap, ◌∙◌, arith, values, Store, places}
 use Rattle.oca_tree.proofs.Chains.{length_places}
 use Rattle.oca_tree.proofs.Containers.{containers_length}
 use Rattle.oca_tree.proofs.objects.Objects.container_at.Goals as goal

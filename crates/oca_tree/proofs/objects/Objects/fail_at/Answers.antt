@@ -1,9 +1,4 @@
-use Rattle.std.proofs.Common.{sym, ap, ◌∙◌, arith}
-use Rattle.oca_tree.specs.Locks.{lock_count, lock_of_one}
-use Rattle.oca_tree.specs.Objects.{Store}
-use Rattle.oca_tree.specs.Places.{Place}
-use Rattle.oca_types.specs.declared.class.Class.{Class}
-use Rattle.oca_tree.specs.PrivateObjects.{containers}
+use Rattle.oca_tree.proofs.Words.{sym, ap, ◌∙◌, arith, lock_count, lock_of_one, Store, Place, Class, containers}
 use Rattle.oca_tree.proofs.Keyed.{keyed-set_value_at, length-set_value, shapes_kept, told_there, same_ono}
 use Rattle.oca_tree.proofs.Locking.{lock_written_get}
 use Rattle.oca_tree.proofs.Sound.{shape_of, same_places}

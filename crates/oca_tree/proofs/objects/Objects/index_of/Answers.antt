@@ -1,5 +1,4 @@
-use Rattle.std.proofs.Common.{◌∙◌}
-use Rattle.oca_tree.specs.Objects.{has_number}
+use Rattle.oca_tree.proofs.Words.{◌∙◌, has_number}
 use Rattle.oca_tree.proofs.Keyed.{position_keyed, eqb_comm}
 use Rattle.oca_tree.proofs.objects.Objects.index_of.Goals as goal
 

@@ -1,6 +1,4 @@
-use Rattle.std.proofs.Common.{◌<◌, length, ap, ◌∙◌}
-use Rattle.indexmap.specs.IndexMap.{values}
-use Rattle.oca_tree.specs.Objects.{Store}
+use Rattle.oca_tree.proofs.Words.{◌<◌, length, ap, ◌∙◌, values, Store}
 use Rattle.oca_tree.proofs.Totals.{read_at}
 use Rattle.oca_tree.proofs.objects.Objects.listed_bytes_at.Goals as goal
 

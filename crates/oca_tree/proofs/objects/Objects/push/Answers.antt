@@ -1,11 +1,5 @@
-use Rattle.std.proofs.Common.{◌++◌, ◌∷◌, [], ap, sym, ◌∙◌, arith, length, length-append}
-use Rattle.std.specs.Map.{values_of}
-use Rattle.indexmap.specs.IndexMap.{values}
+use Rattle.oca_tree.proofs.Words.{◌++◌, ◌∷◌, [], ap, sym, ◌∙◌, arith, length, length-append, values_of, values, Store, has_number, object_of, place_of, places, containers, lengths, nothing_listed}
 use Rattle.indexmap.proofs.CallerLemmas.{insert_entry-new}
-use Rattle.oca_tree.specs.Objects.{Store, has_number, object_of}
-use Rattle.oca_tree.specs.Places.{place_of, places}
-use Rattle.oca_tree.specs.PrivateObjects.{containers}
-use Rattle.oca_tree.specs.PrivateSteps.{lengths, nothing_listed}
 use Rattle.oca_tree.proofs.Adding.{places_push, same_store}
 use Rattle.oca_tree.proofs.Chains.{position_places}
 use Rattle.oca_tree.proofs.Containers.{containers_push}

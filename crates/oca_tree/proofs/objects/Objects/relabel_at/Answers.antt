@@ -1,11 +1,5 @@
-use Rattle.std.proofs.Common.{sym, ap, ◌∙◌, arith}
+use Rattle.oca_tree.proofs.Words.{sym, ap, ◌∙◌, arith, lock_count, Store, Place, front, Class, containers}
 use Rattle.oca_model.specs.declared.request.Request.TheVariants as asked
-use Rattle.oca_tree.specs.Locks.{lock_count}
-use Rattle.oca_tree.specs.Objects.{Store}
-use Rattle.oca_tree.specs.Places.{Place}
-use Rattle.oca_tree.specs.Settings.{front}
-use Rattle.oca_types.specs.declared.class.Class.{Class}
-use Rattle.oca_tree.specs.PrivateObjects.{containers}
 use Rattle.oca_tree.proofs.Keyed.{keyed-set_value_at, length-set_value, shapes_kept, change_there, same_ono}
 use Rattle.oca_tree.proofs.Locking.{lock_written_get}
 use Rattle.oca_tree.proofs.Sound.{shape_of, changed_shape, same_places}

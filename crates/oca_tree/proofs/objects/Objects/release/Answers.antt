@@ -1,8 +1,5 @@
-use Rattle.std.proofs.Common.{sym, ap, ◌∙◌, arith}
-use Rattle.indexmap.specs.IndexMap.{values}
+use Rattle.oca_tree.proofs.Words.{sym, ap, ◌∙◌, arith, values, places, containers}
 use Rattle.oca_tree.specs.Locks.{released}
-use Rattle.oca_tree.specs.Places.{places}
-use Rattle.oca_tree.specs.PrivateObjects.{containers}
 use Rattle.oca_tree.proofs.Sound.{shapes, released_shapes, released_places}
 use Rattle.oca_tree.proofs.Totals.{lengths_kept}
 use Rattle.oca_tree.proofs.objects.Objects.release.Goals as goal

@@ -1,11 +1,5 @@
-use Rattle.std.proofs.Common.{Bool, ap, ◌∙◌, sym}
-use Rattle.std.specs.Prelude.{◌&&◌}
-use Rattle.std.specs.List.{All}
-use Rattle.oca_types.specs.Peers.{fields_of}
+use Rattle.oca_tree.proofs.Words.{Bool, ap, ◌∙◌, sym, ◌&&◌, All, fields_of, TreeAndReply, IsOfItsTypes, is_ok, calls_a_write}
 use Rattle.oca_tree.specs.declared.tree.Done.{Done}
-use Rattle.oca_tree.specs.Execution.{TreeAndReply}
-use Rattle.oca_tree.specs.TypedLaws.{IsOfItsTypes}
-use Rattle.oca_tree.specs.Written.{is_ok, calls_a_write}
 use Rattle.oca_tree.proofs.TypesKept.{command_good, command_good}
 use Rattle.oca_tree.proofs.tree.Tree.execute.Goals as goal
 use Rattle.oca_tree.proofs.tree.Tree.execute.Goals.{in-Ok, in-Err}
