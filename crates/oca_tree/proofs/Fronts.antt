@@ -1,5 +1,5 @@
 -- What setting an object does, from what each of its steps found.
-use Rattle.oca_tree.proofs.Words.{◌≡◌, ℕ, Bool, true, false, cond, List, [], get_or, set, refl, sym, ap, ◌∙◌, Some, None, Ok, not, is_some, position, CommandFields, Method, MethodKind, Known, LeftOut, Unknown, Object, class_of_value, SetFault, object_of, has_number, with_object, is_block_value, Access, Peer, cannot_be, TreeAndReply, kind_at, asked_at, carried_out, refused, makes, fault_at, set_fault_in, front, set_where, IsTree, IsSound}
+use Rattle.oca_tree.proofs.Words.{◌≡◌, ℕ, Bool, true, false, cond, List, [], get_or, set, refl, sym, ap, ◌∙◌, Some, None, Ok, not, is_some, position, CommandFields, Method, MethodKind, Known, LeftOut, Unknown, Object, class_of_value, SetFault, object_of, has_number, with_object, is_block_value, Access, Peer, cannot_be, TreeAndReply, kind_at, asked_at, carried_out, refused, makes, fault_at, set_fault_in, front, set_where, IsSound}
 use Rattle.oca_types.specs.declared.class.Class.TheVariants as class
 use Rattle.oca_types.specs.declared.status.Status.TheVariants as statuses
 use Rattle.oca_tree.specs.declared.object.Value.{Value as Held}
@@ -16,8 +16,8 @@ use Rattle.oca_tree.specs.Requests.{asks_out_of_range, asks_invalid}
 use Rattle.oca_tree.specs.Execution.{is_locked, execution}
 use Rattle.oca_tree.specs.Typed.{answer_given, changed_by}
 use Rattle.oca_tree.specs.Settings.{is_of_its_class, set_fault, after_set, AnyPeerSetsTheSame, status_for, SetsTheSame, FrontSetsAsPeersDo}
-use Rattle.oca_tree.proofs.Executing.{found_at, within_at, sound_at, every_at, placed}
-use Rattle.oca_tree.proofs.Sound.{changed_place, changed_ono, changed_sound, written_tree}
+use Rattle.oca_tree.proofs.Executing.{found_at, every_at, placed}
+use Rattle.oca_tree.proofs.Sound.{changed_ono, changed_sound}
 
 pub any_peer : AnyPeerSetsTheSame
 unfolding changed_by
@@ -69,11 +69,6 @@ module _ (tree : List Object) (number i : ℕ) (o : Object) (place : Some i ≡ 
         ap (λ f. set_where f tree (object_of tree number) value) (fault_there ∙ fine)
         ∙ ap (λ x. set_where None tree x value) found
         ∙ placed tree front (to number) i o place here (changed_by o front (asks.Set value)) (changed_ono o front (asks.Set value))
-
-    pub tree_there : IsTree tree → IsTree (set tree i (changed_by o front (asks.Set value)))
-    tree_there sound =
-        let new = set_sound o value (sound_at tree front (to number) i o place here sound) fine in
-        written_tree tree i o (changed_by o front (asks.Set value)) (within_at tree front (to number) i o place here) here (changed_place o front (asks.Set value)) new sound
 
 -- ---- a command that sets a value
 

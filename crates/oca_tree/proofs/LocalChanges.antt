@@ -1,5 +1,5 @@
 -- What a change at the front does, from what each of its steps found.
-use Rattle.oca_tree.proofs.Words.{◌≡◌, ℕ, ◌≤◌, ◌<◌, subst, Bool, true, false, cond, List, length, get_or, set, refl, ap, ◌∙◌, arith, [], Option, Some, None, IfSome, not, ◌||◌, nat_lt, position, nat_tests, IsText, CommandFields, Request, Object, FrontFault, root, object_of, has_number, front, front_fault_in, changed_where, failing_where, IsTree, IsSound}
+use Rattle.oca_tree.proofs.Words.{◌≡◌, ℕ, ◌≤◌, ◌<◌, subst, Bool, true, false, cond, List, length, get_or, set, refl, sym, ap, ◌∙◌, arith, [], Option, Some, None, IfSome, not, ◌||◌, nat_lt, position, nat_tests, IsText, CommandFields, Request, Object, FrontFault, root, object_of, has_number, front, front_fault_in, changed_where, failing_where, IsSound}
 use Rattle.std.proofs.Common.{◌^◌, chars, IsUtf8}
 use Rattle.std.specs.Prelude.{IsSome}
 use Rattle.std.specs.Str.{is_utf8}
@@ -10,9 +10,9 @@ use Rattle.oca_tree.specs.declared.front.FrontFault.TheVariants as faults
 use Rattle.oca_tree.specs.Building.{is_long}
 use Rattle.oca_tree.specs.Typed.{changed_by}
 use Rattle.oca_tree.specs.LocalChanges.{is_bad_label, front_fault, after_request, after_failing}
-use Rattle.oca_tree.proofs.Executing.{found_at, within_at, sound_at, placed}
+use Rattle.oca_tree.proofs.Executing.{found_at, placed}
 use Rattle.oca_tree.proofs.Positions.{place_found, same_element}
-use Rattle.oca_tree.proofs.Sound.{changed_place, changed_ono, written_tree}
+use Rattle.oca_tree.proofs.Sound.{changed_ono}
 
 -- a command to the object of this number, for what was found by the number
 abbrev to : ℕ → CommandFields
@@ -95,17 +95,15 @@ module _ (tree : List Object) (number i : ℕ) (o : Object) (place : Some i ≡ 
   unfolding front_fault
   fault_there = ap (λ x. front_fault_in x r) found
 
-  pub changed_there : front_fault_in (Some o) r ≡ None → after_request tree number r ≡ set tree i (changed_by o front r)
+  changed_there : front_fault_in (Some o) r ≡ None → after_request tree number r ≡ set tree i (changed_by o front r)
   unfolding after_request
   changed_there fine =
       ap (λ f. changed_where f tree (object_of tree number) r) (fault_there ∙ fine)
       ∙ ap (λ x. changed_where None tree x r) found
       ∙ placed tree front (to number) i o place here (changed_by o front r) (changed_ono o front r)
 
-  pub tree_there : KeepsSound r → IsTree tree → IsTree (set tree i (changed_by o front r))
-  tree_there keeps sound =
-      let new = keeps o (sound_at tree front (to number) i o place here sound) in
-      written_tree tree i o (changed_by o front r) (within_at tree front (to number) i o place here) here (changed_place o front r) new sound
+  pub changed_here : (new : List Object) → front_fault_in (Some o) r ≡ None → new ≡ set tree i (changed_by (get_or tree i o) front r) → new ≡ after_request tree number r
+  changed_here new fine e = e ∙ ap (λ (x : Object). set tree i (changed_by x front r)) (sym here) ∙ sym (changed_there fine)
 
 -- ---- whether its hardware refuses
 
@@ -125,8 +123,3 @@ module _ (tree : List Object) (number i : ℕ) (o : Object) (place : Some i ≡ 
   told_there =
       ap (λ x. failing_where tree x truth) (found_at tree front (to number) i o place here)
       ∙ placed tree front (to number) i o place here (told o truth) refl
-
-  pub told_tree : IsTree tree → IsTree (set tree i (told o truth))
-  told_tree sound =
-      let new = told_sound truth o (sound_at tree front (to number) i o place here sound) in
-      written_tree tree i o (told o truth) (within_at tree front (to number) i o place here) here refl new sound

@@ -25,57 +25,40 @@ use arrayvec::ArrayVec;
 use oca_model::{MuteState, PolarityState, Ranged, Reading, with_integers};
 use oca_types::{Ono, Text};
 use std::alloc::Global;
-use std::error::Error;
 use std::fmt;
 use std::marker::Model;
+use thiserror::Error;
 
 /// Why an object was not added to a tree: the first fault in this order that applies. The builder is then unchanged.
 /// The numbers are promised.
-#[derive(Clone, Copy, Debug, PartialEq, Eq)]
+#[derive(Clone, Copy, Debug, PartialEq, Eq, Error)]
 pub enum AddFault {
     /// The tree already has as many objects as it has room for, the root counted.
+    #[error("there is no room for another object")]
     Full = 1,
     /// The object number is below 4096.
+    #[error("the number is below 4096")]
     Reserved = 2,
     /// Another object of the tree has the number.
+    #[error("the number is taken")]
     Taken = 3,
     /// No block of the tree has the container's number.
+    #[error("the container is no block of the tree")]
     NoSuchBlock = 4,
     /// The object would be at depth 9; the root is at depth 1, and the greatest depth is 8.
+    #[error("the object would stand at depth 9")]
     TooDeep = 5,
     /// The role is empty, or the role or the name of a position has more than 64 bytes.
+    #[error("a text is empty or has more than 64 bytes")]
     BadText = 6,
     /// The setting is not between its limits (the least can be above the greatest). Or a switch does not have 1 to 16
     /// positions, or its position is not one of them.
+    #[error("the setting is outside its range")]
     BadRange = 7,
     /// The allocator refused memory.
+    #[error("no memory")]
     NoMemory = 8,
 }
-
-impl AddFault {
-    /// What is printed of it.
-    pub(crate) fn words(self) -> &'static str {
-        match self {
-            AddFault::Full => "there is no room for another object",
-            AddFault::Reserved => "the number is below 4096",
-            AddFault::Taken => "the number is taken",
-            AddFault::NoSuchBlock => "the container is no block of the tree",
-            AddFault::TooDeep => "the object would stand at depth 9",
-            AddFault::BadText => "a text is empty or has more than 64 bytes",
-            AddFault::BadRange => "the setting is outside its range",
-            AddFault::NoMemory => "no memory",
-        }
-    }
-}
-
-impl fmt::Display for AddFault {
-    /// Writes the fault in words.
-    fn fmt<W: fmt::Write>(&self, f: &mut fmt::Formatter<W>) -> fmt::Result {
-        f.write_str(self.words())
-    }
-}
-
-impl Error for AddFault {}
 
 const _: () = prove!(AddFault::Full as u8 == 1);
 

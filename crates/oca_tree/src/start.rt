@@ -7,8 +7,7 @@ use crate::builder::{AddFault, text_of};
 use crate::object::{Object, Value};
 use crate::request::positions;
 use arrayvec::ArrayVec;
-use std::error::Error;
-use std::fmt;
+use thiserror::Error;
 
 /// What was stored of an object besides its [`Spec`](crate::Spec): its label, and what is enabled. Peers can change
 /// these by commands. The setting and the names of positions are part of `Spec`. Locks are not stored, since they end
@@ -41,35 +40,18 @@ impl Default for Start<'_> {
 
 /// Why an object was not added with its stored label and flags: the first fault in this order that applies. The builder
 /// is then unchanged.
-#[derive(Clone, Copy, Debug, PartialEq, Eq)]
+#[derive(Clone, Copy, Debug, PartialEq, Eq, Error)]
 pub enum StartFault {
     /// The object would be refused without its stored label and flags too.
+    #[error("{0}")]
     Add(AddFault),
     /// The stored label has more than 64 bytes.
+    #[error("the label has more than 64 bytes")]
     BadLabel,
     /// The number of stored flags is not the number of positions. An object that is no switch has no positions.
+    #[error("the flags are not as many as the positions")]
     BadFlags,
 }
-
-impl StartFault {
-    /// What is printed of it.
-    fn words(self) -> &'static str {
-        match self {
-            StartFault::Add(fault) => fault.words(),
-            StartFault::BadLabel => "the label has more than 64 bytes",
-            StartFault::BadFlags => "the flags are not as many as the positions",
-        }
-    }
-}
-
-impl fmt::Display for StartFault {
-    /// Writes the fault in words.
-    fn fmt<W: fmt::Write>(&self, f: &mut fmt::Formatter<W>) -> fmt::Result {
-        f.write_str(self.words())
-    }
-}
-
-impl Error for StartFault {}
 
 impl From<AddFault> for StartFault {
     ghost use Rattle.std.specs.Prelude.{◌≡◌};

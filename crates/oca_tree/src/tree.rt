@@ -19,15 +19,16 @@ ghost use Rattle.oca_tree.specs.Copies.{stored_in, stored_at, names_of_ono, lock
 
 use crate::description::{names_in, start_of};
 use crate::execute::carry_out;
-use crate::front::{FrontFault, set_enabled, set_failing, set_label, unlock};
+use crate::front::FrontFault;
 use crate::infos::ObjectInfos;
 use crate::marks::Marks;
 use crate::object::{Lock, Object, Value as Held};
 use crate::objects::Objects;
+use crate::place::index_from;
 use crate::same::same_objects;
-use crate::setting::{SetFault, set};
+use crate::setting::{FRONT, SetFault, check_setting};
 use crate::start::Start;
-use oca_model::{Reading, Value, with_integers};
+use oca_model::{Asked, Reading, Value, with_integers};
 use oca_types::{Class, Command, Ono, Params, Peer, Status, Text};
 use std::fmt;
 use std::marker::Model;
@@ -193,7 +194,13 @@ impl Tree {
         ensures refused { OnErr result (self.new ≡ self.old) }
         ensures fault { result_err result ≡ set_fault self.old ono.0 value }
     {
-        set(&mut self.objects, &mut self.marks, ono, value)
+        let Some(at) = index_from(&self.objects, &mut self.marks, ono) else {
+            return Err(SetFault::NoObject);
+        };
+        check_setting(&self.objects.object_at(at).value, value)?;
+        self.objects
+            .change_at(at, &mut self.marks, FRONT, Asked::Set(value));
+        Ok(())
     }
 
     /// Sets the label of the object with the number `ono`, as a user does at the device's local front panel
@@ -205,7 +212,14 @@ impl Tree {
         ensures refused { OnErr result (self.new ≡ self.old) }
         ensures fault { result_err result ≡ front_fault self.old ono.0 (asked.SetLabel label.now) }
     {
-        set_label(&mut self.objects, &mut self.marks, ono, label)
+        let Some(at) = index_from(&self.objects, &mut self.marks, ono) else {
+            return Err(FrontFault::NoObject);
+        };
+        let Some(text) = Text::new(label) else {
+            return Err(FrontFault::BadLabel);
+        };
+        self.objects.relabel_at(at, text);
+        Ok(())
     }
 
     /// Enables or disables the object with the number `ono`, as a user does at the device's local front panel
@@ -216,7 +230,12 @@ impl Tree {
         ensures refused { OnErr result (self.new ≡ self.old) }
         ensures fault { result_err result ≡ front_fault self.old ono.0 (asked.SetEnabled enabled) }
     {
-        set_enabled(&mut self.objects, &mut self.marks, ono, enabled)
+        let Some(at) = index_from(&self.objects, &mut self.marks, ono) else {
+            return Err(FrontFault::NoObject);
+        };
+        self.objects
+            .change_at(at, &mut self.marks, FRONT, Asked::SetEnabled(enabled));
+        Ok(())
     }
 
     /// Releases the lock of the object with the number `ono`, as a user does at the device's local front panel
@@ -227,7 +246,15 @@ impl Tree {
         ensures refused { OnErr result (self.new ≡ self.old) }
         ensures fault { result_err result ≡ front_fault self.old ono.0 asked.Unlock }
     {
-        unlock(&mut self.objects, &mut self.marks, ono)
+        let Some(at) = index_from(&self.objects, &mut self.marks, ono) else {
+            return Err(FrontFault::NoObject);
+        };
+        if self.objects.object_at(at).lock.is_none() {
+            return Err(FrontFault::NotLocked);
+        }
+        self.objects
+            .change_at(at, &mut self.marks, FRONT, Asked::Unlock);
+        Ok(())
     }
 
     /// Sets whether the hardware of the object with the number `ono` refuses changes (*profile*). At first no hardware
@@ -240,7 +267,11 @@ impl Tree {
         ensures refused { OnErr result (self.new ≡ self.old) }
         ensures fault { result_err result ≡ front_fault self.old ono.0 (asked.SetEnabled failing) }
     {
-        set_failing(&mut self.objects, &mut self.marks, ono, failing)
+        let Some(at) = index_from(&self.objects, &mut self.marks, ono) else {
+            return Err(FrontFault::NoObject);
+        };
+        self.objects.fail_at(at, failing);
+        Ok(())
     }
 
     /// Releases all locks of the peer `peer` in the tree (OcaRoot, AES70-2). If the peer has no lock, nothing is
