@@ -1,5 +1,5 @@
 //! The bench device: a desk with one object of each form.
-ghost use Rattle.std.specs.Prelude.{◌≡◌, ◌≤◌, ◌<◌, ◌^◌, [], ◌∷◌, ◌++◌, take, None, OnOk, IfOk, IfErr, IsErrOf};
+ghost use Rattle.std.specs.Prelude.{◌≡◌, ◌≤◌, ◌<◌, ◌^◌, [], ◌∷◌, ◌++◌, take, None, true, OnOk, IfOk, IfErr, IsErrOf};
 ghost use Rattle.oca_tree.specs.Bench.{bench_objects, strip, bench_with};
 ghost use Rattle.oca_tree.specs.Room.{room_size};
 ghost use Rattle.oca_tree.specs.Building.{add_fault, object_of_spec};
@@ -11,6 +11,17 @@ use crate::tree::Tree;
 use oca_model::{MuteState, PolarityState};
 use oca_types::Ono;
 use std::alloc::Global;
+
+/// What an object is that can be locked.
+fn lockable<'a>(role: &'a str, kind: Kind<'a>) -> Spec<'a>
+    ensures { result ≡ record { role = role.entry; lockable = true; kind = kind.entry } }
+{
+    Spec {
+        role,
+        lockable: true,
+        kind,
+    }
+}
 
 /// Adds an object that nothing refuses.
 fn add(builder: &mut TreeBuilder, container: Ono, ono: Ono, spec: &Spec<'_>) -> Result<(), AddFault>
@@ -30,32 +41,19 @@ fn add_states(builder: &mut TreeBuilder) -> Result<(), AddFault>
     ensures err { IfErr result (λ e. e ≡ NoMemory) }
 {
     let desk = Ono(4096);
-    let desk_spec = Spec {
-        role: "desk",
-        lockable: true,
-        kind: Kind::Block,
-    };
+    let desk_spec = lockable("desk", Kind::Block);
     add(builder, Ono(100), desk, &desk_spec)?;
-    let mute_spec = Spec {
-        role: "mute",
-        lockable: true,
-        kind: Kind::Mute(MuteState::Muted),
-    };
+    let mute_spec = lockable("mute", Kind::Mute(MuteState::Muted));
     add(builder, desk, Ono(4097), &mute_spec)?;
-    let polarity_spec = Spec {
-        role: "polarity",
-        lockable: true,
-        kind: Kind::Polarity(PolarityState::NonInverted),
-    };
+    let polarity_spec = lockable("polarity", Kind::Polarity(PolarityState::NonInverted));
     add(builder, desk, Ono(4098), &polarity_spec)?;
-    let input_spec = Spec {
-        role: "input",
-        lockable: true,
-        kind: Kind::Switch {
+    let input_spec = lockable(
+        "input",
+        Kind::Switch {
             names: &["Line", "Mic", "Off"],
             position: 0,
         },
-    };
+    );
     add(builder, desk, Ono(4099), &input_spec)?;
     Ok(())
 }
@@ -68,21 +66,16 @@ fn add_numbers(builder: &mut TreeBuilder) -> Result<(), AddFault>
     ensures err { IfErr result (λ e. e ≡ NoMemory) }
 {
     let desk = Ono(4096);
-    let trim_spec = Spec {
-        role: "trim",
-        lockable: true,
-        kind: Kind::Int16 {
+    let trim_spec = lockable(
+        "trim",
+        Kind::Int16 {
             setting: 0,
             least: -600,
             greatest: 600,
         },
-    };
+    );
     add(builder, desk, Ono(4100), &trim_spec)?;
-    let lamp_spec = Spec {
-        role: "lamp",
-        lockable: true,
-        kind: Kind::Boolean(false),
-    };
+    let lamp_spec = lockable("lamp", Kind::Boolean(false));
     add(builder, desk, Ono(4101), &lamp_spec)?;
     let dim_spec = Spec {
         role: "dim",
@@ -138,33 +131,20 @@ fn add_strip(builder: &mut TreeBuilder, first: u32) -> Result<(), AddFault>
     ensures { OnOk result (builder.new ≡ record builder.old { list = builder.old.list ++ strip first }) }
 {
     let block = Ono(first);
-    let block_spec = Spec {
-        role: "strip",
-        lockable: true,
-        kind: Kind::Block,
-    };
+    let block_spec = lockable("strip", Kind::Block);
     builder.add(Ono(100), block, &block_spec)?;
-    let mute_spec = Spec {
-        role: "mute",
-        lockable: true,
-        kind: Kind::Mute(MuteState::Muted),
-    };
+    let mute_spec = lockable("mute", Kind::Mute(MuteState::Muted));
     builder.add(block, Ono(first + 1), &mute_spec)?;
-    let polarity_spec = Spec {
-        role: "polarity",
-        lockable: true,
-        kind: Kind::Polarity(PolarityState::NonInverted),
-    };
+    let polarity_spec = lockable("polarity", Kind::Polarity(PolarityState::NonInverted));
     builder.add(block, Ono(first + 2), &polarity_spec)?;
-    let trim_spec = Spec {
-        role: "trim",
-        lockable: true,
-        kind: Kind::Int16 {
+    let trim_spec = lockable(
+        "trim",
+        Kind::Int16 {
             setting: 0,
             least: -600,
             greatest: 600,
         },
-    };
+    );
     builder.add(block, Ono(first + 3), &trim_spec)?;
     Ok(())
 }

@@ -10,29 +10,29 @@ unfolding value_of add_fault is_bad_value is_within chain_within
 add-requires c =
     let room = c.requires.room in
     let full : nat_le c.args.builder.now.room 1 ≡ false = grind (arith, room) in
-    rw (c.requires.first, full) refl
+    rw (c.lockable-desk_spec.ensures, c.requires.first, full) refl
 
 pub add-requires-2 : goal.add-requires-2
 unfolding value_of add_fault is_bad_value is_within chain_within
 add-requires-2 c =
     let room = c.requires.room in
     let full : nat_le c.args.builder.now.room 2 ≡ false = grind (arith, room) in
-    rw (c.in_ok-add.ensures.ok, c.requires.first, full) refl
+    rw (c.in_ok-add.ensures.ok, c.lockable-desk_spec.ensures, c.lockable-mute_spec.ensures, c.requires.first, full) refl
 
 pub add-requires-3 : goal.add-requires-3
 unfolding value_of add_fault is_bad_value is_within chain_within
 add-requires-3 c =
     let room = c.requires.room in
     let full : nat_le c.args.builder.now.room 3 ≡ false = grind (arith, room) in
-    rw (c.in_ok-add-2.ensures.ok, c.in_ok-add.ensures.ok, c.requires.first, full) refl
+    rw (c.in_ok-add-2.ensures.ok, c.in_ok-add.ensures.ok, c.lockable-desk_spec.ensures, c.lockable-mute_spec.ensures, c.lockable-polarity_spec.ensures, c.requires.first, full) refl
 
 pub add-requires-4 : goal.add-requires-4
 unfolding value_of add_fault is_bad_value is_within chain_within
 add-requires-4 c =
     let room = c.requires.room in
     let full : nat_le c.args.builder.now.room 4 ≡ false = grind (arith, room) in
-    rw (c.in_ok-add-3.ensures.ok, c.in_ok-add-2.ensures.ok, c.in_ok-add.ensures.ok, c.requires.first, full) refl
+    rw (c.in_ok-add-3.ensures.ok, c.in_ok-add-2.ensures.ok, c.in_ok-add.ensures.ok, c.lockable-desk_spec.ensures, c.lockable-mute_spec.ensures, c.lockable-polarity_spec.ensures, c.lockable-input_spec.ensures, c.requires.first, full) refl
 
 pub returns-clause-ok : goal.returns-clause-ok
 unfolding value_of
-returns-clause-ok c = rw (c.in_ok-add-4.ensures.ok, c.in_ok-add-3.ensures.ok, c.in_ok-add-2.ensures.ok, c.in_ok-add.ensures.ok, c.requires.first) refl
+returns-clause-ok c = rw (c.in_ok-add-4.ensures.ok, c.in_ok-add-3.ensures.ok, c.in_ok-add-2.ensures.ok, c.in_ok-add.ensures.ok, c.lockable-desk_spec.ensures, c.lockable-mute_spec.ensures, c.lockable-polarity_spec.ensures, c.lockable-input_spec.ensures, c.requires.first) refl
