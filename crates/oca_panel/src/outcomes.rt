@@ -100,15 +100,8 @@ pub(crate) fn names_in(outcome: &Outcome) -> Result<Names, Trouble>
 /// Reads the answer to a command from the command's outcome `outcome`: what an object of the class `class` answers to
 /// the method `method` (AES70-2). The class matters only for the get method of a value. Nothing is changed or sent.
 ///
-/// Faults ([`Trouble`]):
-/// - `NotSubmitted` with the reason if the link refused the command: it was never sent.
-/// - `Lost` if the link was lost or late before an answer came. A link is *lost* once a command got no answer to 20
-///   transmissions. It is *late* while a command that was submitted more than 15,000 ms ago has no answer. The device
-///   may have carried out the command.
-/// - `Unanswered` if no answer came in the time of the wait. The device may have carried out the command, or may still
-///   do that.
-/// - `Refused` with the status, 1 to 255, if the status of the answer is not OK.
-/// - `Unreadable` if the status is OK, and ParamCount or the parameters are not those of an answer to the method.
+/// Faults ([`Trouble`]): those of [`done_in`]; and `Unreadable` if the status is OK, and ParamCount or the parameters
+/// are not those of an answer to the method.
 pub fn answer_of(class: Class, method: Method, outcome: &Outcome) -> Result<Answer, Trouble>
     ensures { result ≡ model_answered class method outcome.now }
 {
