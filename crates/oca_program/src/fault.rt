@@ -4,6 +4,7 @@ use oca_script::{LineFault, ObjectFault, Printer, ReplayFault, Sink, WriteFailed
 use oca_types::NoMemory;
 use std::alloc::{AllocError, Global};
 use std::fmt::{self, Display, Write};
+use std::io;
 use thiserror::Error;
 
 /// The most bytes of a note that is printed.
@@ -60,25 +61,30 @@ pub struct Failure {
 }
 
 impl Failure {
-    /// Returns a failure with this fault and this note.
-    pub fn noted(fault: RunFault, note: String) -> Failure {
-        Failure {
-            fault,
-            note: Some(note),
-        }
-    }
-
-    /// Returns a failure with this fault and a copy of this note, or without a note if memory for it is refused.
-    pub fn told(alloc: Global, fault: RunFault, note: &str) -> Failure {
-        Failure::noted_if(fault, String::from_str(alloc, note))
-    }
-
     /// Returns a failure with this fault, and with this note if there was memory to make it.
-    pub fn noted_if(fault: RunFault, note: Result<String, AllocError>) -> Failure {
+    pub fn with_note(fault: RunFault, note: Result<String, AllocError>) -> Failure {
         Failure {
             fault,
             note: note.ok(),
         }
+    }
+
+    /// Returns a failure with this fault and a copy of this note, or without a note if memory for it is refused.
+    pub fn with_text(alloc: Global, fault: RunFault, note: &str) -> Failure {
+        Failure::with_note(fault, String::from_str(alloc, note))
+    }
+}
+
+/// Returns the failure of a run in which a call of the system failed for this reason: `NoMemory` if it refused memory,
+/// and `fault` otherwise, with this note if there was memory to make it.
+pub fn io_failure(
+    fault: RunFault,
+    reason: &io::Error,
+    note: Result<String, AllocError>,
+) -> Failure {
+    match reason.kind() {
+        io::ErrorKind::OutOfMemory => Failure::with_note(RunFault::NoMemory, note),
+        _ => Failure::with_note(fault, note),
     }
 }
 

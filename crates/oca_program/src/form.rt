@@ -84,8 +84,7 @@ impl Form {
         else {
             return None;
         };
-        let said = number(text, digits, largest)?;
-        if least <= said { Some(said) } else { None }
+        number(text, digits, largest).filter(|said| least <= *said)
     }
 }
 
@@ -117,7 +116,7 @@ impl Display for Form {
 /// Returns whether an IPv4 address, as a number with the first byte highest, is that of one host: from 1.0.0.0 to
 /// 223.255.255.255.
 pub fn is_host(ip: u32) -> bool {
-    0x0100_0000 <= ip && ip < 0xe000_0000
+    (0x0100_0000..0xe000_0000).contains(&ip)
 }
 
 /// The address and the port of one host that a text gives.
@@ -152,7 +151,7 @@ pub fn check_values(
             } else {
                 format!(in alloc; "--{name} {value} is not valid: it must be {form}")
             };
-            return Err(Failure::noted_if(RunFault::BadWords, note));
+            return Err(Failure::with_note(RunFault::BadWords, note));
         }
     }
     Ok(())

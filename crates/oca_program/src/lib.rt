@@ -14,7 +14,9 @@ pub mod socket;
 pub mod table;
 mod version;
 
-pub use fault::{Failure, FmtWriter, RunFault, print_line, print_made_note, print_note, report};
+pub use fault::{
+    Failure, FmtWriter, RunFault, io_failure, print_line, print_made_note, print_note, report,
+};
 pub use form::Form;
 pub use run::{exit_status, help_or_failure, words_of};
 pub use table::{CommandRow, Kind, OptionRow};

@@ -17,7 +17,11 @@ pub fn words_of<R: Env + AllocGlobal>(rt: &R) -> Result<Vec<String>, Failure> {
         Err(error) if error.kind() == io::ErrorKind::OutOfMemory => {
             Err(Failure::from(RunFault::NoMemory))
         }
-        Err(_) => Err(Failure::told(rt.alloc(), RunFault::BadWords, "an argument is not UTF-8")),
+        Err(_) => Err(Failure::with_text(
+            rt.alloc(),
+            RunFault::BadWords,
+            "an argument is not UTF-8",
+        )),
     }
 }
 
@@ -50,7 +54,7 @@ pub fn help_or_failure<W: Sink>(
             Ok(0)
         }
         ErrorKind::OutOfMemory => Err(Failure::from(RunFault::NoMemory)),
-        _ => Err(Failure::noted_if(RunFault::BadWords, first_paragraph(alloc, error))),
+        _ => Err(Failure::with_note(RunFault::BadWords, first_paragraph(alloc, error))),
     }
 }
 

@@ -1,6 +1,6 @@
 //! The socket of a program, and what is printed of its port and of sends that failed.
 
-use super::fault::{Failure, RunFault, print_made_note};
+use super::fault::{Failure, RunFault, io_failure, print_made_note};
 use oca_net::{BindError, UdpEnd};
 use oca_panel::{Reached, Unreached, Way};
 use oca_script::{Printer, Sink};
@@ -55,16 +55,12 @@ fn refused(alloc: Global, error: &BindError, port: u16) -> Failure {
     let BindError::Io(reason) = error else {
         return Failure::from(RunFault::NoMemory);
     };
-    let fault = match reason.kind() {
-        io::ErrorKind::OutOfMemory => RunFault::NoMemory,
-        _ => RunFault::Socket,
-    };
     let note = if port == 0 {
         format!(in alloc; "{reason}")
     } else {
         format!(in alloc; "port {port}: {reason}")
     };
-    Failure::noted_if(fault, note)
+    io_failure(RunFault::Socket, reason, note)
 }
 
 /// Prints to `faults` the note of how many sends failed (`failed`), and why the last of them did, unless `last` is

@@ -576,7 +576,7 @@ fn ahead_of(alloc: Global, options: &ArgMatches<'_>, span: Span) -> Result<Span,
         .or(Span::new(1))
         .unwrap_or_default();
     if ahead.get() > span.get() {
-        return Err(Failure::told(alloc, RunFault::BadWords, BAD_AHEAD));
+        return Err(Failure::with_text(alloc, RunFault::BadWords, BAD_AHEAD));
     }
     Ok(ahead)
 }
@@ -609,7 +609,7 @@ fn params_of(text: &[u8]) -> ArrayVec<u8, MOST_COMMAND_PARAMETER_BYTES> {
 fn ono_of(alloc: Global, word: &str) -> Result<Ono, Failure> {
     match number(word.as_bytes(), 10, 4_294_967_295) {
         Some(ono) => Ok(Ono(ono as u32)),
-        None => Err(Failure::told(alloc, RunFault::BadWords, BAD_ONO)),
+        None => Err(Failure::with_text(alloc, RunFault::BadWords, BAD_ONO)),
     }
 }
 
@@ -627,13 +627,13 @@ fn onos_of(alloc: Global, options: &ArgMatches<'_>) -> Result<Vec<Ono>, Failure>
 fn pairs_of(alloc: Global, options: &ArgMatches<'_>) -> Result<Vec<Pair>, Failure> {
     let words = options.get_strs("ONO").unwrap_or(&[]);
     if words.len() % 2 != 0 {
-        return Err(Failure::told(alloc, RunFault::BadWords, BAD_PAIRS));
+        return Err(Failure::with_text(alloc, RunFault::BadWords, BAD_PAIRS));
     }
     let mut pairs = Vec::new(alloc);
     for at in 0..words.len() / 2 {
         let ono = ono_of(alloc, words[2 * at])?;
         let Some(word) = Text::new(without_blank(words[2 * at + 1])) else {
-            return Err(Failure::told(alloc, RunFault::BadWords, BAD_PAIRS));
+            return Err(Failure::with_text(alloc, RunFault::BadWords, BAD_PAIRS));
         };
         pairs
             .push(Pair { ono, word })

@@ -203,7 +203,7 @@ pub fn command_of<'a>(alloc: Global, matches: &ArgMatches<'a>) -> Result<Command
     }
     if TREE.text(options).is_some() && CHANNELS.text(options).is_some() {
         let note = "--tree and --channels can't be combined: each says which objects there are";
-        return Err(Failure::told(alloc, RunFault::BadWords, note));
+        return Err(Failure::with_text(alloc, RunFault::BadWords, note));
     }
     let objects = objects_of(options);
     match name {

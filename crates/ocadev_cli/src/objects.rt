@@ -66,7 +66,7 @@ pub fn file_failure<D: Display + Drop>(
     path: &str,
     why: D,
 ) -> Failure {
-    Failure::noted_if(fault, format!(in alloc; "{path}: {why}"))
+    Failure::with_note(fault, format!(in alloc; "{path}: {why}"))
 }
 
 /// The objects that the text of the file at a path lists.
@@ -75,7 +75,7 @@ fn tree_of(alloc: Global, path: &str, text: &[u8]) -> Result<Tree, Failure> {
         Ok(tree) => Ok(tree),
         Err(TreeFault::Line(number, fault)) => {
             let note = format!(in alloc; "{path}: line {number} is wrong");
-            Err(Failure::noted_if(RunFault::Object(number, fault), note))
+            Err(Failure::with_note(RunFault::Object(number, fault), note))
         }
         Err(TreeFault::NoMemory) => Err(Failure::from(RunFault::NoMemory)),
     }

@@ -169,7 +169,7 @@ impl Clients {
     ) -> Result<Clients, Failure> {
         let address = SocketAddr::V4(SocketAddrV4::from(at));
         let mut listener = TcpListener::bind(host, address).map_err(|reason| {
-            Failure::noted_if(RunFault::Socket, format!(in alloc; "{at}: {reason}"))
+            Failure::with_note(RunFault::Socket, format!(in alloc; "{at}: {reason}"))
         })?;
         let poll = poll_of(host, &mut listener, socket).map_err(|reason| system_failure(
             alloc, reason,
@@ -328,5 +328,5 @@ fn system_failure(alloc: Global, reason: io::Error) -> Failure {
     if reason.kind() == io::ErrorKind::OutOfMemory {
         return Failure::from(RunFault::NoMemory);
     }
-    Failure::noted_if(RunFault::Socket, format!(in alloc; "{reason}"))
+    Failure::with_note(RunFault::Socket, format!(in alloc; "{reason}"))
 }

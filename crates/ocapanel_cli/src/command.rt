@@ -163,7 +163,7 @@ pub fn options_of<'a>(alloc: Global, words: &ArgMatches<'a>) -> Result<Options<'
     let access = match (NO_TOKEN.is_set(words), TOKEN.text(words)) {
         (true, Some(_)) => {
             let note = "--token and --no-token are both given";
-            return Err(Failure::told(alloc, RunFault::BadWords, note));
+            return Err(Failure::with_text(alloc, RunFault::BadWords, note));
         }
         (true, None) => Access::Open,
         (false, Some(path)) => Access::TokenOf(path),
@@ -202,5 +202,5 @@ fn listen_of(alloc: Global, words: &ArgMatches<'_>, access: Access<'_>) -> Resul
         }
         _ => return Ok(at),
     };
-    Err(Failure::told(alloc, RunFault::BadWords, note))
+    Err(Failure::with_text(alloc, RunFault::BadWords, note))
 }

@@ -131,7 +131,7 @@ fn random_number<R: RandomSource>(alloc: Global, host: &R) -> Result<u64, Failur
     let mut bytes = [0u8; 8];
     if let Err(reason) = host.fill_bytes(&mut bytes) {
         let note = format!(in alloc; "no random numbers: {reason}")?;
-        return Err(Failure::noted(RunFault::Socket, note));
+        return Err(Failure::with_note(RunFault::Socket, Ok(note)));
     }
     Ok(u64::from_be_bytes(bytes))
 }
@@ -237,7 +237,7 @@ fn bytes_of<F: Files>(alloc: Global, files: &F, path: &str) -> Result<Vec<u8>, F
         Ok(_) => Ok(bytes),
         Err(reason) => {
             let note = format!(in alloc; "{path}: {reason}");
-            Err(Failure::noted_if(RunFault::Read, note))
+            Err(Failure::with_note(RunFault::Read, note))
         }
     }
 }
@@ -246,5 +246,5 @@ fn bytes_of<F: Files>(alloc: Global, files: &F, path: &str) -> Result<Vec<u8>, F
 /// there is memory for the note.
 fn refused(alloc: Global, path: &str, line: usize, reason: &str) -> Failure {
     let note = format!(in alloc; "{path}: line {line}: {reason}");
-    Failure::noted_if(RunFault::BadWords, note)
+    Failure::with_note(RunFault::BadWords, note)
 }

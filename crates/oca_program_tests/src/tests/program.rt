@@ -168,10 +168,7 @@ impl Row for Noted {
         let Ok(note) = from_utf8(self.1) else {
             return false;
         };
-        match String::from_str(said.alloc, note) {
-            Ok(note) => is_told(&Failure::noted(self.0, note), self, said),
-            Err(_) => false,
-        }
+        is_told(&Failure::with_text(said.alloc, self.0, note), self, said)
     }
 }
 
