@@ -21,7 +21,7 @@ use oca_script::lines::serve_lines;
 use oca_script::{Language, LineFault, Printer, ReplayFault, Sink, Source, Stop, WriteFailed};
 use oca_types::Request;
 use ocactl_replay::line::{Line, print_line};
-use ocactl_replay::request::{PARAMS_ROOM, command_by};
+use ocactl_replay::request::{PARAMS_ROOM, parse_command};
 use std::marker::PhantomData;
 
 /// Sends one command over the end and waits for its answer, for at most `turns` turns of up to 50 ms each. Prints its
@@ -137,7 +137,7 @@ fn asked_by<'a>(line: &[u8], room: &'a mut [u8; PARAMS_ROOM]) -> Result<Asked<'a
     if is_wait(line) {
         return Ok(Asked::Wait);
     }
-    match command_by(line, room) {
+    match parse_command(line, room) {
         Ok(request) => Ok(Asked::Send(request)),
         Err(fault) => Err(fault),
     }

@@ -1,5 +1,5 @@
 //! The replay of a script on a link.
-ghost use Rattle.std.specs.Prelude.{◌≡◌, [], IfSome, replicate};
+ghost use Rattle.std.specs.Prelude.{IfSome};
 ghost use Rattle.oca_script.specs.Ends.{input};
 ghost use Rattle.oca_script.specs.Replaying.{NeverIdles, Outcome, Replays};
 ghost use Rattle.ocactl_replay.specs.Requests.{LinkCall, asked_call};
@@ -7,7 +7,7 @@ ghost use Rattle.ocactl_replay.specs.Replaying.{ServesCall, ServesCallAndPrints}
 ghost use Rattle.ocactl_replay.specs.PrivateRequests.{link_call_in};
 
 use super::line::{Line, print_line};
-use super::request::{Call, PARAMS_ROOM, call_by};
+use super::request::{Call, PARAMS_ROOM, parse_call};
 use oca_control::Link;
 use oca_script::lines::serve_lines;
 use oca_script::{Language, Printer, ReplayFault, Sink, Source, Stop, WriteFailed};
@@ -21,20 +21,6 @@ pub struct LinkScript;
 pub struct LinkRoom {
     packet: Packet,
     bytes: [u8; PARAMS_ROOM],
-}
-
-impl LinkRoom {
-    /// Returns memory for one packet (1,472 bytes) and for the bytes of one field (2,048 bytes), in which there are no
-    /// bytes of a script yet. The call takes no memory from the heap.
-    pub fn new() -> LinkRoom
-        ensures packet { result.packet.items ≡ [] }
-        ensures bytes { result.bytes ≡ replicate 2048 0 }
-    {
-        LinkRoom {
-            packet: Packet::new(),
-            bytes: [0; PARAMS_ROOM],
-        }
-    }
 }
 
 impl Language for LinkScript {
@@ -55,13 +41,8 @@ impl Language for LinkScript {
         line: &[u8],
         printer: &mut Printer<W>,
     ) -> Result<(), Stop> {
-        match call_by(line, &mut room.bytes) {
-            Err(fault) => Err(Stop::Line(fault)),
-            Ok(call) => match serve(link, &mut room.packet, call, printer) {
-                Ok(()) => Ok(()),
-                Err(WriteFailed) => Err(Stop::Write),
-            },
-        }
+        let call = parse_call(line, &mut room.bytes).map_err(Stop::Line)?;
+        Ok(serve(link, &mut room.packet, call, printer)?)
     }
 
     /// Does nothing: no request is in flight behind its line.
@@ -140,6 +121,9 @@ pub fn replay<R: Source, W: Sink>(
         (input (R.remaining reader.old) (R.failed reader.old))
         (input (R.remaining reader.new) (R.failed reader.new)) result }
 {
-    let mut room = LinkRoom::new();
+    let mut room = LinkRoom {
+        packet: Packet::new(),
+        bytes: [0; PARAMS_ROOM],
+    };
     serve_lines::<LinkScript, R, W>(link, &mut room, reader, printer)
 }

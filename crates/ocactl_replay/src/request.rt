@@ -109,7 +109,11 @@ fn command_in<'a>(texts: Texts<'_>, room: &'a mut [u8]) -> Result<Request<'a>, L
 }
 
 /// A command that is submitted: its moment, and the fields after the keyword.
-fn submit<'a>(now: &[u8], rest: Option<&[u8]>, room: &'a mut Room) -> Result<Call<'a>, LineFault>
+fn parse_submit<'a>(
+    now: &[u8],
+    rest: Option<&[u8]>,
+    room: &'a mut Room,
+) -> Result<Call<'a>, LineFault>
     requires { IfSome rest (λ text. length text.now ≤ 4096) }
     ensures { call_asked result ≡ submit_of now.now (fields_after (option_copied rest.entry)) }
 {
@@ -122,7 +126,7 @@ fn submit<'a>(now: &[u8], rest: Option<&[u8]>, room: &'a mut Room) -> Result<Cal
 }
 
 /// A moment at which what is due is sent.
-fn due<'a>(now: &[u8], rest: Option<&[u8]>) -> Result<Call<'a>, LineFault>
+fn parse_due<'a>(now: &[u8], rest: Option<&[u8]>) -> Result<Call<'a>, LineFault>
     ensures { call_asked result ≡ due_of now.now (fields_after (option_copied rest.entry)) }
 {
     match rest {
@@ -133,7 +137,11 @@ fn due<'a>(now: &[u8], rest: Option<&[u8]>) -> Result<Call<'a>, LineFault>
 
 /// A datagram that came: its moment, and the fields after the keyword.
 #[tactic(auto, unfolding(crate::specs::Requests::datagram_call_of))]
-fn from<'a>(now: &[u8], rest: Option<&[u8]>, room: &'a mut Room) -> Result<Call<'a>, LineFault>
+fn parse_from<'a>(
+    now: &[u8],
+    rest: Option<&[u8]>,
+    room: &'a mut Room,
+) -> Result<Call<'a>, LineFault>
     requires { IfSome rest (λ text. length text.now ≤ 4096) }
     ensures { call_asked result ≡ from_of now.now (fields_after (option_copied rest.entry)) }
 {
@@ -147,7 +155,7 @@ fn from<'a>(now: &[u8], rest: Option<&[u8]>, room: &'a mut Room) -> Result<Call<
 }
 
 /// The handle whose answer is taken.
-fn take<'a>(rest: Option<&[u8]>) -> Result<Call<'a>, LineFault>
+fn parse_take<'a>(rest: Option<&[u8]>) -> Result<Call<'a>, LineFault>
     ensures { call_asked result ≡ take_of (fields_after (option_copied rest.entry)) }
 {
     let Some(text) = one_field(rest) else {
@@ -163,26 +171,26 @@ fn take<'a>(rest: Option<&[u8]>) -> Result<Call<'a>, LineFault>
 /// memory, and makes no call of the link. Refusals, the first that applies; discard what `room` contains then:
 /// - `Form` if the keyword is unknown, or the number of fields is wrong.
 /// - `Moment`, `Number`, `Peer` or `Hex` for the first field, from the left, that does not have its form.
-pub fn call_by<'a>(line: &[u8], room: &'a mut Room) -> Result<Call<'a>, LineFault>
+pub fn parse_call<'a>(line: &[u8], room: &'a mut Room) -> Result<Call<'a>, LineFault>
     requires { length line.now ≤ 4096 }
     ensures { call_asked result ≡ asked_call (fields line.now) }
 {
     let (first, rest) = first_field(line);
     if first == b"take".as_slice() {
-        return take(rest);
+        return parse_take(rest);
     }
     let Some(rest) = rest else {
         return Err(LineFault::Form);
     };
     let (word, rest) = first_field(rest);
     if word == b"submit".as_slice() {
-        return submit(first, rest, room);
+        return parse_submit(first, rest, room);
     }
     if word == b"due".as_slice() {
-        return due(first, rest);
+        return parse_due(first, rest);
     }
     if word == b"from".as_slice() {
-        return from(first, rest, room);
+        return parse_from(first, rest, room);
     }
     Err(LineFault::Form)
 }
@@ -193,7 +201,7 @@ pub fn call_by<'a>(line: &[u8], room: &'a mut Room) -> Result<Call<'a>, LineFaul
 /// the first that applies; discard what `room` contains then:
 /// - `Form` if the line does not have exactly these five fields.
 /// - `Number` or `Hex` for the first field, from the left, that does not have its form.
-pub fn command_by<'a>(line: &[u8], room: &'a mut Room) -> Result<Request<'a>, LineFault>
+pub fn parse_command<'a>(line: &[u8], room: &'a mut Room) -> Result<Request<'a>, LineFault>
     requires { length line.now ≤ 4096 }
     ensures { request_read result ≡ asked_command (fields line.now) }
 {

@@ -11,7 +11,7 @@ ghost use Rattle.ocadev_replay.specs.Replaying.{ServesEvent, ServesEventAndPrint
 ghost use Rattle.ocadev_replay.specs.PrivateRequests.{event_of};
 
 use super::answer::{print_packets, print_verdict};
-use super::request::{DATAGRAM_ROOM, ScriptEvent, asked_by};
+use super::request::{DATAGRAM_ROOM, ScriptEvent, parse_event};
 use oca_device::{Device, Outbox};
 use oca_script::lines::serve_lines;
 use oca_script::{Language, Printer, ReplayFault, Sink, Source, Stop, WriteFailed};
@@ -43,7 +43,7 @@ impl<'a> Language for DeviceScript<'a> {
         line: &[u8],
         printer: &mut Printer<W>,
     ) -> Result<(), Stop> {
-        match asked_by(line, &mut room.bytes) {
+        match parse_event(line, &mut room.bytes) {
             Err(fault) => Err(Stop::Line(fault)),
             Ok(request) => match serve(device, room.outbox, request, printer) {
                 Ok(()) => Ok(()),

@@ -66,7 +66,7 @@ fn is_quiet(word: &[u8]) -> bool
 
 /// A datagram: its moment, its sender and its bytes, looked at in this order.
 #[tactic(auto, unfolding(crate::specs::Requests::datagram_of))]
-fn datagram<'a>(
+fn parse_datagram<'a>(
     now: &[u8],
     sender: &[u8],
     text: &[u8],
@@ -103,7 +103,7 @@ fn moment_and_peer(line: &[u8]) -> Option<(u64, Peer, &[u8])>
 /// - `Form` if the line does not have these fields.
 /// - `Moment`, `Peer` or `Hex` for the first field, from the left, that does not have its form.
 #[tactic(auto, using(crate::proofs::RequestLemmas::left_rules))]
-pub fn asked_by<'a>(
+pub fn parse_event<'a>(
     line: &[u8],
     room: &'a mut [u8; DATAGRAM_ROOM],
 ) -> Result<ScriptEvent<'a>, LineFault>
@@ -119,14 +119,14 @@ pub fn asked_by<'a>(
                 None => Err(LineFault::Hex),
             },
         },
-        None => asked_by_fields(line, room),
+        None => parse_fields(line, room),
     }
 }
 
 /// The same field by field, for clock readings and for lines with a fault.
 #[inline(never)]
 #[tactic(auto, unfolding(crate::specs::Requests::tick_of))]
-fn asked_by_fields<'a>(
+fn parse_fields<'a>(
     line: &[u8],
     room: &'a mut [u8; DATAGRAM_ROOM],
 ) -> Result<ScriptEvent<'a>, LineFault>
@@ -145,7 +145,7 @@ fn asked_by_fields<'a>(
             if is_quiet(second) {
                 Err(LineFault::Form)
             } else {
-                datagram(now, second, third, room)
+                parse_datagram(now, second, third, room)
             }
         }
         Fields::Other => Err(LineFault::Form),
