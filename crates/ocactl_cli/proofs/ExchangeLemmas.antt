@@ -18,13 +18,13 @@ use Rattle.oca_control.specs.declared.fault.ControlFault.{ControlFault}
 use Rattle.oca_control.specs.declared.fault.ControlFault.TheVariants.{Lost}
 use Rattle.oca_control.specs.declared.outcome.Outcome.{Outcome}
 use Rattle.oca_control.specs.declared.outcome.Outcome.TheVariants as outcomes
-use Rattle.oca_panel.specs.Panels.{PanelState, BeginsIn, is_lost_or_unanswered}
+use Rattle.oca_panel.specs.Panels.{PanelState, BeginsIn, IsOpened, is_lost_or_unanswered}
 use Rattle.oca_panel.specs.Renewals.{IsRenewed}
 use Rattle.oca_panel.specs.InFlight.{BeginsBehind, BeginsUnless, FinishesFirst, FirstIsUnknown, SettlesFirst, put_behind}
 use Rattle.oca_control.proofs.Asks.{waits_asked}
 use Rattle.oca_control.proofs.Waits.{received_in_wait}
 use Rattle.oca_control.specs.Limits.{longest_life}
-use Rattle.oca_control.specs.Links.{LinkState}
+use Rattle.oca_control.specs.Links.{LinkState, new_link}
 use Rattle.oca_control.specs.Asking.{refused_by, Begins, Waits, ReceivesSoOften, IsPresent}
 use Rattle.oca_control.specs.Waiting.{ReceivesInAWait, WaitsWhile}
 use Rattle.ocactl_cli.specs.Requests.{LineAsked, Send, asked_line}
@@ -117,6 +117,11 @@ refuses request returned f queue more old new device span ahead refused socket i
 -- the present moment, by what the end says of itself
 pub present_of : (d e : EndState) (now : ℕ) → d ≡ e → IsPresent now d → IsPresent now e
 present_of d e now is h = subst (IsPresent now) is h
+
+-- the link of a panel that was opened
+pub opened_link : (device : Peer) (first span wait : ℕ) (before : EndState) (p : PanelState) → IsOpened device first span wait before p
+    → (now : ℕ) × (p.link ≡ new_link device first now span)
+opened_link device first span wait before p opened = (opened.now, ap (λ (x : PanelState). x.link) opened.panel)
 
 -- a line was taken up, and the link went on or is a new one
 pub took-up : (queue : List (ℕ × Unit {0})) (p q : PanelState) (device : Peer) (span : ℕ) (ahead : ℕ) (refused : Bool) (socket : Option ℤ) (is_open : Bool) (at_hand : Option ℕ) (before : SessionState) (now from : ℕ)

@@ -1,5 +1,5 @@
 -- What is asked of objects in words: each is set, locked or unlocked once, and in time (AES70-2).
-use Rattle.std.specs.Prelude.{◌≡◌, ◌⊎◌, ◌+◌, ◌<◌, ◌≤◌, ℕ, Bool, true, false, List, [], ◌∷◌, ◌++◌, Option, Some, None, Result, Ok, Err}
+use Rattle.std.specs.Prelude.{◌≡◌, ◌⊎◌, ◌+◌, ◌<◌, ◌≤◌, ℕ, List, [], ◌∷◌, ◌++◌, Option, Some, None, Result, Ok, Err}
 use Rattle.std.specs.List.{position}
 use Rattle.std.specs.Str.{bytes_eq}
 use Rattle.oca_types.specs.declared.class.Class.{Class}
@@ -19,6 +19,8 @@ use Rattle.oca_panel.specs.declared.trouble.Trouble.TheVariants as trouble
 use Rattle.oca_panel.specs.Panels.{PanelState}
 use Rattle.oca_panel.specs.Outcomes.{done_answered, names_answered}
 use Rattle.oca_panel.specs.Objects.{AsksClass, BeginsSetting, Reads}
+use Rattle.ocactl_cli.specs.declared.objects.LockAction.{LockAction}
+use Rattle.ocactl_cli.specs.declared.objects.LockAction.TheVariants as action
 
 -- ---- a word for a value
 
@@ -95,12 +97,12 @@ BeginsSet since now assignment returned old new =
 -- ---- objects that are locked
 
 -- An object was locked or unlocked, by LockTotal or Unlock, once.
-abbrev pub AsksLock : Bool → ℕ → PanelState → PanelState → Result Unit Trouble → Type 0
-AsksLock true target old new done = Reads target class.Block requests.LockTotal done_answered old new done
-AsksLock false target old new done = Reads target class.Block requests.Unlock done_answered old new done
+abbrev pub AsksLock : LockAction → ℕ → PanelState → PanelState → Result Unit Trouble → Type 0
+AsksLock action.Lock target old new done = Reads target class.Block requests.LockTotal done_answered old new done
+AsksLock action.Unlock target old new done = Reads target class.Block requests.Unlock done_answered old new done
 
 -- It was asked in time behind the command before it; or it came late, and nothing was asked.
-abbrev pub LocksBehind : (since now : ℕ) → (locks : Bool) → (target : ℕ) → PanelState → PanelState
+abbrev pub LocksBehind : (since now : ℕ) → LockAction → (target : ℕ) → PanelState → PanelState
     → Result Unit Trouble → Type 0
 LocksBehind since now locks target old new done =
     (IsSoonBehind since now old × AsksLock locks target old new done)

@@ -8,8 +8,8 @@ use Rattle.oca_script.specs.Ends.{Output}
 use Rattle.oca_script.specs.Printing.{Prints}
 use Rattle.oca_control.specs.declared.fault.ControlFault.{ControlFault}
 use Rattle.oca_control.specs.declared.outcome.Outcome.{Outcome}
-use Rattle.ocactl_cli.specs.declared.commands.Asked.{Asked}
-use Rattle.ocactl_cli.specs.declared.commands.Asked.TheVariants as asked
+use Rattle.ocactl_cli.specs.declared.commands.Instruction.{Instruction}
+use Rattle.ocactl_cli.specs.declared.commands.Instruction.TheVariants as instructions
 use Rattle.ocactl_cli.specs.Requests.{LineAsked, Send, Wait}
 use Rattle.ocactl_cli.specs.Exchanges.{SessionState, AwaitsFirst, FirstIsOpen, SendsCommand, SubmitsCommand, Refuses}
 
@@ -45,10 +45,10 @@ abbrev pub Submitted : RequestFields → Result Handle ControlFault → SessionS
 Submitted request (Ok handle) old new = SubmitsCommand request handle old new
 Submitted request (Err fault) old new = (new ≡ old) × Refuses request fault old
 
-abbrev pub line_in : Asked → LineAsked
-line_in (asked.Send request) = Send (request_of request)
-line_in asked.Wait = Wait
+abbrev pub line_in : Instruction → LineAsked
+line_in (instructions.Send request) = Send (request_of request)
+line_in instructions.Wait = Wait
 
-abbrev pub line_asked : Result Asked LineFault → Result LineAsked LineFault
+abbrev pub line_asked : Result Instruction LineFault → Result LineAsked LineFault
 line_asked (Ok a) = Ok (line_in a)
 line_asked (Err f) = Err f

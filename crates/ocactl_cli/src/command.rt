@@ -22,16 +22,16 @@ pub enum Command {
     /// To replay a script on a link to this device, with this first handle and span.
     Replay(Peer, Handle, Span),
     /// To send a command to a device.
-    Send(Reach, Sending),
+    Send(Remote, Sending),
     /// To send the commands of the input to a device, at most so many at once.
-    Run(Reach, Span),
+    Run(Remote, Span),
     /// To do something with objects of a device. A command waits so many times 50 ms for its answer.
-    Do(Reach, u32, Task),
+    Do(Remote, u32, Task),
 }
 
 /// A device that is reached over a network.
 #[derive(Clone, Copy)]
-pub struct Reach {
+pub struct Remote {
     pub device: Peer,
     /// The local address, the first byte highest; 0 for the one from which the system reaches the device.
     pub ip: u32,
@@ -40,7 +40,7 @@ pub struct Reach {
     pub span: Span,
 }
 
-impl Reach {
+impl Remote {
     /// The way to the device, from the port of the command line if it gives one, and otherwise from this one.
     pub fn way(&self, otherwise: LocalPort) -> Way {
         Way {
@@ -78,6 +78,16 @@ pub enum Task {
     Hold(Vec<Ono>, Hold),
     /// To release their locks.
     Unlock(Vec<Ono>),
+}
+
+impl Task {
+    /// The local port from which it is done, if the command line gives none. A lock belongs to the port that took it.
+    pub fn local_port(&self) -> LocalPort {
+        match self {
+            Task::Tree | Task::Get(_) | Task::Set(..) => LocalPort::Own,
+            Task::Lock(_) | Task::Hold(..) | Task::Unlock(_) => LocalPort::OwnAlone,
+        }
+    }
 }
 
 /// For how long locks are kept.
@@ -409,22 +419,23 @@ fn commands() -> [CommandRow; 8] {
     [0, 1, 2, 3, 4, 5, 6, 7].map(|place| command_at(place))
 }
 
-/// The words that are matched, and the time behind `--hold`, in milliseconds.
+/// The words of the command line as they are matched, and the time behind `--hold`.
 #[derive(Drop)]
-pub struct Given {
+pub struct Arguments {
     pub words: Vec<String>,
+    /// In milliseconds.
     pub hold_ms: Option<u64>,
 }
 
-impl Given {
+impl Arguments {
     /// The words as they are matched, of those of the command line, the program's name first. Refusal: `AllocError`, if
     /// memory was refused.
-    pub fn new<S: AsStr>(alloc: Global, words: &[S]) -> Result<Given, AllocError> {
+    pub fn new<S: AsStr>(alloc: Global, words: &[S]) -> Result<Arguments, AllocError> {
         let name = match words {
             [_, name, ..] => name.as_str(),
             _ => "",
         };
-        let mut given = Given {
+        let mut arguments = Arguments {
             words: Vec::new(alloc),
             hold_ms: None,
         };
@@ -432,19 +443,19 @@ impl Given {
         for word in words {
             let word = word.as_str();
             match time_of(word) {
-                Some(time) if is_behind_hold => given.hold_ms = Some(time),
+                Some(time) if is_behind_hold => arguments.hold_ms = Some(time),
                 _ => {
                     let blank = if name == "set" && takes_blank(word) {
                         " "
                     } else {
                         ""
                     };
-                    given.words.push(format!(in alloc; "{blank}{word}")?)?;
+                    arguments.words.push(format!(in alloc; "{blank}{word}")?)?;
                 }
             }
             is_behind_hold = name == "lock" && word == "--hold";
         }
-        Ok(given)
+        Ok(arguments)
     }
 }
 
@@ -457,7 +468,7 @@ fn takes_blank(word: &str) -> bool {
     }
 }
 
-/// The word without the blank that [`Given::new`] put before it; the word itself if it begins with no blank.
+/// The word without the blank that [`Arguments::new`] put before it; the word itself if it begins with no blank.
 fn without_blank(word: &str) -> &str {
     word.strip_prefix(" ").unwrap_or(word)
 }
@@ -475,9 +486,9 @@ fn time_of(word: &str) -> Option<u64> {
 
 /// Matches the words of the command line with the commands and options that the program takes. Err if they do not
 /// match, ask for a help text or the version, or memory was refused; the error says which.
-pub fn matches_of<'a>(alloc: Global, given: &'a Given) -> Result<ArgMatches<'a>, Error> {
+pub fn matches_of<'a>(alloc: Global, arguments: &'a Arguments) -> Result<ArgMatches<'a>, Error> {
     program_with_commands(alloc, &PROGRAM, &commands())?.try_get_matches_from(
-        given.words.as_slice(),
+        arguments.words.as_slice(),
     )
 }
 
@@ -485,7 +496,7 @@ pub fn matches_of<'a>(alloc: Global, given: &'a Given) -> Result<ArgMatches<'a>,
 /// form; the note says which form. `NoMemory` if memory was refused.
 pub fn command_of(
     alloc: Global,
-    given: &Given,
+    arguments: &Arguments,
     matches: &ArgMatches<'_>,
 ) -> Result<Command, Failure> {
     let (name, options) = matches.subcommand().ok_or(RunFault::BadWords)?;
@@ -498,23 +509,23 @@ pub fn command_of(
     if name == "replay" {
         return replay_of(options);
     }
-    let reach = reach_of(options)?;
-    if name == "send" {
-        return Ok(Command::Send(reach, sending_of(options)));
+    let remote = remote_of(options)?;
+    match name {
+        "send" => Ok(Command::Send(remote, sending_of(options))),
+        "run" => Ok(Command::Run(remote, ahead_of(alloc, options, remote.span)?)),
+        _ => {
+            let turns = TURNS.number(options).unwrap_or(200) as u32;
+            let task = task_of(alloc, name, arguments, options, remote.span)?;
+            Ok(Command::Do(remote, turns, task))
+        }
     }
-    if name == "run" {
-        return Ok(Command::Run(reach, ahead_of(alloc, options, reach.span)?));
-    }
-    let turns = TURNS.number(options).unwrap_or(200) as u32;
-    let task = task_of(alloc, name, given, options, reach.span)?;
-    Ok(Command::Do(reach, turns, task))
 }
 
 /// The task of a command for objects. `set` has at most as many commands in flight as the span allows.
 fn task_of(
     alloc: Global,
     name: &str,
-    given: &Given,
+    arguments: &Arguments,
     options: &ArgMatches<'_>,
     span: Span,
 ) -> Result<Task, Failure> {
@@ -528,7 +539,7 @@ fn task_of(
         "unlock" => Ok(Task::Unlock(onos_of(alloc, options)?)),
         _ => {
             let onos = onos_of(alloc, options)?;
-            match given.hold_ms {
+            match arguments.hold_ms {
                 Some(time) => Ok(Task::Hold(onos, Hold::Time(time))),
                 None if HOLD.is_set(options) => Ok(Task::Hold(onos, Hold::Input)),
                 None => Ok(Task::Lock(onos)),
@@ -546,10 +557,10 @@ fn replay_of(options: &ArgMatches<'_>) -> Result<Command, Failure> {
 }
 
 /// The device that the options name, and how it is reached, where each of them has its form.
-fn reach_of(options: &ArgMatches<'_>) -> Result<Reach, Failure> {
+fn remote_of(options: &ArgMatches<'_>) -> Result<Remote, Failure> {
     let device = DEVICE.host(options).ok_or(RunFault::BadWords)?;
     let is_local = Ipv4Addr::from(device.ip).is_loopback();
-    Ok(Reach {
+    Ok(Remote {
         device,
         ip: IP
             .local_ip(options)

@@ -60,7 +60,7 @@ fn print_outcome<W: Sink>(outcome: &Outcome, printer: &mut Printer<W>) -> Result
 
 /// What a line asks for: to send a command, or that all before it are answered first.
 #[derive(Clone, Copy)]
-pub enum Asked<'a> {
+pub enum Instruction<'a> {
     Send(Request<'a>),
     Wait,
 }
@@ -90,13 +90,8 @@ impl<E: End> Language for Commands<E> {
         line: &[u8],
         printer: &mut Printer<W>,
     ) -> Result<(), Stop> {
-        match asked_by(line, room) {
-            Err(fault) => Err(Stop::Line(fault)),
-            Ok(asked) => match serve(session, asked, printer) {
-                Ok(()) => Ok(()),
-                Err(WriteFailed) => Err(Stop::Write),
-            },
-        }
+        let asked = parse_line(line, room).map_err(Stop::Line)?;
+        Ok(serve(session, asked, printer)?)
     }
 
     /// Drives the commands in flight until there is input, and prints their outcomes as soon as they are known.
@@ -130,15 +125,18 @@ fn is_wait(line: &[u8]) -> bool
 
 /// What the line asks for. The bytes of a command's parameters are put into `room`.
 #[tactic(auto, unfolding(crate::specs::Requests::asked_line))]
-fn asked_by<'a>(line: &[u8], room: &'a mut [u8; PARAMS_ROOM]) -> Result<Asked<'a>, LineFault>
+fn parse_line<'a>(
+    line: &[u8],
+    room: &'a mut [u8; PARAMS_ROOM],
+) -> Result<Instruction<'a>, LineFault>
     requires { length line.now ≤ 4096 }
     ensures { line_asked result ≡ asked_line (fields line.now) }
 {
     if is_wait(line) {
-        return Ok(Asked::Wait);
+        return Ok(Instruction::Wait);
     }
     match parse_command(line, room) {
-        Ok(request) => Ok(Asked::Send(request)),
+        Ok(request) => Ok(Instruction::Send(request)),
         Err(fault) => Err(fault),
     }
 }
@@ -146,19 +144,19 @@ fn asked_by<'a>(line: &[u8], room: &'a mut [u8; PARAMS_ROOM]) -> Result<Asked<'a
 /// Does what a line asks for, and prints the outcomes of commands.
 fn serve<E: End, W: Sink>(
     session: &mut Session<E>,
-    asked: Asked<'_>,
+    asked: Instruction<'_>,
     printer: &mut Printer<W>,
 ) -> Result<(), WriteFailed>
     ensures { AndPrints (DoesLine session.old (line_in asked.entry) session.new) (ok tt) result printer.old printer.new }
 {
     session.take_up();
     match asked {
-        Asked::Send(request) => {
+        Instruction::Send(request) => {
             let left = session.left();
             let written = await_until(session, left, Ok(()), printer);
             send(session, request, written, printer)
         }
-        Asked::Wait => await_until(session, 0, Ok(()), printer),
+        Instruction::Wait => await_until(session, 0, Ok(()), printer),
     }
 }
 
@@ -234,41 +232,18 @@ fn idle<E: End, R: Source, W: Sink>(
     ensures rests { OnOk result (R.ready reader.new ≡ false → NoneInFlight session.new) }
 {
     for _turn in 0..u64::MAX {
-        let (goes_on, written) = idle_once(session, reader, printer);
-        if !goes_on {
-            return written;
+        print_settled(session, printer)?;
+        if session.is_over() {
+            return Ok(());
+        }
+        if reader.await_input(session.socket(), session.wait_time()) {
+            return Ok(());
+        }
+        if session.turn() {
+            return await_rest(session, printer);
         }
     }
     await_rest(session, printer)
-}
-
-/// Prints the outcomes of commands, where they are known, waits for input, and takes a turn where there is none.
-/// Returns whether it goes on so, and whether a write failed.
-fn idle_once<E: End, R: Source, W: Sink>(
-    session: &mut Session<E>,
-    reader: &mut R,
-    printer: &mut Printer<W>,
-) -> (bool, Result<(), WriteFailed>)
-    ensures idles { AndPrints (Idles session.old session.new) (ok tt) result.1 printer.old printer.new }
-    ensures empty { OnOk result.1 (printer.new.held ≡ []) }
-    ensures source { input (R.remaining reader.new) (R.failed reader.new)
-        ≡ input (R.remaining reader.old) (R.failed reader.old) }
-    ensures goes_on { result.0 ≡ true → result.1 ≡ ok tt }
-    ensures rests { OnOk result.1 (result.0 ≡ false → R.ready reader.new ≡ false → NoneInFlight session.new) }
-{
-    let Ok(()) = print_settled(session, printer) else {
-        return (false, Err(WriteFailed));
-    };
-    if session.is_over() {
-        return (false, Ok(()));
-    }
-    if reader.await_input(session.socket(), session.wait_time()) {
-        return (false, Ok(()));
-    }
-    if session.turn() {
-        return (false, await_rest(session, printer));
-    }
-    (true, Ok(()))
 }
 
 /// Prints the outcomes of the first commands in flight, where they are known without a turn, and flushes them.

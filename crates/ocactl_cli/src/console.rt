@@ -1,9 +1,9 @@
 //! Where the program runs, and what each command does there.
 
-use super::command::{Command, Given, Hold, Reach, Sending, Task, command_of, matches_of};
+use super::command::{Arguments, Command, Hold, Remote, Sending, Task, command_of, matches_of};
 use super::commands::{ask_once, send_all};
 use super::holding::{Keeper, Witness};
-use super::objects::{get_all, lock_all, set_all, walk};
+use super::objects::{LockAction, get_all, lock_all, set_all, walk};
 use super::reason::{DeviceEnd, note_no_answer, note_unanswered};
 use super::session::Session;
 use oca_control::Link;
@@ -49,16 +49,25 @@ impl<'c, N: Net + Clock, R: Source, W: Sink, F: Sink> Console<'c, N, R, W, F> {
 
     /// Does what the words ask for, and returns the exit status.
     fn try_run<S: AsStr>(&mut self, words: &[S]) -> Result<u8, Failure> {
-        let given = Given::new(self.alloc, words)?;
-        let matches = match matches_of(self.alloc, &given) {
+        let arguments = Arguments::new(self.alloc, words)?;
+        let matches = match matches_of(self.alloc, &arguments) {
             Ok(matches) => matches,
             Err(error) => return help_or_failure(self.alloc, &error, self.printer),
         };
-        match command_of(self.alloc, &given, &matches)? {
+        match command_of(self.alloc, &arguments, &matches)? {
             Command::Replay(device, first, span) => self.replay(device, first, span),
-            Command::Send(reach, sending) => self.send(reach, &sending),
-            Command::Run(reach, ahead) => self.send_lines(reach, ahead),
-            Command::Do(reach, turns, task) => self.do_with_objects(reach, turns, &task),
+            Command::Send(remote, sending) => {
+                let reached = self.reach(remote, LocalPort::Given(0), false)?;
+                self.send(reached, remote, &sending)
+            }
+            Command::Run(remote, ahead) => {
+                let reached = self.reach(remote, LocalPort::Own, true)?;
+                self.send_lines(reached, remote, ahead)
+            }
+            Command::Do(remote, turns, task) => {
+                let reached = self.reach(remote, task.local_port(), true)?;
+                self.do_task(reached, remote, turns, &task)
+            }
         }
     }
 
@@ -71,13 +80,29 @@ impl<'c, N: Net + Clock, R: Source, W: Sink, F: Sink> Console<'c, N, R, W, F> {
         Ok(0)
     }
 
-    /// Sends a command over a socket, and prints its outcome. The link, some 94 kB, lies in this function alone.
+    /// Opens a socket to a device, at the port `otherwise` if the command line gives none. The note of a failure names
+    /// the port if `names_port`. The search for the way has a link, some 94 kB, which lies in this function alone.
     #[inline(never)]
-    fn send(&mut self, reach: Reach, sending: &Sending) -> Result<u8, Failure> {
-        self.note_span(reach.span);
-        let way = reach.way(LocalPort::Given(0));
-        let mut reached = reach_device(self.alloc, self.system, way, false, self.faults)?;
-        let mut link = Link::new(reach.device, reached.first, 0, reach.span);
+    fn reach(
+        &mut self,
+        remote: Remote,
+        otherwise: LocalPort,
+        names_port: bool,
+    ) -> Result<Reached<'c, N>, Failure> {
+        self.note_span(remote.span);
+        let way = remote.way(otherwise);
+        reach_device(self.alloc, self.system, way, names_port, self.faults)
+    }
+
+    /// Sends a command over an end, and prints its outcome. The link, some 94 kB, lies in this function alone.
+    #[inline(never)]
+    fn send(
+        &mut self,
+        mut reached: Reached<'c, N>,
+        remote: Remote,
+        sending: &Sending,
+    ) -> Result<u8, Failure> {
+        let mut link = Link::new(remote.device, reached.first, 0, remote.span);
         let request = Request {
             target: sending.target,
             method: sending.method,
@@ -88,74 +113,53 @@ impl<'c, N: Net + Clock, R: Source, W: Sink, F: Sink> Console<'c, N, R, W, F> {
         let status = ask_once(&mut link, end, request, sending.turns, self.printer)?;
         if status == 3 {
             let end = &reached.end;
-            note_unanswered(self.alloc, self.system, end, reach.device, self.faults);
+            note_unanswered(self.alloc, self.system, end, remote.device, self.faults);
         }
         Ok(status)
     }
 
-    /// Sends the commands of the input over a socket, and prints the outcome of each.
-    fn send_lines(&mut self, reach: Reach, ahead: Span) -> Result<u8, Failure> {
-        self.note_span(reach.span);
-        let way = reach.way(LocalPort::Own);
-        let reached = reach_device(self.alloc, self.system, way, true, self.faults)?;
-        self.send_lines_over(reached, reach, ahead)
-    }
-
-    /// Sends the commands of the input over this end. The session, some 94 kB, lies in this function alone: the search
-    /// for the way has a link, too.
+    /// Sends the commands of the input over an end, and prints the outcome of each. The session, some 94 kB, lies in this
+    /// function alone.
     #[inline(never)]
-    fn send_lines_over(
+    fn send_lines(
         &mut self,
         reached: Reached<'c, N>,
-        reach: Reach,
+        remote: Remote,
         ahead: Span,
     ) -> Result<u8, Failure> {
         let socket = Some(reached.end.end().as_raw_fd());
         let Reached { end, first, .. } = reached;
-        let mut session = Session::open(reach.device, end, first, reach.span, ahead, socket);
+        let mut session = Session::open(remote.device, end, first, remote.span, ahead, socket);
         send_all(&mut session, self.reader, self.printer)?;
         let status = if session.unanswered() { 3 } else { 0 };
         session.note_silence(self.alloc, self.system, self.faults);
         Ok(status)
     }
 
-    /// Does something with objects over a socket, and prints it.
-    fn do_with_objects(&mut self, reach: Reach, turns: u32, task: &Task) -> Result<u8, Failure> {
-        self.note_span(reach.span);
-        let own = match task {
-            Task::Tree | Task::Get(_) | Task::Set(..) => LocalPort::Own,
-            Task::Lock(_) | Task::Hold(..) | Task::Unlock(_) => LocalPort::OwnAlone,
-        };
-        let way = reach.way(own);
-        let reached = reach_device(self.alloc, self.system, way, true, self.faults)?;
-        self.do_over(reached, reach, turns, task)
-    }
-
-    /// Does something with objects over this end, and prints it. The panel, some 94 kB, lies in this function alone:
-    /// the search for the way has a link, too.
+    /// Does something with objects over an end, and prints it. The panel, some 94 kB, lies in this function alone.
     #[inline(never)]
-    fn do_over(
+    fn do_task(
         &mut self,
         reached: Reached<'c, N>,
-        reach: Reach,
+        remote: Remote,
         turns: u32,
         task: &Task,
     ) -> Result<u8, Failure> {
         let wait = turns.saturating_mul(50);
-        let mut panel = Panel::open(reach.device, reached.end, reached.first, reach.span, wait);
-        let ended = self.do_task(&mut panel, reach, task);
+        let mut panel = Panel::open(remote.device, reached.end, reached.first, remote.span, wait);
+        let ended = self.do_on_panel(&mut panel, remote, task);
         if panel.unanswered() && matches!(ended, Ok(3 | 5)) {
             let panel = &mut panel;
-            note_no_answer(self.alloc, self.system, panel, reach.device, self.faults);
+            note_no_answer(self.alloc, self.system, panel, remote.device, self.faults);
         }
         ended
     }
 
     /// Does something with objects over a panel, and prints it.
-    fn do_task(
+    fn do_on_panel(
         &mut self,
         panel: &mut Panel<DeviceEnd<'c, N>>,
-        reach: Reach,
+        remote: Remote,
         task: &Task,
     ) -> Result<u8, Failure> {
         match task {
@@ -164,9 +168,13 @@ impl<'c, N: Net + Clock, R: Source, W: Sink, F: Sink> Console<'c, N, R, W, F> {
             Task::Set(ahead, pairs) => {
                 set_all(self.alloc, panel, pairs.as_slice(), *ahead, self.printer)
             }
-            Task::Lock(onos) => Ok(lock_all(panel, onos.as_slice(), true, self.printer)?),
-            Task::Hold(onos, hold) => self.hold(panel, reach, onos.as_slice(), *hold),
-            Task::Unlock(onos) => Ok(lock_all(panel, onos.as_slice(), false, self.printer)?),
+            Task::Lock(onos) => {
+                Ok(lock_all(panel, onos.as_slice(), LockAction::Lock, self.printer)?)
+            }
+            Task::Hold(onos, hold) => self.hold(panel, remote, onos.as_slice(), *hold),
+            Task::Unlock(onos) => {
+                Ok(lock_all(panel, onos.as_slice(), LockAction::Unlock, self.printer)?)
+            }
         }
     }
 
@@ -174,19 +182,19 @@ impl<'c, N: Net + Clock, R: Source, W: Sink, F: Sink> Console<'c, N, R, W, F> {
     fn hold(
         &mut self,
         panel: &mut Panel<DeviceEnd<'c, N>>,
-        reach: Reach,
+        remote: Remote,
         onos: &[Ono],
         hold: Hold,
     ) -> Result<u8, Failure> {
         let other = Way {
             port: LocalPort::Given(0),
             first: None,
-            ..reach.way(LocalPort::Own)
+            ..remote.way(LocalPort::Own)
         };
         let reached = reach_device(self.alloc, self.system, other, true, self.faults)?;
         let witness = Witness {
             end: reached.end,
-            device: reach.device,
+            device: remote.device,
             next: reached.first,
         };
         let mut keeper = Keeper { panel, witness };

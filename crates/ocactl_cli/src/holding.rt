@@ -2,7 +2,7 @@
 
 use super::command::Hold;
 use super::object_line::{ObjectLine, max_severity, report_object};
-use super::objects::{lock_one, present};
+use super::objects::{LockAction, lock_one, present};
 use oca_control::LONGEST_LIFE_MS;
 use oca_net::{End, Heard};
 use oca_panel::{Panel, Trouble};
@@ -128,9 +128,9 @@ impl<E: End, V: End> Keeper<'_, E, V> {
         printer.flush()?;
         let mut held = Vec::new(alloc);
         let mut status = 0;
-        let mut sure = present(self.panel);
+        let mut last_heard = present(self.panel);
         for ono in onos {
-            let own = lock_one(self.panel, *ono, true, &mut sure, printer)?;
+            let own = lock_one(self.panel, *ono, LockAction::Lock, &mut last_heard, printer)?;
             if own == 0 {
                 held.push(*ono).map_err(|_| RunFault::NoMemory)?;
             }
@@ -139,18 +139,18 @@ impl<E: End, V: End> Keeper<'_, E, V> {
         if held.is_empty() {
             return Ok(status);
         }
-        let lost = self.keep(held.as_slice(), sure, hold, reader);
-        let after = self.release(held.as_slice(), &lost, printer)?;
+        let lost = self.keep(held.as_slice(), last_heard, hold, reader);
+        let after = self.report_and_release(held.as_slice(), &lost, printer)?;
         Ok(max_severity(status, after))
     }
 
-    /// Drives the link, which sends keep-alives, and looks at the locks, until the time is over or one is lost. `sure`
-    /// is the moment of the last command that the device is known to have heard. Returns the places of those that are
-    /// lost.
+    /// Drives the link, which sends keep-alives, and looks at the locks, until the time is over or one is lost.
+    /// `last_heard` is the moment of the last command that the device is known to have heard. Returns the places of
+    /// those that are lost.
     fn keep<R: Source>(
         &mut self,
         held: &[Ono],
-        mut sure: u64,
+        mut last_heard: u64,
         hold: Hold,
         reader: &mut R,
     ) -> Range<usize> {
@@ -160,7 +160,7 @@ impl<E: End, V: End> Keeper<'_, E, V> {
         let mut place = 0;
         for _turn in 0..u64::MAX {
             let now = present(self.panel);
-            if now.saturating_sub(sure) > LONGEST_LIFE_MS {
+            if now.saturating_sub(last_heard) > LONGEST_LIFE_MS {
                 return all;
             }
             if is_over(hold, now.saturating_sub(begun), reader) {
@@ -176,7 +176,7 @@ impl<E: End, V: End> Keeper<'_, E, V> {
             let Some(ono) = held.get(place) else {
                 return all;
             };
-            if self.is_lost(*ono, &mut sure) {
+            if self.is_lost(*ono, &mut last_heard) {
                 return place..place + 1;
             }
             place = (place + 1) % held.len();
@@ -186,13 +186,13 @@ impl<E: End, V: End> Keeper<'_, E, V> {
 
     /// Whether the lock of an object is lost: another controller can read the object, or the device does not let this
     /// one lock it again. `false` where no answer comes: that is found otherwise.
-    fn is_lost(&mut self, ono: Ono, sure: &mut u64) -> bool {
+    fn is_lost(&mut self, ono: Ono, last_heard: &mut u64) -> bool {
         if self.witness.can_read(ono) {
             return true;
         }
         let now = present(self.panel);
         match self.panel.lock(ono) {
-            Ok(()) => *sure = now,
+            Ok(()) => *last_heard = now,
             Err(Trouble::Refused(_) | Trouble::Unreadable) => return true,
             Err(_) => {}
         }
@@ -200,7 +200,7 @@ impl<E: End, V: End> Keeper<'_, E, V> {
     }
 
     /// Prints which locks are lost, releases the others, and prints that. Returns the exit status.
-    fn release<W: Sink>(
+    fn report_and_release<W: Sink>(
         &mut self,
         held: &[Ono],
         lost: &Range<usize>,
@@ -215,7 +215,7 @@ impl<E: End, V: End> Keeper<'_, E, V> {
         let mut since = present(self.panel);
         for (place, ono) in held.iter().enumerate() {
             if !lost.contains(&place) {
-                let own = lock_one(self.panel, *ono, false, &mut since, printer)?;
+                let own = lock_one(self.panel, *ono, LockAction::Unlock, &mut since, printer)?;
                 status = max_severity(status, own);
             }
         }

@@ -136,10 +136,10 @@ pub fn set_all<E: End, W: Sink>(
 fn find<E: End>(panel: &mut Panel<E>, pair: &Pair, since: &mut u64) -> Result<Value, Trouble>
     ensures { FindsInTime since.old since.new (pair_of pair.now) panel.old panel.new result }
 {
-    if !is_in_time(panel, since) {
+    if !keep_up(panel, since) {
         return Err(Trouble::NotSubmitted(ControlFault::Lost));
     }
-    wanted(panel, pair.ono, pair.word.as_str())
+    find_value(panel, pair.ono, pair.word.as_str())
 }
 
 /// The value that a word means for the object with this number. The device is asked for the object's class. For a
@@ -147,7 +147,7 @@ fn find<E: End>(panel: &mut Panel<E>, pair: &Pair, since: &mut u64) -> Result<Va
 ///
 /// Faults: `NoValue` if the object is a block or its class is not of this profile. `NoSuchWord` if the word means no
 /// value of the object. `Refused`, `Unreadable`, `NotSubmitted`, `Lost` and `Unanswered` as in [`Panel::class`].
-fn wanted<E: End>(panel: &mut Panel<E>, ono: Ono, word: &str) -> Result<Value, Trouble>
+fn find_value<E: End>(panel: &mut Panel<E>, ono: Ono, word: &str) -> Result<Value, Trouble>
     ensures { FindsValue ono.0 word.now panel.old panel.new result }
 {
     match panel.class(ono) {
@@ -271,7 +271,7 @@ fn begin_in_time<E: End>(
 ) -> Result<Handle, ControlFault>
     ensures { BeginsSet since.old since.new (assignment.ono.0, assignment.value) result panel.old panel.new }
 {
-    if !is_in_time(panel, since) {
+    if !keep_up(panel, since) {
         return Err(ControlFault::Lost);
     }
     panel.begin_set(assignment.ono, assignment.value)
@@ -310,62 +310,67 @@ fn report_set<W: Sink>(
     report_object(assignment.ono, &line, printer)
 }
 
-/// Locks the objects `onos` one after another if `locks` is true, otherwise releases their locks, and prints the
-/// outcome of each. An object whose command would be submitted more than 15,000 ms after the command before it is left
-/// out: `not sent`. Returns the most severe exit status of all lines. Refusal: `WriteFailed` if a write failed; the
-/// objects whose lines come before were asked.
+/// What becomes of the lock of an object.
+#[derive(Clone, Copy)]
+pub enum LockAction {
+    Lock,
+    Unlock,
+}
+
+/// Locks or unlocks the objects `onos` one after another, and prints the outcome of each. An object whose command would
+/// be submitted more than 15,000 ms after the command before it is left out: `not sent`. Returns the most severe exit
+/// status of all lines. Refusal: `WriteFailed` if a write failed; the objects whose lines come before were asked.
 pub fn lock_all<E: End, W: Sink>(
     panel: &mut Panel<E>,
     onos: &[Ono],
-    locks: bool,
+    action: LockAction,
     printer: &mut Printer<W>,
 ) -> Result<u8, WriteFailed> {
     printer.flush()?;
     let mut status = 0;
     let mut since = present(panel);
     for ono in onos {
-        let own = lock_one(panel, *ono, locks, &mut since, printer)?;
+        let own = lock_one(panel, *ono, action, &mut since, printer)?;
         status = max_severity(status, own);
     }
     Ok(status)
 }
 
-/// Locks an object if `locks` is true, otherwise releases its lock, and prints its outcome. If more than 15,000 ms have
-/// passed since the moment `since`, in milliseconds of the end's clock, nothing is sent, and `not sent` is printed.
-/// Otherwise `since` becomes the present moment. Returns the exit status. Refusal: `WriteFailed` if the line was not
-/// written; a command that was sent may be carried out all the same.
+/// Locks or unlocks an object, and prints its outcome. If more than 15,000 ms have passed since the moment `since`, in
+/// milliseconds of the end's clock, nothing is sent, and `not sent` is printed. Otherwise `since` becomes the present
+/// moment. Returns the exit status. Refusal: `WriteFailed` if the line was not written; a command that was sent may be
+/// carried out all the same.
 pub fn lock_one<E: End, W: Sink>(
     panel: &mut Panel<E>,
     ono: Ono,
-    locks: bool,
+    action: LockAction,
     since: &mut u64,
     printer: &mut Printer<W>,
 ) -> Result<u8, WriteFailed> {
-    let line = match lock_in_time(panel, ono, locks, since) {
-        Ok(()) if locks => ObjectLine::Locked,
-        Ok(()) => ObjectLine::Unlocked,
-        Err(trouble) => ObjectLine::LockFailed(trouble),
+    let line = match (lock_in_time(panel, ono, action, since), action) {
+        (Ok(()), LockAction::Lock) => ObjectLine::Locked,
+        (Ok(()), LockAction::Unlock) => ObjectLine::Unlocked,
+        (Err(trouble), _) => ObjectLine::LockFailed(trouble),
     };
     report_object(ono, &line, printer)
 }
 
-/// Locks an object, or takes its lock off, at most 15,000 ms after the command before it. Later nothing is sent, as
-/// where the link is lost.
+/// Locks or unlocks an object, at most 15,000 ms after the command before it. Later nothing is sent, as if the link
+/// were lost.
 fn lock_in_time<E: End>(
     panel: &mut Panel<E>,
     ono: Ono,
-    locks: bool,
+    action: LockAction,
     since: &mut u64,
 ) -> Result<(), Trouble>
-    ensures { LocksBehind since.old since.new locks ono.0 panel.old panel.new result }
+    ensures { LocksBehind since.old since.new action ono.0 panel.old panel.new result }
 {
-    if !is_in_time(panel, since) {
+    if !keep_up(panel, since) {
         return Err(Trouble::NotSubmitted(ControlFault::Lost));
     }
-    if locks {
-        panel.lock(ono)
-    } else {
-        panel.unlock(ono)
+    match action {
+        LockAction::Lock => panel.lock(ono),
+        LockAction::Unlock => panel.unlock(ono),
     }
 }
 
@@ -377,10 +382,10 @@ pub fn present<E: End>(panel: &Panel<E>) -> u64
     panel.end().now()
 }
 
-/// Whether one more command may be submitted: at most 15,000 ms have passed since the moment `since`, in milliseconds
-/// of the end's clock. While the program runs, no wait for an answer takes so long. If `true`, `since` becomes the
-/// present moment; if `false`, it stays.
-fn is_in_time<E: End>(panel: &Panel<E>, since: &mut u64) -> bool
+/// Makes `since`, the moment of the command before in milliseconds of the end's clock, the present one, and returns
+/// `true`: one more command may be submitted. If that is more than 15,000 ms later, it returns `false`, and `since`
+/// stays. While the program runs, no wait for an answer takes so long.
+fn keep_up<E: End>(panel: &Panel<E>, since: &mut u64) -> bool
     ensures in_time { result ≡ true → IsSoonBehind since.old since.new panel.now }
     ensures late { result ≡ false → IsLate since.old panel.now }
     ensures same { result ≡ false → since.new ≡ since.old }

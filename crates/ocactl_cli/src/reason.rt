@@ -34,9 +34,9 @@ pub fn note_no_answer<N: Net + Clock, F: Sink>(
     ensures { IsSameBeside panel.old panel.new }
 {
     note_failed_send(alloc, panel.end(), faults);
-    match known_of(alloc, system, panel.end(), device) {
+    match known_reason(alloc, system, panel.end(), device) {
         Some(note) => print_made_note(note, faults),
-        None => print_made_note(asked(alloc, system, panel, device), faults),
+        None => print_made_note(reason_asked_for(alloc, system, panel, device), faults),
     }
 }
 
@@ -50,7 +50,7 @@ pub fn note_unanswered<N: Net + Clock, F: Sink>(
     faults: &mut Printer<F>,
 ) {
     note_failed_send(alloc, end, faults);
-    let note = match known_of(alloc, system, end, device) {
+    let note = match known_reason(alloc, system, end, device) {
         Some(note) => note,
         None => format!(in alloc; "nothing was heard from {device}"),
     };
@@ -58,7 +58,7 @@ pub fn note_unanswered<N: Net + Clock, F: Sink>(
 }
 
 /// What is known without a question: that the machine has lost the address of the socket, or when the device was heard.
-fn known_of<N: Net + Clock>(
+fn known_reason<N: Net + Clock>(
     alloc: Global,
     system: &N,
     end: &DeviceEnd<'_, N>,
@@ -85,7 +85,7 @@ fn note_failed_send<N: Clock, F: Sink>(
 }
 
 /// What a device that was never heard, and its host, say of it when they are asked.
-fn asked<N: Net + Clock>(
+fn reason_asked_for<N: Net + Clock>(
     alloc: Global,
     system: &N,
     panel: &mut Panel<DeviceEnd<'_, N>>,
@@ -108,22 +108,15 @@ fn asked<N: Net + Clock>(
     format!(in alloc; "nothing was heard from {device}")
 }
 
-/// Whether a device is heard when it is asked for keep-alives.
+/// Whether a device is heard when it is sent keep-alives.
 fn is_there<E: End>(panel: &mut Panel<Watched<E>>, device: Peer) -> bool
     ensures { IsSameBeside panel.old panel.new }
 {
     for round in 0..ROUNDS {
-        if echoes(panel, device) {
+        let heard = panel.call(device);
+        if matches!(heard, Heard::Datagram { from, .. } if from == device) {
             return true;
         }
     }
     false
-}
-
-/// Sends a device a keep-alive, and receives once: whether a datagram of the device came.
-fn echoes<E: End>(panel: &mut Panel<Watched<E>>, device: Peer) -> bool
-    ensures { IsSameBeside panel.old panel.new }
-{
-    let heard = panel.call(device);
-    matches!(heard, Heard::Datagram { from, .. } if from == device)
 }

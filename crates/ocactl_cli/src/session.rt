@@ -69,12 +69,14 @@ impl<E: End> Model for Session<E> {
 }
 
 impl<E: End> Session<E> {
-    ghost use Rattle.std.specs.Prelude.{◌≡◌, ◌-◌, ◌<◌, [], true, false, length};
+    ghost use Rattle.std.specs.Prelude.{◌≡◌, ◌-◌, ◌<◌, ℕ, [], true, false, length};
     ghost use Rattle.oca_types.specs.Sizes.{span_size};
+    ghost use Rattle.oca_control.specs.Links.{new_link};
 
     /// A session over a new panel ([`Panel::open`]), with no command in flight. At most `ahead` commands (1 to 32) may
     /// be in flight at once. `socket` is the end's descriptor: a wait for input also ends when a datagram comes there.
     /// If `socket` is `None`, the session does not wait for input at all.
+    #[tactic(auto, using(crate::proofs::ExchangeLemmas::opened_link))]
     pub fn open(
         device: Peer,
         end: E,
@@ -83,7 +85,8 @@ impl<E: End> Session<E> {
         ahead: Span,
         socket: Option<RawFd>,
     ) -> Session<E>
-        ensures { (result.device ≡ device) × (result.span ≡ span_size span) }
+        ensures first { (now : ℕ) × (result.link ≡ new_link device first.0 now (span_size span)) }
+        ensures later { (result.device ≡ device) × (result.span ≡ span_size span) }
     {
         Session {
             panel: Panel::open(device, end, first, span, WAIT_MS),
@@ -119,11 +122,6 @@ impl<E: End> Session<E> {
         self.panel.end()
     }
 
-    /// Whether the link is lost, or late at the end's present moment.
-    pub fn is_lost(&self) -> bool {
-        self.panel.is_lost()
-    }
-
     /// Whether a command got no answer, at any time since the session was made.
     pub fn unanswered(&self) -> bool {
         self.refused || self.panel.unanswered()
@@ -157,7 +155,7 @@ impl<E: End> Session<E> {
         if !self.in_flight.is_empty() {
             return;
         }
-        renew(&mut self.panel, self.device, self.span);
+        renew_if_lost(&mut self.panel, self.device, self.span);
     }
 
     /// Submits the command of a line and sends it at once, and returns its handle. Fewer than 32 commands must be in
@@ -241,7 +239,7 @@ impl<N: Net + Clock> Session<DeviceEnd<'_, N>> {
     /// device that was never heard is first asked whether it is there. If the link is neither, nothing is done.
     #[tactic(auto, using(crate::proofs::ExchangeLemmas::still_waits))]
     pub fn note_silence<F: Sink>(&mut self, alloc: Global, system: &N, faults: &mut Printer<F>) {
-        if self.is_lost() {
+        if self.panel.is_lost() {
             note_no_answer(alloc, system, &mut self.panel, self.device, faults);
         }
     }
@@ -249,7 +247,7 @@ impl<N: Net + Clock> Session<DeviceEnd<'_, N>> {
 
 /// If the link of a panel is lost or late, goes on with a new link to the device at the address `device`. Handles go on
 /// behind those of the old link; if these are used up, the link stays.
-fn renew<E: End>(panel: &mut Panel<E>, device: Peer, span: Span)
+fn renew_if_lost<E: End>(panel: &mut Panel<E>, device: Peer, span: Span)
     ensures { RenewsPanel device (span_size span) panel.old panel.new }
 {
     if !panel.is_lost() {

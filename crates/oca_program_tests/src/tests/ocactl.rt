@@ -2,7 +2,7 @@
 //! take a little at a time or fail. Whole runs of the program are rows of `tools/rows/ocactl.toml`.
 use crate::tests::{Row, Said, all_agree, all_hold};
 use oca_types::Peer;
-use ocactl_cli::command::Given;
+use ocactl_cli::command::Arguments;
 
 mod commands;
 mod objects;
@@ -21,7 +21,7 @@ struct Holds(&'static str, Option<u64>);
 impl Row for Holds {
     /// Whether it says this time.
     fn agrees(&self, said: &mut Said) -> bool {
-        match Given::new(said.alloc, &["ocactl", "lock", "--hold", self.0, "4097"]) {
+        match Arguments::new(said.alloc, &["ocactl", "lock", "--hold", self.0, "4097"]) {
             Ok(given) => said.same(given.hold_ms, self.1),
             Err(_) => false,
         }

@@ -6,4 +6,4 @@ pub loop-round-init : goal.loop-round-init
 loop-round-init g c = refl
 
 pub loop-round-preserved : goal.loop-round-preserved
-loop-round-preserved g c = same_again _ _ _ _ _ c.loop-round.invariant c.if-echoes.ensures
+loop-round-preserved g c = same_again _ _ _ _ _ c.loop-round.invariant c.call-heard.ensures.same

@@ -11,4 +11,4 @@ pub returns : goal.returns
 returns g c =
     let s = c.self.inside in
     took-up-anew s.in_flight s.panel _ s.device _ s.ahead s.refused s.socket s.is_open s.at_hand c.args.self.now c.present-now.result c.since.result c.self.view_is
-    c.present-now.ensures c.since.ensures (none-when s.in_flight c.if-not-is_empty.ensures) c.renew.ensures
+    c.present-now.ensures c.since.ensures (none-when s.in_flight c.if-not-is_empty.ensures) c.renew_if_lost.ensures

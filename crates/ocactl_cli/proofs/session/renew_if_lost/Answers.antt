@@ -1,6 +1,6 @@
 use Rattle.std.proofs.Common.{inr}
 use Rattle.ocactl_cli.proofs.ExchangeLemmas.{behind-of}
-use Rattle.ocactl_cli.proofs.session.renew.Goals as goal
+use Rattle.ocactl_cli.proofs.session.renew_if_lost.Goals as goal
 
 pub returns-in-Some : goal.returns-in-Some
 returns-in-Some g c =
