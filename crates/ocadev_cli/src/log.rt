@@ -91,8 +91,9 @@ impl<'f, F: Sink> Electronics for Log<'f, F> {
     }
 }
 
-/// Prints the line of what was heard in a turn, and writes all that the printer holds: of a datagram its sender, what
-/// became of it, the objects that it wrote to, how many answers could not be sent, and what its commands did.
+/// Prints the line of the datagram that was heard in a turn, and writes all that the printer holds: its sender, what
+/// became of it, the objects that it wrote to, how many answers could not be sent, and what its commands did. Of a
+/// datagram that is too large the line says only that. Nothing is printed of a turn in which no datagram came.
 fn print_heard<F: Sink>(
     heard: Heard,
     bytes: &[u8],

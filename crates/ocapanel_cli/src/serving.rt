@@ -133,7 +133,7 @@ impl<'c, R: Net + RandomSource + Files, N: Net + Clock, W: Sink, F: Sink> EventL
     fn run_once(&mut self) -> Result<u64, NoMemory> {
         let drained = self.drain()?;
         self.print_link_change();
-        self.note_moment();
+        self.advance_clock();
         let now = self.site.view().moment();
         if !self.awaits_answer(now) {
             self.clients.serve(self.console.host, &mut self.site, now);
@@ -151,7 +151,7 @@ impl<'c, R: Net + RandomSource + Files, N: Net + Clock, W: Sink, F: Sink> EventL
     /// there.
     fn drain(&mut self) -> Result<bool, NoMemory> {
         for _ in 0..MOST_TURNS {
-            self.note_moment();
+            self.advance_clock();
             self.site.view().take_turn(self.panel)?;
             self.site.view().go_on(self.panel)?;
             if self.panel.end().is_quiet {
@@ -161,8 +161,9 @@ impl<'c, R: Net + RandomSource + Files, N: Net + Clock, W: Sink, F: Sink> EventL
         Ok(false)
     }
 
-    /// Notes the present moment. If the program was suspended, requests that wait have an unknown age.
-    fn note_moment(&mut self) {
+    /// Sets the view's clock to the present moment. If that shows that the program was suspended, requests that wait
+    /// have an unknown age.
+    fn advance_clock(&mut self) {
         let end = self.panel.end();
         if self.site.view().note(end.end().now(), end.sent) {
             self.clients.doubts = true;
