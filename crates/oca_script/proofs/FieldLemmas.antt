@@ -1,9 +1,8 @@
 -- Facts on numbers and fields.
-use Rattle.std.proofs.Common.{◌≡◌, ℕ, suc, ◌+◌, ◌-◌, ◌*◌, ◌<◌, ◌≤◌, ◌==◌, true, false, ◌||◌, inl, inr, List, [], ◌∷◌, ◌++◌, length, take, drop, get_or, Option, Some, None, refl, sym, ap, ◌∙◌, arith, cond, ltb, add-one, append_assoc, append-nil}
+use Rattle.std.proofs.Common.{◌≡◌, ℕ, suc, ◌+◌, ◌-◌, ◌*◌, ◌<◌, ◌≤◌, ◌==◌, true, false, ◌||◌, inl, inr, List, [], ◌∷◌, ◌++◌, length, drop, get_or, Option, Some, None, refl, sym, ap, ◌∙◌, arith, cond, ltb}
 use Rattle.std.proofs.lemmas.Bool.{cases_lt}
 use Rattle.std.proofs.lemmas.Bool.Decides.{nat_tests}
 use Rattle.std.specs.Option.{option_map}
-use Rattle.std.proofs.lemmas.List.{take_more}
 use Rattle.std.proofs.Math.Seq.{drop-cons}
 use Rattle.oca_script.specs.Fields.{value_after, at_most, number_of, split_at, fields, onto_first}
 
@@ -34,40 +33,6 @@ at_most-over largest n (c ∷ cs) over =
 
 pub ruleset number_rules = (value_after-digit, value_after-low, value_after-high, at_most-over)
 
--- the same with more in front
-abbrev pub behind : List ℕ → Option (List ℕ × List ℕ) → Option (List ℕ × List ℕ)
-behind front r = option_map (λ p. (front ++ p.0, p.1)) r
-
-split_at-found : (sep x : ℕ) (xs : List ℕ) → x ≡ sep → split_at sep (x ∷ xs) ≡ Some ([], xs)
-split_at-found sep x xs e = grind (arith, nat_tests)
-
-split_at-past : (sep x : ℕ) (xs front : List ℕ) → (x ≡ sep → ⊥) → behind front (split_at sep (x ∷ xs)) ≡ behind (front ++ x ∷ []) (split_at sep xs)
-split_at-past sep x xs front ne =
-    let no : (x == sep) ≡ false = grind (arith, nat_tests) in
-    rw no (moved (split_at sep xs))
-  where
-    moved : (r : Option (List ℕ × List ℕ)) → behind front (cond false (Some ([], xs)) (option_map (λ p. (x ∷ p.0, p.1)) r)) ≡ behind (front ++ x ∷ []) r
-    moved None = refl
-    moved (Some p) = ap (λ (q : List ℕ). Some (q, p.1)) (sym (append_assoc front (x ∷ []) p.0))
-
--- the place of the separator is found
-pub split_at-here : (sep : ℕ) (s : List ℕ) (i : ℕ) → i < length s → get_or s i 0 ≡ sep
-    → split_at sep s ≡ behind (take i s) (split_at sep (drop i s)) → split_at sep s ≡ Some (take i s, drop (i + 1) s)
-split_at-here sep s i within e so =
-    so ∙ ap (λ (r : List ℕ). behind (take i s) (split_at sep r)) (drop-cons s i 0 within)
-    ∙ ap (behind (take i s)) (split_at-found sep (get_or s i 0) (drop (suc i) s) e)
-    ∙ rw (add-one, append-nil) refl
-
--- it is not, and the loop goes on
-pub split_at-on : (sep : ℕ) (s : List ℕ) (i : ℕ) → i < length s → (get_or s i 0 ≡ sep → ⊥)
-    → split_at sep s ≡ behind (take i s) (split_at sep (drop i s)) → split_at sep s ≡ behind (take (i + 1) s) (split_at sep (drop (i + 1) s))
-split_at-on sep s i within ne so =
-    so ∙ ap (λ (r : List ℕ). behind (take i s) (split_at sep r)) (drop-cons s i 0 within)
-    ∙ split_at-past sep (get_or s i 0) (drop (suc i) s) (take i s) ne
-    ∙ rw (take_more s i 0 within, add-one) refl
-
-pub ruleset split_rules = (split_at-here, split_at-on)
-
 -- the fields, by where the first space stands
 abbrev cut_fields : List ℕ → Option (List ℕ × List ℕ) → List (List ℕ)
 cut_fields s None = s ∷ []
@@ -93,13 +58,6 @@ fields-one s e = fields-by s ∙ ap (cut_fields s) e
 -- the first field, and those behind its space
 pub fields-more : (s front rest : List ℕ) → split_at 32 s ≡ Some (front, rest) → fields s ≡ front ∷ fields rest
 fields-more s front rest e = fields-by s ∙ ap (cut_fields s) e
-
--- there is at least one field
-pub fields-first : (s : List ℕ) → (f : List ℕ) × (fs : List (List ℕ)) × (fields s ≡ f ∷ fs)
-fields-first s =
-    let shown : (r : Option (List ℕ × List ℕ)) → (f : List ℕ) × (fs : List (List ℕ)) × (cut_fields s r ≡ f ∷ fs) =
-    λ r. elim r as (λ r. (f : List ℕ) × (fs : List (List ℕ)) × (cut_fields s r ≡ f ∷ fs)) [ None ↦ (s, [], refl) | Some p ↦ (p.0, fields p.1, refl) ] in
-    let h = shown (split_at 32 s) in (h.0, h.1, fields-by s ∙ h.2)
 
 pub ruleset field_rules = (fields-one, fields-more)
 

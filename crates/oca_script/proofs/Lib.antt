@@ -1,7 +1,5 @@
 pub mod FieldLemmas
 pub mod PartLemmas
-pub mod NumberLemmas
-pub mod AddressLemmas
 pub mod SearchLemmas
 pub mod TextLemmas
 pub mod HexLemmas

@@ -2,16 +2,16 @@
 use Rattle.std.proofs.Common.{◌≡◌, ℕ, ◌+◌, ◌<◌, Bool, true, false, ◌&&◌, cond, List, [], ◌∷◌, ◌++◌, length, ◌==◌, Option, Some, None, Result, Ok, Err, refl, sym, ap, ◌∙◌, subst}
 use Rattle.std.specs.Prelude.{OnOk, OnErr, IfErr, nat_lt}
 use Rattle.std.specs.Option.{option_map}
-use Rattle.oca_script.specs.Fields.{split_at, onto_first}
+use Rattle.oca_script.specs.Fields.{split_at}
 use Rattle.oca_script.specs.declared.fault.LineFault.{LineFault}
-use Rattle.oca_script.specs.declared.fault.LineFault.TheVariants.{TooLong, Form}
+use Rattle.oca_script.specs.declared.fault.LineFault.TheVariants.{TooLong}
 use Rattle.oca_script.specs.declared.fault.ReplayFault.{ReplayFault}
 use Rattle.oca_script.specs.declared.fault.ReplayFault.TheVariants.{Line}
-use Rattle.oca_script.specs.PrivateScript.{script_from, onto_line}
-use Rattle.oca_script.specs.Script.{Script, line_then, parsed, asks, longest_line, is_ascii}
+use Rattle.oca_script.specs.PrivateScript.{script_from}
+use Rattle.oca_script.specs.Script.{Script, line_then, parsed, is_ascii}
 use Rattle.oca_script.specs.PrivateSteps.{ReplayStep}
 use Rattle.oca_script.specs.Ends.{Output}
-use Rattle.oca_script.proofs.ScriptLemmas.{lines-some, script_from-ended, script_from-kept, script_from-long}
+use Rattle.oca_script.proofs.ScriptLemmas.{script_from-ended, script_from-kept, script_from-long}
 use Rattle.oca_script.proofs.StepLemmas.{Step-then, Step-at, Step-as, Step-err, Step-nothing}
 use Rattle.oca_script.proofs.PrintLemmas.{PrintsAll-nil}
 

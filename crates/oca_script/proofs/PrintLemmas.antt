@@ -128,23 +128,6 @@ pub writes-failed : (r : Result Unit WriteFailed) (e : WriteFailed) (a b c : Opt
 writes-failed r e a b c f g n bytes is h k t =
     subst (λ (z : Result Unit WriteFailed). WritesBytes z (output a [] f) (output c [] g) bytes) (sym is) (front-of a c n bytes (Appends-kept a b c (take n bytes) h k), t)
 
--- all of what was held was written, and nothing is held then
-pub prints-written : (u : Unit {0}) (a b : Output) (held now : List ℕ) → now ≡ held → WritesBytes (Ok u) a b now
-    → PrintsAll (output a.contents held a.failed) (output b.contents [] b.failed) []
-prints-written u a b held now e h = record {
-  emits = record { sent = held; appends = subst (Appends a.contents b.contents) e h.0; whole = refl };
-  failed = h.1;
-}
-
--- a write failed
-pub prints-unwritten : (f : WriteFailed) (a b : Output) (held now : List ℕ) → now ≡ held → WritesBytes (Err f) a b now
-    → PrintsPart (output a.contents held a.failed) (output b.contents held b.failed) []
-prints-unwritten f a b held now e h = record {
-  lost = h.0.rest;
-  emits = record { sent = h.0.front; appends = h.0.appends; whole = append-nil held ∙ sym e ∙ h.0.whole };
-  failed = h.1;
-}
-
 -- ---- one text after another
 
 -- a text, and then another as far as the writes go
@@ -282,14 +265,6 @@ module _ {X : Type 0} (f : X → List ℕ) where
       ∙ ap (λ (m : List ℕ). m ++ flat_map f (drop (i + 1) xs)) (first-texts xs i d h) in
       rw all (failed-first r a c (flat_map f (take i xs) ++ f (get_or xs i d)) (flat_map f (drop (i + 1) xs)) is
       (PrintsPart-then a b c (flat_map f (take i xs)) (f (get_or xs i d)) k l))
-
--- where that failed the text was printed in part
-pub not-written : (r : Result Unit WriteFailed) (e f : WriteFailed) (a b : Output) (text : List ℕ) → r ≡ Err e → Prints (Err f) a b text → WritesOut r a b text
-not-written r e f a b text is h = subst (λ (z : Result Unit WriteFailed). WritesOut z a b text) (sym is) (front a b text h)
-
--- or there was no room for it
-pub not-written-room : (r : Result Unit WriteFailed) (e : WriteFailed) (a b : Output) (text : List ℕ) → r ≡ Err e → PrintsPart a b [] → WritesOut r a b text
-not-written-room r e a b text is h = subst (λ (z : Result Unit WriteFailed). WritesOut z a b text) (sym is) (front a b text (prints-lost a b b.held text h))
 
 -- a text that was printed, and what was printed behind it
 pub ruleset print_rules = (prints-held, prints-flushed, failed-room)

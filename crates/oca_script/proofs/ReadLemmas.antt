@@ -12,7 +12,7 @@ use Rattle.oca_script.specs.Ends.{Input, Output}
 use Rattle.oca_script.specs.Printing.{Prints, PrintsAll, PrintsPart, WritesFront}
 use Rattle.oca_script.specs.PrivateScript.{script_from}
 use Rattle.oca_script.specs.Script.{Script, script, after_requests, ends_by, line_then, parsed}
-use Rattle.oca_script.specs.Replaying.{Runs, NoneLeft, Awaited, BeginsWithRequests, Ends, known_bytes, Outcome, Replays, ReadFails, Writes}
+use Rattle.oca_script.specs.Replaying.{Runs, Awaited, BeginsWithRequests, Ends, known_bytes, Outcome, Replays, ReadFails, Writes}
 use Rattle.oca_script.specs.PrivateSteps.{Printed, PrintedAtEnd, AccountsFor, ReplayStep, Performs, Performance, is_end_failure}
 use Rattle.oca_script.proofs.PrintLemmas.{PrintsAll-nil, PrintsPart-then, whole, written, front}
 use Rattle.oca_script.proofs.ScriptLemmas.{script-from, script_from-end, script_from-too_much}

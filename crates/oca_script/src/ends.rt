@@ -57,6 +57,7 @@ pub trait Sink {
 
 /// A [`Source`] over any reader of the standard library. It has a flag for whether a read has failed. That the flag is
 /// set only if the reader failed is shown by tests, not proved.
+#[derive(Drop)]
 pub struct FromReader<R> {
     reader: R,
     failed: bool,
@@ -102,19 +103,6 @@ impl<R: Read> FromReader<R> {
             is_terminal: is_terminal(descriptor),
             ready: false,
         }
-    }
-}
-
-impl<R: Drop> Drop for FromReader<R> {
-    /// Drops the reader.
-    fn drop(self) {
-        let FromReader {
-            reader: _,
-            failed: _,
-            descriptor: _,
-            is_terminal: _,
-            ready: _,
-        } = self;
     }
 }
 
@@ -173,6 +161,7 @@ fn readable(descriptor: RawFd, is_terminal: bool) -> Option<RawFd>
 /// A [`Sink`] over any writer of the standard library. It has a flag for whether a write has failed. A write of at
 /// least one byte that takes no byte has failed too. That the flag is set only after such a write is shown by tests,
 /// not proved.
+#[derive(Drop)]
 pub struct ToWriter<W> {
     writer: W,
     failed: bool,
@@ -189,16 +178,6 @@ impl<W: Write> ToWriter<W> {
             writer,
             failed: false,
         }
-    }
-}
-
-impl<W: Drop> Drop for ToWriter<W> {
-    /// Drops the writer.
-    fn drop(self) {
-        let ToWriter {
-            writer: _,
-            failed: _,
-        } = self;
     }
 }
 

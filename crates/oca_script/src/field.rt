@@ -1,14 +1,11 @@
 //! The fields of a line.
-ghost use Rattle.std.specs.Prelude.{◌≡◌, ◌+◌, ◌*◌, ◌≤◌, ◌<◌, ◌⊎◌, IfSome, OnSome, [], ◌∷◌, length};
+ghost use Rattle.std.specs.Prelude.{◌≡◌, ◌+◌, ◌*◌, ◌≤◌, IfSome, OnSome, [], ◌∷◌, length};
 ghost use Rattle.std.specs.Option.{option_copied};
-ghost use Rattle.oca_script.specs.Fields.{number_of, moment_of, split_at, read_before, octet_of, address_of, peer_of};
+ghost use Rattle.oca_script.specs.Fields.{number_of, moment_of, split_at, read_before, address_of, peer_of};
 ghost use Rattle.oca_script.specs.Fields.{fields, fields_after, hex_of};
 ghost use Rattle.oca_script.specs.FieldAnswers.{split_view, read_view, given_bytes};
 
 use oca_types::Peer;
-
-/// Whatever digit follows a number of at most this, the result has 64 bits.
-const MOST_TENTH: u64 = (u64::MAX - 9) / 10;
 
 /// Returns the number that a text of 1 to `most` decimal digits gives. Leading zeros count as digits. The result is
 /// `None` if the text is empty, has more than `most` bytes or a byte that is not a digit, or if the number is above
@@ -37,68 +34,15 @@ pub fn number(digits: &[u8], most: usize, largest: u64) -> Option<u64>
 }
 
 /// Returns the number before the first byte `end` of a text, and the text after that byte. The number has 1 to `most`
-/// decimal digits. `end` must not be a digit (a premise, which the caller must prove). The result is `None` if the text
-/// has no byte `end`, or the text before it is not such a number, or the number is above `largest`. The call takes no
-/// memory.
-#[tactic(auto, using(crate::proofs::NumberLemmas::number_before_rules))]
+/// decimal digits. The result is `None` if the text has no byte `end`, or the text before it is not such a number, or
+/// the number is above `largest`. The call takes no memory.
 pub fn number_before(text: &[u8], end: u8, most: usize, largest: u64) -> Option<(u64, &[u8])>
-    requires { (end < 48) ⊎ (57 < end) }
     ensures value { read_view result ≡ read_before (number_of most largest) end text.now }
     ensures bound { IfSome result (λ p. p.0 ≤ largest) }
     ensures within { IfSome result (λ p. length p.1.now ≤ length text.now) }
 {
-    let mut value: u64 = 0;
-    for i in 0..text.len().min(most.saturating_add(1)) {
-        let digit = text[i];
-        if digit < b'0' || digit > b'9' {
-            if digit != end || i == 0 || value > largest {
-                return None;
-            }
-            return Some((value, &text[i + 1..]));
-        }
-        let add = (digit - b'0') as u64;
-        if value > MOST_TENTH && value > (u64::MAX - add) / 10 {
-            return None;
-        }
-        value = value * 10 + add;
-    }
-    None
-}
-
-/// The same for a number of an address.
-#[inline(always)]
-fn octet_before(text: &[u8], end: u8) -> Option<(u64, &[u8])>
-    requires { (end < 48) ⊎ (57 < end) }
-    ensures value { read_view result ≡ read_before octet_of end text.now }
-    ensures bound { IfSome result (λ p. p.0 ≤ 255) }
-    ensures within { IfSome result (λ p. length p.1.now ≤ length text.now) }
-{
-    if text.len() < 4 {
-        return number_before(text, end, 3, 255);
-    }
-    let (a, b, c) = (text[0], text[1], text[2]);
-    if a < b'0' || a > b'9' {
-        return None;
-    }
-    let one = (a - b'0') as u64;
-    if b == end {
-        return Some((one, &text[2..]));
-    }
-    if b < b'0' || b > b'9' {
-        return None;
-    }
-    let two = one * 10 + (b - b'0') as u64;
-    if c == end {
-        return Some((two, &text[3..]));
-    }
-    if c < b'0' || c > b'9' {
-        return None;
-    }
-    let three = two * 10 + (c - b'0') as u64;
-    if text[3] != end || three > 255 {
-        return None;
-    }
-    Some((three, &text[4..]))
+    let (digits, rest) = split_at_byte(text, end)?;
+    Some((number(digits, most, largest)?, rest))
 }
 
 /// Returns the moment, in milliseconds, that a text of 1 to 20 decimal digits gives. The result is `None` if the text
@@ -142,28 +86,11 @@ pub fn first_field(text: &[u8]) -> (&[u8], Option<&[u8]>)
 pub fn address(text: &[u8]) -> Option<u32>
     ensures { result ≡ address_of text.now }
 {
-    let (a, rest) = octet_before(text, b'.')?;
-    let (b, rest) = octet_before(rest, b'.')?;
-    let (c, rest) = octet_before(rest, b'.')?;
+    let (a, rest) = number_before(text, b'.', 3, 255)?;
+    let (b, rest) = number_before(rest, b'.', 3, 255)?;
+    let (c, rest) = number_before(rest, b'.', 3, 255)?;
     let d = number(rest, 3, 255)?;
     Some((((a * 256 + b) * 256 + c) * 256 + d) as u32)
-}
-
-/// The address that stands before the first byte `end`, and what stands after that byte. `None` where there is no byte
-/// `end`, or what stands before the first is no address.
-#[inline(always)]
-#[tactic(auto, using(crate::proofs::AddressLemmas::address_rules))]
-fn address_before(text: &[u8], end: u8) -> Option<(u64, &[u8])>
-    requires { (end < 46) ⊎ (57 < end) }
-    ensures value { read_view result ≡ read_before address_of end text.now }
-    ensures bound { IfSome result (λ p. p.0 ≤ 4294967295) }
-    ensures within { IfSome result (λ p. length p.1.now ≤ length text.now) }
-{
-    let (a, rest) = octet_before(text, b'.')?;
-    let (b, rest) = octet_before(rest, b'.')?;
-    let (c, rest) = octet_before(rest, b'.')?;
-    let (d, rest) = octet_before(rest, end)?;
-    Some((((a * 256 + b) * 256 + c) * 256 + d, rest))
 }
 
 /// Returns the peer that a text `a.b.c.d:port` gives. The four decimal numbers have 1 to 3 digits each, and are at most
@@ -173,29 +100,22 @@ fn address_before(text: &[u8], end: u8) -> Option<(u64, &[u8])>
 pub fn peer(text: &[u8]) -> Option<Peer>
     ensures { result ≡ peer_of text.now }
 {
-    let (ip, rest) = address_before(text, b':')?;
-    let port = number(rest, 5, 65535)?;
+    let (ip, port) = split_at_byte(text, b':')?;
     Some(Peer {
-        ip: ip as u32,
-        port: port as u16,
+        ip: address(ip)?,
+        port: number(port, 5, 65535)? as u16,
     })
 }
 
 /// Returns the peer `a.b.c.d:port` before the first space of a text, and the text after that space. The numbers are as
 /// in [`peer`]. The result is `None` if the text has no space, or the text before it is not such a peer. The call takes
 /// no memory.
-#[tactic(auto, using(crate::proofs::AddressLemmas::peer_rules))]
 pub fn peer_before(text: &[u8]) -> Option<(Peer, &[u8])>
     ensures value { read_view result ≡ read_before peer_of 32 text.now }
     ensures within { IfSome result (λ p. length p.1.now ≤ length text.now) }
 {
-    let (ip, rest) = address_before(text, b':')?;
-    let (port, rest) = number_before(rest, b' ', 5, 65535)?;
-    let peer = Peer {
-        ip: ip as u32,
-        port: port as u16,
-    };
-    Some((peer, rest))
+    let (first, rest) = split_at_byte(text, b' ')?;
+    Some((peer(first)?, rest))
 }
 
 /// Returns the bytes that a field of a line gives: none for `-`, otherwise one byte for each two hexadecimal digits, of

@@ -235,23 +235,6 @@ fn read_script<L: Language, R: Source, W: Sink>(
         (input (R.remaining reader.new) (R.failed reader.new)) result }
 {
     let mut progress = Progress::new();
-    read_on::<L, R, W>(state, room, &mut progress, reader, printer)
-}
-
-/// The same with what is kept of a line, of which there is nothing before.
-fn read_on<L: Language, R: Source, W: Sink>(
-    state: &mut L::State,
-    room: &mut L::Room,
-    progress: &mut Progress,
-    reader: &mut R,
-    printer: &mut Printer<W>,
-) -> Result<(), ReplayFault>
-    requires line { progress.old.line ≡ [] }
-    requires number { progress.old.number ≡ 1 }
-    ensures { Performance L.asked L.serves L.idles state.old state.new printer.old printer.new
-        (input (R.remaining reader.old) (R.failed reader.old))
-        (input (R.remaining reader.new) (R.failed reader.new)) result }
-{
     let mut left = LONGEST_SCRIPT;
     let mut buffer = [0u8; PIECE];
     while left > 0 {
@@ -265,7 +248,7 @@ fn read_on<L: Language, R: Source, W: Sink>(
             return serve_line::<L, W>(state, room, progress.number, line, false, printer);
         }
         left -= piece.len() as u64;
-        serve_piece::<L, W>(state, room, progress, piece, printer)?;
+        serve_piece::<L, W>(state, room, &mut progress, piece, printer)?;
     }
     let Ok(()) = await_read::<L, R, W>(state, reader, printer) else {
         return Err(ReplayFault::Write);

@@ -15,6 +15,7 @@ const CAPACITY: usize = 8192;
 /// A printer over a sink: it stores up to 8,192 bytes that are printed and wait to be written to the sink. If a printer
 /// is dropped, the bytes that wait are lost; call [`flush`](Printer::flush) before. After a write that failed use the
 /// printer no longer: a later call may write bytes a second time.
+#[derive(Drop)]
 pub struct Printer<W: Sink> {
     sink: W,
     held: Buffer<CAPACITY>,
@@ -26,13 +27,6 @@ impl<W: Sink> Model for Printer<W> {
     ghost Value = { Output };
 
     ghost view = { λ p. output (W.contents p.sink) p.held (W.failed p.sink) };
-}
-
-impl<W: Sink + Drop> Drop for Printer<W> {
-    /// Drops the sink. Bytes that wait in the printer are lost; call [`flush`](Printer::flush) before.
-    fn drop(self) {
-        let Printer { sink: _, held: _ } = self;
-    }
 }
 
 impl<W: Sink> Printer<W> {

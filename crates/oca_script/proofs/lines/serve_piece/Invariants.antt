@@ -1,4 +1,4 @@
-use Rattle.std.proofs.Common.{◌≡◌, ◌≤◌, ◌+◌, ◌++◌, ℕ, List, length, true, false, Ok}
+use Rattle.std.proofs.Common.{◌≡◌, ◌≤◌, ◌+◌, ◌++◌, ℕ, List, length, true, Ok}
 use Rattle.std.specs.Prelude.{IsTrue}
 use Rattle.oca_script.specs.Script.{is_ascii}
 use Rattle.oca_script.specs.PrivateSteps.{ReplayStep}

@@ -3,10 +3,10 @@ use Rattle.std.proofs.lemmas.Bool.{eqb-true, eqb-false}
 use Rattle.std.proofs.lemmas.Result.{err_from_is_err_and}
 use Rattle.oca_script.specs.Ends.{input}
 use Rattle.oca_script.proofs.ReadLemmas.{reading-start, reading-awaited, reading-more, reading-fails, reading-read_failed, reading-unwritten, reading-too_much, reading-ends}
-use Rattle.oca_script.proofs.lines.read_on.Goals as goal
+use Rattle.oca_script.proofs.lines.read_script.Goals as goal
 
 pub loop-left-init : goal.loop-left-init
-loop-left-init g c = reading-start g.L.Language.asked g.L.Language.serves g.L.Language.idles _ _ _ _ c.requires.line c.requires.number
+loop-left-init g c = reading-start g.L.Language.asked g.L.Language.serves g.L.Language.idles _ _ _ _ c.new-progress.ensures.line c.new-progress.ensures.number
 
 pub returns-in_default : goal.returns-in_default
 returns-in_default g c =

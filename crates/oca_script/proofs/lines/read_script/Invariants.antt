@@ -1,6 +1,6 @@
 use Rattle.oca_script.specs.Ends.{input}
 use Rattle.oca_script.proofs.ReadLemmas.{Reading}
-use Rattle.oca_script.proofs.lines.read_on.Given as goal
+use Rattle.oca_script.proofs.lines.read_script.Given as goal
 
 abbrev pub invariant-loop-left : goal.invariant-loop-left
 invariant-loop-left g l = Reading g.L.Language.asked g.L.Language.serves g.L.Language.idles l.fn.state l.state l.fn.printer l.printer
