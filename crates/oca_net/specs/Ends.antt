@@ -21,18 +21,14 @@ Delivers heard.Closed bytes old new = new ≡ old
 -- the packet of a receive holds bytes at Datagram alone
 abbrev pub HoldsOnlyADatagram : Heard → List ℕ → Type 0
 HoldsOnlyADatagram (heard.Datagram from now) bytes = Unit {0}
-HoldsOnlyADatagram (heard.Quiet now) bytes = bytes ≡ []
-HoldsOnlyADatagram (heard.Oversize now) bytes = bytes ≡ []
-HoldsOnlyADatagram heard.Failed bytes = bytes ≡ []
-HoldsOnlyADatagram heard.Closed bytes = bytes ≡ []
+HoldsOnlyADatagram _ bytes = bytes ≡ []
 
 -- the moment of what was heard, where it has one, is no later than this one
 abbrev pub IsHeardBy : ℕ → Heard → Type 0
 IsHeardBy t (heard.Datagram from now) = now ≤ t
 IsHeardBy t (heard.Quiet now) = now ≤ t
 IsHeardBy t (heard.Oversize now) = now ≤ t
-IsHeardBy t heard.Failed = Unit {0}
-IsHeardBy t heard.Closed = Unit {0}
+IsHeardBy t _ = Unit {0}
 
 -- The latest moment that an end has said, over a receive: it is no earlier than before, and than that of what was
 -- heard. An end that keeps no time says none.
@@ -42,19 +38,13 @@ KeepsTime h (Some old) new = (t : ℕ) × (new ≡ Some t) × (old ≤ t) × IsH
 
 -- the receive returned Failed
 abbrev pub is_failed : Heard → Bool
-is_failed (heard.Datagram from now) = false
-is_failed (heard.Quiet now) = false
-is_failed (heard.Oversize now) = false
 is_failed heard.Failed = true
-is_failed heard.Closed = false
+is_failed _ = false
 
 -- the receive returned Closed
 abbrev pub is_closed : Heard → Bool
-is_closed (heard.Datagram from now) = false
-is_closed (heard.Quiet now) = false
-is_closed (heard.Oversize now) = false
-is_closed heard.Failed = false
 is_closed heard.Closed = true
+is_closed _ = false
 
 -- the last value of a 64-bit number
 abbrev pub last_u64 : ℕ

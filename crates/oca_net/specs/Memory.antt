@@ -95,27 +95,11 @@ next_bytes [] = []
 next_bytes (d ∷ rest) = bytes_of d
 
 abbrev pub after_next : List Delivery → MemoryState → MemoryState
-after_next [] e =
-    record {
-      delivered = e.delivered;
-      to_come = e.to_come;
-      taken = e.taken;
-      room = e.room;
-      send_number = e.send_number;
-      fail_send = e.fail_send;
-      closed = true;
-      failures = e.failures;
-      receives = one_more e.receives;
-    }
+after_next [] e = record e { closed = true; receives = one_more e.receives }
 after_next (d ∷ rest) e =
-    record {
+    record e {
       delivered = e.delivered ++ d ∷ [];
       to_come = rest;
-      taken = e.taken;
-      room = e.room;
-      send_number = e.send_number;
-      fail_send = e.fail_send;
-      closed = e.closed;
       failures = failures_after (heard_of d) e.failures;
       receives = one_more e.receives;
     }
@@ -136,14 +120,8 @@ takes e = nat_lt (length e.taken) e.room && not (is_number e.fail_send e.send_nu
 -- After a send: each counts in the numbering, which stays at its last value.
 abbrev pub after_send : MemoryState → Peer → List ℕ → MemoryState
 after_send e to bytes =
-    record {
-      delivered = e.delivered;
-      to_come = e.to_come;
+    record e {
       taken = taken_after (takes e) to bytes e.taken;
-      room = e.room;
       send_number = one_more e.send_number;
-      fail_send = e.fail_send;
-      closed = e.closed;
       failures = failures_sent (takes e) e.failures;
-      receives = e.receives;
     }

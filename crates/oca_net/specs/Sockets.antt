@@ -87,11 +87,9 @@ IsUntakenFor false noted given = IsReason kind.WriteZero noted given
 -- Why nothing was heard, by the reason that was noted last, which is the one that the system gave: `Quiet` where it is
 -- that no datagram has come, `Failed` where it is another one.
 abbrev pub IsWhy : Heard → (noted given : Option Error) → Type 0
-IsWhy (heard.Datagram from now) noted given = Unit {0}
 IsWhy (heard.Quiet now) noted given = (says_none noted ≡ true) × IsUnheardFor noted given
-IsWhy (heard.Oversize now) noted given = Unit {0}
 IsWhy heard.Failed noted given = IsSome noted × (says_none noted ≡ false) × IsUnheardFor noted given
-IsWhy heard.Closed noted given = Unit {0}
+IsWhy _ noted given = Unit {0}
 
 -- how often a send is begun at most
 abbrev pub most_tries : ℕ
@@ -173,29 +171,20 @@ pub record IsBoundAtOne (port : ℕ) (local : Peer) : Type 0 where
   pub one : local.ip ≢ 0
   pub same_port : port ≢ 0 → local.port ≡ port
 
--- A controller's end is bound here: at this address, where it is not 0, and in any case at one alone.
-pub record IsBoundFrom (ip port : ℕ) (local : Peer) : Type 0 where
-  pub one : local.ip ≢ 0
-  pub address : ip ≢ 0 → local.ip ≡ ip
-  pub same_port : port ≢ 0 → local.port ≡ port
-
 -- The end after a receive that returned this, and left the calls of the system, its beginning, the moment to wait for
 -- and the reason so. Where it did not fail, the moment said is what the last look at the clock gave, or the one before
 -- where that is later; where it failed, the reason is kept.
 abbrev pub after_heard : Heard → CallState → (begun until : ℕ) → Option Error → SocketState → SocketState
 after_heard h system begun until fault e =
-    record {
-      local = e.local;
+    record e {
       failures = failures_after h e.failures;
       receives = one_more e.receives;
-      sends = e.sends;
       moment = if is_failed h then e.moment else max e.moment system.reading;
       system = system;
       begun = begun;
       until = until;
       fault = fault;
       receive_fault = if is_failed h then fault else e.receive_fault;
-      send_fault = e.send_fault;
     }
 
 -- the last call of the system was a look at the clock
@@ -207,16 +196,14 @@ abbrev pub ReadsClockAfter : Heard → CallState → Type 0
 ReadsClockAfter (heard.Datagram from now) system = ReadClockLast system × (system.looked ≡ one_more system.received)
 ReadsClockAfter (heard.Quiet now) system = ReadClockLast system
 ReadsClockAfter (heard.Oversize now) system = ReadClockLast system × (system.looked ≡ one_more system.received)
-ReadsClockAfter heard.Failed system = Unit {0}
-ReadsClockAfter heard.Closed system = Unit {0}
+ReadsClockAfter _ system = Unit {0}
 
 -- the moment of what was heard, where it has one
 abbrev pub ReturnsMoment : Heard → ℕ → Type 0
 ReturnsMoment (heard.Datagram from now) moment = now ≡ moment
 ReturnsMoment (heard.Quiet now) moment = now ≡ moment
 ReturnsMoment (heard.Oversize now) moment = now ≡ moment
-ReturnsMoment heard.Failed moment = Unit {0}
-ReturnsMoment heard.Closed moment = Unit {0}
+ReturnsMoment _ moment = Unit {0}
 
 -- whether so many bytes were taken
 abbrev pub is_taken : ℕ → Option ℕ → Bool
@@ -227,17 +214,11 @@ is_taken bytes (Some taken) = taken == bytes
 -- failed.
 abbrev pub after_sent : Bool → CallState → Option Error → SocketState → SocketState
 after_sent was_taken system fault e =
-    record {
-      local = e.local;
+    record e {
       failures = failures_sent was_taken e.failures;
-      receives = e.receives;
       sends = one_more e.sends;
-      moment = e.moment;
       system = system;
-      begun = e.begun;
-      until = e.until;
       fault = fault;
-      receive_fault = e.receive_fault;
       send_fault = if was_taken then e.send_fault else fault;
     }
 

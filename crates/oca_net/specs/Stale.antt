@@ -66,10 +66,6 @@ longest_pardoned = 60000
 abbrev pub most_dropped : ℕ
 most_dropped = 65536
 
--- for so long behind a standstill it collects what is sent again
-abbrev pub collecting : ℕ
-collecting = 300
-
 -- The device stood still from the one moment to the other.
 abbrev pub is_standstill : (from to : ℕ) → Bool
 is_standstill from to = nat_lt (from + standstill) to
@@ -82,11 +78,9 @@ left_out from to =
 
 -- by this the end inside said that nothing waits
 abbrev pub says_empty : Heard → Bool
-says_empty (heard.Datagram from now) = false
 says_empty (heard.Quiet now) = true
-says_empty (heard.Oversize now) = false
-says_empty heard.Failed = false
 says_empty heard.Closed = true
+says_empty _ = false
 
 -- WHAT WAITED IS DROPPED: the end inside was received from until it said, the last time, that nothing waits, or
 -- 65,536 times. Nothing was sent.
@@ -103,19 +97,16 @@ DropsFirst true closed before after = (last : Heard) × DropsAll last before aft
 
 -- what came over a standstill is no datagram
 abbrev pub without_datagram : ℕ → Heard → Heard
-without_datagram latest (heard.Datagram from now) = heard.Quiet latest
-without_datagram latest (heard.Quiet now) = heard.Quiet latest
-without_datagram latest (heard.Oversize now) = heard.Quiet latest
 without_datagram latest heard.Failed = heard.Failed
 without_datagram latest heard.Closed = heard.Closed
+without_datagram latest _ = heard.Quiet latest
 
 -- the same, at this moment
 abbrev pub at_moment : ℕ → Heard → Heard
 at_moment latest (heard.Datagram from now) = heard.Datagram from latest
 at_moment latest (heard.Quiet now) = heard.Quiet latest
 at_moment latest (heard.Oversize now) = heard.Oversize latest
-at_moment latest heard.Failed = heard.Failed
-at_moment latest heard.Closed = heard.Closed
+at_moment latest brought = brought
 
 -- What the end returns, of what the end inside brought: no datagram where the device stood still within the receive,
 -- and Closed where that was closed before.
@@ -129,8 +120,7 @@ abbrev pub moment_after : (behind latest : ℕ) → Heard → ℕ
 moment_after behind latest (heard.Datagram from now) = max latest (now - behind)
 moment_after behind latest (heard.Quiet now) = max latest (now - behind)
 moment_after behind latest (heard.Oversize now) = max latest (now - behind)
-moment_after behind latest heard.Failed = latest
-moment_after behind latest heard.Closed = latest
+moment_after behind latest _ = latest
 
 -- THE END'S CLOCK is the clock inside without what it leaves out, and never goes back. What is dropped does not move
 -- it.

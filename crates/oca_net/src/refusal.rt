@@ -37,14 +37,10 @@ pub fn is_gone<R: Net>(rt: &R, ip: u32) -> bool {
     lacks_address(reason_of(&bound))
 }
 
-/// Asks the peer over a socket that is bound at this address and dropped behind the answer.
+/// Sends the peer an empty datagram from this address, and receives, over a socket that is connected to the peer: only
+/// such a socket is told of refusals.
 fn ask<R: Net>(rt: &R, own: Peer, peer: Peer) -> io::Result<usize> {
     let socket = UdpSocket::bind(rt, SocketAddrV4::from(own))?;
-    ask_over(&socket, peer)
-}
-
-/// Sends an empty datagram over a socket that knows its peer, which alone is told of refusals, and receives.
-fn ask_over(socket: &UdpSocket, peer: Peer) -> io::Result<usize> {
     socket.connect(SocketAddrV4::from(peer))?;
     socket.set_read_timeout(Some(Duration::from_millis(WAIT_MS)))?;
     socket.send(&[])?;

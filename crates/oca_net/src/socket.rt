@@ -35,31 +35,8 @@ pub(crate) struct Socket<'a, C: Clock> {
 }
 
 impl<'a, C: Clock> Socket<'a, C> {
-    /// A socket at this address and port, at port 0 at one of the system's choice, with where it is bound. Its receives
-    /// wait so many milliseconds.
-    pub(crate) fn open(rt: &'a C, asked: Peer, wait: u64) -> io::Result<(Socket<'a, C>, Peer)>
-    where
-        C: Net,
-        ensures bound { IfOk result (λ r. IsBoundAt asked.ip asked.port r.1) }
-        ensures latest { IfOk result (λ r. r.0.latest ≡ 0) }
-        ensures begun { IfOk result (λ r. r.0.begun ≡ 0) }
-        ensures until { IfOk result (λ r. r.0.until ≡ 0) }
-        ensures fault { IfOk result (λ r. r.0.fault ≡ None) }
-        ensures calls { IfOk result (λ r. r.0.system.calls ≡ 0) }
-        ensures looked { IfOk result (λ r. r.0.system.looked ≡ 0) }
-        ensures reading { IfOk result (λ r. milliseconds_of r.0.system.reading ≡ 0) }
-        ensures received { IfOk result (λ r. r.0.system.received ≡ 0) }
-        ensures taken { IfOk result (λ r. r.0.system.taken ≡ None) }
-        ensures refused { IfOk result (λ r. r.0.system.refused ≡ None) }
-        ensures signals { IfOk result (λ r. r.0.system.signals ≡ 0) }
-    {
-        let mut system = System::open(rt, SocketAddrV4::from(asked))?;
-        let local = set_up(&mut system, asked, wait)?;
-        Ok((Socket::over(system), local))
-    }
-
     /// A socket over this clock and this socket of the system. It has told no moment, and no call of it has failed.
-    fn over(system: System<'a, C>) -> Socket<'a, C>
+    pub(crate) fn over(system: System<'a, C>) -> Socket<'a, C>
         ensures system { result.system ≡ system.entry }
         ensures latest { result.latest ≡ 0 }
         ensures begun { result.begun ≡ 0 }
@@ -219,7 +196,11 @@ fn whole(sent: io::Result<usize>, bytes: usize) -> io::Result<()>
 
 /// Lets the receives of a new socket wait so many milliseconds, and says where it is bound. Err where that is not where
 /// it was asked to be.
-fn set_up<C: Clock>(system: &mut System<'_, C>, asked: Peer, wait: u64) -> io::Result<Peer>
+pub(crate) fn set_up<C: Clock>(
+    system: &mut System<'_, C>,
+    asked: Peer,
+    wait: u64,
+) -> io::Result<Peer>
     ensures bound { IfOk result (λ p. IsBoundAt asked.ip asked.port p) }
     ensures same { system.new
         ≡ record system.old { timeout = system.new.timeout; refused = system.new.refused } }
@@ -254,14 +235,7 @@ fn from_peer(received: io::Result<(usize, SocketAddr)>) -> io::Result<(usize, Pe
 pub(crate) fn address_towards<R: Net>(rt: &R, peer: Peer) -> io::Result<u32>
     ensures { IfOk result (λ ip. ip ≢ 0) }
 {
-    one_address(peer_of(system::local_towards(rt, SocketAddrV4::from(peer))?)?)
-}
-
-/// The address of a socket that is at one alone.
-fn one_address(local: Peer) -> io::Result<u32>
-    ensures one { IfOk result (λ ip. ip ≢ 0) }
-    ensures same { IfOk result (λ ip. ip ≡ local.ip) }
-{
+    let local = peer_of(system::local_towards(rt, SocketAddrV4::from(peer))?)?;
     if local.ip == 0 {
         return Err(io::Error::from(io::ErrorKind::AddrNotAvailable));
     }

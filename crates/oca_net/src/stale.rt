@@ -43,6 +43,7 @@ const WAIT_MS: u64 = 50;
 /// standstill counts in full.
 ///
 /// An end that keeps no time never stands still.
+#[derive(Drop)]
 pub struct DropsStale<E: End> {
     end: E,
     failures: u64,
@@ -73,24 +74,6 @@ impl<E: End> Model for DropsStale<E> {
       ended = e.ended;
       collects = e.collects;
     } };
-}
-
-impl<E: End + Drop> Drop for DropsStale<E> {
-    /// Lets the end inside go.
-    fn drop(self) {
-        let DropsStale {
-            end: _,
-            failures: _,
-            receives: _,
-            latest: _,
-            behind: _,
-            listened: _,
-            asked: _,
-            until: _,
-            ended: _,
-            collects: _,
-        } = self;
-    }
 }
 
 impl<E: End> fmt::Debug for DropsStale<E> {

@@ -237,12 +237,7 @@ impl<C: Clock> AsRawFd for System<'_, C> {
 /// The address, with a port, from which the system reaches a peer: where a socket is that it connected to the peer. It
 /// has sent nothing, and is closed.
 pub(crate) fn local_towards<R: Net>(rt: &R, peer: SocketAddrV4) -> io::Result<SocketAddr> {
-    let anywhere = SocketAddrV4::new(Ipv4Addr::UNSPECIFIED, 0);
-    local_of_connected(&UdpSocket::bind(rt, anywhere)?, peer)
-}
-
-/// Connects a socket to a peer, which sends nothing, and asks where the socket is.
-fn local_of_connected(socket: &UdpSocket, peer: SocketAddrV4) -> io::Result<SocketAddr> {
+    let socket = UdpSocket::bind(rt, SocketAddrV4::new(Ipv4Addr::UNSPECIFIED, 0))?;
     socket.connect(peer)?;
     socket.local_addr()
 }

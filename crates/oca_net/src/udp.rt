@@ -1,8 +1,7 @@
 //! An end at a UDP socket.
 ghost use Rattle.std.specs.Prelude.{◌≡◌, ◌≤◌, ◌<◌, ◌+◌, ◌-◌, [], IfOk, IfErr, IfNone, IfSome, None, Some, false, true};
 ghost use Rattle.std.specs.Prelude.{length, max, min};
-ghost use Rattle.std.specs.IoError.{error_kind};
-ghost use Rattle.oca_net.specs.Ends.{HoldsOnlyADatagram, is_closed, is_failed, largest_datagram, last_u64, one_more};
+ghost use Rattle.oca_net.specs.Ends.{HoldsOnlyADatagram, is_closed, is_failed, largest_datagram, last_u64};
 ghost use Rattle.oca_net.specs.Sockets.{IsBegunAgain, IsBoundAt, IsBoundAtOne, IsUnheardFor, IsUntakenFor};
 ghost use Rattle.oca_net.specs.Sockets.{IsWhy, ReadsClockAfter, ReturnsMoment};
 ghost use Rattle.oca_net.specs.Sockets.{after_heard, after_sent, fault_of, is_interrupted, is_taken, most_tries};
@@ -15,11 +14,12 @@ ghost use Rattle.oca_net.specs.PrivateMoments.{IsFresh};
 use crate::count::step;
 use crate::end::{End, Heard};
 use crate::reason::{is_interrupted, is_signal, reason_of, says_none_came};
-use crate::socket::{Socket, address_towards};
+use crate::socket::{Socket, address_towards, set_up};
+use crate::system::System;
 use oca_types::{MOST_BYTES, Packet, Peer};
 use std::alloc::Global;
 use std::marker::Model;
-use std::net::Net;
+use std::net::{Net, SocketAddrV4};
 use std::os::fd::{AsFd, AsRawFd, BorrowedFd, RawFd};
 use std::rt::Clock;
 use std::{fmt, io};
@@ -58,7 +58,7 @@ const _: () = prove!(BindFault::NoMemory as u8 == 2);
 pub enum BindError {
     /// The system refused the socket, or has no route to the device, for this reason.
     #[error("{0}")]
-    Io(io::Error),
+    Io(#[from] io::Error),
     /// The memory for the receive buffer, 1,473 bytes, was refused.
     #[error("no memory")]
     NoMemory,
@@ -192,12 +192,11 @@ impl<'a, C: Clock> UdpEnd<'a, C> {
         ensures bound { IfOk result (λ e. IsBoundAt ip port e.local) }
     {
         let buffer = vec![in alloc; 0u8; BUFFER].map_err(|_| BindError::NoMemory)?;
-        let (socket, local) = match Socket::open(rt, Peer { ip, port }, WAIT_MS) {
-            Ok(opened) => opened,
-            Err(reason) => return Err(BindError::Io(reason)),
-        };
+        let asked = Peer { ip, port };
+        let mut system = System::open(rt, SocketAddrV4::from(asked))?;
+        let local = set_up(&mut system, asked, WAIT_MS)?;
         Ok(UdpEnd {
-            socket,
+            socket: Socket::over(system),
             local,
             buffer,
             failures: 0,
@@ -356,7 +355,8 @@ impl<'a, C: Clock> UdpEnd<'a, C> {
             Err(reason) => {
                 step(&mut self.failures);
                 self.failed_receive = Some(reason);
-                self.socket.sleep_until(end_of_pause(now, until));
+                self.socket
+                    .sleep_until(until.min(now.saturating_add(WAIT_MS)));
                 Heard::Failed
             }
         }
@@ -468,14 +468,6 @@ fn end_of_wait(now: u64, moment: u64) -> u64
     moment.min(now.saturating_add(LONGEST_WAIT_MS))
 }
 
-/// Until when a receive that failed at this moment pauses: as long as one in which no datagram comes, and no longer
-/// than it was to wait.
-fn end_of_pause(now: u64, until: u64) -> u64
-    ensures { result ≡ min until (min (now + 50) last_u64) }
-{
-    until.min(now.saturating_add(WAIT_MS))
-}
-
 /// Waits for a datagram until this moment at most, and returns its length, cut to the buffer's, and its sender; nothing
 /// where none has come. A wait that a signal interrupts goes on for what is left: before each receive of the system
 /// there is a look at the clock, here the caller's before the first.
@@ -510,8 +502,9 @@ fn wait<C: Clock>(
     for _try in 0..TRIES {
         match socket.receive(buffer, now) {
             Ok(found) => return Ok(Some(found)),
-            Err(reason) if !is_signal(&reason) => return none_came(reason),
-            Err(_) => {}
+            Err(reason) if is_signal(&reason) => {}
+            Err(reason) if says_none_came(&reason) => return Ok(None),
+            Err(reason) => return Err(reason),
         }
         now = socket.look();
         if until <= now {
@@ -519,18 +512,6 @@ fn wait<C: Clock>(
         }
     }
     Ok(None)
-}
-
-/// That no datagram has come, where this reason says so; else the reason.
-fn none_came(reason: io::Error) -> io::Result<Option<(usize, Peer)>>
-    ensures none { IfOk result (λ o. (o ≡ None) × (says_none_came (error_kind reason) ≡ true)) }
-    ensures failed { IfErr result (λ e. (e ≡ reason) × (says_none_came (error_kind reason) ≡ false)) }
-{
-    if says_none_came(&reason) {
-        Ok(None)
-    } else {
-        Err(reason)
-    }
 }
 
 /// Puts a datagram in the empty packet.
