@@ -3,9 +3,11 @@ use Rattle.std.proofs.Common.{◌≡◌, ℕ, zero, suc, ◌+◌, ◌-◌, ◌<�
 use Rattle.std.proofs.lemmas.Bool.Decides.{nat_tests}
 use Rattle.std.proofs.lemmas.List.{length-set, get_or-set_same}
 use Rattle.std.proofs.lemmas.List.Elements.{All-cons, All-push, All-tail, filter_map-append}
+use Rattle.std.proofs.lemmas.List.Folds.{find-append}
 use Rattle.std.proofs.lemmas.List.Quantifiers.{all_pairs_push}
 use Rattle.std.proofs.lemmas.Option.{get_or_from_slice_get, slice_get-get_or, same_Some}
 use Rattle.std.specs.List.{All, AllPairs, find}
+use Rattle.std.specs.Option.{option_or}
 use Rattle.std.specs.Prelude.{max, nat_lt, option_map}
 use Rattle.oca_types.specs.Peers.{CommandFields}
 use Rattle.oca_session.specs.declared.window.Held.{Held}
@@ -232,29 +234,13 @@ found_holds h P (x ∷ hs) g is all = by_test (is_under h x) is (λ rest. found_
 
 -- in one list, and then in another
 pub found_front : (h : ℕ) (xs ys zs : List Held) (g : Held) → xs ++ ys ≡ zs → find (is_under h) xs ≡ Some g → find (is_under h) zs ≡ Some g
-found_front h xs ys zs g all is = rw (← all) (in_front xs is)
-  where
-    in_front : (xs : List Held) → find (is_under h) xs ≡ Some g → find (is_under h) (xs ++ ys) ≡ Some g
-    in_front [] is = cc
-    in_front (x ∷ xs) is = by_test (is_under h x) is (in_front xs)
-      where
-        by_test : (b : Bool) → cond b (Some x) (find (is_under h) xs) ≡ Some g → (find (is_under h) xs ≡ Some g → find (is_under h) (xs ++ ys) ≡ Some g)
-            → cond b (Some x) (find (is_under h) (xs ++ ys)) ≡ Some g
-        by_test true is rest = is
-        by_test false is rest = rest is
+found_front h xs ys zs g all is =
+    rw (← all) (find-append (is_under h) xs ys ∙ ap (λ (o : Option Held). option_or o (find (is_under h) ys)) is)
 
 -- what is not found in front is found behind it
 pub found_back : (h : ℕ) (xs ys zs : List Held) → xs ++ ys ≡ zs → find (is_under h) xs ≡ None → find (is_under h) zs ≡ find (is_under h) ys
-found_back h xs ys zs all none = rw (← all) (past_front xs none)
-  where
-    past_front : (xs : List Held) → find (is_under h) xs ≡ None → find (is_under h) (xs ++ ys) ≡ find (is_under h) ys
-    past_front [] none = refl
-    past_front (x ∷ xs) none = by_test (is_under h x) none (past_front xs)
-      where
-        by_test : (b : Bool) → cond b (Some x) (find (is_under h) xs) ≡ None → (find (is_under h) xs ≡ None → find (is_under h) (xs ++ ys) ≡ find (is_under h) ys)
-            → cond b (Some x) (find (is_under h) (xs ++ ys)) ≡ find (is_under h) ys
-        by_test true none rest = cc
-        by_test false none rest = rest none
+found_back h xs ys zs all none =
+    rw (← all) (find-append (is_under h) xs ys ∙ ap (λ (o : Option Held). option_or o (find (is_under h) ys)) none)
 
 -- the command under a handle, by what is held under it
 pub under_none : (h : ℕ) (hs : List Held) (cs : List CellState) → Within cs hs → find (is_under h) hs ≡ None → entry_under h (entries_of hs cs) ≡ None

@@ -4,6 +4,7 @@ use Rattle.std.specs.Prelude.{not, ◌&&◌, ◌||◌, All, position, map, filte
 use Rattle.std.specs.List.{list_any}
 use Rattle.std.proofs.lemmas.List.Folds.{list_any_more}
 use Rattle.std.proofs.lemmas.List.{get_or-take, length-take}
+use Rattle.std.proofs.lemmas.List.Elements.{All-tail}
 use Rattle.std.proofs.lemmas.List.Quantifiers.{position-Some}
 use Rattle.oca_types.specs.declared.words.Peer.{Peer}
 use Rattle.oca_types.specs.Peers.{same_peer}
@@ -12,7 +13,7 @@ use Rattle.oca_types.specs.Moments.{HoldsFrom}
 use Rattle.oca_types.proofs.MomentTests.{same_test}
 use Rattle.oca_session.specs.Lapses.{forgets, lapses}
 use Rattle.oca_session.specs.Sound.{IsOnePerPeer}
-use Rattle.oca_session.proofs.Tables.{other_peer, other_peer', IsOnePerPeer-head, IsOnePerPeer-tail, All-tail, none_known, all_others}
+use Rattle.oca_session.proofs.Tables.{other_peer, other_peer', IsOnePerPeer-head, IsOnePerPeer-tail, none_known, all_others}
 
 -- ---- tests of moments
 

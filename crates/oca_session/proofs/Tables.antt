@@ -4,9 +4,11 @@ use Rattle.std.specs.Prelude.{nat_lt, not, ◌||◌, is_some, IfSome, IsSome, fi
 use Rattle.std.specs.List.{find, list_any, position_or_len}
 use Rattle.std.proofs.Math.ListN.{set}
 use Rattle.std.proofs.Math.Seq.{take-set-lt}
-use Rattle.std.proofs.lemmas.List.{get_or-take, get_or_default, length-take, take_more_set, take-set-le}
-use Rattle.std.proofs.lemmas.List.Elements.{All-set}
-use Rattle.std.proofs.lemmas.List.Quantifiers.{position-Some}
+use Rattle.std.proofs.lemmas.List.{get_or-take, get_or_default, length-map, length-take, take_more_set, take-set-le}
+use Rattle.std.proofs.lemmas.List.Elements.{All-cons, All-push, All-set, All-tail}
+use Rattle.std.proofs.lemmas.List.Folds.{find_at}
+use Rattle.std.proofs.lemmas.Option.{slice_get-get_or}
+use Rattle.std.proofs.lemmas.List.Quantifiers.{all_pairs_push, position-Some}
 use Rattle.std.proofs.lemmas.Bool.{ltb-true}
 use Rattle.std.proofs.lemmas.Bool.Decides.{nat_tests}
 use Rattle.std.proofs.lemmas.Grind.{common_steps}
@@ -36,14 +38,7 @@ find_by_place {X} q (x ∷ xs) = by_test (q x) (position_or_len q xs) (find q xs
 
 find_within : {X : Type 0} (q : X → Bool) (xs : List X) (d : X) → position_or_len q xs < length xs →
     find q xs ≡ Some (get_or xs (position_or_len q xs) d)
-find_within q [] d h = absurd (omega arith)
-find_within {X} q (x ∷ xs) d h = by_test (q x) (position_or_len q xs) (find q xs) h (find_within q xs d)
-  where
-    by_test : (b : Bool) (n : ℕ) (o : Option X) → cond (not b) (1 + n) 0 < length (x ∷ xs) →
-        (n < length xs → o ≡ Some (get_or xs n d)) →
-        cond b (Some x) o ≡ Some (get_or (x ∷ xs) (cond (not b) (1 + n) 0) d)
-    by_test true n o h k = refl
-    by_test false n o h k = rw (one_more n) (k (omega arith))
+find_within q xs d h = find_at q xs ∙ slice_get-get_or xs (position_or_len q xs) d h
 
 is_some-place : (b : Bool) (n : ℕ) → is_some (cond b (Some n) None) ≡ b
 is_some-place true n = refl
@@ -91,12 +86,6 @@ IsOnePerPeer-tail s ss one = λ i j d before within. one (suc i) (suc j) d (omeg
 -- none behind the first is of its peer
 pub IsOnePerPeer-head : (s : Session) (ss : List Session) → IsOnePerPeer (s ∷ ss) → All (λ t. same_peer s.peer t.peer ≡ false) ss
 IsOnePerPeer-head s ss one = λ k d within. one 0 (suc k) d (omega arith) (omega arith)
-
-IsOnePerPeer-cons : (s : Session) (ss : List Session) → All (λ t. same_peer s.peer t.peer ≡ false) ss → IsOnePerPeer ss → IsOnePerPeer (s ∷ ss)
-IsOnePerPeer-cons s ss others one zero zero d before within = absurd (omega arith)
-IsOnePerPeer-cons s ss others one zero (suc j) d before within = others j d (omega arith)
-IsOnePerPeer-cons s ss others one (suc i) zero d before within = absurd (omega arith)
-IsOnePerPeer-cons s ss others one (suc i) (suc j) d before within = one i j d (omega arith) (omega arith)
 
 -- where no session is of the peer, none changes
 changed_none : (p : Peer) (f : Session → Session) (ss : List Session) → All (λ s. is_of p s ≡ false) ss → with_changed p f ss ≡ ss
@@ -159,45 +148,21 @@ peers_of-changed p f same (s ∷ ss) =
     by_test true = same s
     by_test false = refl
 
-All-cons : {X : Type 0} (P : X → Type 0) (x : X) (xs : List X) → P x → All P xs → All P (x ∷ xs)
-All-cons P x xs here rest zero d within = here
-All-cons P x xs here rest (suc k) d within = rest k d (omega arith)
-
--- what holds of all holds of those behind the first
-pub All-tail : {X : Type 0} (P : X → Type 0) (x : X) (xs : List X) → All P (x ∷ xs) → All P xs
-All-tail P x xs all = λ k d within. all (suc k) d (omega arith)
-
--- what holds of all and of one more holds of them together
-pub All-push : {X : Type 0} (P : X → Type 0) (xs : List X) (y : X) → All P xs → P y → All P (xs ++ y ∷ [])
-All-push P [] y all last = All-cons P y [] last (λ k d within. absurd (omega arith))
-All-push P (x ∷ xs) y all last =
-    All-cons P x (xs ++ y ∷ []) (all 0 x (omega arith)) (All-push P xs y (All-tail P x xs all) last)
-
--- no session of these is of the peer a
-others-changed : (a p : Peer) (f : Session → Session) → ((s : Session) → (f s).peer ≡ s.peer) → (ss : List Session) →
-    All (λ t. same_peer a t.peer ≡ false) ss → All (λ t. same_peer a t.peer ≡ false) (with_changed p f ss)
-others-changed a p f same [] all = all
-others-changed a p f same (s ∷ ss) all =
-    All-cons (λ t. same_peer a t.peer ≡ false) (cond (is_of p s) (f s) s) (with_changed p f ss)
-    (by_test (is_of p s) (all 0 s (omega arith)))
-    (others-changed a p f same ss (All-tail (λ t. same_peer a t.peer ≡ false) s ss all))
-  where
-    by_test : (b : Bool) → same_peer a s.peer ≡ false → same_peer a (cond b (f s) s).peer ≡ false
-    by_test true h = ap (same_peer a) (same s) ∙ h
-    by_test false h = h
-
 pub IsOnePerPeer-changed : (p : Peer) (f : Session → Session) → ((s : Session) → (f s).peer ≡ s.peer) → (ss : List Session) →
     IsOnePerPeer ss → IsOnePerPeer (with_changed p f ss)
-IsOnePerPeer-changed p f same [] one = one
-IsOnePerPeer-changed p f same (s ∷ ss) one =
-    IsOnePerPeer-cons (cond (is_of p s) (f s) s) (with_changed p f ss)
-    (by_test (is_of p s) (others-changed s.peer p f same ss (IsOnePerPeer-head s ss one)))
-    (IsOnePerPeer-changed p f same ss (IsOnePerPeer-tail s ss one))
+IsOnePerPeer-changed p f same ss one i j d before within =
+    let inside : j < length ss = omega (arith, within, length-map ss (λ s. cond (is_of p s) (f s) s)) in
+    ap (λ (q : Peer). same_peer q (get_or (with_changed p f ss) j d).peer) (kept ss i)
+    ∙ ap (same_peer (get_or ss i d).peer) (kept ss j) ∙ one i j d before inside
   where
-    by_test : (b : Bool) → All (λ t. same_peer s.peer t.peer ≡ false) (with_changed p f ss) →
-        All (λ t. same_peer (cond b (f s) s).peer t.peer ≡ false) (with_changed p f ss)
-    by_test true h = λ k d within. ap (λ q. same_peer q (get_or (with_changed p f ss) k d).peer) (same s) ∙ h k d within
-    by_test false h = h
+    by_test : (b : Bool) (s : Session) → (cond b (f s) s).peer ≡ s.peer
+    by_test true s = same s
+    by_test false s = refl
+
+    kept : (ts : List Session) (k : ℕ) → (get_or (with_changed p f ts) k d).peer ≡ (get_or ts k d).peer
+    kept [] k = refl
+    kept (t ∷ ts) zero = by_test (is_of p t) t
+    kept (t ∷ ts) (suc k) = kept ts k
 
 -- where the peer has no session, none is of the peer
 pub all_others : (p : Peer) (ss : List Session) → session_of p ss ≡ None → All (λ s. is_of p s ≡ false) ss
@@ -212,14 +177,7 @@ all_others p (s ∷ ss) h =
 
 -- a session of a peer that has none is added
 pub IsOnePerPeer-push : (ss : List Session) (s : Session) → session_of s.peer ss ≡ None → IsOnePerPeer ss → IsOnePerPeer (ss ++ s ∷ [])
-IsOnePerPeer-push ss s h one = push ss (all_others s.peer ss h) one
-  where
-    push : (ts : List Session) → All (λ t. is_of s.peer t ≡ false) ts → IsOnePerPeer ts → IsOnePerPeer (ts ++ s ∷ [])
-    push [] others one' = λ i j d before within. absurd (omega arith)
-    push (t ∷ ts) others one' =
-        IsOnePerPeer-cons t (ts ++ s ∷ [])
-        (All-push (λ u. same_peer t.peer u.peer ≡ false) ts s (IsOnePerPeer-head t ts one') (others 0 t (omega arith)))
-        (push ts (All-tail (λ u. is_of s.peer u ≡ false) t ts others) (IsOnePerPeer-tail t ts one'))
+IsOnePerPeer-push ss s h one = all_pairs_push (λ a b. same_peer a.peer b.peer ≡ false) ss s one (λ k d within. all_others s.peer ss h k d within)
 
 -- a peer is itself
 pub same_peer-self : (p : Peer) → same_peer p p ≡ true

@@ -4,13 +4,19 @@ use Rattle.std.specs.Prelude.{◌≡◌, ℕ, ◌-◌, ◌==◌, nat_eq, nat_lt,
 use Rattle.std.specs.Prelude.{take, drop, length, Option, Some, None}
 use Rattle.std.specs.List.{list_any, list_all, find}
 use Rattle.std.specs.Cmp.Lexicographic.{pointwise}
-use Rattle.oca_types.specs.Replies.{Reply}
-use Rattle.oca_types.specs.Peers.{CommandFields}
+use Rattle.oca_types.specs.declared.words.Command.{Command}
+use Rattle.oca_types.specs.declared.words.ReplyParts.{ReplyParts}
+use Rattle.oca_types.specs.Replies.{Reply, reply_in}
+use Rattle.oca_types.specs.Peers.{CommandFields, fields_of}
 
 -- An accepted command, and the reply that executing it gave.
 pub record Entry : Type 0 where
   pub command : CommandFields
   pub reply : Reply
+
+-- the accepted command of these arguments, with its reply
+abbrev pub entry_of : Command → ReplyParts → Entry
+entry_of command reply = record { command = fields_of command; reply = reply_in reply }
 
 -- the reply window: the last w of the accepted commands A, or all where there are fewer
 abbrev pub window : {X : Type 0} → ℕ → List X → List X

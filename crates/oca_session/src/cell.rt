@@ -2,8 +2,7 @@
 ghost use Rattle.std.specs.Prelude.{◌≡◌, ◌≤◌, length, nat_eq};
 ghost use Rattle.std.specs.Cmp.Lexicographic.{pointwise};
 ghost use Rattle.oca_types.specs.Peers.{fields_of};
-ghost use Rattle.oca_types.specs.Replies.{reply_in};
-ghost use Rattle.oca_session.specs.Accepted.{asks_the_same};
+ghost use Rattle.oca_session.specs.Accepted.{asks_the_same, entry_of};
 ghost use Rattle.oca_session.specs.PrivateCells.{entry_in};
 
 use arrayvec::ArrayVec;
@@ -43,8 +42,7 @@ impl<const COMMAND: usize, const ANSWER: usize> Cell<COMMAND, ANSWER> {
     pub fn new(command: &Command<'_>, reply: ReplyParts<'_>) -> Self
         requires command { length command.now.params.now ≤ COMMAND }
         requires reply { length reply.params.now ≤ ANSWER }
-        ensures { entry_in command.now.handle result
-            ≡ record { command = fields_of command.now; reply = reply_in reply.entry } }
+        ensures { entry_in command.now.handle result ≡ entry_of command.now reply.entry }
     {
         let mut cell = Cell {
             target: command.target,
@@ -68,8 +66,7 @@ impl<const COMMAND: usize, const ANSWER: usize> Cell<COMMAND, ANSWER> {
     pub fn set(&mut self, command: &Command<'_>, reply: ReplyParts<'_>)
         requires command { length command.now.params.now ≤ COMMAND }
         requires reply { length reply.params.now ≤ ANSWER }
-        ensures { entry_in command.now.handle self.new
-            ≡ record { command = fields_of command.now; reply = reply_in reply.entry } }
+        ensures { entry_in command.now.handle self.new ≡ entry_of command.now reply.entry }
     {
         let params = reply.params;
         if self.reply.params.len() != params.len() || self.params.len() != command.params.len() {
@@ -91,8 +88,7 @@ impl<const COMMAND: usize, const ANSWER: usize> Cell<COMMAND, ANSWER> {
     fn set_other(&mut self, command: &Command<'_>, reply: ReplyParts<'_>)
         requires command { length command.now.params.now ≤ COMMAND }
         requires reply { length reply.params.now ≤ ANSWER }
-        ensures { entry_in command.now.handle self.new
-            ≡ record { command = fields_of command.now; reply = reply_in reply.entry } }
+        ensures { entry_in command.now.handle self.new ≡ entry_of command.now reply.entry }
     {
         self.target = command.target;
         self.method = command.method;

@@ -3,9 +3,8 @@ ghost use Rattle.std.specs.Prelude.{◌≡◌, ℕ, ◌<◌, ◌≤◌, List, []
 ghost use Rattle.std.specs.Prelude.{Some, vec_len, take, position, All, Contains, ◌==◌, slice_get};
 ghost use Rattle.oca_types.specs.declared.words.Peer.{Peer};
 ghost use Rattle.oca_types.specs.Peers.{fields_of};
-ghost use Rattle.oca_types.specs.Replies.{reply_in};
 ghost use Rattle.oca_types.specs.Sizes.{most_command_parameter_bytes, most_parameter_bytes, window_size, sizes_of};
-ghost use Rattle.oca_session.specs.Accepted.{Entry, judgement, Fresh};
+ghost use Rattle.oca_session.specs.Accepted.{Entry, entry_of, judgement, Fresh};
 ghost use Rattle.oca_session.specs.Judging.{as_judgement, judgement_by_window};
 ghost use Rattle.oca_session.specs.Table.{is_of, session_of, peers_of, lapsed, staying, forgotten};
 ghost use Rattle.oca_types.specs.Moments.{HoldsFrom};
@@ -13,7 +12,7 @@ ghost use Rattle.oca_session.specs.Lapses.{forgets, lapses};
 ghost use Rattle.oca_session.specs.Sound.{IsSession, IsOnePerPeer};
 ghost use Rattle.oca_session.specs.PrivateQuiet.{latest_quiet};
 
-use crate::slot::Slot;
+use crate::slot::SessionSlot;
 use crate::window::JudgedOf;
 use arrayvec::ArrayVec;
 use oca_types::{
@@ -59,7 +58,7 @@ pub struct SessionsOf<const COMMAND: usize, const ANSWER: usize> {
     /// Where a session stands, if there is one: that which was heard last, unless one was forgotten since. It
     /// is looked at first.
     recent: usize,
-    slots: Vec<Slot<COMMAND, ANSWER>>,
+    slots: Vec<SessionSlot<COMMAND, ANSWER>>,
 }
 
 /// A table of sessions with room for each command and each reply: commands with 1,445 bytes of parameters, and replies
@@ -372,13 +371,10 @@ impl<const COMMAND: usize, const ANSWER: usize> SessionsOf<COMMAND, ANSWER> {
         requires room { length command.now.params.now ≤ COMMAND }
         requires short { length reply.params.now ≤ ANSWER }
         ensures retained { self.new ≡ with_sessions self.old
-            (with_changed peer
-            (with_entry (record { command = fields_of command.now; reply = reply_in reply.entry })) self.old.sessions) }
+            (with_changed peer (with_entry (entry_of command.now reply.entry)) self.old.sessions) }
         ensures accepted { (w : ℕ) (A : List Entry) → AgreesAt peer w A self.old.sessions →
             self.new ≡ with_sessions self.old
-            (with_changed peer
-            (with_accepted w (A ++ record { command = fields_of command.now; reply = reply_in reply.entry } ∷ []))
-            self.old.sessions) }
+            (with_changed peer (with_accepted w (A ++ entry_of command.now reply.entry ∷ [])) self.old.sessions) }
         ensures peers { peers_of self.new.sessions ≡ peers_of self.old.sessions }
         ensures known { (p : Peer) →
             is_some (session_of p self.new.sessions) ≡ is_some (session_of p self.old.sessions) }
@@ -421,8 +417,7 @@ impl<const COMMAND: usize, const ANSWER: usize> SessionsOf<COMMAND, ANSWER> {
         requires room { length command.now.params.now ≤ COMMAND }
         requires short { length reply.params.now ≤ ANSWER }
         ensures retained { self.new ≡ with_sessions self.old
-            (with_changed peer
-            (with_entry (record { command = fields_of command.now; reply = reply_in reply.entry })) self.old.sessions) }
+            (with_changed peer (with_entry (entry_of command.now reply.entry)) self.old.sessions) }
         ensures one { IsTable self.old }
     {
         let at = self.index_of_known(peer);
@@ -432,7 +427,7 @@ impl<const COMMAND: usize, const ANSWER: usize> SessionsOf<COMMAND, ANSWER> {
 
 /// Where the session of a peer stands, which may have none. The recent slot is looked at first.
 fn index_of<const COMMAND: usize, const ANSWER: usize>(
-    slots: &[Slot<COMMAND, ANSWER>],
+    slots: &[SessionSlot<COMMAND, ANSWER>],
     recent: usize,
     peer: Peer,
 ) -> Option<usize>
@@ -448,7 +443,7 @@ fn index_of<const COMMAND: usize, const ANSWER: usize>(
 /// Apart from `index_of`, so that the look at the recent slot is inlined: looks in all slots for the session of a peer.
 #[inline(never)]
 fn search<const COMMAND: usize, const ANSWER: usize>(
-    slots: &[Slot<COMMAND, ANSWER>],
+    slots: &[SessionSlot<COMMAND, ANSWER>],
     peer: Peer,
 ) -> Option<usize>
     ensures { result ≡ position (is_of peer) slots.now }
@@ -474,7 +469,7 @@ fn empty(peers: &mut ArrayVec<Peer, MOST_PEERS>)
 /// Puts the peers of the sessions that are lapsed at a moment into `peers`, in their order, in the place of what it
 /// held.
 fn put_lapsed<const COMMAND: usize, const ANSWER: usize>(
-    slots: &[Slot<COMMAND, ANSWER>],
+    slots: &[SessionSlot<COMMAND, ANSWER>],
     moment: u64,
     peers: &mut ArrayVec<Peer, MOST_PEERS>,
 )
@@ -491,7 +486,9 @@ fn put_lapsed<const COMMAND: usize, const ANSWER: usize>(
 
 /// The latest moment up to which none of the sessions lapses: that before the first lapse, or the latest of all.
 #[tactic(auto, using(crate::proofs::Quiet::latest_first), unfolding(crate::specs::PrivateQuiet::latest_quiet))]
-fn quiet_until<const COMMAND: usize, const ANSWER: usize>(slots: &[Slot<COMMAND, ANSWER>]) -> u64
+fn quiet_until<const COMMAND: usize, const ANSWER: usize>(
+    slots: &[SessionSlot<COMMAND, ANSWER>],
+) -> u64
     ensures { result ≡ latest_quiet slots.now }
 {
     let mut until = u64::MAX;
@@ -504,7 +501,7 @@ fn quiet_until<const COMMAND: usize, const ANSWER: usize>(slots: &[Slot<COMMAND,
 /// Apart from the method, since a loop over a slice leaves the sessions closed: from which moment on one of them is
 /// forgotten.
 fn forgotten_from<const COMMAND: usize, const ANSWER: usize>(
-    slots: &[Slot<COMMAND, ANSWER>],
+    slots: &[SessionSlot<COMMAND, ANSWER>],
 ) -> Option<u64>
     ensures { HoldsFrom (forgets slots.now) result }
 {
@@ -518,7 +515,7 @@ fn forgotten_from<const COMMAND: usize, const ANSWER: usize>(
 /// Moves the sessions that stay to the front, in their order, and returns how many they are. The slots of
 /// the others come behind them.
 fn forget<const COMMAND: usize, const ANSWER: usize>(
-    slots: &mut Vec<Slot<COMMAND, ANSWER>>,
+    slots: &mut Vec<SessionSlot<COMMAND, ANSWER>>,
     count: usize,
     moment: u64,
 ) -> usize
@@ -543,14 +540,14 @@ fn spare_slots<const COMMAND: usize, const ANSWER: usize>(
     alloc: Global,
     window: usize,
     count: usize,
-) -> Result<Vec<Slot<COMMAND, ANSWER>>, AllocError>
+) -> Result<Vec<SessionSlot<COMMAND, ANSWER>>, AllocError>
     requires size { (0 < window) × (window ≤ 64) }
     requires rooms { (COMMAND ≤ most_command_parameter_bytes) × (ANSWER ≤ most_parameter_bytes) }
     ensures { IfOk result (λ v. (length v.items ≡ count) × All (IsSession window) v.items) }
 {
     let mut slots = Vec::with_capacity(alloc, count)?;
     for _i in 0..count {
-        slots.push_reserved(Slot::spare(alloc, window)?);
+        slots.push_reserved(SessionSlot::spare(alloc, window)?);
     }
     Ok(slots)
 }

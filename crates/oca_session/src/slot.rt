@@ -1,9 +1,8 @@
 //! One session.
 ghost use Rattle.std.specs.Prelude.{◌≡◌, ℕ, ◌+◌, ◌*◌, ◌<◌, ◌≤◌, not, List, length, IfOk};
 ghost use Rattle.oca_types.specs.Peers.{fields_of};
-ghost use Rattle.oca_types.specs.Replies.{reply_in};
 ghost use Rattle.oca_types.specs.Sizes.{most_command_parameter_bytes, most_parameter_bytes};
-ghost use Rattle.oca_session.specs.Accepted.{Entry, AgreesWithAccepted, judgement, Fresh};
+ghost use Rattle.oca_session.specs.Accepted.{Entry, entry_of, AgreesWithAccepted, judgement, Fresh};
 ghost use Rattle.oca_session.specs.Judging.{as_judgement, judgement_by_window};
 ghost use Rattle.oca_session.specs.PrivateKeys.{key_of as number_of};
 ghost use Rattle.oca_session.specs.Table.{is_of, is_lapsed, stays, heard_at, with_heartbeat, opened_session};
@@ -31,7 +30,7 @@ const LONGEST_SILENCE: u64 = 120_000;
 
 /// Memory for one session: for a session that a peer has, or for a later one.
 #[derive(Drop)]
-pub struct Slot<const COMMAND: usize, const ANSWER: usize> {
+pub struct SessionSlot<const COMMAND: usize, const ANSWER: usize> {
     peer: Peer,
     /// The key of the peer.
     key: u64,
@@ -40,7 +39,7 @@ pub struct Slot<const COMMAND: usize, const ANSWER: usize> {
     window: ReplyWindow<COMMAND, ANSWER>,
 }
 
-impl<const COMMAND: usize, const ANSWER: usize> Model for Slot<COMMAND, ANSWER> {
+impl<const COMMAND: usize, const ANSWER: usize> Model for SessionSlot<COMMAND, ANSWER> {
     ghost use Rattle.std.specs.Prelude.{◌≡◌, ◌<◌};
     ghost use Rattle.oca_session.specs.PrivateKeys.{key_of};
     ghost use Rattle.oca_session.specs.Table.{Session};
@@ -52,7 +51,7 @@ impl<const COMMAND: usize, const ANSWER: usize> Model for Slot<COMMAND, ANSWER> 
     ghost invariant = { λ a. (a.key ≡ key_of a.peer) × (a.peer.port < 65536) };
 }
 
-impl<const COMMAND: usize, const ANSWER: usize> Slot<COMMAND, ANSWER> {
+impl<const COMMAND: usize, const ANSWER: usize> SessionSlot<COMMAND, ANSWER> {
     /// Returns a slot that no session has had yet, with an empty reply window of `size` commands, 1 to 64 (a premise,
     /// which the caller must prove). `COMMAND` must be at most 1,445, and `ANSWER` at most 1,452 (premises, too). The
     /// call takes from `alloc` the memory for the window. The only refusal is `AllocError`, if the allocator refused
@@ -63,7 +62,7 @@ impl<const COMMAND: usize, const ANSWER: usize> Slot<COMMAND, ANSWER> {
         ensures { IfOk result (λ s. s ≡ opened_session size (record { ip = 0; port = 0 }) 0) }
     {
         let window = ReplyWindow::new(alloc, size)?;
-        Ok(Slot {
+        Ok(SessionSlot {
             peer: Peer { ip: 0, port: 0 },
             key: 0,
             heard: 0,
@@ -154,13 +153,7 @@ impl<const COMMAND: usize, const ANSWER: usize> Slot<COMMAND, ANSWER> {
         self.heartbeat = ms.min(GREATEST_HEARTBEAT).max(LEAST_HEARTBEAT) as u32;
     }
 
-    /// Judges a command by the session's reply window. Nothing is changed. The result is:
-    /// - `Kept` with the reply, if the window has a command with this handle that asks the same: the same target,
-    ///   DefLevel, MethodIndex, ParamCount and parameter bytes.
-    /// - `Reused` if the window has a command with this handle that asks something else.
-    /// - `Old` if no command in the window has this handle, and the handle is not above a handle that the window pushed
-    ///   out.
-    /// - `Fresh` otherwise.
+    /// Judges a command by the session's reply window ([`ReplyWindow::judge`]).
     pub fn judge(&self, command: &Command<'_>) -> JudgedOf<'_, ReplyOf<ANSWER>>
         ensures exact { as_judgement result ≡ judgement_by_window self.now.retained (fields_of command.now) }
         ensures accepted { (w : ℕ) (A : List Entry) → AgreesWithAccepted w A self.now.retained →
@@ -169,16 +162,12 @@ impl<const COMMAND: usize, const ANSWER: usize> Slot<COMMAND, ANSWER> {
         self.window.judge(command)
     }
 
-    /// Stores a fresh command, with its reply, in the session's reply window. A full window pushes its oldest command
-    /// out. Handles up to the handle of that command, which are not in the window, then count as `Old`. The command
-    /// must be fresh ([`judge`](Slot::judge)) and have at most `COMMAND` bytes of parameters, and the reply at most
-    /// `ANSWER` (premises, which the caller must prove). The call refuses nothing and takes no memory.
+    /// Stores a fresh command, with its reply, in the session's reply window ([`ReplyWindow::keep`]).
     pub fn keep(&mut self, command: &Command<'_>, reply: ReplyParts<'_>)
         requires fresh { judgement_by_window self.old.retained (fields_of command.now) ≡ Fresh }
         requires room { length command.now.params.now ≤ COMMAND }
         requires short { length reply.params.now ≤ ANSWER }
-        ensures { self.new ≡ with_entry
-            (record { command = fields_of command.now; reply = reply_in reply.entry }) self.old }
+        ensures { self.new ≡ with_entry (entry_of command.now reply.entry) self.old }
     {
         self.window.keep(command, reply);
     }

@@ -3,9 +3,8 @@ ghost use Rattle.std.specs.Prelude.{◌≡◌, ℕ, ◌+◌, ◌<◌, ◌≤◌,
 ghost use Rattle.std.specs.Prelude.{option_map, option_copied, IfOk, MatchOption, AllPairs, find};
 ghost use Rattle.circular_buffer.specs.Buffer.{buffer};
 ghost use Rattle.oca_types.specs.Peers.{CommandFields, fields_of};
-ghost use Rattle.oca_types.specs.Replies.{reply_in};
 ghost use Rattle.oca_types.specs.Sizes.{most_command_parameter_bytes, most_parameter_bytes};
-ghost use Rattle.oca_session.specs.Accepted.{Entry, retained_of, AgreesWithAccepted, judgement};
+ghost use Rattle.oca_session.specs.Accepted.{Entry, entry_of, retained_of, AgreesWithAccepted, judgement};
 ghost use Rattle.oca_session.specs.Accepted.{Fresh, entry_under, duplicate_or_reused};
 ghost use Rattle.oca_session.specs.Judging.{as_judgement, judgement_by_window, retained_after};
 ghost use Rattle.oca_session.specs.PrivateCells.{is_under, held_in, AreApart, IsCellOfOldest, AddsCell};
@@ -132,13 +131,8 @@ impl<const COMMAND: usize, const ANSWER: usize> ReplyWindow<COMMAND, ANSWER> {
         self.above = 0;
     }
 
-    /// Judges a command by the window. Nothing is changed. The result is:
-    /// - `Kept` with the reply, if the window has a command with this handle that asks the same: the same target,
-    ///   DefLevel, MethodIndex, ParamCount and parameter bytes.
-    /// - `Reused` if the window has a command with this handle that asks something else.
-    /// - `Old` if no command in the window has this handle, and the handle is not above a handle that the window pushed
-    ///   out.
-    /// - `Fresh` otherwise.
+    /// Judges a command by the window: [`SessionsOf::judge`](crate::SessionsOf::judge) lists the results. Nothing is
+    /// changed.
     pub fn judge(&self, command: &Command<'_>) -> JudgedOf<'_, ReplyOf<ANSWER>>
         ensures exact { as_judgement result ≡ judgement_by_window self.now (fields_of command.now) }
         ensures accepted { (w : ℕ) (A : List Entry) → AgreesWithAccepted w A self.now →
@@ -184,11 +178,9 @@ impl<const COMMAND: usize, const ANSWER: usize> ReplyWindow<COMMAND, ANSWER> {
         requires fresh { judgement_by_window self.old (fields_of command.now) ≡ Fresh }
         requires room { length command.now.params.now ≤ COMMAND }
         requires short { length reply.params.now ≤ ANSWER }
-        ensures exact { self.new
-            ≡ retained_after self.old (record { command = fields_of command.now; reply = reply_in reply.entry }) }
+        ensures exact { self.new ≡ retained_after self.old (entry_of command.now reply.entry) }
         ensures accepted { (w : ℕ) (A : List Entry) → AgreesWithAccepted w A self.old →
-            AgreesWithAccepted w (A ++ record { command = fields_of command.now; reply = reply_in reply.entry } ∷ [])
-            self.new }
+            AgreesWithAccepted w (A ++ entry_of command.now reply.entry ∷ []) self.new }
     {
         self.put(command, reply);
     }
@@ -199,8 +191,7 @@ impl<const COMMAND: usize, const ANSWER: usize> ReplyWindow<COMMAND, ANSWER> {
         requires fresh { judgement_by_window self.old (fields_of command.now) ≡ Fresh }
         requires room { length command.now.params.now ≤ COMMAND }
         requires short { length reply.params.now ≤ ANSWER }
-        ensures { self.new ≡ retained_after self.old
-            (record { command = fields_of command.now; reply = reply_in reply.entry }) }
+        ensures { self.new ≡ retained_after self.old (entry_of command.now reply.entry) }
     {
         raise(&mut self.above, command.handle);
         let Some(cell) = cell_of_oldest(&self.held) else {
@@ -256,8 +247,7 @@ fn add<const COMMAND: usize, const ANSWER: usize>(
     ensures capacity { vec_capacity cells.new ≡ vec_capacity cells.old }
     ensures held { held.new
         ≡ buffer (held.old.items ++ held_in command.now.handle (length held.old.items) ∷ []) held.old.capacity }
-    ensures items { AddsCell command.now.handle
-        (record { command = fields_of command.now; reply = reply_in reply.entry }) cells.old.items cells.new.items }
+    ensures items { AddsCell command.now.handle (entry_of command.now reply.entry) cells.old.items cells.new.items }
 {
     let cell = held.len() as u32;
     held.push_back(Held {

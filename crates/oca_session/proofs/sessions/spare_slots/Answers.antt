@@ -1,7 +1,8 @@
 use Rattle.std.proofs.Common.{sym, ap, ◌∙◌, subst, arith, length-append, length, ◌+◌}
 use Rattle.std.specs.Prelude.{All}
 use Rattle.oca_session.specs.Sound.{IsSession}
-use Rattle.oca_session.proofs.Tables.{All-push, opened_sound}
+use Rattle.std.proofs.lemmas.List.Elements.{All-push}
+use Rattle.oca_session.proofs.Tables.{opened_sound}
 use Rattle.oca_session.proofs.sessions.spare_slots.Goals as goal
 
 pub loop-i-preserved : goal.loop-i-preserved
