@@ -30,6 +30,7 @@ use Rattle.oca_tree.specs.Locks.{without_lock_of, is_held_by, released}
 use Rattle.oca_textree.specs.Written.{IsShortText, IsNamed}
 use Rattle.oca_tree.proofs.Names.{names_kept}
 use Rattle.oca_tree.proofs.Positions.{find_passes}
+use Rattle.oca_textree.proofs.Standing.{found-holds}
 use Rattle.oca_textree.proofs.ListedLemmas.{short-text, no-names, Rooted}
 
 -- ---- what is asked
@@ -88,17 +89,9 @@ placed (o ∷ os) new is h = by (o.ono.0 == new.ono.0) (placed os new is (All-ta
     by true rest = All-cons IsNamed new os is (All-tail IsNamed o os h)
     by false rest = All-cons IsNamed o (with_object os new) (All-head IsNamed o os h) rest
 
--- the object with a number has that number, and is one of the list
+-- the object with a number has that number
 number-of : (tree : List Object) (n : ℕ) (o : Object) → object_of tree n ≡ Some o → o.ono.0 ≡ n
 number-of tree n o e = eqb-true o.ono.0 n (find_passes (has_number n) tree o e)
-
-named-at : (tree : List Object) (n : ℕ) (o : Object) → object_of tree n ≡ Some o → All IsNamed tree → IsNamed o
-named-at [] n o e h = absurd (cc)
-named-at (x ∷ xs) n o e h = by (x.ono.0 == n) e (named-at xs n o)
-  where
-    by : (b : Bool) → cond b (Some x) (object_of xs n) ≡ Some o → (object_of xs n ≡ Some o → All IsNamed xs → IsNamed o) → IsNamed o
-    by true t rest = let is : x ≡ o = cc in subst IsNamed is (All-head IsNamed x xs h)
-    by false t rest = rest t (All-tail IsNamed x xs h)
 
 -- the object that has the number of the first is the first
 root-placed : (tree : List Object) (n : ℕ) (o new : Object) → object_of tree n ≡ Some o → IsSameBut o new → Rooted tree → Rooted (with_object tree new)
@@ -119,7 +112,7 @@ carried : (tree : List Object) (peer : Peer) (n : ℕ) (o : Object) (r : Request
     → Rooted (with_object tree (changed_by o peer r)) × All IsNamed (with_object tree (changed_by o peer r))
 carried tree peer n o r at is root named =
     let same = changed-same o peer r is in
-    (root-placed tree n o (changed_by o peer r) at same root, placed tree (changed_by o peer r) (same.named (named-at tree n o at named)) named)
+    (root-placed tree n o (changed_by o peer r) at same root, placed tree (changed_by o peer r) (same.named (found-holds IsNamed tree n o named at)) named)
 
 by-status : (tree : List Object) (peer : Peer) (n : ℕ) (o : Option Object) (r : Result Request ValueFault) (s : Status) → object_of tree n ≡ o
     → ((x : Object) (q : Request) → o ≡ Some x → r ≡ Ok q → SetsTexts q) → KeptBy tree (by_status tree peer o r s)
@@ -186,7 +179,7 @@ told-kept tree number truth = by (object_of tree number) refl
     by None at root named = (root, named)
     by (Some o) at root named =
         let same = told-same o truth in
-        (root-placed tree number o (told o truth) at same root, placed tree (told o truth) (same.named (named-at tree number o at named)) named)
+        (root-placed tree number o (told o truth) at same root, placed tree (told o truth) (same.named (found-holds IsNamed tree number o named at)) named)
 
 -- Changing an object at the front panel leaves them so too.
 pub change-kept : (tree : List Object) (number : ℕ) (change : LocalChange) → Rooted tree → All IsNamed tree → Rooted (after_change tree number change) × All IsNamed (after_change tree number change)

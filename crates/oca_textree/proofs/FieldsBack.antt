@@ -15,7 +15,6 @@ use Rattle.oca_script.specs.Fields.{split_at, value_after, number_of, at_most, h
 use Rattle.oca_script.proofs.PartLemmas.{Free, free-after, free-nowhere}
 use Rattle.oca_script.proofs.FieldLemmas.{value_after-digit}
 use Rattle.oca_textree.specs.Lines.{field_at, ono_of, signed_of, integer_of}
-use Rattle.oca_textree.specs.PrivateWritten.{IsInteger}
 use Rattle.std.proofs.lemmas.Int.{ints}
 use Rattle.std.specs.Option.{option_map}
 
@@ -122,6 +121,11 @@ pub ono-decimal : (n : ℕ) → n < 2 ^ 32 → ono_of (decimal n) ≡ Some n
 ono-decimal n h = number-decimal 10 4294967295 n (omega arith) (omega arith) (length-decimal-le 10 n (omega arith) (omega arith) (omega arith))
 
 -- ---- integers
+
+-- an integer of one of the types
+pub record IsInteger (z : ℤ) : Type 0 where
+  pub above : negsuc 9223372036854775807 ≤ℤ z
+  pub below : z ≤ℤ pos (2 ^ 64 - 1)
 
 signed-digits : (ds : List ℕ) (n : ℕ) → Numeric ds → number_of 20 (2 ^ 64 - 1) ds ≡ Some n → signed_of ds ≡ Some (pos n)
 unfolding number_of

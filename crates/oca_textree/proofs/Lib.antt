@@ -1,4 +1,3 @@
-pub mod OrderLemmas
 pub mod SplitLemmas
 pub mod SwitchLemmas
 pub mod StoredLemmas

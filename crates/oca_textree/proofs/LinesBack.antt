@@ -20,7 +20,7 @@ use Rattle.oca_script.specs.Fields.{split_at, split_on}
 use Rattle.oca_script.proofs.PartLemmas.{Free, free-after}
 use Rattle.oca_script.specs.declared.object_fault.ObjectFault.{ObjectFault}
 use Rattle.oca_script.specs.declared.object_fault.ObjectFault.TheVariants as fault
-use Rattle.oca_textree.specs.Lines.{Taken, field_at, then_by, some_or_fault, class_of_word, one_of, refusal, has_control}
+use Rattle.oca_textree.specs.Lines.{Taken, Placed, placed_at, ono_at, field_at, then_by, some_or_fault, class_of_word, one_of, refusal, has_control}
 use Rattle.oca_textree.specs.Stored.{Flagged, flagged_at, start_at, Ending, ending_at, start_refusal, stored_with, stored_by, after_line, after_word, rooted}
 use Rattle.oca_textree.specs.Texts.{after_lines, go_on, line_before, lines_behind, rooted_by, from_root, objects_of_text}
 use Rattle.oca_textree.specs.Written.{lock_word, truth_word, text_field, kept_label, place_fields, object_line, root_line, line_of, text_of, IsShortText, IsNamed, IsReadBack}
@@ -136,13 +136,18 @@ kept tree o h named sound =
     let v = flagged o.value in
     rw (ends, a, b, v) refl
 
-then-last : {B : Type 0} (f : Result Taken ObjectFault) (g : Flagged → Result B ObjectFault)
-    → then_by f (λ c. then_by (some_or_fault fault.Class (class_of_word c.0)) (λ k. then_by (flagged_at k c.1) g))
-    ≡ then_by (then_by f (λ c. then_by (some_or_fault fault.Class (class_of_word c.0)) (λ k. flagged_at k c.1))) g
-then-last (Err e) g = refl
-then-last (Ok c) g = by (class_of_word c.0)
+abbrev placed_as : ℕ → ℕ → Class → Option (List ℕ) → Result Placed ObjectFault
+placed_as ono container k rest = Ok (record { ono = ono; container = container; class_read = k; rest = rest })
+
+then-last : {B : Type 0} (f : Result Taken ObjectFault) (ono container : ℕ) (g : ℕ → ℕ → Flagged → Result B ObjectFault)
+    → then_by (then_by f (λ c. then_by (some_or_fault fault.Class (class_of_word c.0)) (λ k. placed_as ono container k c.1)))
+    (λ p. then_by (flagged_at p.class_read p.rest) (g p.container p.ono))
+    ≡ then_by (then_by f (λ c. then_by (some_or_fault fault.Class (class_of_word c.0)) (λ k. flagged_at k c.1))) (g container ono)
+then-last (Err e) ono container g = refl
+then-last (Ok c) ono container g = by (class_of_word c.0)
   where
-    by : (o : Option Class) → then_by (some_or_fault fault.Class o) (λ k. then_by (flagged_at k c.1) g) ≡ then_by (then_by (some_or_fault fault.Class o) (λ k. flagged_at k c.1)) g
+    by : (o : Option Class) → then_by (then_by (some_or_fault fault.Class o) (λ k. placed_as ono container k c.1)) (λ p. then_by (flagged_at p.class_read p.rest) (g p.container p.ono))
+        ≡ then_by (then_by (some_or_fault fault.Class o) (λ k. flagged_at k c.1)) (g container ono)
     by None = refl
     by (Some k) = refl
 
@@ -150,7 +155,7 @@ inside : Object → List ℕ
 inside o = decimal o.ono.0 ++ 32 ∷ (decimal o.container.0 ++ 32 ∷ (fields_of o.value ++ 32 ∷ tail_of o.lockable o.role o.enabled o.label))
 
 stored-back : (tree : List Object) (o : Object) → Fitting tree o → IsNamed o → IsSound o → stored_by tree (inside o) ≡ Ok (tree ++ unlocked o ∷ [])
-unfolding stored_by inside read_value
+unfolding stored_by placed_at ono_at inside read_value
 stored-back tree o h named sound =
     let tail = tail_of o.lockable o.role o.enabled o.label in
     let behind_container = fields_of o.value ++ 32 ∷ tail in
@@ -162,7 +167,7 @@ stored-back tree o h named sound =
     let d = ono-decimal o.container.0 container in
     let e = value-back o.value tail sound.value named.names in
     rw (a, b, c, d)
-    (then-last (field_at (Some behind_container)) (λ reading. stored_with tree o.container.0 o.ono.0 reading)
+    (then-last (field_at (Some behind_container)) o.ono.0 o.container.0 (stored_with tree)
     ∙ ap (λ (r : Result Flagged ObjectFault). then_by r (λ reading. stored_with tree o.container.0 o.ono.0 reading)) e
     ∙ kept tree o h named sound)
 

@@ -31,8 +31,8 @@ use Rattle.oca_script.specs.declared.object_fault.ObjectFault.TheVariants as fau
 use Rattle.oca_textree.specs.declared.fault.TreeFault.{TreeFault}
 use Rattle.oca_textree.specs.Faults.{object_fault_of}
 use Rattle.oca_textree.specs.Texts.{after_lines, go_on, line_before, lines_behind, rooted_by, from_root, objects_of_text}
-use Rattle.oca_textree.specs.Lines.{then_by, some_or_fault, field_at, ono_of, class_of_word, one_of, Valued, Limited, valued, by_word, names_after, position_named, positions_of, by_positions, value_at, is_text, refusal, added_unless, ended, checked, last_of, added_with, added_by, is_skipped_line, has_control}
-use Rattle.oca_textree.specs.Stored.{after_line, after_word, by_kind, short, short_utf8, field_text, is_quoted, text_in_field, flags_after, named_after, names_in_field, Positions, switch_at, Flagged, switch_flagged, flagged_at, start_at, Ending, ending_at, stored_object, start_refusal, kept_unless, stored_with, stored_by, rooted}
+use Rattle.oca_textree.specs.Lines.{then_by, some_or_fault, field_at, ono_of, ono_at, Placed, placed_at, class_of_word, one_of, Valued, Limited, valued, by_word, names_by, position_named, positions_of, by_positions, value_at, is_text, refusal, added_unless, ended, checked, last_of, added_with, added_by, is_skipped_line, has_control}
+use Rattle.oca_textree.specs.Stored.{after_line, after_word, by_kind, short, short_utf8, field_text, is_quoted, text_in_field, flags_after, names_in_field, Positions, switch_at, Flagged, switch_flagged, flagged_at, start_at, Ending, ending_at, stored_object, start_refusal, kept_unless, stored_with, stored_by, rooted}
 use Rattle.oca_textree.specs.Written.{IsShortText, IsNamed, IsRoot}
 use lib.Utf8.{scalar, scalars, encode, encodes, scalar_cases}
 
@@ -182,29 +182,44 @@ text-at-short rest p e =
     let same : t.0 ≡ p.0 = ap (λ (x : List ℕ × Option (List ℕ)). x.0) (ok-same _ _ t.2) in
     subst IsShortText same (text-short (is_quoted rest) f.0.0 t.0 t.1)
 
+-- ---- the place of an object
+
+number-fits : (rest : Option (List ℕ)) (p : ℕ × Option (List ℕ)) → ono_at rest ≡ Ok p → p.0 < 2 ^ 32
+unfolding ono_at
+number-fits rest p e =
+    let f = then-ok (field_at rest) _ p e in
+    let n = or-ok fault.Number (ono_of f.0.0) _ p f.2 in
+    let same : n.0 ≡ p.0 = ap (λ (x : ℕ × Option (List ℕ)). x.0) (ok-same _ _ n.2) in
+    subst (λ (m : ℕ). m < 2 ^ 32) same (ono-fits f.0.0 n.0 n.1)
+
+placed-fits : (rest : Option (List ℕ)) (p : Placed) → placed_at rest ≡ Ok p → (p.container < 2 ^ 32) × (p.ono < 2 ^ 32)
+unfolding placed_at
+placed-fits rest p e =
+    let a = then-ok (ono_at rest) _ p e in
+    let b = then-ok (ono_at a.0.1) _ p a.2 in
+    let c = then-ok (field_at b.0.1) _ p b.2 in
+    let k = or-ok fault.Class (class_of_word c.0.0) _ p c.2 in
+    subst (λ (x : Placed). (x.container < 2 ^ 32) × (x.ono < 2 ^ 32)) (ok-same _ _ k.2) (number-fits a.0.1 b.0 b.1, number-fits rest a.0 a.1)
+
 -- ---- names of positions
 
--- of a line as a maker writes it: each is UTF-8
-names-utf8 : (before more all : List (List ℕ)) → All IsUtf8 before → names_after before more ≡ Ok all → All IsUtf8 all
-names-utf8 before [] all h e = subst (All IsUtf8) (ok-same before all e) h
-names-utf8 before (n ∷ more) all h e =
-    by (is_text n) refl (nat_le 16 (length before)) (λ is. names-utf8 (before ++ n ∷ []) more all (All-push IsUtf8 before n h is)) e
+checked-utf8 : (text t : List ℕ) → checked text ≡ Some t → IsUtf8 t
+checked-utf8 text t e = by (is_text text) refl e
   where
-    by : (a : Bool) → is_text n ≡ a → (b : Bool) → (IsUtf8 n → names_after (before ++ n ∷ []) more ≡ Ok all → All IsUtf8 all)
-        → cond (not a) (Err fault.Text) (cond b (Err fault.Range) (names_after (before ++ n ∷ []) more)) ≡ Ok all → All IsUtf8 all
-    by false q b next t = absurd (cc)
-    by true q true next t = absurd (cc)
-    by true q false next t = next (is-text n q) t
+    by : (b : Bool) → is_text text ≡ b → cond b (Some text) None ≡ Some t → IsUtf8 t
+    by true q h = let same : text ≡ t = cc in subst IsUtf8 same (is-text text q)
+    by false q h = absurd (cc)
 
--- of a line with all that was stored: each is short too
-named-short : (quoted : Bool) (before more all : List (List ℕ)) → All IsShortText before → named_after quoted before more ≡ Ok all → All IsShortText all
-named-short quoted before [] all h e = subst (All IsShortText) (ok-same before all e) h
-named-short quoted before (n ∷ more) all h e =
-    let t = or-ok fault.Text (field_text quoted n) _ all e in
-    by t.0 (nat_le 16 (length before)) (named-short quoted (before ++ t.0 ∷ []) more all (All-push IsShortText before t.0 h (text-short quoted n t.0 t.1))) t.2
+-- what holds of each text that is read holds of each name
+names-all : (P : List ℕ → Type 0) (reads : List ℕ → Option (List ℕ)) → ((text t : List ℕ) → reads text ≡ Some t → P t) → (before more all : List (List ℕ)) → All P before
+    → names_by reads before more ≡ Ok all → All P all
+names-all P reads each before [] all h e = subst (All P) (ok-same before all e) h
+names-all P reads each before (n ∷ more) all h e =
+    let t = or-ok fault.Text (reads n) _ all e in
+    by t.0 (nat_le 16 (length before)) (names-all P reads each (before ++ t.0 ∷ []) more all (All-push P before t.0 h (each n t.0 t.1))) t.2
   where
-    by : (t : List ℕ) (b : Bool) → (named_after quoted (before ++ t ∷ []) more ≡ Ok all → All IsShortText all)
-        → cond b (Err fault.Range) (named_after quoted (before ++ t ∷ []) more) ≡ Ok all → All IsShortText all
+    by : (t : List ℕ) (b : Bool) → (names_by reads (before ++ t ∷ []) more ≡ Ok all → All P all)
+        → cond b (Err fault.Range) (names_by reads (before ++ t ∷ []) more) ≡ Ok all → All P all
     by t true next k = absurd (cc)
     by t false next k = next k
 
@@ -212,9 +227,9 @@ names-at-short : (rest : Option (List ℕ)) (p : List (List ℕ) × Option (List
 unfolding names_in_field
 names-at-short rest p e =
     let f = then-ok (field_at rest) _ p e in
-    let t = then-ok (named_after (is_quoted rest) [] (split_on 44 f.0.0)) _ p f.2 in
+    let t = then-ok (names_by (field_text (is_quoted rest)) [] (split_on 44 f.0.0)) _ p f.2 in
     let same : t.0 ≡ p.0 = ap (λ (x : List (List ℕ) × Option (List ℕ)). x.0) (ok-same _ _ t.2) in
-    subst (All IsShortText) same (named-short (is_quoted rest) [] (split_on 44 f.0.0) t.0 no-names t.1)
+    subst (All IsShortText) same (names-all IsShortText (field_text (is_quoted rest)) (text-short (is_quoted rest)) [] (split_on 44 f.0.0) t.0 no-names t.1)
 
 -- ---- values
 
@@ -270,11 +285,11 @@ positions-utf8 : (rest : Option (List ℕ)) (p : ℕ × List (List ℕ) × Optio
 unfolding positions_of
 positions-utf8 rest p e =
     let a = then-ok (field_at rest) _ p e in
-    let names = then-ok (names_after [] (split_on 44 a.0.0)) _ p a.2 in
+    let names = then-ok (names_by checked [] (split_on 44 a.0.0)) _ p a.2 in
     let b = then-ok (field_at a.0.1) _ p names.2 in
     let at = or-ok fault.Value (position_named b.0.0 names.0) _ p b.2 in
     let same : names.0 ≡ p.1 = ap (λ (x : ℕ × List (List ℕ) × Option (List ℕ)). x.1) (ok-same _ _ at.2) in
-    subst (All IsUtf8) same (names-utf8 [] (split_on 44 a.0.0) names.0 (All-nil IsUtf8) names.1)
+    subst (All IsUtf8) same (names-all IsUtf8 checked checked-utf8 [] (split_on 44 a.0.0) names.0 (All-nil IsUtf8) names.1)
 
 by-positions : (rest : Option (List ℕ)) (v : Valued) → by_positions rest ≡ Ok v → AreTexts v
 by-positions rest v e =
@@ -353,11 +368,7 @@ last-utf8 rest p e =
     let text = then-ok (ended role.0.1 role.0.0) _ p role.2 in
     let t = or-ok fault.Text (checked text.0) _ p text.2 in
     let same : t.0 ≡ p.1 = ap (λ (x : Bool × List ℕ). x.1) (ok-same _ _ t.2) in
-    subst IsUtf8 same (by text.0 t.0 (is_text text.0) refl t.1)
-  where
-    by : (text t : List ℕ) (b : Bool) → is_text text ≡ b → cond b (Some text) None ≡ Some t → IsUtf8 t
-    by text t true q h = let same : text ≡ t = cc in subst IsUtf8 same (is-text text q)
-    by text t false q h = absurd (cc)
+    subst IsUtf8 same (checked-utf8 text.0 t.0 t.1)
 
 new-fresh : (container ono : ℕ) (lockable : Bool) (role : List ℕ) (v : Valued) → container < 2 ^ 32 → ono < 2 ^ 32 → IsUtf8 role → HasShortTexts role v.bad_name → AreTexts v
     → IsFresh (new_object ono container lockable role v.value)
@@ -389,14 +400,10 @@ with-added tree new container ono v c n texts e =
 line-added : (tree : List Object) (line : List ℕ) (new : List Object) → added_by tree line ≡ Ok new → Grew tree new
 unfolding added_by
 line-added tree line new e =
-    let a = then-ok (field_at (Some line)) _ new e in
-    let ono = or-ok fault.Number (ono_of a.0.0) _ new a.2 in
-    let b = then-ok (field_at a.0.1) _ new ono.2 in
-    let container = or-ok fault.Number (ono_of b.0.0) _ new b.2 in
-    let c = then-ok (field_at b.0.1) _ new container.2 in
-    let k = or-ok fault.Class (class_of_word c.0.0) _ new c.2 in
-    let v = then-ok (value_at k.0 c.0.1) _ new k.2 in
-    with-added tree new container.0 ono.0 v.0 (ono-fits b.0.0 container.0 container.1) (ono-fits a.0.0 ono.0 ono.1) (value-texts k.0 c.0.1 v.0 v.1) v.2
+    let p = then-ok (placed_at (Some line)) _ new e in
+    let fit = placed-fits (Some line) p.0 p.1 in
+    let v = then-ok (value_at p.0.class_read p.0.rest) _ new p.2 in
+    with-added tree new p.0.container p.0.ono v.0 fit.0 fit.1 (value-texts p.0.class_read p.0.rest v.0 v.1) v.2
 
 -- ---- an object with what was stored of it
 
@@ -500,14 +507,10 @@ with-stored tree new container ono reading c n texts e =
 line-stored : (tree : List Object) (line : List ℕ) (new : List Object) → stored_by tree line ≡ Ok new → Grew tree new
 unfolding stored_by
 line-stored tree line new e =
-    let a = then-ok (field_at (Some line)) _ new e in
-    let ono = or-ok fault.Number (ono_of a.0.0) _ new a.2 in
-    let b = then-ok (field_at a.0.1) _ new ono.2 in
-    let container = or-ok fault.Number (ono_of b.0.0) _ new b.2 in
-    let c = then-ok (field_at b.0.1) _ new container.2 in
-    let k = or-ok fault.Class (class_of_word c.0.0) _ new c.2 in
-    let reading = then-ok (flagged_at k.0 c.0.1) _ new k.2 in
-    with-stored tree new container.0 ono.0 reading.0 (ono-fits b.0.0 container.0 container.1) (ono-fits a.0.0 ono.0 ono.1) (reading-texts k.0 c.0.1 reading.0 reading.1) reading.2
+    let p = then-ok (placed_at (Some line)) _ new e in
+    let fit = placed-fits (Some line) p.0 p.1 in
+    let reading = then-ok (flagged_at p.0.class_read p.0.rest) _ new p.2 in
+    with-stored tree new p.0.container p.0.ono reading.0 fit.0 fit.1 (reading-texts p.0.class_read p.0.rest reading.0 reading.1) reading.2
 
 -- ---- lines
 

@@ -15,7 +15,7 @@ use Rattle.oca_tree.specs.declared.object.Object.{Object}
 use Rattle.oca_tree.specs.Objects.{Store}
 use Rattle.oca_textree.specs.declared.fault.TreeFault.{TreeFault}
 use Rattle.oca_textree.specs.declared.fault.TreeFault.TheVariants.{Line, NoMemory}
-use Rattle.oca_textree.specs.Lines.{names_after, is_text, position_named}
+use Rattle.oca_textree.specs.Lines.{names_by, position_named, some_or_fault, then_by}
 use Rattle.oca_textree.specs.Stored.{after_line}
 use Rattle.oca_textree.specs.Texts.{after_lines, go_on}
 use Rattle.oca_textree.specs.PrivateLines.{IsReadAs, IsReadSoFar, names_view}
@@ -45,20 +45,6 @@ split-one sep s e = split_on-by sep s ∙ ap (cut sep s) e
 pub split-more : (sep : ℕ) (s front rest : List ℕ) → split_at sep s ≡ Some (front, rest) → split_on sep s ≡ front ∷ split_on sep rest
 split-more sep s front rest e = split_on-by sep s ∙ ap (cut sep s) e
 
--- one name, and then further ones
-abbrev pub go_on_with : Result (List (List ℕ)) ObjectFault → List (List ℕ) → Result (List (List ℕ)) ObjectFault
-go_on_with (Ok names) more = names_after names more
-go_on_with (Err f) more = Err f
-
-pub names-more : (names : List (List ℕ)) (n : List ℕ) (more : List (List ℕ)) → names_after names (n ∷ more) ≡ go_on_with (names_after names (n ∷ [])) more
-names-more names n more = by_tests (not (is_text n)) (nat_le 16 (length names))
-  where
-    by_tests : (a b : Bool) → cond a (Err fault.Text) (cond b (Err fault.Range) (names_after (names ++ n ∷ []) more))
-        ≡ go_on_with (cond a (Err fault.Text) (cond b (Err fault.Range) (Ok (names ++ n ∷ [])))) more
-    by_tests true b = refl
-    by_tests false true = refl
-    by_tests false false = refl
-
 -- bytes that are not UTF-8 do not pass the test
 pub not-utf8 : (bs : List ℕ) → (IsUtf8 bs → ⊥) → is_utf8 bs ≡ false
 not-utf8 bs refused = by_test (is_utf8 bs) refl
@@ -87,32 +73,51 @@ place-position name (x ∷ xs) = by_test (bytes_eq x.now name) ∙ ap (λ (r : O
 
 -- ---- names, one after another
 
+-- one name, and then further ones
+abbrev pub go_on_with : (List ℕ → Option (List ℕ)) → Result (List (List ℕ)) ObjectFault → List (List ℕ) → Result (List (List ℕ)) ObjectFault
+go_on_with reads (Ok names) more = names_by reads names more
+go_on_with reads (Err f) more = Err f
+
+names-more : (reads : List ℕ → Option (List ℕ)) (names : List (List ℕ)) (n : List ℕ) (more : List (List ℕ))
+    → names_by reads names (n ∷ more) ≡ go_on_with reads (names_by reads names (n ∷ [])) more
+names-more reads names n more = by_reading (reads n)
+  where
+    by_reading : (o : Option (List ℕ))
+        → then_by (some_or_fault fault.Text o) (λ t. cond (nat_le 16 (length names)) (Err fault.Range) (names_by reads (names ++ t ∷ []) more))
+        ≡ go_on_with reads (then_by (some_or_fault fault.Text o) (λ t. cond (nat_le 16 (length names)) (Err fault.Range) (Ok (names ++ t ∷ [])))) more
+    by_reading None = refl
+    by_reading (Some t) = by_test (nat_le 16 (length names))
+      where
+        by_test : (b : Bool) → cond b (Err fault.Range) (names_by reads (names ++ t ∷ []) more) ≡ go_on_with reads (cond b (Err fault.Range) (Ok (names ++ t ∷ []))) more
+        by_test true = refl
+        by_test false = refl
+
 -- a fault of one name is that of all
-pub names-failed : (old ns : List (List ℕ)) (all rest front after : List ℕ) (f : ObjectFault)
-    → names_after old (split_on 44 all) ≡ names_after ns (split_on 44 rest) → Some (front, after) ≡ split_at 44 rest
-    → Err f ≡ names_after ns (front ∷ []) → Err f ≡ names_after old (split_on 44 all)
-names-failed old ns all rest front after f so found e =
-    sym (so ∙ ap (names_after ns) (split-more 44 rest front after (sym found)) ∙ names-more ns front (split_on 44 after)
-    ∙ ap (λ (r : Result (List (List ℕ)) ObjectFault). go_on_with r (split_on 44 after)) (sym e))
+pub names-failed : (reads : List ℕ → Option (List ℕ)) (reading : Result (List (List ℕ)) ObjectFault) (ns : List (List ℕ)) (rest front after : List ℕ) (f : ObjectFault)
+    → reading ≡ names_by reads ns (split_on 44 rest) → Some (front, after) ≡ split_at 44 rest
+    → Err f ≡ names_by reads ns (front ∷ []) → Err f ≡ reading
+names-failed reads reading ns rest front after f so found e =
+    sym (so ∙ ap (names_by reads ns) (split-more 44 rest front after (sym found)) ∙ names-more reads ns front (split_on 44 after)
+    ∙ ap (λ (r : Result (List (List ℕ)) ObjectFault). go_on_with reads r (split_on 44 after)) (sym e))
 
 -- a fault of the names is returned as it is
-pub names-err : (r : Result Unit ObjectFault) (f : ObjectFault) (names : List (Bor (List ℕ))) (x : Result (List (List ℕ)) ObjectFault)
+pub names-err : (r : Result Unit ObjectFault) (f : ObjectFault) (names : List (List ℕ)) (x : Result (List (List ℕ)) ObjectFault)
     → r ≡ Err f → Err f ≡ x → names_view r names ≡ x
 names-err r f names x is e = ap (λ (q : Result Unit ObjectFault). names_view q names) is ∙ e
 
 -- after a name, the names that are left
-pub names-on : (old ns more : List (List ℕ)) (all rest front after : List ℕ)
-    → names_after old (split_on 44 all) ≡ names_after ns (split_on 44 rest) → Some (front, after) ≡ split_at 44 rest
-    → Ok more ≡ names_after ns (front ∷ []) → names_after old (split_on 44 all) ≡ names_after more (split_on 44 after)
-names-on old ns more all rest front after so found e =
-    so ∙ ap (names_after ns) (split-more 44 rest front after (sym found)) ∙ names-more ns front (split_on 44 after)
-    ∙ ap (λ (r : Result (List (List ℕ)) ObjectFault). go_on_with r (split_on 44 after)) (sym e)
+pub names-on : (reads : List ℕ → Option (List ℕ)) (reading : Result (List (List ℕ)) ObjectFault) (ns more : List (List ℕ)) (rest front after : List ℕ)
+    → reading ≡ names_by reads ns (split_on 44 rest) → Some (front, after) ≡ split_at 44 rest
+    → Ok more ≡ names_by reads ns (front ∷ []) → reading ≡ names_by reads more (split_on 44 after)
+names-on reads reading ns more rest front after so found e =
+    so ∙ ap (names_by reads ns) (split-more 44 rest front after (sym found)) ∙ names-more reads ns front (split_on 44 after)
+    ∙ ap (λ (r : Result (List (List ℕ)) ObjectFault). go_on_with reads r (split_on 44 after)) (sym e)
 
 -- the last name ends them
-pub names-last : (old ns : List (List ℕ)) (all rest : List ℕ) (r : Result (List (List ℕ)) ObjectFault)
-    → names_after old (split_on 44 all) ≡ names_after ns (split_on 44 rest) → split_at 44 rest ≡ None
-    → r ≡ names_after ns (rest ∷ []) → r ≡ names_after old (split_on 44 all)
-names-last old ns all rest r so none e = e ∙ sym (so ∙ ap (names_after ns) (split-one 44 rest none))
+pub names-last : (reads : List ℕ → Option (List ℕ)) (reading : Result (List (List ℕ)) ObjectFault) (ns : List (List ℕ)) (rest : List ℕ) (r : Result (List (List ℕ)) ObjectFault)
+    → reading ≡ names_by reads ns (split_on 44 rest) → split_at 44 rest ≡ None
+    → r ≡ names_by reads ns (rest ∷ []) → r ≡ reading
+names-last reads reading ns rest r so none e = e ∙ sym (so ∙ ap (names_by reads ns) (split-one 44 rest none))
 
 -- ---- lines, one after another
 

@@ -3,7 +3,6 @@ use Rattle.std.proofs.Common.{◌≡◌, ℕ, zero, suc, ◌<◌, ◌≤◌, tru
 use Rattle.std.specs.Prelude.{Option, Some, None, ◌==◌, ◌⊎◌, slice_get}
 use Rattle.std.specs.Option.{option_map}
 use Rattle.std.specs.List.{All, position_or_len}
-use Rattle.std.proofs.lemmas.Int.{ints}
 use Rattle.std.proofs.lemmas.Bool.{cases_lt}
 use Rattle.std.proofs.lemmas.List.{take-append-le}
 use Rattle.std.proofs.Math.ListN.{get_or-append}
@@ -12,7 +11,6 @@ use Rattle.std.proofs.lemmas.List.Folds.{find-append, find_at}
 use Rattle.std.proofs.lemmas.Option.{slice_get_within, get_or_from_slice_get}
 use Rattle.oca_model.specs.declared.reading.Reading.{Reading}
 use Rattle.oca_model.specs.declared.reading.Reading.TheVariants as readings
-use Rattle.oca_model.specs.Readings.{IsReading}
 use Rattle.oca_tree.specs.declared.object.Object.{Object}
 use Rattle.oca_tree.specs.declared.object.Value.{Value}
 use Rattle.oca_tree.specs.declared.object.Value.TheVariants as values
@@ -20,10 +18,9 @@ use Rattle.oca_tree.specs.Objects.{has_number, object_of}
 use Rattle.oca_tree.specs.Places.{Place, place_of, places, place_at}
 use Rattle.oca_tree.specs.Trees.{IsBuilt, IsFree, IsTree, IsSound, IsSoundValue}
 use Rattle.oca_tree.specs.Trees as trees
-use Rattle.oca_tree.specs.Readers.{reading_setting, value_setting}
 use Rattle.oca_tree.specs.Copies.{names_in, flags_in}
 use Rattle.oca_tree.proofs.Chains.{place_at_places}
-use Rattle.oca_textree.specs.PrivateWritten.{IsWritten, few_flags, Fits}
+use Rattle.oca_textree.specs.PrivateWritten.{few_flags, Fits}
 
 -- ---- each was free when it was added
 
@@ -87,29 +84,12 @@ itself-in front back o h = by front (free-in front back o h.built)
 
 -- ---- what is answered fits a line
 
-pub sound-found : (tree : List Object) (n : ℕ) (o : Object) → All IsSound tree → object_of tree n ≡ Some o → IsSound o
-sound-found tree n o h found =
+-- what holds of each object holds of the one that is found
+pub found-holds : (P : Object → Type 0) (tree : List Object) (n : ℕ) (o : Object) → All P tree → object_of tree n ≡ Some o → P o
+found-holds P tree n o h found =
     let at = position_or_len (has_number n) tree in
     let is : slice_get tree at ≡ Some o = sym (find_at (has_number n) tree) ∙ found in
-    subst IsSound (get_or_from_slice_get tree at o o is) (h at o (slice_get_within tree at o is))
-
--- the integers of a type fit a line
-pub written-reading : (r : Reading) → IsReading r → IsWritten (reading_setting r)
-unfolding reading_setting
-written-reading (readings.Mute state) h = tt
-written-reading (readings.Polarity state) h = tt
-written-reading (readings.Switch r) h = tt
-written-reading (readings.Boolean truth) h = tt
-written-reading _ h = (
-  record { above = omega (arith, ints, h.setting); below = omega (arith, ints, h.setting) },
-  record { above = omega (arith, ints, h.least); below = omega (arith, ints, h.least) },
-  record { above = omega (arith, ints, h.greatest); below = omega (arith, ints, h.greatest) },
-)
-
-written-value : (v : Value) → IsSoundValue v → IsWritten (value_setting v)
-unfolding value_setting IsSoundValue
-written-value (values.Reads r) h = written-reading r h.typed
-written-value _ h = tt
+    subst P (get_or_from_slice_get tree at o o is) (h at o (slice_get_within tree at o is))
 
 few-names : (v : Value) → IsSoundValue v → length (names_in v) ≤ 16
 unfolding names_in IsSoundValue
@@ -126,7 +106,7 @@ pub fits : (tree : List Object) → IsTree tree → (n : ℕ) → Fits tree n
 fits tree h n = by (object_of tree n) refl
   where
     by : (x : Option Object) → object_of tree n ≡ x → Fits tree n
-    by None e = record { setting = rw e tt; names = rw e (omega arith); flags = rw e (omega arith) }
+    by None e = record { names = rw e (omega arith); flags = rw e (omega arith) }
     by (Some o) e =
-        let sound = sound-found tree n o h.objects e in
-        record { setting = rw e (written-value o.value sound.value); names = rw e (few-names o.value sound.value); flags = rw e (few-flags o.value sound.value) }
+        let sound = found-holds IsSound tree n o h.objects e in
+        record { names = rw e (few-names o.value sound.value); flags = rw e (few-flags o.value sound.value) }

@@ -13,8 +13,8 @@ use Rattle.oca_script.specs.Fields.{split_on, hex_text}
 use Rattle.oca_script.proofs.PartLemmas.{Free, free-append, free-after, free-nowhere}
 use Rattle.oca_script.specs.declared.object_fault.ObjectFault.{ObjectFault}
 use Rattle.oca_script.specs.declared.object_fault.ObjectFault.TheVariants as fault
-use Rattle.oca_textree.specs.Lines.{field_at, then_by, some_or_fault, has_control}
-use Rattle.oca_textree.specs.Stored.{short, field_text, is_quoted, text_in_field, flags_after, named_after, names_in_field}
+use Rattle.oca_textree.specs.Lines.{field_at, then_by, some_or_fault, names_by, has_control}
+use Rattle.oca_textree.specs.Stored.{short, field_text, is_quoted, text_in_field, flags_after, names_in_field}
 use Rattle.oca_textree.specs.Written.{holds_mark, holds_comma, is_plain, is_plain_name, in_quotes, text_field, joined_names, name_part, names_field, flag_digit, IsShortText}
 use Rattle.oca_textree.proofs.SplitLemmas.{split-one, split-more}
 use Rattle.oca_textree.proofs.FieldsBack.{digits-free, digits-hex_text, Word, word-append, field-word, field-last, field-quoted, field-quoted-last, word-hex_text, hex-back, length-hex}
@@ -187,7 +187,7 @@ AllFree s writes [] = Unit {0}
 AllFree s writes (n ∷ names) = Free s (writes n) × AllFree s writes names
 
 named-back : (quoted : Bool) (writes : List ℕ → List ℕ) (before names : List (List ℕ)) → Flagged quoted writes names → length before + length names ≤ 16
-    → named_after quoted before (map writes names) ≡ Ok (before ++ names)
+    → names_by (field_text quoted) before (map writes names) ≡ Ok (before ++ names)
 named-back quoted writes before [] h few = ap Ok (sym (append-nil before))
 named-back quoted writes before (n ∷ names) h few =
     let room : nat_le 16 (length before) ≡ false = grind (arith, nat_tests) in
@@ -257,18 +257,18 @@ hex-names (n ∷ names) h =
     }
 
 names-at : (field : Option (List ℕ)) (quoted : Bool) (w : List ℕ) (names : List (List ℕ)) (rest : Option (List ℕ)) → is_quoted field ≡ quoted
-    → field_at field ≡ Ok (w, rest) → named_after quoted [] (split_on 44 w) ≡ Ok names → names_in_field field ≡ Ok (names, rest)
+    → field_at field ≡ Ok (w, rest) → names_by (field_text quoted) [] (split_on 44 w) ≡ Ok names → names_in_field field ≡ Ok (names, rest)
 unfolding names_in_field
 names-at field quoted w names rest q f s =
-    ap (λ (b : Bool). then_by (field_at field) (λ f. then_by (named_after b [] (split_on 44 f.0)) (λ names. Ok (names, f.1)))) q
-    ∙ ap (λ (r : Result (List ℕ × Option (List ℕ)) ObjectFault). then_by r (λ f. then_by (named_after quoted [] (split_on 44 f.0)) (λ names. Ok (names, f.1)))) f
+    ap (λ (b : Bool). then_by (field_at field) (λ f. then_by (names_by (field_text b) [] (split_on 44 f.0)) (λ names. Ok (names, f.1)))) q
+    ∙ ap (λ (r : Result (List ℕ × Option (List ℕ)) ObjectFault). then_by r (λ f. then_by (names_by (field_text quoted) [] (split_on 44 f.0)) (λ names. Ok (names, f.1)))) f
     ∙ ap (λ (r : Result (List (List ℕ)) ObjectFault). then_by r (λ names. Ok (names, rest))) s
 
 names-parts : (quoted : Bool) (writes : List ℕ → List ℕ) (names : List (List ℕ)) → 0 < length names → length names ≤ 16 → Flagged quoted writes names → AllFree 44 writes names
-    → named_after quoted [] (split_on 44 (joined_names writes names)) ≡ Ok names
+    → names_by (field_text quoted) [] (split_on 44 (joined_names writes names)) ≡ Ok names
 names-parts quoted writes [] some few reading free = absurd (omega arith)
 names-parts quoted writes (n ∷ names) some few reading free =
-    ap (named_after quoted []) (split-parts writes (writes n) names free.0 free.1) ∙ named-back quoted writes [] (n ∷ names) reading (omega (arith, few))
+    ap (names_by (field_text quoted) []) (split-parts writes (writes n) names free.0 free.1) ∙ named-back quoted writes [] (n ∷ names) reading (omega (arith, few))
 
 joined-word : (names : List (List ℕ)) → All IsShortText names → Word (joined_names (name_part false) names)
 joined-word [] h = tt

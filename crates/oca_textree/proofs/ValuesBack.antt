@@ -1,5 +1,5 @@
 -- How an object is set is read back from its line.
-use Rattle.std.proofs.Common.{◌≡◌, ℕ, ◌<◌, true, false, List, [], ◌∷◌, ◌++◌, length, map, Some, None, Ok, refl, arith, append_assoc}
+use Rattle.std.proofs.Common.{◌≡◌, ℕ, ◌<◌, true, false, List, [], ◌∷◌, ◌++◌, length, map, Option, Some, None, Ok, refl, arith, append_assoc}
 use Rattle.std.specs.Prelude.{decimal, ℤ, ◌≤ℤ◌, Result, nat_lt}
 use Rattle.std.specs.Fmt.{signed_decimal}
 use Rattle.std.specs.List.{list_any, All}
@@ -16,6 +16,7 @@ use Rattle.oca_model.specs.Settings.{class_of_reading}
 use Rattle.oca_tree.specs.declared.object.Value.{Value}
 use Rattle.oca_tree.specs.declared.object.Value.TheVariants as values
 use Rattle.oca_tree.specs.declared.object.Switch.{Switch}
+use Rattle.oca_tree.specs.declared.tree.Setting.{Setting}
 use Rattle.oca_tree.specs.declared.tree.Setting.TheVariants.{Position, Number}
 use Rattle.oca_tree.specs.Objects.{class_of}
 use Rattle.oca_tree.specs.Readers.{reading_setting, value_setting}
@@ -28,12 +29,27 @@ use Rattle.oca_script.specs.declared.object_fault.ObjectFault.TheVariants as fau
 use Rattle.oca_textree.specs.Lines.{Limited, Valued, field_at, then_by, some_or_fault, class_of_word, limits_of, by_word, one_of, value_at, has_control}
 use Rattle.oca_textree.specs.Stored.{Flagged, flagged_at, switch_at}
 use Rattle.oca_textree.specs.Written.{class_before, set_fields, value_fields, range_fields, switch_fields, names_field, flag_digit, IsShortText}
-use Rattle.oca_textree.specs.PrivateWritten.{IsInteger, IsWritten}
-use Rattle.oca_textree.proofs.Standing.{written-reading}
-use Rattle.oca_textree.proofs.FieldsBack.{field-word, word-decimal, number-decimal, word-signed, integer-back}
+use Rattle.oca_textree.proofs.FieldsBack.{IsInteger, field-word, word-decimal, number-decimal, word-signed, integer-back}
 use Rattle.oca_textree.proofs.TextsBack.{flags-back, word-flags, names-back, names-shown, word-shown, shown-append}
 
 -- ---- integers
+
+abbrev IsWritten : Option Setting → Type 0
+IsWritten (Some (Number setting least greatest)) = IsInteger setting × IsInteger least × IsInteger greatest
+IsWritten _ = Unit {0}
+
+-- the integers of a reading are of the types
+written-reading : (r : Reading) → IsReading r → IsWritten (reading_setting r)
+unfolding reading_setting
+written-reading (readings.Mute state) h = tt
+written-reading (readings.Polarity state) h = tt
+written-reading (readings.Switch r) h = tt
+written-reading (readings.Boolean truth) h = tt
+written-reading _ h = (
+  record { above = omega (arith, ints, h.setting); below = omega (arith, ints, h.setting) },
+  record { above = omega (arith, ints, h.least); below = omega (arith, ints, h.least) },
+  record { above = omega (arith, ints, h.greatest); below = omega (arith, ints, h.greatest) },
+)
 
 -- an integer of a type lies between its first and its last
 pub record Lies (low high : ℤ) (z : ℤ) : Type 0 where

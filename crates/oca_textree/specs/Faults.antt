@@ -4,7 +4,7 @@ use Rattle.oca_tree.specs.declared.builder.AddFault.TheVariants as adds
 use Rattle.oca_tree.specs.declared.start.StartFault.{StartFault}
 use Rattle.oca_tree.specs.declared.start.StartFault.TheVariants as starts
 use Rattle.oca_script.specs.declared.object_fault.ObjectFault.{ObjectFault}
-use Rattle.oca_script.specs.declared.object_fault.ObjectFault.TheVariants.{Form, Number, Class, Value, Lockable, Text}
+use Rattle.oca_script.specs.declared.object_fault.ObjectFault.TheVariants.{Value, Text}
 use Rattle.oca_script.specs.declared.object_fault.ObjectFault.TheVariants.{Full, Reserved, Taken, Container, Depth}
 use Rattle.oca_script.specs.declared.object_fault.ObjectFault.TheVariants.{Range, NoMemory}
 

@@ -139,13 +139,15 @@ by_limits of typed low high rest =
 abbrev pub is_text : List ℕ → Bool
 is_text bytes = is_utf8 bytes && not (has_hidden bytes)
 
--- the names of positions, in order: each is a text, and there are at most 16
-abbrev pub names_after : List (List ℕ) → List (List ℕ) → Result (List (List ℕ)) ObjectFault
-names_after names [] = Ok names
-names_after names (n ∷ more) =
-    if not (is_text n) then Err fault.Text
-    else if nat_le 16 (length names) then Err fault.Range
-    else names_after (names ++ n ∷ []) more
+abbrev pub checked : List ℕ → Option (List ℕ)
+checked text = if is_text text then Some text else None
+
+-- the names of positions, in order: each is read so, and there are at most 16
+abbrev pub names_by : (List ℕ → Option (List ℕ)) → List (List ℕ) → List (List ℕ) → Result (List (List ℕ)) ObjectFault
+names_by reads names [] = Ok names
+names_by reads names (n ∷ more) =
+    then_by (some_or_fault fault.Text (reads n)) (λ text.
+    if nat_le 16 (length names) then Err fault.Range else names_by reads (names ++ text ∷ []) more)
 
 -- where a name stands first
 abbrev pub position_named : List ℕ → List (List ℕ) → Option ℕ
@@ -157,7 +159,7 @@ position_named name (n ∷ names) = if bytes_eq n name then Some 0
 -- left
 unfoldable pub positions_of : Option (List ℕ) → Result (ℕ × List (List ℕ) × Option (List ℕ)) ObjectFault
 positions_of rest =
-    then_by (field_at rest) (λ a. then_by (names_after [] (split_on 44 a.0)) (λ names.
+    then_by (field_at rest) (λ a. then_by (names_by checked [] (split_on 44 a.0)) (λ names.
     then_by (field_at a.1) (λ b. then_by (some_or_fault fault.Value (position_named b.0 names)) (λ position.
     Ok (position, names, b.1)))))
 
@@ -207,9 +209,6 @@ abbrev pub ended : {A : Type 0} → Option (List ℕ) → A → Result A ObjectF
 ended None x = Ok x
 ended (Some rest) x = Err fault.Form
 
-abbrev pub checked : List ℕ → Option (List ℕ)
-checked text = if is_text text then Some text else None
-
 -- the end of the line: whether the object can be locked, and its role
 unfoldable pub last_of : Option (List ℕ) → Result (Bool × List ℕ) ObjectFault
 last_of rest =
@@ -230,13 +229,28 @@ added_with tree container ono v =
 abbrev pub added_as : List Object → ℕ → ℕ → Class → Option (List ℕ) → Result (List Object) ObjectFault
 added_as tree container ono k rest = then_by (value_at k rest) (λ v. added_with tree container ono v)
 
+-- the next field as the number of an object, and what is left
+unfoldable pub ono_at : Option (List ℕ) → Result (ℕ × Option (List ℕ)) ObjectFault
+ono_at rest =
+    then_by (field_at rest) (λ f. then_by (some_or_fault fault.Number (ono_of f.0)) (λ ono. Ok (ono, f.1)))
+
+-- the number, the container and the class of an object, and what is left
+pub record Placed : Type 0 where
+  pub ono : ℕ
+  pub container : ℕ
+  pub class_read : Class
+  pub rest : Option (List ℕ)
+
+unfoldable pub placed_at : Option (List ℕ) → Result Placed ObjectFault
+placed_at rest =
+    then_by (ono_at rest) (λ a. then_by (ono_at a.1) (λ b.
+    then_by (field_at b.1) (λ c. then_by (some_or_fault fault.Class (class_of_word c.0)) (λ k.
+    Ok (record { ono = a.0; container = b.0; class_read = k; rest = c.1 })))))
+
 -- the objects with that of a line's fields behind them
 unfoldable pub added_by : List Object → List ℕ → Result (List Object) ObjectFault
 added_by tree line =
-    then_by (field_at (Some line)) (λ a. then_by (some_or_fault fault.Number (ono_of a.0)) (λ ono.
-    then_by (field_at a.1) (λ b. then_by (some_or_fault fault.Number (ono_of b.0)) (λ container.
-    then_by (field_at b.1) (λ c. then_by (some_or_fault fault.Class (class_of_word c.0)) (λ k.
-    added_as tree container ono k c.1))))))
+    then_by (placed_at (Some line)) (λ p. added_as tree p.container p.ono p.class_read p.rest)
 
 -- a line with a control character
 abbrev pub has_control : List ℕ → Bool

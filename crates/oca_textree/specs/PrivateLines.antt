@@ -12,34 +12,15 @@ use Rattle.oca_textree.specs.declared.fault.TreeFault.TheVariants.{Line}
 use Rattle.oca_textree.specs.declared.value.Limits.{Limits}
 use Rattle.oca_types.specs.declared.class.Class.{Class}
 use Rattle.oca_script.specs.declared.object_fault.ObjectFault.TheVariants as fault
-use Rattle.oca_textree.specs.Lines.{Taken, Limited, Valued, then_by, some_or_fault, field_at, integer_of, ono_of}
-use Rattle.oca_textree.specs.Lines.{class_of_word}
+use Rattle.oca_textree.specs.Lines.{Taken, Limited, Placed, Valued, field_at, integer_of}
 
 abbrev pub field_view : Result (Bor (List ℕ) × Option (Bor (List ℕ))) ObjectFault → Result Taken ObjectFault
 field_view (Ok p) = Ok (p.0.now, option_copied p.1)
 field_view (Err f) = Err f
 
--- the next field as the number of an object, and what is left
-unfoldable pub ono_at : Option (List ℕ) → Result (ℕ × Option (List ℕ)) ObjectFault
-ono_at rest =
-    then_by (field_at rest) (λ f. then_by (some_or_fault fault.Number (ono_of f.0)) (λ ono. Ok (ono, f.1)))
-
 abbrev pub ono_view : Result (ℕ × Option (Bor (List ℕ))) ObjectFault → Result (ℕ × Option (List ℕ)) ObjectFault
 ono_view (Ok p) = Ok (p.0, option_copied p.1)
 ono_view (Err f) = Err f
-
--- the number, the container and the class of an object, and what is left
-pub record Placed : Type 0 where
-  pub ono : ℕ
-  pub container : ℕ
-  pub class_read : Class
-  pub rest : Option (List ℕ)
-
-unfoldable pub placed_at : Option (List ℕ) → Result Placed ObjectFault
-placed_at rest =
-    then_by (ono_at rest) (λ a. then_by (ono_at a.1) (λ b.
-    then_by (field_at b.1) (λ c. then_by (some_or_fault fault.Class (class_of_word c.0)) (λ k.
-    Ok (record { ono = a.0; container = b.0; class_read = k; rest = c.1 })))))
 
 abbrev pub placed_view : Result (ℕ × ℕ × Class × Option (Bor (List ℕ))) ObjectFault → Result Placed ObjectFault
 placed_view (Ok p) = Ok (record { ono = p.0; container = p.1; class_read = p.2; rest = option_copied p.3 })
@@ -68,8 +49,8 @@ pub record IsWithin (low high : ℤ) (l : Limits) : Type 0 where
   pub setting_high : l.setting ≤ℤ high
 
 -- names that were added
-abbrev pub names_view : Result Unit ObjectFault → List (Bor (List ℕ)) → Result (List (List ℕ)) ObjectFault
-names_view (Ok u) names = Ok (map (λ n. n.now) names)
+abbrev pub names_view : Result Unit ObjectFault → List (List ℕ) → Result (List (List ℕ)) ObjectFault
+names_view (Ok u) names = Ok names
 names_view (Err f) names = Err f
 
 -- the current position and the names

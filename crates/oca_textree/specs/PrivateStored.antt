@@ -15,11 +15,6 @@ abbrev pub text_view : Result (List ℕ × Option (Bor (List ℕ))) ObjectFault
 text_view (Ok p) = Ok (p.0, option_copied p.1)
 text_view (Err f) = Err f
 
--- names that were added
-abbrev pub named_view : Result Unit ObjectFault → List (List ℕ) → Result (List (List ℕ)) ObjectFault
-named_view (Ok u) names = Ok names
-named_view (Err f) names = Err f
-
 -- names that were added, and what is left
 abbrev pub names_rest_view : Result (Option (Bor (List ℕ))) ObjectFault → List (List ℕ)
     → Result (List (List ℕ) × Option (List ℕ)) ObjectFault

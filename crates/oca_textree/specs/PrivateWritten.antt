@@ -1,10 +1,8 @@
 -- The lines as they are written from what a tree answers of an object.
 use Rattle.std.specs.Prelude.{ℕ, ◌≤◌, ◌==◌, ◌-◌, ◌^◌, if◌then◌else◌, Bool, List, [], ◌∷◌, ◌++◌, length, codes, Option}
-use Rattle.std.specs.Prelude.{Some, None, ℤ, pos, negsuc, ◌≤ℤ◌}
+use Rattle.std.specs.Prelude.{Some, None, ◌≤ℤ◌}
 use Rattle.oca_tree.specs.declared.object.Object.{Object}
 use Rattle.oca_tree.specs.declared.tree.ObjectInfo.{ObjectInfo}
-use Rattle.oca_tree.specs.declared.tree.Setting.{Setting}
-use Rattle.oca_tree.specs.declared.tree.Setting.TheVariants.{Number}
 use Rattle.oca_tree.specs.Readers.{setting_at}
 use Rattle.oca_tree.specs.Copies.{Stored, stored_at, names_of_ono, lockable_at}
 use Rattle.oca_textree.specs.Written.{place_fields, value_fields, end_fields, start_fields}
@@ -35,21 +33,11 @@ tree_line_text tree info =
 
 -- ---- what fits a line
 
--- an integer of one of the types
-pub record IsInteger (z : ℤ) : Type 0 where
-  pub above : negsuc 9223372036854775807 ≤ℤ z
-  pub below : z ≤ℤ pos (2 ^ 64 - 1)
-
-abbrev pub IsWritten : Option Setting → Type 0
-IsWritten (Some (Number setting least greatest)) = IsInteger setting × IsInteger least × IsInteger greatest
-IsWritten _ = Unit {0}
-
 abbrev pub few_flags : Option (List Bool) → ℕ
 few_flags None = 0
 few_flags (Some flags) = length flags
 
 -- what a tree answers of the object with this number fits a line
 pub record Fits (tree : List Object) (number : ℕ) : Type 0 where
-  pub setting : IsWritten (setting_at tree number)
   pub names : length (names_of_ono tree number) ≤ 16
   pub flags : few_flags (stored_flags (stored_at tree number)) ≤ 16

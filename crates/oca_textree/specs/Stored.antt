@@ -15,8 +15,8 @@ use Rattle.oca_tree.specs.Starts.{with_flags, has_other_flags}
 use Rattle.oca_script.specs.declared.object_fault.ObjectFault.{ObjectFault}
 use Rattle.oca_script.specs.declared.object_fault.ObjectFault.TheVariants as fault
 use Rattle.oca_textree.specs.Faults.{object_fault_of}
-use Rattle.oca_textree.specs.Lines.{then_by, some_or_fault, field_at, is_text, ono_of, class_of_word, one_of, Valued}
-use Rattle.oca_textree.specs.Lines.{value_at, refusal, ended, added_by, is_skipped_line, has_control}
+use Rattle.oca_textree.specs.Lines.{then_by, some_or_fault, field_at, is_text, placed_at, one_of, Valued}
+use Rattle.oca_textree.specs.Lines.{names_by, value_at, refusal, ended, added_by, is_skipped_line, has_control}
 
 -- ---- texts
 
@@ -59,18 +59,11 @@ flags_after flags (b ∷ bs) =
     else if b == 48 then flags_after (flags ++ false ∷ []) bs
     else None
 
--- names, in order, of which there are at most 16
-abbrev pub named_after : Bool → List (List ℕ) → List (List ℕ) → Result (List (List ℕ)) ObjectFault
-named_after quoted names [] = Ok names
-named_after quoted names (n ∷ more) =
-    then_by (some_or_fault fault.Text (field_text quoted n)) (λ text.
-    if nat_le 16 (length names) then Err fault.Range else named_after quoted (names ++ text ∷ []) more)
-
 -- the next field as names between commas, and what is left
 unfoldable pub names_in_field : Option (List ℕ) → Result (List (List ℕ) × Option (List ℕ)) ObjectFault
 names_in_field rest =
     then_by (field_at rest)
-    (λ f. then_by (named_after (is_quoted rest) [] (split_on 44 f.0)) (λ names. Ok (names, f.1)))
+    (λ f. then_by (names_by (field_text (is_quoted rest)) [] (split_on 44 f.0)) (λ names. Ok (names, f.1)))
 
 -- the flags of the positions, their names, the current position, and what is left
 pub record Positions : Type 0 where
@@ -177,10 +170,7 @@ stored_as tree container ono k rest = then_by (flagged_at k rest) (λ reading. s
 -- THE OBJECTS WITH THAT OF A LINE'S FIELDS BEHIND THEM, all that was stored of it included.
 unfoldable pub stored_by : List Object → List ℕ → Result (List Object) ObjectFault
 stored_by tree line =
-    then_by (field_at (Some line)) (λ a. then_by (some_or_fault fault.Number (ono_of a.0)) (λ ono.
-    then_by (field_at a.1) (λ b. then_by (some_or_fault fault.Number (ono_of b.0)) (λ container.
-    then_by (field_at b.1) (λ c. then_by (some_or_fault fault.Class (class_of_word c.0)) (λ k.
-    stored_as tree container ono k c.1))))))
+    then_by (placed_at (Some line)) (λ p. stored_as tree p.container p.ono p.class_read p.rest)
 
 -- ---- the root
 

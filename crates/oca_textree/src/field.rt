@@ -3,8 +3,8 @@ ghost use Rattle.std.specs.Prelude.{◌≡◌, true, false, MatchOption};
 ghost use Rattle.std.specs.Option.{option_copied};
 ghost use Rattle.oca_script.specs.Fields.{split_at};
 ghost use Rattle.oca_textree.specs.Lines.{field_at, plain as plain_field, quoted as quoted_field, ono_of};
-ghost use Rattle.oca_textree.specs.Lines.{has_control as has_control_byte, is_text};
-ghost use Rattle.oca_textree.specs.PrivateLines.{field_view, ono_at, ono_view, placed_at, placed_view};
+ghost use Rattle.oca_textree.specs.Lines.{has_control as has_control_byte, is_text, ono_at, placed_at};
+ghost use Rattle.oca_textree.specs.PrivateLines.{field_view, ono_view, placed_view};
 
 use super::class_word::class;
 use oca_script::ObjectFault;
@@ -93,7 +93,7 @@ fn ono(text: &[u8]) -> Option<u32>
 }
 
 /// The number of an object that the next field says, and what is left of the line.
-#[tactic(auto, unfolding(crate::specs::PrivateLines::ono_at))]
+#[tactic(auto, unfolding(crate::specs::Lines::ono_at))]
 fn next_ono(rest: Option<&[u8]>) -> Result<(u32, Option<&[u8]>), ObjectFault>
     ensures { ono_view result ≡ ono_at (option_copied rest.entry) }
 {
@@ -110,7 +110,7 @@ fn next_ono(rest: Option<&[u8]>) -> Result<(u32, Option<&[u8]>), ObjectFault>
 /// - `Form` if no field is left, or a quote is not closed, or is not followed by a space or the line's end.
 /// - `Number` if a number does not have 1 to 10 digits, or is above 4,294,967,295.
 /// - `Class` if the word is not the name of a class.
-#[tactic(auto, unfolding(crate::specs::PrivateLines::placed_at))]
+#[tactic(auto, unfolding(crate::specs::Lines::placed_at))]
 pub fn placed(rest: Option<&[u8]>) -> Result<(u32, u32, Class, Option<&[u8]>), ObjectFault>
     ensures { placed_view result ≡ placed_at (option_copied rest.entry) }
 {

@@ -10,7 +10,7 @@ ghost use Rattle.oca_textree.specs.PrivateLines.{last_view, Became, kind_valued}
 use super::fault::fault_of;
 use super::field::{field, has_control, placed, text_of};
 use super::stored::add_stored;
-use super::value::{Names, kind_at, lockable, positions};
+use super::value::{PositionNames, kind_at, lockable, positions};
 use oca_script::ObjectFault;
 use oca_script::field::split_at_byte;
 use oca_tree::{Kind, Spec, TreeBuilder};
@@ -72,7 +72,7 @@ fn add_switch(
     ensures { Became result builder.old builder.new
         (added_as builder.old.list container ono Switch (option_copied rest.entry)) }
 {
-    let mut names = Names::new();
+    let mut names = PositionNames::new();
     let (position, rest) = positions(rest, &mut names)?;
     let kind = Kind::Switch {
         names: names.as_slice(),
@@ -101,7 +101,7 @@ fn add_of_class(
 }
 
 /// Adds the object that the fields of a line list.
-#[tactic(auto, using(crate::proofs::OrderLemmas::placed_rules))]
+#[tactic(auto, unfolding(crate::specs::Lines::added_by))]
 fn add_listed(builder: &mut TreeBuilder, line: &[u8]) -> Result<(), ObjectFault>
     requires { builder.old.room ≡ 4096 }
     ensures { Became result builder.old builder.new (added_by builder.old.list line.now) }

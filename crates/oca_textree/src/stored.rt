@@ -3,10 +3,11 @@ ghost use Rattle.std.specs.Prelude.{◌≡◌, ◌≤◌, [], ◌∷◌, length,
 ghost use Rattle.std.specs.Option.{option_copied};
 ghost use Rattle.oca_script.specs.Fields.{split_on};
 ghost use Rattle.oca_types.specs.declared.class.Class.TheVariants.{Switch};
-ghost use Rattle.oca_textree.specs.Stored.{flags_after, named_after, names_in_field, switch_at, start_at, ending_at};
-ghost use Rattle.oca_textree.specs.Stored.{kept_by, switch_flagged, stored_with, stored_as, stored_by};
-ghost use Rattle.oca_textree.specs.PrivateLines.{Became};
-ghost use Rattle.oca_textree.specs.PrivateStored.{flags_view, named_view, names_rest_view, switch_view, ending_in};
+ghost use Rattle.oca_textree.specs.Stored.{field_text as field_text_of, flags_after, names_in_field, switch_at};
+ghost use Rattle.oca_textree.specs.Stored.{start_at, ending_at, kept_by, switch_flagged, stored_with, stored_as, stored_by};
+ghost use Rattle.oca_textree.specs.Lines.{names_by};
+ghost use Rattle.oca_textree.specs.PrivateLines.{Became, names_view};
+ghost use Rattle.oca_textree.specs.PrivateStored.{flags_view, names_rest_view, switch_view, ending_in};
 ghost use Rattle.oca_textree.specs.PrivateStored.{ending_view, kind_flagged};
 ghost use Rattle.oca_tree.specs.Building.{value_of, has_bad_name};
 
@@ -21,10 +22,10 @@ use oca_tree::{Kind, Spec, Start, TreeBuilder};
 use oca_types::{Class, Ono, Text};
 
 /// Which positions of a switch are enabled.
-type Flags = ArrayVec<bool, 16>;
+type PositionEnableds = ArrayVec<bool, 16>;
 
 /// The names of a switch's positions.
-type Names = ArrayVec<Text, 16>;
+type StoredNames = ArrayVec<Text, 16>;
 
 /// The last fields of a line: whether the object can be locked, its role, whether it is enabled, and its label.
 #[derive(Drop)]
@@ -36,7 +37,7 @@ pub struct Ending {
 }
 
 /// Adds whether a position is enabled, by its digit, where there are less than 16.
-fn add_flag(digit: u8, flags: &mut Flags) -> Option<()>
+fn add_flag(digit: u8, flags: &mut PositionEnableds) -> Option<()>
     ensures { flags_view result flags.new.items ≡ flags_after flags.old.items (digit ∷ []) }
 {
     if flags.is_full() {
@@ -51,7 +52,7 @@ fn add_flag(digit: u8, flags: &mut Flags) -> Option<()>
 }
 
 /// Adds whether each position is enabled: a digit a position.
-fn add_flags(digits: &[u8], flags: &mut Flags) -> Option<()>
+fn add_flags(digits: &[u8], flags: &mut PositionEnableds) -> Option<()>
     ensures { flags_view result flags.new.items ≡ flags_after flags.old.items digits.now }
 {
     let mut rest = digits;
@@ -63,8 +64,8 @@ fn add_flags(digits: &[u8], flags: &mut Flags) -> Option<()>
 }
 
 /// Adds a position's name.
-fn add_name(name: &[u8], quoted: bool, names: &mut Names) -> Result<(), ObjectFault>
-    ensures { named_view result names.new.items ≡ named_after quoted names.old.items (name.now ∷ []) }
+fn add_name(name: &[u8], quoted: bool, names: &mut StoredNames) -> Result<(), ObjectFault>
+    ensures { names_view result names.new.items ≡ names_by (field_text_of quoted) names.old.items (name.now ∷ []) }
 {
     let Some(name) = field_text(quoted, name) else {
         return Err(ObjectFault::Text);
@@ -76,8 +77,9 @@ fn add_name(name: &[u8], quoted: bool, names: &mut Names) -> Result<(), ObjectFa
 }
 
 /// Adds the names of positions that stand between commas.
-fn add_names(text: &[u8], quoted: bool, names: &mut Names) -> Result<(), ObjectFault>
-    ensures { named_view result names.new.items ≡ named_after quoted names.old.items (split_on 44 text.now) }
+fn add_names(text: &[u8], quoted: bool, names: &mut StoredNames) -> Result<(), ObjectFault>
+    ensures { names_view result names.new.items
+        ≡ names_by (field_text_of quoted) names.old.items (split_on 44 text.now) }
 {
     let mut rest = text;
     while let Some((name, after)) = split_at_byte(rest, b',') {
@@ -91,7 +93,7 @@ fn add_names(text: &[u8], quoted: bool, names: &mut Names) -> Result<(), ObjectF
 #[tactic(auto, unfolding(crate::specs::Stored::names_in_field))]
 fn names_field<'a>(
     rest: Option<&'a [u8]>,
-    names: &mut Names,
+    names: &mut StoredNames,
 ) -> Result<Option<&'a [u8]>, ObjectFault>
     requires { names.old.items ≡ [] }
     ensures { names_rest_view result names.new.items ≡ names_in_field (option_copied rest.entry) }
@@ -106,8 +108,8 @@ fn names_field<'a>(
 #[tactic(auto, unfolding(crate::specs::Stored::switch_at))]
 fn positions<'a>(
     rest: Option<&'a [u8]>,
-    flags: &mut Flags,
-    names: &mut Names,
+    flags: &mut PositionEnableds,
+    names: &mut StoredNames,
 ) -> Result<(u16, Option<&'a [u8]>), ObjectFault>
     requires flags { flags.old.items ≡ [] }
     requires names { names.old.items ≡ [] }
@@ -231,8 +233,8 @@ fn add_positions(
     builder: &mut TreeBuilder,
     container: u32,
     ono: u32,
-    flags: &Flags,
-    names: &Names,
+    flags: &PositionEnableds,
+    names: &StoredNames,
     position: u16,
     rest: Option<&[u8]>,
 ) -> Result<(), ObjectFault>
@@ -266,8 +268,8 @@ fn add_switch(
     ensures { Became result builder.old builder.new
         (stored_as builder.old.list container ono Switch (option_copied rest.entry)) }
 {
-    let mut flags = Flags::new();
-    let mut names = Names::new();
+    let mut flags = PositionEnableds::new();
+    let mut names = StoredNames::new();
     let (position, rest) = positions(rest, &mut flags, &mut names)?;
     add_positions(builder, container, ono, &flags, &names, position, rest)
 }
@@ -297,7 +299,7 @@ fn add_of_class(
 /// prove). A refusal leaves the builder unchanged. It is the fault of the first field, from the left, that cannot be
 /// read. If all fields can be read, it is the reason for which the tree refuses the object. [`ObjectFault`] says when
 /// each fault comes. The call takes no memory.
-#[tactic(auto, using(crate::proofs::OrderLemmas::placed_rules))]
+#[tactic(auto, unfolding(crate::specs::Stored::stored_by))]
 pub fn add_stored(builder: &mut TreeBuilder, line: &[u8]) -> Result<(), ObjectFault>
     requires { builder.old.room ≡ 4096 }
     ensures { Became result builder.old builder.new (stored_by builder.old.list line.now) }

@@ -7,7 +7,7 @@ ghost use Rattle.oca_script.specs.Fields.{split_on};
 ghost use Rattle.oca_types.specs.declared.class.Class as classes;
 ghost use Rattle.oca_model.specs.declared.value.MuteState.TheVariants.{Muted, Unmuted};
 ghost use Rattle.oca_model.specs.declared.value.PolarityState.TheVariants.{NonInverted, Inverted};
-ghost use Rattle.oca_textree.specs.Lines.{one_of, signed_of, integer_of, limits_of, names_after, position_named};
+ghost use Rattle.oca_textree.specs.Lines.{one_of, signed_of, integer_of, limits_of, checked, names_by, position_named};
 ghost use Rattle.oca_textree.specs.Lines.{positions_of, value_at};
 ghost use Rattle.oca_textree.specs.PrivateLines.{IsLimit, limits_view, IsWithin, names_view, positions_view, kind_view};
 
@@ -20,7 +20,7 @@ use oca_tree::{Kind, MuteState, PolarityState};
 use oca_types::Class;
 
 /// The names of a switch's positions: from 0 to 16.
-pub type Names<'a> = ArrayVec<&'a str, 16>;
+pub type PositionNames<'a> = ArrayVec<&'a str, 16>;
 
 /// The limits and the setting of an integer, and the rest of the line.
 #[derive(Clone, Copy)]
@@ -137,8 +137,9 @@ fn read_limits<'a>(rest: Option<&'a [u8]>, low: i128, high: i128) -> Result<Limi
 }
 
 /// Adds a position's name.
-fn add_name<'a>(name: &'a [u8], names: &mut Names<'a>) -> Result<(), ObjectFault>
-    ensures { names_view result names.new.items ≡ names_after (map (λ n. n.now) names.old.items) (name.entry.now ∷ []) }
+fn add_name<'a>(name: &'a [u8], names: &mut PositionNames<'a>) -> Result<(), ObjectFault>
+    ensures { names_view result (map (λ n. n.now) names.new.items)
+        ≡ names_by checked (map (λ n. n.now) names.old.items) (name.entry.now ∷ []) }
 {
     let Some(name) = text_of(name) else {
         return Err(ObjectFault::Text);
@@ -150,9 +151,9 @@ fn add_name<'a>(name: &'a [u8], names: &mut Names<'a>) -> Result<(), ObjectFault
 }
 
 /// Adds the names of positions that stand between commas.
-fn add_names<'a>(text: &'a [u8], names: &mut Names<'a>) -> Result<(), ObjectFault>
-    ensures { names_view result names.new.items
-        ≡ names_after (map (λ n. n.now) names.old.items) (split_on 44 text.entry.now) }
+fn add_names<'a>(text: &'a [u8], names: &mut PositionNames<'a>) -> Result<(), ObjectFault>
+    ensures { names_view result (map (λ n. n.now) names.new.items)
+        ≡ names_by checked (map (λ n. n.now) names.old.items) (split_on 44 text.entry.now) }
 {
     let mut rest = text;
     while let Some((name, after)) = split_at_byte(rest, b',') {
@@ -193,7 +194,7 @@ fn place(name: &[u8], names: &[&str]) -> Option<u16>
 #[tactic(auto, unfolding(crate::specs::Lines::positions_of))]
 pub fn positions<'a>(
     rest: Option<&'a [u8]>,
-    names: &mut Names<'a>,
+    names: &mut PositionNames<'a>,
 ) -> Result<(u16, Option<&'a [u8]>), ObjectFault>
     requires { names.old.items ≡ [] }
     ensures { positions_view result names.new.items ≡ positions_of (option_copied rest.entry) }
@@ -206,11 +207,11 @@ pub fn positions<'a>(
 }
 
 /// What an object is, and what is left of its line.
-type Read<'a> = Result<(Kind<'a>, Option<&'a [u8]>), ObjectFault>;
+type KindAndRest<'a> = Result<(Kind<'a>, Option<&'a [u8]>), ObjectFault>;
 
 /// A mute.
 #[tactic(auto, unfolding(crate::specs::Lines::value_at, crate::specs::Lines::by_word, crate::specs::Lines::one_of, oca_tree::specs::Building::value_of))]
-fn mute_at(rest: Option<&[u8]>) -> Read<'_>
+fn mute_at(rest: Option<&[u8]>) -> KindAndRest<'_>
     ensures { kind_view result ≡ value_at Class.Mute (option_copied rest.entry) }
 {
     let (word, rest) = field(rest)?;
@@ -222,7 +223,7 @@ fn mute_at(rest: Option<&[u8]>) -> Read<'_>
 
 /// A polarity.
 #[tactic(auto, unfolding(crate::specs::Lines::value_at, crate::specs::Lines::by_word, crate::specs::Lines::one_of, oca_tree::specs::Building::value_of))]
-fn polarity_at(rest: Option<&[u8]>) -> Read<'_>
+fn polarity_at(rest: Option<&[u8]>) -> KindAndRest<'_>
     ensures { kind_view result ≡ value_at Class.Polarity (option_copied rest.entry) }
 {
     let (word, rest) = field(rest)?;
@@ -234,7 +235,7 @@ fn polarity_at(rest: Option<&[u8]>) -> Read<'_>
 
 /// A Boolean.
 #[tactic(auto, unfolding(crate::specs::Lines::value_at, crate::specs::Lines::by_word, crate::specs::Lines::one_of, oca_tree::specs::Building::value_of))]
-fn boolean_at(rest: Option<&[u8]>) -> Read<'_>
+fn boolean_at(rest: Option<&[u8]>) -> KindAndRest<'_>
     ensures { kind_view result ≡ value_at Class.Boolean (option_copied rest.entry) }
 {
     let (word, rest) = field(rest)?;
@@ -254,7 +255,7 @@ fn boolean_at(rest: Option<&[u8]>) -> Read<'_>
 /// - `Number` if a field is not a decimal integer of at most 20 digits, with `-` before it if it is negative, or does
 ///   not fit the class's type.
 #[tactic(auto, unfolding(crate::specs::Lines::value_at, oca_tree::specs::Building::value_of))]
-pub fn kind_at(class: Class, rest: Option<&[u8]>) -> Read<'_>
+pub fn kind_at(class: Class, rest: Option<&[u8]>) -> KindAndRest<'_>
     requires { class ≡ Class.Switch → ⊥ }
     ensures { kind_view result ≡ value_at class (option_copied rest.entry) }
 {

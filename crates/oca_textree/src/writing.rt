@@ -1,18 +1,17 @@
 //! A tree written as a text.
-ghost use Rattle.std.specs.Prelude.{◌≡◌, ◌+◌, ◌*◌, ◌≤◌, ◌++◌, [], ◌∷◌, length, map, not, Some};
+ghost use Rattle.std.specs.Prelude.{◌≡◌, ◌+◌, ◌*◌, ◌≤◌, ◌++◌, [], ◌∷◌, length, not, Some};
 ghost use Rattle.std.specs.Fmt.{signed_decimal};
-ghost use Rattle.std.specs.Option.{option_copied, option_map};
-ghost use Rattle.std.specs.List.{flat_map, list_any};
+ghost use Rattle.std.specs.Option.{option_map};
+ghost use Rattle.std.specs.List.{list_any};
 ghost use Rattle.oca_script.specs.Ends.{output};
 ghost use Rattle.oca_script.specs.Printing.{Prints};
 ghost use Rattle.oca_tree.specs.Copies.{stored_in};
 ghost use Rattle.oca_textree.specs.Written.{is_plain as is_plain_text, is_plain_name as is_plain_part, text_field};
-ghost use Rattle.oca_textree.specs.Written.{name_part, joined_names, names_field, flag_digit, flags_field, state_word};
-ghost use Rattle.oca_textree.specs.Written.{truth_word, truth_field, limit_field, range_fields, number_fields};
-ghost use Rattle.oca_textree.specs.Written.{holds_mark, holds_comma, position_field, switch_fields, set_fields};
-ghost use Rattle.oca_textree.specs.Written.{value_fields, start_fields, place_fields, lock_word, end_fields, text_of};
-ghost use Rattle.oca_textree.specs.PrivateWritten.{IsInteger, IsWritten, few_flags, Fits, stored_flags, end_text};
-ghost use Rattle.oca_textree.specs.PrivateWritten.{root_text, object_text, tree_line_text};
+ghost use Rattle.oca_textree.specs.Written.{flags_field, holds_comma, holds_mark, joined_names, limit_field, lock_word};
+ghost use Rattle.oca_textree.specs.Written.{name_part, names_field, number_fields, place_fields, range_fields, set_fields};
+ghost use Rattle.oca_textree.specs.Written.{start_fields, text_of, truth_word, value_fields};
+ghost use Rattle.oca_textree.specs.PrivateWritten.{end_text, few_flags, Fits, object_text, root_text, stored_flags};
+ghost use Rattle.oca_textree.specs.PrivateWritten.{tree_line_text};
 
 use super::class_word::{space_behind, word};
 use oca_script::escape::has_hidden;
@@ -38,7 +37,7 @@ fn has_comma(text: &[u8]) -> bool
 }
 
 /// Whether a text is written in quotes.
-fn stands_plain(text: &str) -> bool
+fn is_plain(text: &str) -> bool
     ensures { result ≡ is_plain_text text.now }
 {
     if has_hidden(text) {
@@ -51,13 +50,13 @@ fn stands_plain(text: &str) -> bool
 fn is_plain_name(name: &str) -> bool
     ensures { result ≡ is_plain_part name.now }
 {
-    if !stands_plain(name) {
+    if !is_plain(name) {
         return false;
     }
     !has_comma(name.as_bytes())
 }
 
-/// Holds a text: in quotes, or in hexadecimal digits.
+/// Adds a text to what the printer holds: in quotes, or in hexadecimal digits.
 #[tactic(auto, unfolding(crate::specs::Written::text_field))]
 fn put_text<W: Sink>(text: &str, printer: &mut Printer<W>)
     requires short { length text.now ≤ 64 }
@@ -66,7 +65,7 @@ fn put_text<W: Sink>(text: &str, printer: &mut Printer<W>)
         ≡ output printer.old.contents (printer.old.held ++ text_field text.now) printer.old.failed }
     ensures len { length printer.new.held ≤ length printer.old.held + 130 }
 {
-    if stands_plain(text) {
+    if is_plain(text) {
         printer.put(b"\"");
         printer.put(text.as_bytes());
         printer.put(b"\"");
@@ -75,7 +74,7 @@ fn put_text<W: Sink>(text: &str, printer: &mut Printer<W>)
     }
 }
 
-/// Holds a position's name.
+/// Adds the name of a position.
 fn put_name<W: Sink>(name: &str, plain: bool, printer: &mut Printer<W>)
     requires short { length name.now ≤ 64 }
     requires room { length printer.old.held + 129 ≤ 8192 }
@@ -90,22 +89,7 @@ fn put_name<W: Sink>(name: &str, plain: bool, printer: &mut Printer<W>)
     }
 }
 
-/// Holds further names of positions, each behind a comma.
-fn put_more_names<W: Sink>(names: &[Text], plain: bool, printer: &mut Printer<W>)
-    requires few { length names.now ≤ 16 }
-    requires room { length printer.old.held + 130 * 16 ≤ 8192 }
-    ensures value { printer.new
-        ≡ output printer.old.contents
-        (printer.old.held ++ flat_map (λ n. 44 ∷ name_part plain n) names.now) printer.old.failed }
-    ensures len { length printer.new.held ≤ length printer.old.held + 130 * length names.now }
-{
-    for name in names {
-        printer.put(b",");
-        put_name(name.as_str(), plain, printer);
-    }
-}
-
-/// Holds the names of positions between commas.
+/// Adds names of positions with commas between them.
 fn put_joined<W: Sink>(names: &[Text], plain: bool, printer: &mut Printer<W>)
     requires few { length names.now ≤ 16 }
     requires room { length printer.old.held + 130 * 17 ≤ 8192 }
@@ -118,7 +102,10 @@ fn put_joined<W: Sink>(names: &[Text], plain: bool, printer: &mut Printer<W>)
         return;
     };
     put_name(first.as_str(), plain, printer);
-    put_more_names(more, plain, printer);
+    for name in more {
+        printer.put(b",");
+        put_name(name.as_str(), plain, printer);
+    }
 }
 
 /// Whether a name is not written as it is.
@@ -128,7 +115,7 @@ fn has_odd_name(names: &[Text]) -> bool
     names.iter().any(|name| !is_plain_name(name.as_str()))
 }
 
-/// Holds the names of a switch's positions.
+/// Adds the names of a switch's positions: in quotes where each is plain, or each in hexadecimal digits.
 #[tactic(auto, unfolding(crate::specs::Written::names_field))]
 fn put_names<W: Sink>(names: &[Text], printer: &mut Printer<W>)
     requires few { length names.now ≤ 16 }
@@ -146,82 +133,69 @@ fn put_names<W: Sink>(names: &[Text], printer: &mut Printer<W>)
     }
 }
 
-/// Holds a digit for each position: whether it is enabled.
-fn put_digits<W: Sink>(flags: &[bool], printer: &mut Printer<W>)
-    requires few { length flags.now ≤ 16 }
+/// Adds a digit for each position of a switch: whether it is enabled.
+fn put_flags<W: Sink>(start: Option<Start<'_>>, printer: &mut Printer<W>)
+    requires few { few_flags (stored_flags (option_map stored_in start)) ≤ 16 }
     requires room { length printer.old.held + 16 ≤ 8192 }
     ensures value { printer.new
-        ≡ output printer.old.contents (printer.old.held ++ map flag_digit flags.now) printer.old.failed }
+        ≡ output printer.old.contents
+        (printer.old.held ++ flags_field (stored_flags (option_map stored_in start.entry))) printer.old.failed }
     ensures len { length printer.new.held ≤ length printer.old.held + 16 }
 {
+    let Some(
+        Start {
+            position_enableds: Some(flags),
+            ..
+        },
+    ) = start
+    else {
+        return;
+    };
     for flag in flags {
         printer.put(if *flag { b"1" } else { b"0" });
     }
 }
 
-/// The same, where there are flags.
-fn put_flags<W: Sink>(flags: Option<&[bool]>, printer: &mut Printer<W>)
-    requires few { few_flags (option_copied flags) ≤ 16 }
-    requires room { length printer.old.held + 16 ≤ 8192 }
-    ensures value { printer.new
-        ≡ output printer.old.contents (printer.old.held ++ flags_field (option_copied flags.entry)) printer.old.failed }
-    ensures len { length printer.new.held ≤ length printer.old.held + 16 }
-{
-    if let Some(flags) = flags {
-        put_digits(flags, printer);
-    }
-}
-
-/// Holds an integer.
+/// Adds an integer.
 fn put_integer<W: Sink>(value: i128, printer: &mut Printer<W>)
-    requires integer { IsInteger value }
-    requires room { length printer.old.held + 21 ≤ 8192 }
+    requires room { length printer.old.held + 40 ≤ 8192 }
     ensures value { printer.new
         ≡ output printer.old.contents (printer.old.held ++ signed_decimal value) printer.old.failed }
-    ensures len { length printer.new.held ≤ length printer.old.held + 21 }
+    ensures len { length printer.new.held ≤ length printer.old.held + 40 }
 {
-    if value < 0 {
-        printer.put(b"-");
-        printer.put_number((-value) as u64);
-    } else {
-        printer.put_number(value as u64);
-    }
+    let mut digits = itoa::Buffer::new();
+    printer.put(digits.format(value).as_bytes());
 }
 
-/// Holds a limit of an integer.
+/// Adds a limit of an integer.
 fn put_limit<W: Sink>(value: i128, printer: &mut Printer<W>)
-    requires integer { IsInteger value }
-    requires room { length printer.old.held + 22 ≤ 8192 }
+    requires room { length printer.old.held + 41 ≤ 8192 }
     ensures value { printer.new
         ≡ output printer.old.contents (printer.old.held ++ limit_field value) printer.old.failed }
-    ensures len { length printer.new.held ≤ length printer.old.held + 22 }
+    ensures len { length printer.new.held ≤ length printer.old.held + 41 }
 {
     put_integer(value, printer);
     printer.put(b" ");
 }
 
-/// Holds an integer behind its limits.
+/// Adds an integer behind its limits.
 fn put_range<W: Sink>(least: i128, greatest: i128, setting: i128, printer: &mut Printer<W>)
-    requires least { IsInteger least }
-    requires greatest { IsInteger greatest }
-    requires setting { IsInteger setting }
-    requires room { length printer.old.held + 65 ≤ 8192 }
+    requires room { length printer.old.held + 122 ≤ 8192 }
     ensures value { printer.new
         ≡ output printer.old.contents (printer.old.held ++ range_fields least greatest setting) printer.old.failed }
-    ensures len { length printer.new.held ≤ length printer.old.held + 65 }
+    ensures len { length printer.new.held ≤ length printer.old.held + 122 }
 {
     put_limit(least, printer);
     put_limit(greatest, printer);
     put_integer(setting, printer);
 }
 
-/// Holds the limits and the setting of an integer.
+/// Adds the limits and the setting of an integer.
 fn put_numbers<W: Sink>(setting: Option<Setting>, printer: &mut Printer<W>)
-    requires written { IsWritten setting }
-    requires room { length printer.old.held + 65 ≤ 8192 }
+    requires room { length printer.old.held + 122 ≤ 8192 }
     ensures value { printer.new
         ≡ output printer.old.contents (printer.old.held ++ number_fields setting) printer.old.failed }
-    ensures len { length printer.new.held ≤ length printer.old.held + 65 }
+    ensures len { length printer.new.held ≤ length printer.old.held + 122 }
 {
     if let Some(
         Setting::Number {
@@ -235,26 +209,7 @@ fn put_numbers<W: Sink>(setting: Option<Setting>, printer: &mut Printer<W>)
     }
 }
 
-/// Holds the word of the state of a mute or a polarity.
-fn put_state<W: Sink>(
-    setting: Option<Setting>,
-    first: &[u8],
-    second: &[u8],
-    printer: &mut Printer<W>,
-)
-    requires words { (length first.now ≤ 20) × (length second.now ≤ 20) }
-    requires room { length printer.old.held + 20 ≤ 8192 }
-    ensures value { printer.new
-        ≡ output printer.old.contents (printer.old.held ++ state_word first.now second.now setting) printer.old.failed }
-    ensures len { length printer.new.held ≤ length printer.old.held + 20 }
-{
-    match setting {
-        Some(Setting::State(1)) => printer.put(first),
-        _ => printer.put(second),
-    }
-}
-
-/// Holds the word of a truth.
+/// Adds the word of a Boolean.
 fn put_truth<W: Sink>(truth: bool, printer: &mut Printer<W>)
     requires { length printer.old.held + 3 ≤ 8192 }
     ensures value { printer.new
@@ -264,82 +219,46 @@ fn put_truth<W: Sink>(truth: bool, printer: &mut Printer<W>)
     printer.put(if truth { b"on".as_slice() } else { b"off" });
 }
 
-/// Holds the word of a Boolean's setting.
-fn put_boolean<W: Sink>(setting: Option<Setting>, printer: &mut Printer<W>)
-    requires { length printer.old.held + 3 ≤ 8192 }
-    ensures value { printer.new
-        ≡ output printer.old.contents (printer.old.held ++ truth_field setting) printer.old.failed }
-    ensures len { length printer.new.held ≤ length printer.old.held + 3 }
-{
-    match setting {
-        Some(Setting::Truth(truth)) => put_truth(truth, printer),
-        _ => put_truth(false, printer),
-    }
-}
-
-/// Holds the current position of a switch.
-fn put_position<W: Sink>(setting: Option<Setting>, printer: &mut Printer<W>)
-    requires { length printer.old.held + 20 ≤ 8192 }
-    ensures value { printer.new
-        ≡ output printer.old.contents (printer.old.held ++ position_field setting) printer.old.failed }
-    ensures len { length printer.new.held ≤ length printer.old.held + 20 }
-{
-    if let Some(Setting::Position(position)) = setting {
-        printer.put_number(u64::from(position));
-    }
-}
-
-/// Holds the positions of a switch: their flags, their names and the current one.
-fn put_switch<W: Sink>(
-    setting: Option<Setting>,
-    names: &[Text],
-    flags: Option<&[bool]>,
-    printer: &mut Printer<W>,
-)
-    requires names { length names.now ≤ 16 }
-    requires flags { few_flags (option_copied flags) ≤ 16 }
-    requires room { length printer.old.held + 2350 ≤ 8192 }
-    ensures value { printer.new
-        ≡ output printer.old.contents
-        (printer.old.held ++ switch_fields setting names.now (option_copied flags.entry)) printer.old.failed }
-    ensures len { length printer.new.held ≤ length printer.old.held + 2350 }
-{
-    put_flags(flags, printer);
-    printer.put(b" ");
-    put_names(names, printer);
-    printer.put(b" ");
-    put_position(setting, printer);
-}
-
-/// Holds how an object of the class is set.
+/// Adds how an object of the class is set.
 #[tactic(auto, unfolding(crate::specs::Written::set_fields))]
 fn put_setting<W: Sink>(
     class: Class,
     setting: Option<Setting>,
     names: &[Text],
-    flags: Option<&[bool]>,
+    start: Option<Start<'_>>,
     printer: &mut Printer<W>,
 )
-    requires written { IsWritten setting }
     requires names { length names.now ≤ 16 }
-    requires flags { few_flags (option_copied flags) ≤ 16 }
+    requires flags { few_flags (stored_flags (option_map stored_in start)) ≤ 16 }
     requires room { length printer.old.held + 2350 ≤ 8192 }
     ensures value { printer.new
         ≡ output printer.old.contents
-        (printer.old.held ++ set_fields class setting names.now (option_copied flags.entry)) printer.old.failed }
+        (printer.old.held ++ set_fields class setting names.now (stored_flags (option_map stored_in start.entry)))
+        printer.old.failed }
     ensures len { length printer.new.held ≤ length printer.old.held + 2350 }
 {
-    match class {
-        Class::Block => {}
-        Class::Mute => put_state(setting, b"muted", b"unmuted", printer),
-        Class::Polarity => put_state(setting, b"non-inverted", b"inverted", printer),
-        Class::Switch => put_switch(setting, names, flags, printer),
-        Class::Boolean => put_boolean(setting, printer),
+    match (class, setting) {
+        (Class::Block, _) => {}
+        (Class::Mute, Some(Setting::State(1))) => printer.put(b"muted"),
+        (Class::Mute, _) => printer.put(b"unmuted"),
+        (Class::Polarity, Some(Setting::State(1))) => printer.put(b"non-inverted"),
+        (Class::Polarity, _) => printer.put(b"inverted"),
+        (Class::Boolean, Some(Setting::Truth(truth))) => put_truth(truth, printer),
+        (Class::Boolean, _) => put_truth(false, printer),
+        (Class::Switch, _) => {
+            put_flags(start, printer);
+            printer.put(b" ");
+            put_names(names, printer);
+            printer.put(b" ");
+            if let Some(Setting::Position(position)) = setting {
+                printer.put_number(u64::from(position));
+            }
+        }
         _ => put_numbers(setting, printer),
     }
 }
 
-/// Holds whether an object is enabled, and its label.
+/// Adds whether an object is enabled, and its label.
 fn put_start<W: Sink>(start: &Start<'_>, printer: &mut Printer<W>)
     requires { length printer.old.held + 140 ≤ 8192 }
     ensures value { printer.new
@@ -357,7 +276,19 @@ fn put_start<W: Sink>(start: &Start<'_>, printer: &mut Printer<W>)
     put_text(label, printer);
 }
 
-/// Holds the end of an object's line.
+/// The word that says whether an object can be locked, between spaces.
+fn lock_part(lockable: bool) -> &'static [u8]
+    ensures value { result.now ≡ 32 ∷ lock_word lockable ++ 32 ∷ [] }
+    ensures short { length result.now ≤ 10 }
+{
+    if lockable {
+        b" lockable "
+    } else {
+        b" no-lock "
+    }
+}
+
+/// Adds the end of an object's line.
 fn put_end<W: Sink>(
     lockable: Option<bool>,
     role: &Text,
@@ -371,48 +302,17 @@ fn put_end<W: Sink>(
     ensures len { length printer.new.held ≤ length printer.old.held + 300 }
 {
     match (lockable, start) {
-        (Some(lockable), Some(start)) => put_ending(lockable, role, &start, printer),
+        (Some(lockable), Some(start)) => {
+            printer.put(lock_part(lockable));
+            put_text(role.as_str(), printer);
+            printer.put(b" ");
+            put_start(&start, printer);
+        }
         _ => {}
     }
 }
 
-/// The word that says whether an object can be locked, between spaces.
-fn lock_part(lockable: bool) -> &'static [u8]
-    ensures value { result.now ≡ 32 ∷ lock_word lockable ++ 32 ∷ [] }
-    ensures short { length result.now ≤ 10 }
-{
-    if lockable {
-        b" lockable "
-    } else {
-        b" no-lock "
-    }
-}
-
-/// Holds the end of the line of an object of which this is known.
-fn put_ending<W: Sink>(lockable: bool, role: &Text, start: &Start<'_>, printer: &mut Printer<W>)
-    requires { length printer.old.held + 300 ≤ 8192 }
-    ensures value { printer.new
-        ≡ output printer.old.contents
-        (printer.old.held ++ end_fields lockable role.now start.now.enabled start.now.label.now) printer.old.failed }
-    ensures len { length printer.new.held ≤ length printer.old.held + 300 }
-{
-    printer.put(lock_part(lockable));
-    put_text(role.as_str(), printer);
-    printer.put(b" ");
-    put_start(start, printer);
-}
-
-/// The flags of its positions, of a switch.
-fn flags_in(start: Option<Start<'_>>) -> Option<&[bool]>
-    ensures { option_copied result ≡ stored_flags (option_map stored_in start.entry) }
-{
-    match start {
-        Some(start) => start.position_enableds,
-        None => None,
-    }
-}
-
-/// Holds an object's number and its container's.
+/// Adds an object's number and its container's.
 fn put_place<W: Sink>(ono: u32, container: u32, printer: &mut Printer<W>)
     requires { length printer.old.held + 60 ≤ 8192 }
     ensures value { printer.new
@@ -426,30 +326,30 @@ fn put_place<W: Sink>(ono: u32, container: u32, printer: &mut Printer<W>)
     printer.put(b" ");
 }
 
-/// Holds an object's class and how it is set.
+/// Adds an object's class and how it is set.
 #[tactic(auto, unfolding(crate::specs::Written::class_before))]
 fn put_value<W: Sink>(
     class: Class,
     setting: Option<Setting>,
     names: &[Text],
-    flags: Option<&[bool]>,
+    start: Option<Start<'_>>,
     printer: &mut Printer<W>,
 )
-    requires written { IsWritten setting }
     requires names { length names.now ≤ 16 }
-    requires flags { few_flags (option_copied flags) ≤ 16 }
+    requires flags { few_flags (stored_flags (option_map stored_in start)) ≤ 16 }
     requires room { length printer.old.held + 2400 ≤ 8192 }
     ensures value { printer.new
         ≡ output printer.old.contents
-        (printer.old.held ++ value_fields class setting names.now (option_copied flags.entry)) printer.old.failed }
+        (printer.old.held ++ value_fields class setting names.now (stored_flags (option_map stored_in start.entry)))
+        printer.old.failed }
     ensures len { length printer.new.held ≤ length printer.old.held + 2400 }
 {
     printer.put(word(class));
     printer.put(space_behind(class));
-    put_setting(class, setting, names, flags, printer);
+    put_setting(class, setting, names, start, printer);
 }
 
-/// Holds the line of an object that is in a container.
+/// Adds the line of an object that is in a container.
 fn put_object<W: Sink>(tree: &Tree, info: &ObjectInfo, printer: &mut Printer<W>)
     requires fits { Fits tree.now info.now.ono.0 }
     requires room { length printer.old.held + 3000 ≤ 8192 }
@@ -462,11 +362,11 @@ fn put_object<W: Sink>(tree: &Tree, info: &ObjectInfo, printer: &mut Printer<W>)
     let setting = tree.setting_of(ono);
     let names = tree.position_names_of(ono);
     put_place(ono.0, info.container.0, printer);
-    put_value(info.class, setting, names, flags_in(start), printer);
+    put_value(info.class, setting, names, start, printer);
     put_end(tree.is_lockable(ono), &info.role, start, printer);
 }
 
-/// Holds the line of the root.
+/// Adds the line of the root.
 fn put_root<W: Sink>(start: Option<Start<'_>>, printer: &mut Printer<W>)
     requires { length printer.old.held + 200 ≤ 8192 }
     ensures value { printer.new
@@ -480,7 +380,7 @@ fn put_root<W: Sink>(start: Option<Start<'_>>, printer: &mut Printer<W>)
     }
 }
 
-/// Holds the line of an object with its end.
+/// Adds the line of an object with its line feed.
 fn put_line<W: Sink>(tree: &Tree, info: &ObjectInfo, printer: &mut Printer<W>)
     requires fits { Fits tree.now info.now.ono.0 }
     requires room { length printer.old.held + 4000 ≤ 8192 }

@@ -1,5 +1,6 @@
 use Rattle.std.proofs.Common.{Err, map, ap, sym, ◌∙◌}
 use Rattle.std.proofs.lemmas.Result.{err_from_is_err_and}
+use Rattle.oca_textree.specs.Lines.{checked}
 use Rattle.oca_textree.proofs.SplitLemmas.{names-err, names-failed, names-on, names-last}
 use Rattle.oca_textree.proofs.value.add_names.Goals as goal
 
@@ -7,15 +8,15 @@ pub returns-in_err-add_name : goal.returns-in_err-add_name
 returns-in_err-add_name c =
     let p = err_from_is_err_and c.from_residual.result c.from_residual.ensures.1 in
     names-err _ c.in_err-add_name.field-0.0 _ _ (p.1 ∙ ap Err p.2)
-    (names-failed (map (λ n. n.now) c.args.names.now.items) (map (λ n. n.now) c.loop-name.names.items) c.args.text.now c.loop-name.rest.now
+    (names-failed checked _ (map (λ n. n.now) c.loop-name.names.items) c.loop-name.rest.now
     c.in-Some.name.now c.in-Some.after.now _ c.loop-name.invariant c.in-Some.ensures.value c.in_err-add_name.ensures)
 
 pub loop-name-preserved : goal.loop-name-preserved
 loop-name-preserved c =
-    names-on (map (λ n. n.now) c.args.names.now.items) (map (λ n. n.now) c.loop-name.names.items) _ c.args.text.now c.loop-name.rest.now
+    names-on checked _ (map (λ n. n.now) c.loop-name.names.items) _ c.loop-name.rest.now
     c.in-Some.name.now c.in-Some.after.now c.loop-name.invariant c.in-Some.ensures.value c.in_ok-add_name.ensures
 
 pub returns : goal.returns
 returns c =
-    names-last (map (λ n. n.now) c.args.names.now.items) (map (λ n. n.now) c.loop-name.names.items) c.args.text.now c.loop-name.rest.now _
+    names-last checked _ (map (λ n. n.now) c.loop-name.names.items) c.loop-name.rest.now _
     c.loop-name.invariant (sym c.in_default.ensures.value) c.add_name-2.ensures

@@ -1,7 +1,7 @@
 use Rattle.std.proofs.Common.{◌≡◌, ◌+◌, ◌≤◌, ◌++◌, length, map, take}
 use Rattle.oca_script.specs.Ends.{output}
 use Rattle.oca_textree.specs.Written.{flag_digit}
-use Rattle.oca_textree.proofs.writing.put_digits.Given as goal
+use Rattle.oca_textree.proofs.writing.put_flags.Given as goal
 
 abbrev pub invariant-loop-flag : goal.invariant-loop-flag
 invariant-loop-flag g l = record {
