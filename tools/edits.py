@@ -299,7 +299,8 @@ class LawCopy:
         copied = {file: file.with_name(f"{file.stem}{ending}.antt") for file in files}
         copied[Path("src", f"{module}.rt")] = Path("src", f"{module}{ending}.rt")
         copied |= {file: Path("proofs", module + ending, *file.parts[2:]) for file in proofs_of_law(crate, module, name)}
-        self.texts = {str(to): named.sub(rf"\g<0>{ending}", text_of(crate, file, changed)) for file, to in copied.items()}
+        texts = {to: imports_of_their_own(crate, text_of(crate, file, changed)) for file, to in copied.items()}
+        self.texts = {str(to): named.sub(rf"\g<0>{ending}", text) for to, text in texts.items()}
         self.proofs = {path for path in self.texts if path.startswith("proofs/")}
         self.declared = [(f"{it.parts[0]}/Lib.antt", f"mod {it.stem}", "") for it in files] + [("src/lib.rt", f"mod {module}", ";")]
 
@@ -309,6 +310,28 @@ class LawCopy:
             both = rf"\g<0>\n\g<1>{line}{self.ending}{end}"
             texts[path] = re.sub(rf"(?m)^((?:pub )?){line}{end}$", both, text_of(self.crate, path, texts))
         texts |= self.texts
+
+
+@functools.cache
+def passed_on(folder, name):
+    """Where the words are defined that files of proofs/ do nothing but pass on: by the module of such a file and the word."""
+    line, found = re.compile(r"(?m)^pub use ([\w.]+)\.\{(.*)\}$"), {}
+    for file in Path(folder, "proofs").glob("*.antt"):
+        text = re.sub(r"(?m)^--.*$", "", file.read_text())
+        its = [(word, of) for of, words in line.findall(text) for word in words.split(", ")]
+        found |= {(f"Rattle.{name}.proofs.{file.stem}", word): of for word, of in its if not line.sub("", text).strip()}
+    return found
+
+
+def imports_of_their_own(crate, text):
+    """The text of a file that imports each word from where it is defined: then it only reaches what it names."""
+    def said(line):
+        homes = {}
+        for word in line[2].split(", "):
+            homes.setdefault(passed_on(crate.folder, crate.name).get((line[1], word), line[1]), []).append(word)
+        return "\n".join(f"use {of}.{{{', '.join(words)}}}" for of, words in homes.items())
+
+    return re.sub(rf"(?m)^use (Rattle\.{crate.name}\.proofs\.\w+)\.\{{(.*)\}}$", said, text)
 
 
 def with_called(crate, module, name):
@@ -344,14 +367,15 @@ def between(crate, module, name, edited):
         return []
     named = re.compile(rf"(?:\bRattle\.{crate.name}\.|\bcrate::)(specs|proofs)(?:\.|::)(\w+)((?:\.\w+)*)")
     files = [law, *proofs_of_law(crate, module, name)]
-    texts, reached, made, todo = {law: "\n".join(text_of(crate, it) for it in files)}, {}, {}, [law]
+    text = lambda *files: imports_of_their_own(crate, "\n".join(text_of(crate, it) for it in files))
+    texts, reached, made, todo = {law: text(*files)}, {}, {}, [law]
     while todo:
         at = todo.pop()
         found = {(Path(kind, f"{stem}.antt"), f"{kind}.{stem}{more}") for kind, stem, more in named.findall(texts[at])}
         reached[at] = {it for it, _ in found if Path(crate.folder, it).is_file()}
         made[at] = {path for it, path in found if it not in reached[at] and not path.startswith(f"proofs.{module}.")}
         todo += reached[at] - {*texts}
-        texts |= {it: text_of(crate, it) for it in reached[at] - {*texts}}
+        texts |= {it: text(it) for it in reached[at] - {*texts}}
     made[law] |= types_of_law(crate, module, name)
     copied = {edited}
     while more := {at for at in reached if reached[at] & copied} - copied:
