@@ -10,8 +10,9 @@ pub use Rattle.std.proofs.lemmas.Grind.{flat_map-append}
 pub use Rattle.std.proofs.lemmas.List.{get_or-set_same, get_or-set_other, get_or_default, map-append, length-set, set-get_or}
 pub use Rattle.std.proofs.lemmas.List.Folds.{list_any-append, list_all-append}
 pub use Rattle.std.specs.Prelude.{nat_eq, nat_le, filter, nat_lt, ◌==◌, IsTrue, count_by, IfSome}
-pub use Rattle.oca_control.specs.Words.{AllByRecursion, CommandFields, Datagram, DeliversAndTakes, Delivery, EndState, Failed, Handle, Peer, Quiet, RequestFields}
-pub use Rattle.oca_control.specs.Words.{SendsAllBut, Sent, flat_map, list_any, most_command_parameter_bytes, same_peer}
+pub use Rattle.oca_control.specs.Words.{CommandFields, Datagram, DeliversAndTakes, Delivery, EndState, Failed, Handle, Peer, Quiet, RequestFields}
+pub use Rattle.oca_control.specs.Words.{SendsAllBut, Sent, most_command_parameter_bytes, same_peer}
+pub use Rattle.std.specs.List.{AllByRecursion, flat_map, list_any}
 pub use Rattle.oca_control.specs.Answering.{has_response, TakesNothingOf, CallsDueAt, is_given_in, is_among, last_asked, IsAskedEvery, IsWaiting, IsSentInTime, is_none_left}
 pub use Rattle.oca_control.specs.Answers.{AnswerFields, answer_of_response}
 pub use Rattle.oca_control.specs.Asking.{beginning, TakesATurn, TakesTurns, NoneTaken, OneTaken, Waits, ReceivesSoOften, Begins, Asks, refused_by, HasOutcome, IsPresent}

@@ -1,8 +1,9 @@
 -- WHAT COMES OF A COMMAND over histories of calls: each that is due is sent, again and again where the link is asked
 -- often enough, and what was answered stays so. As in Histories the latest call stands first.
-use Rattle.oca_control.specs.Words.{[], ⊤, ◌*◌, ◌++◌, ◌+◌, ◌<◌, ◌==◌, ◌∷◌, ◌≡◌, ◌≤◌, ◌⊎◌, AllByRecursion, Bool, Handle}
-use Rattle.oca_control.specs.Words.{List, Msg, None, Ok, Peer, Some, false, if◌then◌else◌, is_some, length, list_any}
-use Rattle.oca_control.specs.Words.{max, same_peer, true, ℕ}
+use Rattle.std.specs.Prelude.{[], ⊤, ◌*◌, ◌++◌, ◌+◌, ◌<◌, ◌==◌, ◌∷◌, ◌≡◌, ◌≤◌, ◌⊎◌, Bool, List, None, Ok, Some, false}
+use Rattle.std.specs.Prelude.{if◌then◌else◌, is_some, length, max, true, ℕ}
+use Rattle.std.specs.List.{AllByRecursion, list_any}
+use Rattle.oca_control.specs.Words.{Handle, Msg, Peer, same_peer}
 use Rattle.oca_control.specs.declared.due.Due.{Due}
 use Rattle.oca_control.specs.declared.due.Due.TheVariants as dues
 use Rattle.oca_control.specs.declared.reception.Reception.{Reception}

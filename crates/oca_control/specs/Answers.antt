@@ -1,5 +1,6 @@
 -- What a device answered to a command (AES70-3).
-use Rattle.oca_control.specs.Words.{List, ResponseFields, ℕ}
+use Rattle.std.specs.Prelude.{List, ℕ}
+use Rattle.oca_control.specs.Words.{ResponseFields}
 use Rattle.oca_control.specs.declared.answer.Answer.{Answer}
 
 -- the number of the status, ParamCount and the parameters

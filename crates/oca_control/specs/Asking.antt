@@ -1,6 +1,6 @@
 -- The outcome of a command that is asked of a link over an end.
-use Rattle.oca_control.specs.Words.{◌+◌, ◌||◌, ◌≡◌, ◌≤◌, Bool, EndState, Err, Handle, None, Ok, RequestFields, Result}
-use Rattle.oca_control.specs.Words.{Some, false, if◌then◌else◌, true, ℕ}
+use Rattle.std.specs.Prelude.{◌+◌, ◌||◌, ◌≡◌, ◌≤◌, Bool, Err, None, Ok, Result, Some, false, if◌then◌else◌, true, ℕ}
+use Rattle.oca_control.specs.Words.{EndState, Handle, RequestFields}
 pub use Rattle.oca_net.specs.EndStates.{IsPresent}
 use Rattle.oca_control.specs.declared.fault.ControlFault.{ControlFault}
 use Rattle.oca_control.specs.declared.fault.ControlFault.TheVariants as faults

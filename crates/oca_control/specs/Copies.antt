@@ -1,9 +1,10 @@
 -- COPIES IN TIME, over whole histories of the calls of a link. As in Histories the latest call and the latest sending
 -- stand first.
-use Rattle.oca_control.specs.Words.{[], ⊤, ◌++◌, ◌+◌, ◌<◌, ◌==◌, ◌∷◌, ◌≡◌, ◌≤◌, AllByRecursion, Bool, Datagram}
-use Rattle.oca_control.specs.Words.{DeliversAndTakes, Delivery, EndState, Err, Failed, Handle, List, None, Ok, Option}
-use Rattle.oca_control.specs.Words.{Peer, Quiet, RequestFields, Result, Sent, Some, false, flat_map, if◌then◌else◌}
-use Rattle.oca_control.specs.Words.{largest_datagram, length, max, nat_le, true, ℕ}
+use Rattle.std.specs.Prelude.{[], ⊤, ◌++◌, ◌+◌, ◌<◌, ◌==◌, ◌∷◌, ◌≡◌, ◌≤◌, Bool, Err, List, None, Ok, Option, Result}
+use Rattle.std.specs.Prelude.{Some, false, if◌then◌else◌, length, max, nat_le, true, ℕ}
+use Rattle.std.specs.List.{AllByRecursion, flat_map}
+use Rattle.oca_control.specs.Words.{Datagram, DeliversAndTakes, Delivery, EndState, Failed, Handle, Peer, Quiet}
+use Rattle.oca_control.specs.Words.{RequestFields, Sent, largest_datagram}
 use Rattle.oca_control.specs.declared.due.Due.{Due}
 use Rattle.oca_control.specs.declared.due.Due.TheVariants as dues
 use Rattle.oca_control.specs.declared.fault.ControlFault.{ControlFault}

@@ -1,8 +1,9 @@
 -- What the loop makes of a link and an end.
-use Rattle.oca_control.specs.Words.{[], ◌&&◌, ◌++◌, ◌+◌, ◌<◌, ◌||◌, ◌∷◌, ◌≡◌, ◌≤◌, Bool, Datagram, DeliversAndTakes}
-use Rattle.oca_control.specs.Words.{Delivery, EndState, Failed, List, Peer, Quiet, SendsAllBut, Sent, count_by, false}
-use Rattle.oca_control.specs.Words.{flat_map, if◌then◌else◌, largest_datagram, last_u64, length, list_any, min, nat_lt}
-use Rattle.oca_control.specs.Words.{not, suc, true, zero, ℕ}
+use Rattle.std.specs.Prelude.{[], ◌&&◌, ◌++◌, ◌+◌, ◌<◌, ◌||◌, ◌∷◌, ◌≡◌, ◌≤◌, Bool, List, count_by, false, if◌then◌else◌}
+use Rattle.std.specs.Prelude.{length, min, nat_lt, not, suc, true, zero, ℕ}
+use Rattle.std.specs.List.{flat_map, list_any}
+use Rattle.oca_control.specs.Words.{Datagram, DeliversAndTakes, Delivery, EndState, Failed, Peer, Quiet, SendsAllBut}
+use Rattle.oca_control.specs.Words.{Sent, largest_datagram, last_u64}
 use Rattle.oca_control.specs.declared.reception.Reception.{Reception}
 use Rattle.oca_control.specs.declared.reception.Reception.TheVariants as receptions
 use Rattle.oca_control.specs.declared.report.DriveReport.{DriveReport}

@@ -1,5 +1,5 @@
 -- Why a command is not submitted, in words.
-use Rattle.oca_control.specs.Words.{List, codes, ℕ}
+use Rattle.std.specs.Prelude.{List, codes, ℕ}
 use Rattle.oca_control.specs.declared.fault.ControlFault.{ControlFault}
 use Rattle.oca_control.specs.declared.fault.ControlFault.TheVariants.{Lost, HandlesSpent, SpanFull, TooLong}
 

@@ -1,11 +1,12 @@
 -- THE LAW OF A LINK over whole histories of its calls. Of calls, commands and sendings the LATEST STANDS FIRST, so that
 -- what stands after a member (`before`) came before it. Messages and answers stand in order, the first one first.
 -- Moments are in milliseconds.
-use Rattle.oca_control.specs.Words.{[], ⊤, ◌&&◌, ◌++◌, ◌+◌, ◌-◌, ◌<◌, ◌==◌, ◌||◌, ◌∷◌, ◌≡◌, ◌≤◌, ◌⊎◌, AllByRecursion}
-use Rattle.oca_control.specs.Words.{Bool, Command, CommandFields, Commands, Err, Handle, KeepAlive, List, Msg, None, Ok}
-use Rattle.oca_control.specs.Words.{OneKeepAlive, Option, Peer, Response, Result, Seconds, Some, false, if◌then◌else◌}
-use Rattle.oca_control.specs.Words.{is_none, is_some, length, max, most_command_parameter_bytes, nat_le, not}
-use Rattle.oca_control.specs.Words.{pdu_encoding, same_peer, true, ℕ}
+use Rattle.std.specs.Prelude.{[], ⊤, ◌&&◌, ◌++◌, ◌+◌, ◌-◌, ◌<◌, ◌==◌, ◌||◌, ◌∷◌, ◌≡◌, ◌≤◌, ◌⊎◌, Bool, Err, List, None}
+use Rattle.std.specs.Prelude.{Ok, Option, Result, Some, false, if◌then◌else◌, is_none, is_some, length, max, nat_le}
+use Rattle.std.specs.Prelude.{not, true, ℕ}
+use Rattle.std.specs.List.{AllByRecursion}
+use Rattle.oca_control.specs.Words.{Command, CommandFields, Commands, Handle, KeepAlive, Msg, OneKeepAlive, Peer}
+use Rattle.oca_control.specs.Words.{Response, Seconds, most_command_parameter_bytes, pdu_encoding, same_peer}
 use Rattle.oca_control.specs.declared.fault.ControlFault.{ControlFault}
 use Rattle.oca_control.specs.declared.fault.ControlFault.TheVariants as faults
 use Rattle.oca_control.specs.declared.due.Due.{Due}

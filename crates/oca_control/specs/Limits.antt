@@ -1,5 +1,5 @@
 -- The limits of a link (*profile*). Times are in milliseconds.
-use Rattle.oca_control.specs.Words.{ℕ}
+use Rattle.std.specs.Prelude.{ℕ}
 
 -- a command is sent again after so long without an answer
 abbrev pub repeat_time : ℕ

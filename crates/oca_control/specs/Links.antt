@@ -1,8 +1,9 @@
 -- THE CONTROLLER: its link to a device, and what each call makes of it (*profile*). Moments are in milliseconds.
-use Rattle.oca_control.specs.Words.{[], ◌&&◌, ◌++◌, ◌+◌, ◌-◌, ◌<◌, ◌==◌, ◌^◌, ◌∷◌, ◌≡◌, ◌≤◌, Bool, Commands, Err}
-use Rattle.oca_control.specs.Words.{Handle, List, Msg, None, Ok, OneKeepAlive, Option, Peer, Result, Seconds, Some}
-use Rattle.oca_control.specs.Words.{false, if◌then◌else◌, is_some, length, list_any, map, max, nat_le, nat_lt}
-use Rattle.oca_control.specs.Words.{pdu_encoding, true, ℕ}
+use Rattle.std.specs.Prelude.{[], ◌&&◌, ◌++◌, ◌+◌, ◌-◌, ◌<◌, ◌==◌, ◌^◌, ◌∷◌, ◌≡◌, ◌≤◌, Bool, Err, List, None, Ok}
+use Rattle.std.specs.Prelude.{Option, Result, Some, false, if◌then◌else◌, is_some, length, map, max, nat_le, nat_lt}
+use Rattle.std.specs.Prelude.{true, ℕ}
+use Rattle.std.specs.List.{list_any}
+use Rattle.oca_control.specs.Words.{Commands, Handle, Msg, OneKeepAlive, Peer, Seconds, pdu_encoding}
 pub use Rattle.oca_types.specs.Peers.{CommandFields, RequestFields, same_peer}
 pub use Rattle.oca_types.specs.Sizes.{most_command_parameter_bytes}
 use Rattle.oca_types.specs.declared.words.MethodId.{MethodId}

@@ -1,5 +1,6 @@
 -- For private contracts: what a link shows of a command without a turn.
-use Rattle.oca_control.specs.Words.{◌||◌, ◌≡◌, ◌⊎◌, Bool, EndState, None, Option, Some, false, true, ℕ}
+use Rattle.std.specs.Prelude.{◌||◌, ◌≡◌, ◌⊎◌, Bool, None, Option, Some, false, true, ℕ}
+use Rattle.oca_control.specs.Words.{EndState}
 use Rattle.oca_control.specs.declared.outcome.Outcome.{Outcome}
 use Rattle.oca_control.specs.declared.outcome.Outcome.TheVariants as outcomes
 use Rattle.oca_control.specs.Answers.{answer_fields}

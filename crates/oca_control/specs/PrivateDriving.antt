@@ -1,6 +1,6 @@
 -- For private contracts: what a part of a turn does and reports.
-use Rattle.oca_control.specs.Words.{[], ◌∷◌, ◌≡◌, ◌≤◌, Bool, DeliversAndTakes, Delivery, EndState, List, None, Option}
-use Rattle.oca_control.specs.Words.{Receives, SendsAllBut, Some, one_more, ℕ}
+use Rattle.std.specs.Prelude.{[], ◌∷◌, ◌≡◌, ◌≤◌, Bool, List, None, Option, Some, ℕ}
+use Rattle.oca_control.specs.Words.{DeliversAndTakes, Delivery, EndState, Receives, SendsAllBut, one_more}
 use Rattle.oca_net.specs.declared.end.Heard.TheVariants as heard
 use Rattle.oca_control.specs.declared.report.DriveReport.{DriveReport}
 use Rattle.oca_control.specs.Links.{LinkState, Decision, decision, gone_on}

@@ -1,9 +1,11 @@
 -- For private contracts: where the untaken commands lie in memory. The command of the handle h lies in the slot number
 -- h modulo 32, and the handle itself is not stored.
-use Rattle.oca_control.specs.Words.{[], ◌%◌, ◌&&◌, ◌++◌, ◌+◌, ◌-◌, ◌<◌, ◌==◌, ◌||◌, ◌∷◌, ◌≡◌, ◌≤◌, AllByRecursion, Bool}
-use Rattle.oca_control.specs.Words.{List, None, Option, Some, false, if◌then◌else◌, is_none, is_some, length, map}
-use Rattle.oca_control.specs.Words.{most_parameter_bytes, nat_le, nat_lt, option_map, slice_index_or, suc, true, zero}
-use Rattle.oca_control.specs.Words.{ℕ}
+use Rattle.std.specs.Prelude.{[], ◌%◌, ◌&&◌, ◌++◌, ◌+◌, ◌-◌, ◌<◌, ◌==◌, ◌||◌, ◌∷◌, ◌≡◌, ◌≤◌, Bool, List, None, Option}
+use Rattle.std.specs.Prelude.{Some, false, if◌then◌else◌, is_none, is_some, length, map, nat_le, nat_lt, slice_index_or}
+use Rattle.std.specs.Prelude.{suc, true, zero, ℕ}
+use Rattle.std.specs.List.{AllByRecursion}
+use Rattle.std.specs.Option.{option_map}
+use Rattle.oca_control.specs.Words.{most_parameter_bytes}
 pub use Rattle.oca_pdu.specs.Messages.{Msg, Command, Response, KeepAlive, msg_of}
 pub use Rattle.oca_pdu.specs.Limits.{most_messages}
 pub use Rattle.oca_pdu.specs.Datagrams.{messages_left}

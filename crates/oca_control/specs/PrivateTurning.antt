@@ -1,5 +1,5 @@
 -- For private contracts: what is reported where a link is late.
-use Rattle.oca_control.specs.Words.{[], ◌∷◌}
+use Rattle.std.specs.Prelude.{[], ◌∷◌}
 use Rattle.oca_control.specs.declared.report.DriveReport.{DriveReport}
 use Rattle.oca_control.specs.Links.{IsLost}
 use Rattle.oca_control.specs.Driving.{drive_report_of}

@@ -1,6 +1,8 @@
 -- WHAT BECAME OF EACH DATAGRAM over histories of calls. As in Histories the latest call stands first.
-use Rattle.oca_control.specs.Words.{[], ⊤, ◌&&◌, ◌<◌, ◌==◌, ◌∷◌, ◌≡◌, AllByRecursion, Bool, List, Msg, None, Option}
-use Rattle.oca_control.specs.Words.{Peer, Some, false, is_none, is_some, length, list_any, same_peer, true, ℕ}
+use Rattle.std.specs.Prelude.{[], ⊤, ◌&&◌, ◌<◌, ◌==◌, ◌∷◌, ◌≡◌, Bool, List, None, Option, Some, false, is_none, is_some}
+use Rattle.std.specs.Prelude.{length, true, ℕ}
+use Rattle.std.specs.List.{AllByRecursion, list_any}
+use Rattle.oca_control.specs.Words.{Msg, Peer, same_peer}
 use Rattle.oca_control.specs.declared.reception.Reception.{Reception}
 use Rattle.oca_control.specs.declared.reception.Reception.TheVariants as receptions
 use Rattle.oca_control.specs.Links.{LinkState}

@@ -1,9 +1,11 @@
 -- A LINK THAT RUNS OVER AN END: what is done with it by the calls of this crate, at which moments, and that it is asked
 -- in time where the receives of the end return in time. Moments are in milliseconds, and stand in the order of time
 -- here.
-use Rattle.oca_control.specs.Words.{[], ⊤, ◌*◌, ◌++◌, ◌+◌, ◌-◌, ◌<◌, ◌∷◌, ◌≡◌, ◌≤◌, AllByRecursion, Datagram, Delivery}
-use Rattle.oca_control.specs.Words.{EndState, Err, Failed, Handle, IsTrue, List, Ok, Peer, Quiet, RequestFields, Result}
-use Rattle.oca_control.specs.Words.{false, flat_map, is_none, largest_datagram, length, max, true, ℕ}
+use Rattle.std.specs.Prelude.{[], ⊤, ◌*◌, ◌++◌, ◌+◌, ◌-◌, ◌<◌, ◌∷◌, ◌≡◌, ◌≤◌, Err, IsTrue, List, Ok, Result, false}
+use Rattle.std.specs.Prelude.{is_none, length, max, true, ℕ}
+use Rattle.std.specs.List.{AllByRecursion, flat_map}
+use Rattle.oca_control.specs.Words.{Datagram, Delivery, EndState, Failed, Handle, Peer, Quiet, RequestFields}
+use Rattle.oca_control.specs.Words.{largest_datagram}
 use Rattle.oca_net.specs.Memory.{MemoryState, state_of_memory, after_receive, after_send}
 use Rattle.oca_control.specs.declared.fault.ControlFault.{ControlFault}
 use Rattle.oca_control.specs.declared.outcome.Outcome.{Outcome}

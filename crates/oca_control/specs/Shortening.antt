@@ -1,6 +1,7 @@
 -- Answers that a link has no room for: such an answer is shortened to its handle and a status.
-use Rattle.oca_control.specs.Words.{[], Command, KeepAlive, List, Msg, Option, Response, if◌then◌else◌, length, map}
-use Rattle.oca_control.specs.Words.{most_parameter_bytes, nat_le, nat_lt, option_map, ℕ}
+use Rattle.std.specs.Prelude.{[], List, Option, if◌then◌else◌, length, map, nat_le, nat_lt, ℕ}
+use Rattle.std.specs.Option.{option_map}
+use Rattle.oca_control.specs.Words.{Command, KeepAlive, Msg, Response, most_parameter_bytes}
 use Rattle.oca_types.specs.Status.{status_number}
 use Rattle.oca_types.specs.declared.status.Status.TheVariants as status
 use Rattle.oca_control.specs.Answers.{AnswerFields, answer_of_response}

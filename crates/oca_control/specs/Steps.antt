@@ -1,5 +1,6 @@
 -- What a datagram does, by its bytes (AES70-3; *profile*).
-use Rattle.oca_control.specs.Words.{◌≡◌, List, Msg, Option, Peer, most_parameter_bytes, ℕ}
+use Rattle.std.specs.Prelude.{◌≡◌, List, Option, ℕ}
+use Rattle.oca_control.specs.Words.{Msg, Peer, most_parameter_bytes}
 use Rattle.oca_control.specs.declared.reception.Reception.{Reception}
 use Rattle.oca_control.specs.Contents.{IsContent}
 use Rattle.oca_control.specs.Links.{LinkState, reception, received}

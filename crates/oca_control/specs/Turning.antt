@@ -1,8 +1,8 @@
 -- What is sent in time, and a turn: a copy of a command is sent at most 15,000 ms after its submit, or never. Where the
 -- link is late, nothing is sent, and it counts as lost.
-use Rattle.oca_control.specs.Words.{[], ◌+◌, ◌∷◌, ◌≡◌, ◌≤◌, ◌⊎◌, Bool, Datagram, DeliversAndTakes, Delivery, EndState}
-use Rattle.oca_control.specs.Words.{Failed, IsPresent, List, Quiet, Receives, false, if◌then◌else◌, last_u64, min}
-use Rattle.oca_control.specs.Words.{one_more, true, ℕ}
+use Rattle.std.specs.Prelude.{[], ◌+◌, ◌∷◌, ◌≡◌, ◌≤◌, ◌⊎◌, Bool, List, false, if◌then◌else◌, min, true, ℕ}
+use Rattle.oca_control.specs.Words.{Datagram, DeliversAndTakes, Delivery, EndState, Failed, IsPresent, Quiet, Receives}
+use Rattle.oca_control.specs.Words.{last_u64, one_more}
 use Rattle.oca_net.specs.declared.end.Heard.TheVariants as heard
 use Rattle.oca_control.specs.declared.report.DriveReport.{DriveReport}
 use Rattle.oca_control.specs.Links.{LinkState, Decision, GivesNothing, IsLost, decision, late_at}

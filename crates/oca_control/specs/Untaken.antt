@@ -1,7 +1,8 @@
 -- The commands whose answers have not been taken. In a list of them the lowest handle stands first.
-use Rattle.oca_control.specs.Words.{[], ◌&&◌, ◌+◌, ◌-◌, ◌==◌, ◌||◌, ◌∷◌, Bool, Command, CommandFields, KeepAlive, List}
-use Rattle.oca_control.specs.Words.{Msg, None, Option, Response, Some, filter, if◌then◌else◌, is_none, is_some}
-use Rattle.oca_control.specs.Words.{list_all, list_any, map, nat_le, nat_lt, not, ℕ}
+use Rattle.std.specs.Prelude.{[], ◌&&◌, ◌+◌, ◌-◌, ◌==◌, ◌||◌, ◌∷◌, Bool, List, None, Option, Some, filter}
+use Rattle.std.specs.Prelude.{if◌then◌else◌, is_none, is_some, map, nat_le, nat_lt, not, ℕ}
+use Rattle.std.specs.List.{list_all, list_any}
+use Rattle.oca_control.specs.Words.{Command, CommandFields, KeepAlive, Msg, Response}
 use Rattle.oca_control.specs.Limits.{repeat_time, longest_life}
 use Rattle.oca_control.specs.Answers.{AnswerFields, answer_of_response}
 

@@ -1,6 +1,6 @@
 -- A wait for an answer until a moment.
-use Rattle.oca_control.specs.Words.{◌+◌, ◌<◌, ◌==◌, ◌||◌, ◌≡◌, ◌≤◌, ◌⊎◌, Bool, EndState, None, Some, false, last_u64}
-use Rattle.oca_control.specs.Words.{min, true, ℕ}
+use Rattle.std.specs.Prelude.{◌+◌, ◌<◌, ◌==◌, ◌||◌, ◌≡◌, ◌≤◌, ◌⊎◌, Bool, None, Some, false, min, true, ℕ}
+use Rattle.oca_control.specs.Words.{EndState, last_u64}
 use Rattle.oca_control.specs.declared.outcome.Outcome.{Outcome}
 use Rattle.oca_control.specs.declared.outcome.Outcome.TheVariants as outcomes
 use Rattle.oca_control.specs.declared.report.DriveReport.{DriveReport}

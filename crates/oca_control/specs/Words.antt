@@ -1,4 +1,4 @@
--- What the definitions of this crate name, of std and of the crates below.
+-- What the definitions of this crate name of the crates below.
 pub use Rattle.oca_net.specs.Deliveries.{Datagram, Delivery, Failed, Quiet, Sent}
 pub use Rattle.oca_net.specs.EndStates.{DeliversAndTakes, EndState, IsPresent, Receives, SendsAllBut}
 pub use Rattle.oca_net.specs.Ends.{largest_datagram, last_u64, one_more}
@@ -10,9 +10,3 @@ pub use Rattle.oca_types.specs.Peers.{CommandFields, RequestFields, same_peer}
 pub use Rattle.oca_types.specs.Sizes.{most_command_parameter_bytes, most_parameter_bytes}
 pub use Rattle.oca_types.specs.declared.words.Handle.{Handle}
 pub use Rattle.oca_types.specs.declared.words.Peer.{Peer}
-pub use Rattle.std.specs.List.{AllByRecursion, flat_map, list_all, list_any}
-pub use Rattle.std.specs.Option.{option_map}
-pub use Rattle.std.specs.Prelude.{[], ⊤, ◌%◌, ◌&&◌, ◌*◌, ◌++◌, ◌+◌, ◌-◌, ◌<◌, ◌==◌, ◌^◌, ◌||◌, ◌∷◌, ◌≡◌, ◌≤◌, ◌⊎◌, Bool}
-pub use Rattle.std.specs.Prelude.{Err, IsTrue, List, None, Ok, Option, Result, Some, codes, count_by, false, filter}
-pub use Rattle.std.specs.Prelude.{if◌then◌else◌, is_none, is_some, length, map, max, min, nat_le, nat_lt, not}
-pub use Rattle.std.specs.Prelude.{slice_index_or, suc, true, zero, ℕ}

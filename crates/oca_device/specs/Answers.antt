@@ -1,8 +1,8 @@
 -- What a device answers to a datagram, and how it counts the datagram's commands (AES70-3; the profile's window
 -- decides).
-use Rattle.oca_device.specs.Words.{[], ◌++◌, ◌+◌, ◌∷◌, Command, CommandFields, DeviceSizes, Duplicate, Err, Fresh}
-use Rattle.oca_device.specs.Words.{Judgement, KeepAlive, List, Msg, Object, Ok, Old, PduFault, Peer, Reply, Response}
-use Rattle.oca_device.specs.Words.{Result, Reused, if◌then◌else◌, max, read_datagram, status_number, ℕ}
+use Rattle.std.specs.Prelude.{[], ◌++◌, ◌+◌, ◌∷◌, Err, List, Ok, Result, if◌then◌else◌, max, ℕ}
+use Rattle.oca_device.specs.Words.{Command, CommandFields, DeviceSizes, Duplicate, Fresh, Judgement, KeepAlive, Msg}
+use Rattle.oca_device.specs.Words.{Object, Old, PduFault, Peer, Reply, Response, Reused, read_datagram, status_number}
 use Rattle.oca_device.specs.declared.counts.Counts.{Counts}
 use Rattle.oca_device.specs.declared.verdict.Verdict.{Verdict}
 use Rattle.oca_device.specs.declared.verdict.Verdict.TheVariants as verdicts

@@ -1,5 +1,6 @@
 -- A device represents an opening tree and events where it is what they say.
-use Rattle.oca_device.specs.Words.{◌∷◌, ◌≡◌, List, Object, Peer, map, retained_of, ℕ}
+use Rattle.std.specs.Prelude.{◌∷◌, ◌≡◌, List, map, ℕ}
+use Rattle.oca_device.specs.Words.{Object, Peer, retained_of}
 pub use Rattle.std.specs.Result.{result_err}
 pub use Rattle.oca_types.specs.Sizes.{DeviceSizes, most_parameter_bytes, window_size, sizes_of}
 pub use Rattle.oca_pdu.specs.Limits.{most_answered, most_commands}

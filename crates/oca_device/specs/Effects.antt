@@ -1,7 +1,7 @@
 -- What became of each command of the last datagram.
-use Rattle.oca_device.specs.Words.{[], ◌++◌, ◌∷◌, Bool, Command, CommandFields, DeviceSizes, Duplicate, Err, Fresh}
-use Rattle.oca_device.specs.Words.{Judgement, KeepAlive, List, Msg, Object, Ok, Old, PduFault, Peer, Response, Result}
-use Rattle.oca_device.specs.Words.{Reused, execution, if◌then◌else◌, max, read_datagram}
+use Rattle.std.specs.Prelude.{[], ◌++◌, ◌∷◌, Bool, Err, List, Ok, Result, if◌then◌else◌, max}
+use Rattle.oca_device.specs.Words.{Command, CommandFields, DeviceSizes, Duplicate, Fresh, Judgement, KeepAlive, Msg}
+use Rattle.oca_device.specs.Words.{Object, Old, PduFault, Peer, Response, Reused, execution, read_datagram}
 use Rattle.oca_device.specs.declared.effect.Effect.{Effect}
 use Rattle.oca_device.specs.declared.effect.CommandOutcome.{CommandOutcome}
 use Rattle.oca_device.specs.declared.effect.CommandOutcome.TheVariants as outcome

@@ -1,6 +1,6 @@
 -- What the electronics of a device are handed.
-use Rattle.oca_device.specs.Words.{[], ◌++◌, ◌∷◌, ◌≡◌, Bool, Datagram, Delivery, DeviceSizes, EndState, Failed, IsTrue}
-use Rattle.oca_device.specs.Words.{List, Object, Quiet, if◌then◌else◌, largest_datagram, length, nat_le, ℕ}
+use Rattle.std.specs.Prelude.{[], ◌++◌, ◌∷◌, ◌≡◌, Bool, IsTrue, List, if◌then◌else◌, length, nat_le, ℕ}
+use Rattle.oca_device.specs.Words.{Datagram, Delivery, DeviceSizes, EndState, Failed, Object, Quiet, largest_datagram}
 use Rattle.oca_device.specs.declared.report.Report.{Report}
 use Rattle.oca_device.specs.Events.{Event}
 use Rattle.oca_device.specs.Events as event

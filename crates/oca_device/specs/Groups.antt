@@ -1,9 +1,9 @@
 -- How the answers to a datagram are grouped: neighbouring responses leave in one PDU, and a keep-alive in one of its
 -- own. Each group is the one PDU of a datagram (*profile*). In each list the first one stands first.
-use Rattle.oca_device.specs.Words.{[], ⊤, ◌++◌, ◌<◌, ◌∷◌, ◌≡◌, ◌≤◌, AllByRecursion, Command, Commands, KeepAlive, List}
-use Rattle.oca_device.specs.Words.{Msg, OneKeepAlive, Pdu, Response, ResponseFields, Responses, flat_map, if◌then◌else◌}
-use Rattle.oca_device.specs.Words.{largest_datagram, length, map, messages_of, most_parameter_bytes, nat_le}
-use Rattle.oca_device.specs.Words.{pdu_encoding, ℕ}
+use Rattle.std.specs.Prelude.{[], ⊤, ◌++◌, ◌<◌, ◌∷◌, ◌≡◌, ◌≤◌, List, if◌then◌else◌, length, map, nat_le, ℕ}
+use Rattle.std.specs.List.{AllByRecursion, flat_map}
+use Rattle.oca_device.specs.Words.{Command, Commands, KeepAlive, Msg, OneKeepAlive, Pdu, Response, ResponseFields}
+use Rattle.oca_device.specs.Words.{Responses, largest_datagram, messages_of, most_parameter_bytes, pdu_encoding}
 
 -- ---- what is promised of the groups
 

@@ -1,7 +1,9 @@
 -- What was answered is stored: which answers wait until the objects are stored, and when they leave.
-use Rattle.oca_device.specs.Words.{[], ◌&&◌, ◌++◌, ◌+◌, ◌<◌, ◌==◌, ◌||◌, ◌∷◌, ◌≡◌, ◌≤◌, AllByRecursion, Bool, Datagram}
-use Rattle.oca_device.specs.Words.{Delivery, DeviceSizes, EndState, Failed, IsTrue, List, Object, Quiet, Sent}
-use Rattle.oca_device.specs.Words.{TakesAllBut, false, if◌then◌else◌, largest_datagram, last_u64, length, nat_le, not}
+use Rattle.std.specs.Prelude.{[], ◌&&◌, ◌++◌, ◌+◌, ◌<◌, ◌==◌, ◌||◌, ◌∷◌, ◌≡◌, ◌≤◌, Bool, IsTrue, List, false}
+use Rattle.std.specs.Prelude.{if◌then◌else◌, length, nat_le, not}
+use Rattle.std.specs.List.{AllByRecursion}
+use Rattle.oca_device.specs.Words.{Datagram, Delivery, DeviceSizes, EndState, Failed, Object, Quiet, Sent, TakesAllBut}
+use Rattle.oca_device.specs.Words.{largest_datagram, last_u64}
 use Rattle.oca_device.specs.declared.report.Report.{Report}
 use Rattle.oca_device.specs.Events.{Event}
 use Rattle.oca_device.specs.Events as event

@@ -1,5 +1,6 @@
 -- When a clock reading next changes something. Moments are in milliseconds.
-use Rattle.oca_device.specs.Words.{◌<◌, ◌^◌, ◌≡◌, ◌≤◌, DeviceSizes, ℕ}
+use Rattle.std.specs.Prelude.{◌<◌, ◌^◌, ◌≡◌, ◌≤◌, ℕ}
+use Rattle.oca_device.specs.Words.{DeviceSizes}
 use Rattle.oca_device.specs.Events.{Tick}
 use Rattle.oca_device.specs.States.{State, after_event}
 use Rattle.oca_device.specs.Devices.{table_of}

@@ -1,8 +1,8 @@
 -- Everything that is noted of the peers of a device. Nothing is ever taken away from the notes; a session is what the
 -- notes of its peer say. In a list of notes the latest stands first, and in a list of peers or commands last.
-use Rattle.oca_device.specs.Words.{[], ◌*◌, ◌++◌, ◌-◌, ◌∷◌, Bool, CommandFields, Entry, List, Msg, Object, Peer, Reply}
-use Rattle.oca_device.specs.Words.{false, filter, first_heartbeat, if◌then◌else◌, longest_silence, nat_le, nat_lt, not}
-use Rattle.oca_device.specs.Words.{same_peer, within_heartbeats, ℕ}
+use Rattle.std.specs.Prelude.{[], ◌*◌, ◌++◌, ◌-◌, ◌∷◌, Bool, List, false, filter, if◌then◌else◌, nat_le, nat_lt, not, ℕ}
+use Rattle.oca_device.specs.Words.{CommandFields, Entry, Msg, Object, Peer, Reply, first_heartbeat, longest_silence}
+use Rattle.oca_device.specs.Words.{same_peer, within_heartbeats}
 
 -- What is noted of a peer: a datagram of these messages was admitted, a keep-alive set the heartbeat, or a command was
 -- executed on a tree and gave a reply.

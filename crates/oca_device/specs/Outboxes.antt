@@ -1,5 +1,6 @@
 -- The packets of an outbox, as their bytes; and what an outbox keeps that has room for some of them only.
-use Rattle.oca_device.specs.Words.{Bool, List, count_by, length, map, nat_lt, not, read_datagram, take, ℕ}
+use Rattle.std.specs.Prelude.{Bool, List, count_by, length, map, nat_lt, not, take, ℕ}
+use Rattle.oca_device.specs.Words.{read_datagram}
 use Rattle.arrayvec.specs.ArrayVec.{ArrayVec}
 use Rattle.oca_pdu.specs.Limits.{is_response}
 use Rattle.oca_pdu.specs.Datagrams.{read_or_none}

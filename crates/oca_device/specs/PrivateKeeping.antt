@@ -1,7 +1,8 @@
 -- What is taken in and held until the objects are stored.
-use Rattle.oca_device.specs.Words.{[], ◌&&◌, ◌++◌, ◌+◌, ◌<◌, ◌≡◌, Bool, Delivery, DeviceSizes, EndState, IsTrue, List}
-use Rattle.oca_device.specs.Words.{None, Object, Option, Peer, Receives, SendsAllBut, Sent, Some, TakesAllBut}
-use Rattle.oca_device.specs.Words.{if◌then◌else◌, last_u64, length, map, not, ℕ}
+use Rattle.std.specs.Prelude.{[], ◌&&◌, ◌++◌, ◌+◌, ◌<◌, ◌≡◌, Bool, IsTrue, List, None, Option, Some, if◌then◌else◌}
+use Rattle.std.specs.Prelude.{length, map, not, ℕ}
+use Rattle.oca_device.specs.Words.{Delivery, DeviceSizes, EndState, Object, Peer, Receives, SendsAllBut, Sent}
+use Rattle.oca_device.specs.Words.{TakesAllBut, last_u64}
 use Rattle.oca_net.specs.declared.end.Heard.TheVariants as heard
 use Rattle.oca_device.specs.declared.report.Report.{Report}
 use Rattle.oca_device.specs.declared.keeping.HeldPacket.{HeldPacket}

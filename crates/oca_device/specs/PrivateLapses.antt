@@ -1,5 +1,7 @@
 -- For private contracts: which locks silence releases.
-use Rattle.oca_device.specs.Words.{Bool, List, None, Object, Option, Session, Some, false, list_any, ℕ}
+use Rattle.std.specs.Prelude.{Bool, List, None, Option, Some, false, ℕ}
+use Rattle.std.specs.List.{list_any}
+use Rattle.oca_device.specs.Words.{Object, Session}
 use Rattle.oca_tree.specs.declared.object.Lock.{Lock}
 use Rattle.oca_session.specs.Lapses.{lapses}
 

@@ -1,6 +1,6 @@
 -- What serving a datagram, its messages or one message makes of a device and its outbox.
-use Rattle.oca_device.specs.Words.{[], ⊤, ◌++◌, ◌+◌, ◌∷◌, ◌≡◌, ◌≤◌, Bool, DeviceSizes, List, Peer, false, length}
-use Rattle.oca_device.specs.Words.{pdu_encoding, true, ℕ}
+use Rattle.std.specs.Prelude.{[], ⊤, ◌++◌, ◌+◌, ◌∷◌, ◌≡◌, ◌≤◌, Bool, List, false, length, true, ℕ}
+use Rattle.oca_device.specs.Words.{DeviceSizes, Peer, pdu_encoding}
 pub use Rattle.std.specs.List.{AllByRecursion}
 pub use Rattle.oca_types.specs.Peers.{fields_of}
 pub use Rattle.oca_pdu.specs.Messages.{Msg, Command, Response, KeepAlive, Pdu, msg_of}

@@ -1,5 +1,6 @@
 -- What a turn returns, and numbers of reports that fit.
-use Rattle.oca_device.specs.Words.{[], ◌≡◌, ◌≤◌, EndState, None, Option, Receives, Some, one_more, ℕ}
+use Rattle.std.specs.Prelude.{[], ◌≡◌, ◌≤◌, None, Option, Some, ℕ}
+use Rattle.oca_device.specs.Words.{EndState, Receives, one_more}
 use Rattle.oca_net.specs.declared.end.Heard.TheVariants as heard
 use Rattle.oca_device.specs.declared.report.Report.{Report}
 use Rattle.oca_device.specs.Devices.{DeviceState}

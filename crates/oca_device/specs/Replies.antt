@@ -1,7 +1,7 @@
 -- What the loop sends: the packets of each datagram, to its sender.
-use Rattle.oca_device.specs.Words.{[], ◌++◌, ◌+◌, ◌<◌, ◌∷◌, ◌≡◌, Datagram, Delivery, DeviceSizes, EndState, Failed}
-use Rattle.oca_device.specs.Words.{IsTrue, List, Object, Peer, Quiet, Sent, TakesAllBut, if◌then◌else◌}
-use Rattle.oca_device.specs.Words.{largest_datagram, last_u64, length, map, nat_le, ℕ}
+use Rattle.std.specs.Prelude.{[], ◌++◌, ◌+◌, ◌<◌, ◌∷◌, ◌≡◌, IsTrue, List, if◌then◌else◌, length, map, nat_le, ℕ}
+use Rattle.oca_device.specs.Words.{Datagram, Delivery, DeviceSizes, EndState, Failed, Object, Peer, Quiet, Sent}
+use Rattle.oca_device.specs.Words.{TakesAllBut, largest_datagram, last_u64}
 use Rattle.oca_device.specs.declared.report.Report.{Report}
 use Rattle.oca_device.specs.Events.{Event}
 use Rattle.oca_device.specs.Events as event

@@ -1,6 +1,6 @@
 -- What a report says of the turns of the loop: a turn is one delivery of the end.
-use Rattle.oca_device.specs.Words.{[], ◌+◌, ◌∷◌, Datagram, Delivery, DeviceSizes, Failed, List, Object, Quiet}
-use Rattle.oca_device.specs.Words.{if◌then◌else◌, largest_datagram, last_u64, length, min, nat_le, nat_lt, ℕ}
+use Rattle.std.specs.Prelude.{[], ◌+◌, ◌∷◌, List, if◌then◌else◌, length, min, nat_le, nat_lt, ℕ}
+use Rattle.oca_device.specs.Words.{Datagram, Delivery, DeviceSizes, Failed, Object, Quiet, largest_datagram, last_u64}
 use Rattle.oca_device.specs.declared.verdict.Verdict.{Verdict}
 use Rattle.oca_device.specs.declared.verdict.Verdict.TheVariants as verdicts
 use Rattle.oca_device.specs.declared.report.Report.{Report}

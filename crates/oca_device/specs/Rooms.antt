@@ -1,7 +1,7 @@
 -- What a device answers, retains and takes that has room for so many bytes of parameters.
-use Rattle.oca_device.specs.Words.{[], ◌&&◌, ◌+◌, ◌||◌, Bool, Command, DeviceSizes, Entry, KeepAlive, List, Msg, Object}
-use Rattle.oca_device.specs.Words.{Peer, Reply, Response, if◌then◌else◌, length, map, most_command_parameter_bytes}
-use Rattle.oca_device.specs.Words.{most_parameter_bytes, nat_le, nat_lt, status_number, ℕ}
+use Rattle.std.specs.Prelude.{[], ◌&&◌, ◌+◌, ◌||◌, Bool, List, if◌then◌else◌, length, map, nat_le, nat_lt, ℕ}
+use Rattle.oca_device.specs.Words.{Command, DeviceSizes, Entry, KeepAlive, Msg, Object, Peer, Reply, Response}
+use Rattle.oca_device.specs.Words.{most_command_parameter_bytes, most_parameter_bytes, status_number}
 use Rattle.oca_types.specs.declared.status.Status.TheVariants as status
 use Rattle.oca_pdu.specs.declared.fault.PduFaultKind.TheVariants.{TooLong}
 use Rattle.oca_device.specs.declared.verdict.Verdict.{Verdict}

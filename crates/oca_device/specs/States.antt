@@ -1,8 +1,9 @@
 -- The state after events: the objects, the clock, and the notes (profile; execution is AES70-2's).
-use Rattle.oca_device.specs.Words.{[], ◌*◌, ◌||◌, ◌∷◌, Bool, Command, CommandFields, DeviceSizes, Duplicate, Err, Fresh}
-use Rattle.oca_device.specs.Words.{Judgement, KeepAlive, List, LocalChange, Millis, Msg, Object, Ok, Old, PduFault}
-use Rattle.oca_device.specs.Words.{Peer, Reply, Response, Result, Reused, Seconds, after_change, execution, filter}
-use Rattle.oca_device.specs.Words.{if◌then◌else◌, judgement, length, max, nat_lt, read_datagram, released, ℕ}
+use Rattle.std.specs.Prelude.{[], ◌*◌, ◌||◌, ◌∷◌, Bool, Err, List, Ok, Result, filter, if◌then◌else◌, length, max}
+use Rattle.std.specs.Prelude.{nat_lt, ℕ}
+use Rattle.oca_device.specs.Words.{Command, CommandFields, DeviceSizes, Duplicate, Fresh, Judgement, KeepAlive}
+use Rattle.oca_device.specs.Words.{LocalChange, Millis, Msg, Object, Old, PduFault, Peer, Reply, Response, Reused}
+use Rattle.oca_device.specs.Words.{Seconds, after_change, execution, judgement, read_datagram, released}
 use Rattle.oca_pdu.specs.declared.message.Form.{Form}
 use Rattle.oca_device.specs.Events.{Event, Datagram, Tick, Local}
 use Rattle.oca_device.specs.Notes.{Noted, Admitted, Heartbeat, Executed, Note, run, is_noted, noted_peers, accepted}

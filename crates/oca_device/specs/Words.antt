@@ -1,4 +1,4 @@
--- What the definitions of this crate name, of std and of the crates below.
+-- What the definitions of this crate name of the crates below.
 pub use Rattle.oca_net.specs.Deliveries.{Datagram, Delivery, Failed, Quiet, Sent}
 pub use Rattle.oca_net.specs.EndStates.{EndState, Receives, SendsAllBut}
 pub use Rattle.oca_net.specs.Ends.{TakesAllBut, largest_datagram, last_u64, one_more}
@@ -24,7 +24,3 @@ pub use Rattle.oca_types.specs.Replies.{Reply}
 pub use Rattle.oca_types.specs.Sizes.{DeviceSizes, most_command_parameter_bytes, most_parameter_bytes}
 pub use Rattle.oca_types.specs.Status.{status_number}
 pub use Rattle.oca_types.specs.declared.words.Peer.{Peer}
-pub use Rattle.std.specs.List.{AllByRecursion, flat_map, list_all, list_any}
-pub use Rattle.std.specs.Prelude.{[], ⊤, ◌&&◌, ◌*◌, ◌++◌, ◌+◌, ◌-◌, ◌<◌, ◌==◌, ◌^◌, ◌||◌, ◌∷◌, ◌≡◌, ◌≤◌, Bool, Err}
-pub use Rattle.std.specs.Prelude.{IsTrue, List, None, Ok, Option, Result, Some, count_by, false, filter, if◌then◌else◌}
-pub use Rattle.std.specs.Prelude.{length, map, max, min, nat_le, nat_lt, not, take, true, ℕ}

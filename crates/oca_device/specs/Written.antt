@@ -1,7 +1,7 @@
 -- Which objects the last datagram wrote to.
-use Rattle.oca_device.specs.Words.{[], ◌++◌, ◌∷◌, Command, CommandFields, DeviceSizes, Duplicate, Err, Fresh, Judgement}
-use Rattle.oca_device.specs.Words.{KeepAlive, List, Msg, Object, Ok, Old, PduFault, Peer, Response, Result, Reused}
-use Rattle.oca_device.specs.Words.{if◌then◌else◌, map, max, read_datagram, wrote, ℕ}
+use Rattle.std.specs.Prelude.{[], ◌++◌, ◌∷◌, Err, List, Ok, Result, if◌then◌else◌, map, max, ℕ}
+use Rattle.oca_device.specs.Words.{Command, CommandFields, DeviceSizes, Duplicate, Fresh, Judgement, KeepAlive, Msg}
+use Rattle.oca_device.specs.Words.{Object, Old, PduFault, Peer, Response, Reused, read_datagram, wrote}
 use Rattle.oca_types.specs.declared.words.Ono.{Ono}
 use Rattle.oca_device.specs.Events.{Event, Datagram, Tick, Local}
 use Rattle.oca_device.specs.Notes.{Admitted}

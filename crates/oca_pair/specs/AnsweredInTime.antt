@@ -1,10 +1,11 @@
 -- THE LAW OF ANSWERS IN TIME, over every schedule: where a link and the network are in time, each command in flight is
 -- answered when a copy of it finds room, whatever the device forgot meanwhile. Of the commands that earlier links of
 -- the peer left behind, only those take room in the window whose link left off at most 100,000 ms before the submit.
-use Rattle.oca_pair.specs.Words.{[], ◌&&◌, ◌*◌, ◌++◌, ◌+◌, ◌<◌, ◌∷◌, ◌≡◌, ◌≤◌, AllByRecursion, CommandFields}
-use Rattle.oca_pair.specs.Words.{DeviceSizes, Handle, IsAskedEvery, List, Object, Peer, Request, Some, command_under}
-use Rattle.oca_pair.specs.Words.{false, if◌then◌else◌, is_none, length, nat_le, present_moment, same_peer, slice_get}
-use Rattle.oca_pair.specs.Words.{true, ℕ}
+use Rattle.std.specs.Prelude.{[], ◌&&◌, ◌*◌, ◌++◌, ◌+◌, ◌<◌, ◌∷◌, ◌≡◌, ◌≤◌, List, Some, false, if◌then◌else◌, is_none}
+use Rattle.std.specs.Prelude.{length, nat_le, true, ℕ}
+use Rattle.std.specs.List.{AllByRecursion, slice_get}
+use Rattle.oca_pair.specs.Words.{CommandFields, DeviceSizes, Handle, IsAskedEvery, Object, Peer, Request, command_under}
+use Rattle.oca_pair.specs.Words.{present_moment, same_peer}
 use Rattle.oca_pair.specs.declared.outcome.Outcome.TheVariants as outcomes
 use Rattle.oca_pair.specs.declared.start.Start.{Start}
 use Rattle.oca_pair.specs.Networks.{Network, PeerLink, SentDatagram, Renewal, Setup, opening, zero_after, zero_of}

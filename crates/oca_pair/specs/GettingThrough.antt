@@ -1,11 +1,11 @@
 -- THE LAW OF GETTING THROUGH, over every schedule: a link that is asked often enough gives each command out to the
 -- device until it has the command's answer or is lost; and one copy that arrives, and the one response that comes back,
 -- are enough.
-use Rattle.oca_pair.specs.Words.{[], ◌++◌, ◌==◌, ◌∷◌, ◌≡◌, ◌⊎◌, AllByRecursion, CommandFields, Commands, Contains}
-use Rattle.oca_pair.specs.Words.{DeviceSizes, Handle, IsAskedEvery, IsSentInTime, LinkState, List, Msg, None, Object}
-use Rattle.oca_pair.specs.Words.{Option, Peer, Request, Some, answer_under, command_under, decision, due_answer}
-use Rattle.oca_pair.specs.Words.{due_bytes, if◌then◌else◌, pdu_encoding, present_moment, reception, same_peer}
-use Rattle.oca_pair.specs.Words.{slice_get, submission, true, ℕ}
+use Rattle.std.specs.Prelude.{[], ◌++◌, ◌==◌, ◌∷◌, ◌≡◌, ◌⊎◌, List, None, Option, Some, if◌then◌else◌, true, ℕ}
+use Rattle.std.specs.List.{AllByRecursion, Contains, slice_get}
+use Rattle.oca_pair.specs.Words.{CommandFields, Commands, DeviceSizes, Handle, IsAskedEvery, IsSentInTime, LinkState}
+use Rattle.oca_pair.specs.Words.{Msg, Object, Peer, Request, answer_under, command_under, decision, due_answer}
+use Rattle.oca_pair.specs.Words.{due_bytes, pdu_encoding, present_moment, reception, same_peer, submission}
 use Rattle.oca_control.specs.Histories.{Call, Submits, SendsDue, Receives, TakesAnswer, clock_of_calls, sendings}
 use Rattle.oca_pair.specs.declared.outcome.Outcome.TheVariants as outcomes
 use Rattle.oca_pair.specs.declared.start.Start.{Start}

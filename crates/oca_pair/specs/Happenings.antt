@@ -1,7 +1,8 @@
 -- WHAT HAPPENED TO THE DEVICE of a network, in the words of the device's law by events. Of events and happenings the
 -- latest stands first.
-use Rattle.oca_pair.specs.Words.{[], ◌++◌, ◌∷◌, Datagram, Err, Event, EventsAreBytes, Happened, Happening, List, Local}
-use Rattle.oca_pair.specs.Words.{Msg, Ok, Passes, PduFault, Peer, Result, Says, Sets, Tick, read_datagram}
+use Rattle.std.specs.Prelude.{[], ◌++◌, ◌∷◌, Err, List, Ok, Result}
+use Rattle.oca_pair.specs.Words.{Datagram, Event, EventsAreBytes, Happened, Happening, Local, Msg, Passes, PduFault}
+use Rattle.oca_pair.specs.Words.{Peer, Says, Sets, Tick, read_datagram}
 
 -- what a peer says with bytes of which this was read: the messages of a datagram, and nothing with other bytes
 abbrev pub sayings : Peer → Result (List Msg) PduFault → List Happening

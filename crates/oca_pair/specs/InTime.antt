@@ -1,10 +1,10 @@
 -- THE LAW OF COPIES IN TIME, over every schedule: where a link is not asked what is due while it is late, and none of
 -- its datagrams is on its way for longer than 100,000 ms, each of its commands is executed at most once, whatever the
 -- device forgets meanwhile.
-use Rattle.oca_pair.specs.Words.{[], ◌++◌, ◌+◌, ◌==◌, ◌∷◌, ◌≡◌, ◌≤◌, ◌⊎◌, AnswerFields, CommandFields, DeviceSizes}
-use Rattle.oca_pair.specs.Words.{GivesKeepAlive, IsDistinct, List, None, Object, Option, Passes, Peer, Some}
-use Rattle.oca_pair.specs.Words.{accepted_by, admitted, answer_under, clock, decision, false, late_at, list_any, map}
-use Rattle.oca_pair.specs.Words.{present_moment, slice_get, true, ℕ}
+use Rattle.std.specs.Prelude.{[], ◌++◌, ◌+◌, ◌==◌, ◌∷◌, ◌≡◌, ◌≤◌, ◌⊎◌, List, None, Option, Some, false, map, true, ℕ}
+use Rattle.std.specs.List.{IsDistinct, list_any, slice_get}
+use Rattle.oca_pair.specs.Words.{AnswerFields, CommandFields, DeviceSizes, GivesKeepAlive, Object, Passes, Peer}
+use Rattle.oca_pair.specs.Words.{accepted_by, admitted, answer_under, clock, decision, late_at, present_moment}
 use Rattle.oca_pair.specs.declared.start.Start.{Start}
 use Rattle.oca_pair.specs.Networks.{Network, PeerLink, SentDatagram, Setup, device_zero_of, opening, zero_of}
 use Rattle.oca_pair.specs.Steps.{Step, Submit, Due, ToDevice, ToLink, Other, Tick, Local, Take, Renew, Beside}

@@ -1,9 +1,11 @@
 -- THE LAWS OF A NETWORK, over every schedule.
-use Rattle.oca_pair.specs.Words.{[], ◌++◌, ◌+◌, ◌<◌, ◌==◌, ◌∷◌, ◌≡◌, ◌⊎◌, AllByRecursion, AnswerFields, Change}
-use Rattle.oca_pair.specs.Words.{CommandFields, Commands, Contains, Datagram, DeviceSizes, Event, Executes, IsDistinct}
-use Rattle.oca_pair.specs.Words.{List, Object, Peer, Releases, Reply, Sets, Some, Tick, Untaken, after_change}
-use Rattle.oca_pair.specs.Words.{answer_under, changes, execution, false, filter, if◌then◌else◌, map, pdu_encoding}
-use Rattle.oca_pair.specs.Words.{pdu_of, released, reply_of, response, same_peer, slice_get, status_number, true, ℕ}
+use Rattle.std.specs.Prelude.{[], ◌++◌, ◌+◌, ◌<◌, ◌==◌, ◌∷◌, ◌≡◌, ◌⊎◌, List, Some, false, filter, if◌then◌else◌, map}
+use Rattle.std.specs.Prelude.{true, ℕ}
+use Rattle.std.specs.List.{AllByRecursion, Contains, IsDistinct, slice_get}
+use Rattle.oca_pair.specs.Words.{AnswerFields, Change, CommandFields, Commands, Datagram, DeviceSizes, Event, Executes}
+use Rattle.oca_pair.specs.Words.{Object, Peer, Releases, Reply, Sets, Tick, Untaken, after_change, answer_under}
+use Rattle.oca_pair.specs.Words.{changes, execution, pdu_encoding, pdu_of, released, reply_of, response, same_peer}
+use Rattle.oca_pair.specs.Words.{status_number}
 use Rattle.oca_device.specs.declared.verdict.Verdict.TheVariants as verdicts
 use Rattle.oca_device.specs.LawByEvents as law
 use Rattle.oca_pair.specs.declared.outcome.Outcome.TheVariants as outcomes

@@ -1,9 +1,10 @@
 -- Both ends over a network: a device, links to it, each of a peer of its own, and every datagram that was sent between
 -- them. No list of a network ever loses a member, so a datagram can be delivered late, again, in any order, or never.
 -- Of events the latest stands first; of datagrams, submitted commands and taken answers the latest stands last.
-use Rattle.oca_pair.specs.Words.{[], ◌++◌, ◌+◌, ◌∷◌, AnswerFields, Bool, CommandFields, DeviceSizes, Event, LinkState}
-use Rattle.oca_pair.specs.Words.{List, Object, Peer, filter, if◌then◌else◌, length, list_any, map, new_link, same_peer}
-use Rattle.oca_pair.specs.Words.{ℕ}
+use Rattle.std.specs.Prelude.{[], ◌++◌, ◌+◌, ◌∷◌, Bool, List, filter, if◌then◌else◌, length, map, ℕ}
+use Rattle.std.specs.List.{list_any}
+use Rattle.oca_pair.specs.Words.{AnswerFields, CommandFields, DeviceSizes, Event, LinkState, Object, Peer, new_link}
+use Rattle.oca_pair.specs.Words.{same_peer}
 use Rattle.oca_pair.specs.declared.start.Start.{Start}
 
 -- HOW A NETWORK IS SET UP: the device's address; and for the first link of each peer its span, and the moment at which

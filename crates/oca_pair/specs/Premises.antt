@@ -1,8 +1,9 @@
 -- WHAT THE LAWS ASK of a schedule, by the steps and by the datagrams that came to the device.
-use Rattle.oca_pair.specs.Words.{[], ◌&&◌, ◌*◌, ◌+◌, ◌-◌, ◌<◌, ◌^◌, ◌∷◌, ◌≡◌, ◌≤◌, AllByRecursion, Arrival, Bool}
-use Rattle.oca_pair.specs.Words.{DeviceSizes, Happening, List, Passes, Peer, Request, Says, Sets, admitted, clock}
-use Rattle.oca_pair.specs.Words.{filter, has_room, last_moment, length, list_all, list_any, not, same_peer, session}
-use Rattle.oca_pair.specs.Words.{true, ℕ}
+use Rattle.std.specs.Prelude.{[], ◌&&◌, ◌*◌, ◌+◌, ◌-◌, ◌<◌, ◌^◌, ◌∷◌, ◌≡◌, ◌≤◌, Bool, List, filter, length, not, true}
+use Rattle.std.specs.Prelude.{ℕ}
+use Rattle.std.specs.List.{AllByRecursion, list_all, list_any}
+use Rattle.oca_pair.specs.Words.{Arrival, DeviceSizes, Happening, Passes, Peer, Request, Says, Sets, admitted, clock}
+use Rattle.oca_pair.specs.Words.{has_room, last_moment, same_peer, session}
 use Rattle.oca_session.specs.Limits.{longest_silence}
 use Rattle.oca_pair.specs.declared.start.Start.{Start}
 use Rattle.oca_pair.specs.Networks.{Network, PeerLink, left_behind}

@@ -1,7 +1,8 @@
 -- What a network that runs shows of the network that a schedule speaks of.
-use Rattle.oca_pair.specs.Words.{[], ◌∷◌, ◌≡◌, AllByRecursion, Bool, Decision, Err, GivesNothing, IsLost, List, None}
-use Rattle.oca_pair.specs.Words.{Ok, Option, Peer, Represents, Result, Some, false, if◌then◌else◌, reception, same_peer}
-use Rattle.oca_pair.specs.Words.{true, ℕ}
+use Rattle.std.specs.Prelude.{[], ◌∷◌, ◌≡◌, Bool, Err, List, None, Ok, Option, Result, Some, false, if◌then◌else◌, true}
+use Rattle.std.specs.Prelude.{ℕ}
+use Rattle.std.specs.List.{AllByRecursion}
+use Rattle.oca_pair.specs.Words.{Decision, GivesNothing, IsLost, Peer, Represents, reception, same_peer}
 use Rattle.std.specs.Option.{option_or}
 use Rattle.oca_pair.specs.declared.outcome.Outcome.{Outcome}
 use Rattle.oca_control.specs.declared.reception.Reception.{Reception}

@@ -1,9 +1,10 @@
 -- THE LAW OF THE ROUND TRIP, over every schedule: a command that a link holds untaken comes to the device, what the
 -- device sends comes to the link, and the link has the command's answer, whatever happens in between but a renewal of
 -- the link.
-use Rattle.oca_pair.specs.Words.{[], ◌++◌, ◌∷◌, ◌≡◌, ◌⊎◌, AllByRecursion, AnswerFields, CommandFields, Contains}
-use Rattle.oca_pair.specs.Words.{DeviceSizes, List, Object, Peer, Reply, Some, Untaken, answer_under, length}
-use Rattle.oca_pair.specs.Words.{pdu_encoding, pdu_of, response, slice_get, true, ℕ}
+use Rattle.std.specs.Prelude.{[], ◌++◌, ◌∷◌, ◌≡◌, ◌⊎◌, List, Some, length, true, ℕ}
+use Rattle.std.specs.List.{AllByRecursion, Contains, slice_get}
+use Rattle.oca_pair.specs.Words.{AnswerFields, CommandFields, DeviceSizes, Object, Peer, Reply, Untaken, answer_under}
+use Rattle.oca_pair.specs.Words.{pdu_encoding, pdu_of, response}
 use Rattle.oca_pair.specs.declared.start.Start.{Start}
 use Rattle.oca_pair.specs.Networks.{Network, PeerLink, SentDatagram, Setup, opening, times_renewed}
 use Rattle.oca_pair.specs.Steps.{Step, ToDevice, ToLink, after_step, after_steps}

@@ -1,12 +1,13 @@
 -- THE LAW OF WHAT A PANEL SAYS OF A DEVICE, over every schedule: where a link and the network are in time, each answer
 -- to a command of the link is that of one execution, which lies between the call and its answer; and what it says is
 -- what the device then held.
-use Rattle.oca_pair.specs.Words.{[], ◌++◌, ◌∷◌, ◌≡◌, ◌≢◌, ◌⊎◌, All, AnswerFields, AskedBy, Bool, Class, CommandFields}
-use Rattle.oca_pair.specs.Words.{DeviceSizes, Handle, IsCallFor, IsOfItsTypes, IsRequest, IsTree, List, Method, Object}
-use Rattle.oca_pair.specs.Words.{Peer, Reading, Request, Some, Value, answer_given, answer_in, answer_under, changed_by}
-use Rattle.oca_pair.specs.Words.{changes, class_of, class_of_ono, class_of_value, command_under, execution, false}
-use Rattle.oca_pair.specs.Words.{held_set_to, object_of, reading_held, reading_set_to, reply_of, slice_get}
-use Rattle.oca_pair.specs.Words.{status_number, status_of, true, value_without_limits, with_object, ℕ}
+use Rattle.std.specs.Prelude.{[], ◌++◌, ◌∷◌, ◌≡◌, ◌≢◌, ◌⊎◌, Bool, List, Some, false, true, ℕ}
+use Rattle.std.specs.List.{All, slice_get}
+use Rattle.oca_pair.specs.Words.{AnswerFields, AskedBy, Class, CommandFields, DeviceSizes, Handle, IsCallFor}
+use Rattle.oca_pair.specs.Words.{IsOfItsTypes, IsRequest, IsTree, Method, Object, Peer, Reading, Request, Value}
+use Rattle.oca_pair.specs.Words.{answer_given, answer_in, answer_under, changed_by, changes, class_of, class_of_ono}
+use Rattle.oca_pair.specs.Words.{class_of_value, command_under, execution, held_set_to, object_of, reading_held}
+use Rattle.oca_pair.specs.Words.{reading_set_to, reply_of, status_number, status_of, value_without_limits, with_object}
 use Rattle.oca_model.specs.declared.answer.Answer.TheVariants as answers
 use Rattle.oca_model.specs.declared.request.Request.{Request as Asked}
 use Rattle.oca_model.specs.declared.request.Request.TheVariants as asked

@@ -1,12 +1,13 @@
 -- THE STEPS OF A NETWORK. A schedule is any list of steps, of which the first comes first.
-use Rattle.oca_pair.specs.Words.{[], ◌++◌, ◌+◌, ◌∷◌, AnswerFields, Bool, ControlFault, Datagram, Decision, Err}
-use Rattle.oca_pair.specs.Words.{FrontFault, GivesCommand, GivesKeepAlive, GivesNothing, Handle, IsLost, LinkState}
-use Rattle.oca_pair.specs.Words.{List, LocalChange, Msg, None, Object, Ok, Option, PduFault, Peer, Request, Result}
-use Rattle.oca_pair.specs.Words.{SetFault, Some, ToEnabled, ToFailing, ToLabel, ToUnlocked, ToValue, Untaken}
-use Rattle.oca_pair.specs.Words.{after_submission, answer_under, command_under, decision, due_bytes, false, filter}
-use Rattle.oca_pair.specs.Words.{front_fault, gone_on, if◌then◌else◌, is_none, is_some, length, list_any, map, nat_le}
-use Rattle.oca_pair.specs.Words.{new_link, not, packets, read_datagram, received, reception, same_peer, set_fault}
-use Rattle.oca_pair.specs.Words.{slice_get, slice_set, state_after, submission, taken, true, verdict, ℕ}
+use Rattle.std.specs.Prelude.{[], ◌++◌, ◌+◌, ◌∷◌, Bool, Err, List, None, Ok, Option, Result, Some, false, filter}
+use Rattle.std.specs.Prelude.{if◌then◌else◌, is_none, is_some, length, map, nat_le, not, true, ℕ}
+use Rattle.std.specs.List.{list_any, slice_get, slice_set}
+use Rattle.oca_pair.specs.Words.{AnswerFields, ControlFault, Datagram, Decision, FrontFault, GivesCommand}
+use Rattle.oca_pair.specs.Words.{GivesKeepAlive, GivesNothing, Handle, IsLost, LinkState, LocalChange, Msg, Object}
+use Rattle.oca_pair.specs.Words.{PduFault, Peer, Request, SetFault, ToEnabled, ToFailing, ToLabel, ToUnlocked, ToValue}
+use Rattle.oca_pair.specs.Words.{Untaken, after_submission, answer_under, command_under, decision, due_bytes}
+use Rattle.oca_pair.specs.Words.{front_fault, gone_on, new_link, packets, read_datagram, received, reception, same_peer}
+use Rattle.oca_pair.specs.Words.{set_fault, state_after, submission, taken, verdict}
 use Rattle.oca_device.specs.Events as event
 use Rattle.oca_model.specs.declared.request.Request.TheVariants as asked
 use Rattle.oca_pair.specs.declared.outcome.Outcome.{Outcome}

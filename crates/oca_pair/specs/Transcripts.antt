@@ -1,6 +1,7 @@
 -- WHAT RUNNING A SCHEDULE ANSWERS.
-use Rattle.oca_pair.specs.Words.{◌≡◌, DeviceSizes, Err, List, None, Object, Ok, Represents, Result, Some, ToEnabled}
-use Rattle.oca_pair.specs.Words.{ToFailing, ToLabel, ToUnlocked, ToValue, false, map, span_size, true, ℕ}
+use Rattle.std.specs.Prelude.{◌≡◌, Err, List, None, Ok, Result, Some, false, map, true, ℕ}
+use Rattle.oca_pair.specs.Words.{DeviceSizes, Object, Represents, ToEnabled, ToFailing, ToLabel, ToUnlocked, ToValue}
+use Rattle.oca_pair.specs.Words.{span_size}
 use Rattle.oca_pair.specs.declared.fault.PairFault.{PairFault}
 use Rattle.oca_pair.specs.declared.fault.PairFault.TheVariants as faults
 use Rattle.oca_pair.specs.declared.pair.Transcript.{Transcript}

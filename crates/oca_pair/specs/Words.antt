@@ -1,4 +1,4 @@
--- What the definitions of this crate name, of std and of the crates below.
+-- What the definitions of this crate name of the crates below.
 pub use Rattle.oca_control.specs.Answering.{IsAskedEvery, IsSentInTime}
 pub use Rattle.oca_control.specs.Answers.{AnswerFields}
 pub use Rattle.oca_control.specs.Links.{Decision, GivesCommand, GivesKeepAlive, GivesNothing, IsLost, LinkState}
@@ -47,7 +47,3 @@ pub use Rattle.oca_types.specs.declared.class.Class.{Class}
 pub use Rattle.oca_types.specs.declared.class.Method.{Method}
 pub use Rattle.oca_types.specs.declared.words.Handle.{Handle}
 pub use Rattle.oca_types.specs.declared.words.Peer.{Peer}
-pub use Rattle.std.specs.List.{All, AllByRecursion, Contains, IsDistinct, list_all, list_any, slice_get, slice_set}
-pub use Rattle.std.specs.Prelude.{[], ◌&&◌, ◌*◌, ◌++◌, ◌+◌, ◌-◌, ◌<◌, ◌==◌, ◌^◌, ◌∷◌, ◌≡◌, ◌≢◌, ◌≤◌, ◌⊎◌, Bool, Err}
-pub use Rattle.std.specs.Prelude.{List, None, Ok, Option, Result, Some, false, filter, if◌then◌else◌, is_none, is_some}
-pub use Rattle.std.specs.Prelude.{length, map, nat_le, not, true, ℕ}

@@ -1,6 +1,6 @@
 -- Commands of any method that are begun (AES70-2).
-use Rattle.oca_panel.specs.Words.{◌≡◌, Class, ControlFault, Err, Handle, IsRefusedCall, Ok, Request, RequestFault}
-use Rattle.oca_panel.specs.Words.{RequestFields, Result, ℕ}
+use Rattle.std.specs.Prelude.{◌≡◌, Err, Ok, Result, ℕ}
+use Rattle.oca_panel.specs.Words.{Class, ControlFault, Handle, IsRefusedCall, Request, RequestFault, RequestFields}
 use Rattle.oca_panel.specs.declared.trouble.Trouble.{Trouble}
 use Rattle.oca_panel.specs.declared.trouble.Trouble.TheVariants as trouble
 use Rattle.oca_panel.specs.Panels.{PanelState, BeginsIn}

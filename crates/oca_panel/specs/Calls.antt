@@ -1,5 +1,6 @@
 -- A keep-alive that is sent beside a panel's link.
-use Rattle.oca_panel.specs.Words.{◌≡◌, EndState, Heard, List, Peer, Receives, ℕ}
+use Rattle.std.specs.Prelude.{◌≡◌, List, ℕ}
+use Rattle.oca_panel.specs.Words.{EndState, Heard, Peer, Receives}
 use Rattle.oca_panel.specs.Panels.{PanelState}
 use Rattle.oca_panel.specs.Probes.{SendsKeepAlive}
 

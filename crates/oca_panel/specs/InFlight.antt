@@ -1,7 +1,8 @@
 -- Commands in flight on a panel, in the order in which they were begun. Of each there is its handle, and what its
 -- caller says of it.
-use Rattle.oca_panel.specs.Words.{[], ◌++◌, ◌==◌, ◌∷◌, ◌≡◌, Bool, ControlFault, Err, Handle, LinkState, List, None, Ok}
-use Rattle.oca_panel.specs.Words.{Option, Outcome, RequestFields, Result, Some, answer_under, false, length, true, ℕ}
+use Rattle.std.specs.Prelude.{[], ◌++◌, ◌==◌, ◌∷◌, ◌≡◌, Bool, Err, List, None, Ok, Option, Result, Some, false, length}
+use Rattle.std.specs.Prelude.{true, ℕ}
+use Rattle.oca_panel.specs.Words.{ControlFault, Handle, LinkState, Outcome, RequestFields, answer_under}
 use Rattle.oca_control.specs.declared.fault.ControlFault.TheVariants.{SpanFull}
 use Rattle.oca_panel.specs.Panels.{PanelState, BeginsIn, FinishesIn, SettlesIn}
 

@@ -1,6 +1,7 @@
 -- What a panel asks of an object, and what comes of it (AES70-2).
-use Rattle.oca_panel.specs.Words.{◌≡◌, Class, ControlFault, Err, Handle, IsCallFor, Method, None, Ok, Option, Outcome}
-use Rattle.oca_panel.specs.Words.{Reading, Request, RequestFields, Result, Some, value_without_limits, ℕ}
+use Rattle.std.specs.Prelude.{◌≡◌, Err, None, Ok, Option, Result, Some, ℕ}
+use Rattle.oca_panel.specs.Words.{Class, ControlFault, Handle, IsCallFor, Method, Outcome, Reading, Request}
+use Rattle.oca_panel.specs.Words.{RequestFields, value_without_limits}
 use Rattle.oca_types.specs.declared.class.Class.TheVariants as class
 use Rattle.oca_model.specs.declared.request.Request.TheVariants as requests
 use Rattle.oca_model.specs.declared.value.Value.{Value}

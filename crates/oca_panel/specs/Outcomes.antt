@@ -1,7 +1,7 @@
 -- What the answer to a command says (AES70-2).
-use Rattle.oca_panel.specs.Words.{◌==◌, Answer, Bool, Class, Err, List, Method, Ok, Option, Outcome, Reading, Result}
-use Rattle.oca_panel.specs.Words.{answer_in, class_id_in, class_with, if◌then◌else◌, members_in, reading_in}
-use Rattle.oca_panel.specs.Words.{switch_names_in, ℕ}
+use Rattle.std.specs.Prelude.{◌==◌, Bool, Err, List, Ok, Option, Result, if◌then◌else◌, ℕ}
+use Rattle.oca_panel.specs.Words.{Answer, Class, Method, Outcome, Reading, answer_in, class_id_in, class_with}
+use Rattle.oca_panel.specs.Words.{members_in, reading_in, switch_names_in}
 use Rattle.std.specs.Option.{ok_or}
 use Rattle.oca_types.specs.declared.class.Class.TheVariants as class
 use Rattle.oca_types.specs.declared.class.Method.TheVariants as method

@@ -1,5 +1,5 @@
 -- A port of one's own and a first handle, by the time of day.
-use Rattle.oca_panel.specs.Words.{◌%◌, ◌*◌, ◌+◌, ◌/◌, ◌<◌, ◌==◌, ◌≡◌, ◌≤◌, if◌then◌else◌, ℕ}
+use Rattle.std.specs.Prelude.{◌%◌, ◌*◌, ◌+◌, ◌/◌, ◌<◌, ◌==◌, ◌≡◌, ◌≤◌, if◌then◌else◌, ℕ}
 use Rattle.std.specs.Time.{FitsClock}
 use Rattle.oca_panel.specs.declared.own_port.OwnPort.{OwnPort}
 

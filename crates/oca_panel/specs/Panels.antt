@@ -1,7 +1,7 @@
 -- A panel: its link, the end that it is driven over, and what its calls do.
-use Rattle.oca_panel.specs.Words.{◌&&◌, ◌==◌, ◌||◌, ◌≡◌, Begins, Bool, ControlFault, DriveReport, EndState, Err, Handle}
-use Rattle.oca_panel.specs.Words.{LinkState, None, Ok, Option, Outcome, Peer, RequestFields, Result, Some, Turns, Waits}
-use Rattle.oca_panel.specs.Words.{answer_under, false, new_link, not, true, ℕ}
+use Rattle.std.specs.Prelude.{◌&&◌, ◌==◌, ◌||◌, ◌≡◌, Bool, Err, None, Ok, Option, Result, Some, false, not, true, ℕ}
+use Rattle.oca_panel.specs.Words.{Begins, ControlFault, DriveReport, EndState, Handle, LinkState, Outcome, Peer}
+use Rattle.oca_panel.specs.Words.{RequestFields, Turns, Waits, answer_under, new_link}
 use Rattle.oca_control.specs.declared.outcome.Outcome.TheVariants as outcomes
 use Rattle.oca_control.specs.Asking.{IsPresent}
 use Rattle.oca_control.specs.Waiting.{WaitsWhile}

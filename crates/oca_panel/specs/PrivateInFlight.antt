@@ -1,5 +1,6 @@
 -- For private contracts: the first of a queue.
-use Rattle.oca_panel.specs.Words.{[], ◌∷◌, ◌≡◌, Handle, List, None, Option, Some, ℕ}
+use Rattle.std.specs.Prelude.{[], ◌∷◌, ◌≡◌, List, None, Option, Some, ℕ}
+use Rattle.oca_panel.specs.Words.{Handle}
 
 -- the first was taken off, where there is one
 abbrev pub TakesOff : {T : Type 0} → Option (Handle × T) → (queue rest : List (ℕ × T)) → Type 0

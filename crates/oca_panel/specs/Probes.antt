@@ -1,7 +1,7 @@
 -- Whether a device answers the commands of a port: how it is asked (AES70-3; that it is asked is the profile's).
-use Rattle.oca_panel.specs.Words.{[], ◌+◌, ◌<◌, ◌≡◌, Bool, ControlFault, DriveReport, EndState, Err, Handle, IsPresent}
-use Rattle.oca_panel.specs.Words.{LinkState, None, Ok, Option, Outcome, Peer, RequestFields, Result, Sends, Some, Waits}
-use Rattle.oca_panel.specs.Words.{false, new_link, submitted, true, ℕ}
+use Rattle.std.specs.Prelude.{[], ◌+◌, ◌<◌, ◌≡◌, Bool, Err, None, Ok, Option, Result, Some, false, true, ℕ}
+use Rattle.oca_panel.specs.Words.{ControlFault, DriveReport, EndState, Handle, IsPresent, LinkState, Outcome, Peer}
+use Rattle.oca_panel.specs.Words.{RequestFields, Sends, Waits, new_link, submitted}
 use Rattle.oca_pdu.specs.declared.message.Form.TheVariants.{Seconds}
 use Rattle.oca_pdu.specs.Messages.{OneKeepAlive}
 use Rattle.oca_pdu.specs.Encoding.{pdu_encoding}

@@ -1,5 +1,6 @@
 -- A panel that goes on with a new link over the same end, and a turn with its report.
-use Rattle.oca_panel.specs.Words.{◌||◌, ◌≡◌, Bool, DriveReport, Peer, Turns, late_at, new_link, ℕ}
+use Rattle.std.specs.Prelude.{◌||◌, ◌≡◌, Bool, ℕ}
+use Rattle.oca_panel.specs.Words.{DriveReport, Peer, Turns, late_at, new_link}
 use Rattle.oca_control.specs.Asking.{IsPresent}
 use Rattle.oca_panel.specs.Panels.{PanelState}
 

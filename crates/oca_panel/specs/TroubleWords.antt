@@ -1,6 +1,6 @@
 -- Why something asked of an object is not done, in words (the names of statuses are those of AES70-2, OcaStatus; the
 -- other words are the profile's).
-use Rattle.oca_panel.specs.Words.{◌++◌, List, None, Option, Some, codes, decimal, ℕ}
+use Rattle.std.specs.Prelude.{◌++◌, List, None, Option, Some, codes, decimal, ℕ}
 use Rattle.oca_control.specs.FaultWords.{control_fault_words}
 use Rattle.oca_model.specs.Statuses.{status_name_of}
 use Rattle.oca_panel.specs.declared.trouble.Trouble.{Trouble}

@@ -1,6 +1,7 @@
 -- A walk through the objects of a device: what is asked, in which order, and what is found (AES70-2, OcaBlock).
-use Rattle.oca_panel.specs.Words.{[], ◌++◌, ◌==◌, ◌∷◌, ◌≡◌, ◌≤◌, ◌⊎◌, Bool, Class, Err, List, None, Ok, Ono, Option}
-use Rattle.oca_panel.specs.Words.{Result, Some, class_with, false, length, true, ℕ}
+use Rattle.std.specs.Prelude.{[], ◌++◌, ◌==◌, ◌∷◌, ◌≡◌, ◌≤◌, ◌⊎◌, Bool, Err, List, None, Ok, Option, Result, Some}
+use Rattle.std.specs.Prelude.{false, length, true, ℕ}
+use Rattle.oca_panel.specs.Words.{Class, Ono, class_with}
 use Rattle.std.specs.List.{list_any}
 use Rattle.oca_types.specs.declared.class.Class.TheVariants as class
 use Rattle.oca_model.specs.declared.request.Request.TheVariants as requests

@@ -1,5 +1,6 @@
 -- The places of a walk, taken one by one (AES70-2, OcaBlock).
-use Rattle.oca_panel.specs.Words.{[], ◌++◌, ◌∷◌, ◌≡◌, ◌≤◌, ◌⊎◌, Bool, List, None, Ono, Option, Some, length, ℕ}
+use Rattle.std.specs.Prelude.{[], ◌++◌, ◌∷◌, ◌≡◌, ◌≤◌, ◌⊎◌, Bool, List, None, Option, Some, length, ℕ}
+use Rattle.oca_panel.specs.Words.{Ono}
 use Rattle.oca_panel.specs.declared.walk.Place.{Place}
 use Rattle.oca_panel.specs.Walks.{PutsLastMembers, WalkState, is_visited, most_places}
 

@@ -1,6 +1,6 @@
 -- An end that remembers when a peer was last heard, and what is found by that.
-use Rattle.oca_panel.specs.Words.{◌≡◌, Bool, EndState, Heard, None, Option, Peer, Some, false, if◌then◌else◌, same_peer}
-use Rattle.oca_panel.specs.Words.{true, ℕ}
+use Rattle.std.specs.Prelude.{◌≡◌, Bool, None, Option, Some, false, if◌then◌else◌, true, ℕ}
+use Rattle.oca_panel.specs.Words.{EndState, Heard, Peer, same_peer}
 use Rattle.std.specs.Option.{option_or}
 use Rattle.oca_net.specs.declared.end.Heard.TheVariants as heards
 use Rattle.oca_panel.specs.declared.answering.Probed.{Probed}

@@ -1,4 +1,4 @@
--- What the definitions of this crate name, of std and of the crates below.
+-- What the definitions of this crate name of the crates below.
 pub use Rattle.oca_control.specs.Asking.{Begins, Waits}
 pub use Rattle.oca_control.specs.Links.{LinkState, late_at, new_link, submitted}
 pub use Rattle.oca_control.specs.Turning.{Turns}
@@ -22,6 +22,3 @@ pub use Rattle.oca_types.specs.declared.class.Method.{Method}
 pub use Rattle.oca_types.specs.declared.words.Handle.{Handle}
 pub use Rattle.oca_types.specs.declared.words.Ono.{Ono}
 pub use Rattle.oca_types.specs.declared.words.Peer.{Peer}
-pub use Rattle.std.specs.Prelude.{[], ◌%◌, ◌&&◌, ◌*◌, ◌++◌, ◌+◌, ◌/◌, ◌<◌, ◌==◌, ◌||◌, ◌∷◌, ◌≡◌, ◌≤◌, ◌⊎◌, Bool, Err}
-pub use Rattle.std.specs.Prelude.{List, None, Ok, Option, Result, Some, codes, decimal, false, if◌then◌else◌, length}
-pub use Rattle.std.specs.Prelude.{not, true, ℕ}

@@ -1,9 +1,11 @@
 -- What the calls of a panel do with its link.
 use Rattle.oca_pair.proofs.Words.{on_bool}
 use Rattle.std.proofs.Common.{◌≡◌, ℕ, ◌+◌, ◌<◌, ◌≤◌, ◌⊎◌, Bool, true, false, List, [], ◌∷◌, ◌++◌, length, Option, Some, None, Result, Ok, Err, refl, sym, ap, ◌∙◌, subst, arith, zero, suc, inl, inr, append_assoc, append-nil}
-use Rattle.oca_promise.specs.Words.{Answer, AnswerFields, AsksIn, BeginsIn, ControlFault, EndState, FinishesIn, Handle, IsTrue, LinkState, Outcome, PanelState, Peer}
-use Rattle.oca_promise.specs.Words.{RequestFields, SettlesIn, answer_fields, content_read, decision, filter, flat_map, gone_on, if◌then◌else◌, late_at, list_any, nat_le}
-use Rattle.oca_promise.specs.Words.{received, submission, submitted, taken}
+use Rattle.std.specs.Prelude.{IsTrue, if◌then◌else◌, nat_le}
+use Rattle.std.specs.List.{filter, flat_map, list_any}
+use Rattle.oca_promise.specs.Words.{Answer, AnswerFields, AsksIn, BeginsIn, ControlFault, EndState, FinishesIn, Handle}
+use Rattle.oca_promise.specs.Words.{LinkState, Outcome, PanelState, Peer, RequestFields, SettlesIn, answer_fields}
+use Rattle.oca_promise.specs.Words.{content_read, decision, gone_on, late_at, received, submission, submitted, taken}
 use Rattle.std.proofs.lemmas.Grind.{flat_map-append}
 use Rattle.std.proofs.lemmas.List.Elements.{filter-append}
 use Rattle.oca_net.specs.Deliveries.{Delivery, Datagram, Quiet, Failed, Sent}

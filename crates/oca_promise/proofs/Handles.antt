@@ -1,8 +1,9 @@
 -- No other call takes the answer that a call takes: each answer is taken once, and no handle is given twice.
 use Rattle.oca_pair.proofs.Words.{on_bool}
 use Rattle.std.proofs.Common.{◌≡◌, ℕ, ◌+◌, ◌<◌, Bool, true, false, cond, not, ◌||◌, List, [], ◌∷◌, ◌++◌, map, Option, Some, None, Result, Ok, Err, is_some, refl, sym, ap, ◌∙◌, subst, arith}
-use Rattle.oca_promise.specs.Words.{AllByRecursion, AnswerFields, ControlFault, Handle, LinkState, RequestFields, command_under, content_read, decision, filter, gone_on}
-use Rattle.oca_promise.specs.Words.{list_any, received, submission, submitted, taken}
+use Rattle.std.specs.List.{AllByRecursion, filter, list_any}
+use Rattle.oca_promise.specs.Words.{AnswerFields, ControlFault, Handle, LinkState, RequestFields, command_under}
+use Rattle.oca_promise.specs.Words.{content_read, decision, gone_on, received, submission, submitted, taken}
 use Rattle.std.proofs.Math.Dec.{eqb}
 use Rattle.std.proofs.lemmas.Bool.Decides.{nat_tests}
 use Rattle.std.proofs.lemmas.Bool.{eqb-true}

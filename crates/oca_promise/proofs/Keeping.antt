@@ -1,7 +1,9 @@
 -- A command that was in flight and answered keeps what holds of each answer, and so does a call.
 use Rattle.std.proofs.Common.{◌≡◌, ℕ, List, [], ◌∷◌, ◌++◌, refl, sym, ap, ◌∙◌, subst, inr, append_assoc}
-use Rattle.oca_promise.specs.Words.{AnswerFields, AreInTime, Fit, Handle, LinkState, Network, PanelState, RequestFields, Step, Submit, after_step, after_steps}
-use Rattle.oca_promise.specs.Words.{answer_fields, command_under, opening, slice_get, submitted}
+use Rattle.std.specs.List.{slice_get}
+use Rattle.oca_promise.specs.Words.{AnswerFields, AreInTime, Fit, Handle, LinkState, Network, PanelState, RequestFields}
+use Rattle.oca_promise.specs.Words.{Step, Submit, after_step, after_steps, answer_fields, command_under, opening}
+use Rattle.oca_promise.specs.Words.{submitted}
 use Rattle.oca_pdu.specs.Laws.{ReadingIsExact}
 use Rattle.oca_pair.specs.Networks.{PeerLink}
 use Rattle.oca_pair.specs.Saying.{OfEachAnswer}

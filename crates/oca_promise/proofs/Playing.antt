@@ -1,8 +1,11 @@
 -- What holds where a schedule plays what was done with a link.
 use Rattle.oca_pair.proofs.Words.{same_self, on_bool}
 use Rattle.std.proofs.Common.{◌≡◌, ℕ, Bool, true, List, [], ◌∷◌, ◌++◌, Option, Some, Result, Ok, refl, sym, ap, ◌∙◌, subst, zero, suc, inl, inr}
-use Rattle.oca_promise.specs.Words.{AnswerFields, ControlFault, Due, Handle, LinkState, Network, PanelState, Peer, Renew, Request, Step, Submit, Take, ToLink, after_step}
-use Rattle.oca_promise.specs.Words.{after_steps, content_read, gone_on, if◌then◌else◌, map, outcome_of_step, received, slice_get, submission, submitted, taken}
+use Rattle.std.specs.Prelude.{if◌then◌else◌, map}
+use Rattle.std.specs.List.{slice_get}
+use Rattle.oca_promise.specs.Words.{AnswerFields, ControlFault, Due, Handle, LinkState, Network, PanelState, Peer}
+use Rattle.oca_promise.specs.Words.{Renew, Request, Step, Submit, Take, ToLink, after_step, after_steps, content_read}
+use Rattle.oca_promise.specs.Words.{gone_on, outcome_of_step, received, submission, submitted, taken}
 use Rattle.std.specs.List.{slice_set}
 use Rattle.std.proofs.lemmas.Bool.{le-leb}
 use Rattle.oca_types.specs.Peers.{same_peer}

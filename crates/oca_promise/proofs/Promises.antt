@@ -1,11 +1,16 @@
 -- What a panel says is so.
 use Rattle.oca_pair.proofs.Words.{on_bool}
 use Rattle.std.proofs.Common.{◌≡◌, ℕ, ◌==◌, Bool, true, false, List, [], ◌∷◌, ◌++◌, Option, Some, None, Result, Ok, Err, refl, sym, ap, ◌∙◌, subst, inl, inr, eqb-true, append_assoc, ◌≢◌, ◌⊎◌}
-use Rattle.oca_promise.specs.Words.{AllByRecursion, Answer, AnswerFields, AreInTime, AskedBy, AsksClass, AsksIn, Class, Fit, IsOfItsType, IsOfOneExecutionSince}
-use Rattle.oca_promise.specs.Words.{IsRequest, IsRequestTo, LinkState, Method, Network, Object, Outcome, PanelState, Peer, ReadSo, Reading, Reads, ReadsBy, RequestFields}
-use Rattle.oca_promise.specs.Words.{SetsObject, Setup, Start, Step, Submit, Total, Value, after_step, after_steps, answer_fields, class_of_ono}
-use Rattle.oca_promise.specs.Words.{class_of_value, class_with, command_under, departures_in, done_answered, get_method, if◌then◌else◌, is_of_every_class, map, members}
-use Rattle.oca_promise.specs.Words.{model_answered, object_of, objects_left, opening, slice_get, text_answered, value_without_limits, with_object}
+use Rattle.std.specs.Prelude.{if◌then◌else◌, map}
+use Rattle.std.specs.List.{AllByRecursion, slice_get}
+use Rattle.oca_promise.specs.Words.{Answer, AnswerFields, AreInTime, AskedBy, AsksClass, AsksIn, Class, Fit}
+use Rattle.oca_promise.specs.Words.{IsOfItsType, IsOfOneExecutionSince, IsRequest, IsRequestTo, LinkState, Method}
+use Rattle.oca_promise.specs.Words.{Network, Object, Outcome, PanelState, Peer, ReadSo, Reading, Reads, ReadsBy}
+use Rattle.oca_promise.specs.Words.{RequestFields, SetsObject, Setup, Start, Step, Submit, Total, Value, after_step}
+use Rattle.oca_promise.specs.Words.{after_steps, answer_fields, class_of_ono, class_of_value, class_with, command_under}
+use Rattle.oca_promise.specs.Words.{departures_in, done_answered, get_method, is_of_every_class, members}
+use Rattle.oca_promise.specs.Words.{model_answered, object_of, objects_left, opening, text_answered}
+use Rattle.oca_promise.specs.Words.{value_without_limits, with_object}
 use Rattle.std.specs.Option.{option_map, option_and_then}
 use Rattle.oca_types.specs.declared.class.Class.TheVariants as class
 use Rattle.oca_types.specs.declared.class.Method.TheVariants as method

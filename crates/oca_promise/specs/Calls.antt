@@ -1,9 +1,10 @@
 -- WHAT A CALL OF A PANEL IS IN A NETWORK: what was done with its link, and what then holds where a schedule plays that.
-use Rattle.oca_promise.specs.Words.{[], ◌++◌, ◌∷◌, ◌≡◌, Answer, AnswerFields, AreInTime, AsksIn, CommandFields}
-use Rattle.oca_promise.specs.Words.{DeviceSizes, Fit, IsPresent, List, Network, Object, Ok, Outcome, PanelState, Peer}
-use Rattle.oca_promise.specs.Words.{RequestFields, Setup, Some, Start, Step, Submit, after_step, after_steps}
-use Rattle.oca_promise.specs.Words.{answer_fields, are_apart, command_under, false, filter, list_any, opening}
-use Rattle.oca_promise.specs.Words.{outcome_of_step, slice_get, submission, true, ℕ}
+use Rattle.std.specs.Prelude.{[], ◌++◌, ◌∷◌, ◌≡◌, List, Ok, Some, false, true, ℕ}
+use Rattle.std.specs.List.{filter, list_any, slice_get}
+use Rattle.oca_promise.specs.Words.{Answer, AnswerFields, AreInTime, AsksIn, CommandFields, DeviceSizes, Fit, IsPresent}
+use Rattle.oca_promise.specs.Words.{Network, Object, Outcome, PanelState, Peer, RequestFields, Setup, Start, Step}
+use Rattle.oca_promise.specs.Words.{Submit, after_step, after_steps, answer_fields, are_apart, command_under, opening}
+use Rattle.oca_promise.specs.Words.{outcome_of_step, submission}
 use Rattle.oca_control.specs.declared.outcome.Outcome.TheVariants as outcomes
 use Rattle.oca_control.specs.Untaken.{answer_under}
 use Rattle.oca_pair.specs.declared.outcome.Outcome.TheVariants as step_outcomes

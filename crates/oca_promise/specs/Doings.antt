@@ -1,9 +1,10 @@
 -- WHAT IS DONE WITH A LINK, and a schedule of a network in which that is done. Of doings the first stands first;
 -- moments are in milliseconds.
-use Rattle.oca_promise.specs.Words.{[], ◌++◌, ◌+◌, ◌<◌, ◌==◌, ◌∷◌, ◌≡◌, ◌≤◌, ◌⊎◌, AllByRecursion, Bool, Due, EndState}
-use Rattle.oca_promise.specs.Words.{IsTrue, LinkState, List, Network, Peer, Request, Some, Step, Submit, Take, ToLink}
-use Rattle.oca_promise.specs.Words.{after_step, content_read, decision, false, filter, flat_map, gone_on, if◌then◌else◌}
-use Rattle.oca_promise.specs.Words.{late_at, length, nat_le, received, slice_get, submitted, taken, true, ℕ}
+use Rattle.std.specs.Prelude.{[], ◌++◌, ◌+◌, ◌<◌, ◌==◌, ◌∷◌, ◌≡◌, ◌≤◌, ◌⊎◌, Bool, IsTrue, List, Some, false}
+use Rattle.std.specs.Prelude.{if◌then◌else◌, length, nat_le, true, ℕ}
+use Rattle.std.specs.List.{AllByRecursion, filter, flat_map, slice_get}
+use Rattle.oca_promise.specs.Words.{Due, EndState, LinkState, Network, Peer, Request, Step, Submit, Take, ToLink}
+use Rattle.oca_promise.specs.Words.{after_step, content_read, decision, gone_on, late_at, received, submitted, taken}
 use Rattle.oca_net.specs.Deliveries.{Delivery, Datagram, Quiet, Failed, Sent}
 use Rattle.oca_net.specs.Ends.{largest_datagram, last_u64, TakesAllBut}
 use Rattle.oca_pdu.specs.Laws.{AreBytes}

@@ -1,11 +1,11 @@
 -- COMMANDS IN FLIGHT: one call of a panel begins a command, another one takes its answer, and other calls lie between:
 -- for other commands, or earlier waits for this one.
-use Rattle.oca_promise.specs.Words.{[], ◌++◌, ◌∷◌, ◌≡◌, ◌⊎◌, Answer, AskedBy, BeginsIn, Bool, Class, ControlFault, Err}
-use Rattle.oca_promise.specs.Words.{FinishesIn, Handle, IsOfItsType, IsOfOneExecutionSince, IsRequest, IsRequestTo}
-use Rattle.oca_promise.specs.Words.{List, Method, Object, Ok, Outcome, PanelState, Reading, RequestFields, Result}
-use Rattle.oca_promise.specs.Words.{SettlesIn, Some, TurnsOnce, Value, answer_fields, answer_given, changed_by}
-use Rattle.oca_promise.specs.Words.{class_of_ono, class_of_value, done_answered, is_of_every_class, model_answered}
-use Rattle.oca_promise.specs.Words.{object_of, objects_left, reading_answered, true, with_object, ℕ}
+use Rattle.std.specs.Prelude.{[], ◌++◌, ◌∷◌, ◌≡◌, ◌⊎◌, Bool, Err, List, Ok, Result, Some, true, ℕ}
+use Rattle.oca_promise.specs.Words.{Answer, AskedBy, BeginsIn, Class, ControlFault, FinishesIn, Handle, IsOfItsType}
+use Rattle.oca_promise.specs.Words.{IsOfOneExecutionSince, IsRequest, IsRequestTo, Method, Object, Outcome, PanelState}
+use Rattle.oca_promise.specs.Words.{Reading, RequestFields, SettlesIn, TurnsOnce, Value, answer_fields, answer_given}
+use Rattle.oca_promise.specs.Words.{changed_by, class_of_ono, class_of_value, done_answered, is_of_every_class}
+use Rattle.oca_promise.specs.Words.{model_answered, object_of, objects_left, reading_answered, with_object}
 use Rattle.oca_model.specs.declared.answer.Answer.{Answer as Typed}
 use Rattle.oca_model.specs.declared.request.Request.{Request as Asked}
 use Rattle.oca_model.specs.declared.request.Request.TheVariants as asked

@@ -1,14 +1,15 @@
 -- WHAT A PANEL SAYS, in its own words: what `set`, `get`, `reading_of`, `class`, `role`, `label`, `members`, `lock` and
 -- `unlock` tell, and what a walk finds of an object, is so of the device's objects, in each network in which the call
 -- is made.
-use Rattle.oca_promise.specs.Words.{[], ◌++◌, ◌≡◌, All, Answer, AreInTime, AsksClass, AsksIn, ChangedNothing, Class}
-use Rattle.oca_promise.specs.Words.{Describes, DeviceSizes, Err, Fit, GetsValue, IsOfItsType, IsOfItsTypes}
-use Rattle.oca_promise.specs.Words.{IsOfOneExecutionSince, IsRequestTo, IsTree, List, Network, None, Object, Ok}
-use Rattle.oca_promise.specs.Words.{PanelState, Peer, ReadSo, Reading, Reads, ReadsBy, RequestFields, SetsObject}
-use Rattle.oca_promise.specs.Words.{SetsValue, Setup, Some, Start, Step, Total, Value, after_steps, answer_fields}
-use Rattle.oca_promise.specs.Words.{are_apart, class_of_ono, class_of_value, class_with, done_answered, get_method, map}
-use Rattle.oca_promise.specs.Words.{members, members_answered, object_of, objects_left, opening, slice_get}
-use Rattle.oca_promise.specs.Words.{text_answered, true, value_without_limits, with_object, ℕ}
+use Rattle.std.specs.Prelude.{[], ◌++◌, ◌≡◌, Err, List, None, Ok, Some, map, true, ℕ}
+use Rattle.std.specs.List.{All, slice_get}
+use Rattle.oca_promise.specs.Words.{Answer, AreInTime, AsksClass, AsksIn, ChangedNothing, Class, Describes, DeviceSizes}
+use Rattle.oca_promise.specs.Words.{Fit, GetsValue, IsOfItsType, IsOfItsTypes, IsOfOneExecutionSince, IsRequestTo}
+use Rattle.oca_promise.specs.Words.{IsTree, Network, Object, PanelState, Peer, ReadSo, Reading, Reads, ReadsBy}
+use Rattle.oca_promise.specs.Words.{RequestFields, SetsObject, SetsValue, Setup, Start, Step, Total, Value, after_steps}
+use Rattle.oca_promise.specs.Words.{answer_fields, are_apart, class_of_ono, class_of_value, class_with, done_answered}
+use Rattle.oca_promise.specs.Words.{get_method, members, members_answered, object_of, objects_left, opening}
+use Rattle.oca_promise.specs.Words.{text_answered, value_without_limits, with_object}
 use Rattle.oca_types.specs.declared.class.Class.TheVariants as class
 use Rattle.oca_model.specs.declared.request.Request.{Request as Asked}
 use Rattle.oca_model.specs.declared.request.Request.TheVariants as asked

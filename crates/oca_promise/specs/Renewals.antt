@@ -1,7 +1,8 @@
 -- A PANEL IS RENEWED, or sends a keep-alive beside its link, and goes on in the same network.
-use Rattle.oca_promise.specs.Words.{[], ◌++◌, ◌+◌, ◌∷◌, ◌≡◌, ◌≤◌, Beside, Bool, EndState, LinkState, List, Network}
-use Rattle.oca_promise.specs.Words.{PanelState, Peer, Renew, Sends, Setup, Some, after_step, departures_in, slice_get}
-use Rattle.oca_promise.specs.Words.{zero_of, ℕ}
+use Rattle.std.specs.Prelude.{[], ◌++◌, ◌+◌, ◌∷◌, ◌≡◌, ◌≤◌, Bool, List, Some, ℕ}
+use Rattle.std.specs.List.{slice_get}
+use Rattle.oca_promise.specs.Words.{Beside, EndState, LinkState, Network, PanelState, Peer, Renew, Sends, Setup}
+use Rattle.oca_promise.specs.Words.{after_step, departures_in, zero_of}
 use Rattle.oca_net.specs.declared.end.Heard.{Heard}
 use Rattle.oca_panel.specs.Calls.{CallsBeside}
 use Rattle.oca_panel.specs.Probes.{SendsKeepAlive}

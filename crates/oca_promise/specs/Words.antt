@@ -1,4 +1,4 @@
--- What the definitions of this crate name, of std and of the crates below.
+-- What the definitions of this crate name of the crates below.
 pub use Rattle.oca_control.specs.Answers.{AnswerFields, answer_fields}
 pub use Rattle.oca_control.specs.Links.{LinkState, Request, command_under, decision, gone_on, late_at, received}
 pub use Rattle.oca_control.specs.Links.{submission, submitted, taken}
@@ -38,6 +38,3 @@ pub use Rattle.oca_types.specs.declared.class.Class.{Class}
 pub use Rattle.oca_types.specs.declared.class.Method.{Method}
 pub use Rattle.oca_types.specs.declared.words.Handle.{Handle}
 pub use Rattle.oca_types.specs.declared.words.Peer.{Peer}
-pub use Rattle.std.specs.List.{All, AllByRecursion, filter, flat_map, list_any, slice_get}
-pub use Rattle.std.specs.Prelude.{[], ◌++◌, ◌+◌, ◌<◌, ◌==◌, ◌∷◌, ◌≡◌, ◌≤◌, ◌⊎◌, Bool, Err, IsTrue, List, None, Ok}
-pub use Rattle.std.specs.Prelude.{Result, Some, false, if◌then◌else◌, length, map, nat_le, true, ℕ}
