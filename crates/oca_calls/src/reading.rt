@@ -22,30 +22,19 @@ impl Reading {
         ensures writes { IfSome result (λ reading. reading ≡ reading_of setting) }
         ensures fits { FitsReading setting → IsSome result }
     {
-        match setting {
-            Setting::State(state) => Some(Reading {
-                kind: 1,
-                negative: 0,
-                magnitude: u64::from(state),
-            }),
-            Setting::Position(position) => Some(Reading {
-                kind: 2,
-                negative: 0,
-                magnitude: u64::from(position),
-            }),
-            Setting::Truth(truth) => Some(Reading {
-                kind: 3,
-                negative: 0,
-                magnitude: u64::from(truth),
-            }),
-            Setting::Number { setting, .. } => match u64::try_from(setting.unsigned_abs()) {
-                Ok(magnitude) => Some(Reading {
-                    kind: 4,
-                    negative: u32::from(setting < 0),
-                    magnitude,
-                }),
-                Err(_) => None,
-            },
-        }
+        let (kind, negative, magnitude) = match setting {
+            Setting::State(state) => (1, 0, u64::from(state)),
+            Setting::Position(position) => (2, 0, u64::from(position)),
+            Setting::Truth(truth) => (3, 0, u64::from(truth)),
+            Setting::Number { setting, .. } => {
+                let magnitude = u64::try_from(setting.unsigned_abs()).ok()?;
+                (4, u32::from(setting < 0), magnitude)
+            }
+        };
+        Some(Reading {
+            kind,
+            negative,
+            magnitude,
+        })
     }
 }
