@@ -6,9 +6,7 @@ ghost use Rattle.oca_device.specs.States.{state_after};
 ghost use Rattle.oca_calls.specs.Calls.{HandleBuilds, RefusesBuilding, RefusesClosed, RefusesRunning, WhateverHandleRuns};
 ghost use Rattle.oca_calls.specs.CSpecs.{HandleAddsSpec, OpensWith, WritesSpec};
 ghost use Rattle.oca_calls.specs.WrittenAgain.{WrittenMakesAgain};
-ghost use Rattle.oca_calls.specs.Numbers.{answer_number};
 ghost use Rattle.oca_calls.specs.Restoring.{RestoresSpec};
-ghost use Rattle.oca_calls.specs.declared.answer.Answer.{Answer as AnswerItself};
 
 use oca_calls::answer::Answer;
 use oca_calls::device_handle::DeviceHandle;
@@ -131,8 +129,7 @@ pub extern "C" fn oca_device_spec_of(
 /// whether it is enabled.
 #[unsafe(no_mangle)]
 pub extern "C" fn oca_spec_restore(spec: &mut SpecWords, stored: &SpecWords) -> u32
-    ensures { (answer : AnswerItself) × (result ≡ answer_number answer) ×
-        RestoresSpec answer spec.old stored.now spec.new }
+    ensures { RestoresSpec result spec.old stored.now spec.new }
 {
     restore(spec, stored).number()
 }

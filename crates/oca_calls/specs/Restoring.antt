@@ -4,8 +4,6 @@ use Rattle.std.specs.List.{AllByRecursion}
 use Rattle.oca_model.specs.declared.reading.Reading.{Reading}
 use Rattle.oca_model.specs.declared.reading.Reading.TheVariants as readings
 use Rattle.oca_model.specs.Settings.{is_within}
-use Rattle.oca_calls.specs.declared.answer.Answer.{Answer}
-use Rattle.oca_calls.specs.declared.answer.Answer.TheVariants as answers
 use Rattle.oca_calls.specs.declared.value_words.ReadingWords.{ReadingWords}
 use Rattle.oca_calls.specs.declared.value_words.ValueWords.{ValueWords}
 use Rattle.oca_calls.specs.declared.spec_words.SpecWords.{SpecWords}
@@ -14,22 +12,17 @@ use Rattle.oca_calls.specs.CSpecs.{AreReadingOf, IsOfThisVersion, names_of}
 
 -- the same limits with another value
 abbrev pub with_stored_value : ReadingWords → ValueWords → ReadingWords
-with_stored_value r value = record { value = value; least = r.least; greatest = r.greatest }
+with_stored_value r value = record r { value = value }
 
 -- THE STRUCT WITH WHAT WAS STORED: the value, the label, whether the object is enabled, and the names of its positions
 -- and which are enabled; its role, its limits and whether it can be locked stay.
 abbrev pub with_stored : SpecWords → SpecWords → SpecWords
-with_stored w stored = record {
-  size = w.size;
-  lockable = w.lockable;
+with_stored w stored = record w {
   enabled = stored.enabled;
-  positions = w.positions;
   reading = with_stored_value w.reading stored.reading.value;
-  role = w.role;
   label = stored.label;
   names = stored.names;
   enableds = stored.enableds;
-  zeros = w.zeros;
 }
 
 -- both are of this version
@@ -53,37 +46,28 @@ IsPossible r positions = is_within r ≡ true
 -- WHAT WAS STORED IS BROUGHT INTO A STRUCT, with this answer, the first that applies: bad size, where one of them is of
 -- another version; other kind, where they are of two classes, or of two numbers of positions; bad range, where these
 -- are more than 16; bad text, where the stored label or name is none; out of range, where the value cannot be the
--- object's; none of which changes anything; else done.
-abbrev pub PossibleRestores : Option Reading → Answer → SpecWords → SpecWords → SpecWords → Type 0
-PossibleRestores None answer old stored new = (answer ≡ answers.OutOfRange) × (new ≡ old)
-PossibleRestores (Some reading) answer old stored new =
-    ((IsPossible reading old.positions → ⊥) × (answer ≡ answers.OutOfRange) × (new ≡ old))
-    ⊎ (IsPossible reading old.positions × (answer ≡ answers.Done) × (new ≡ with_stored old stored))
+-- object's; none of which changes anything; else done. A block has no value.
+abbrev pub PossibleRestores : Option Reading → ℕ → SpecWords → SpecWords → SpecWords → Type 0
+PossibleRestores None number old stored new = (number ≡ 19) × (new ≡ old)
+PossibleRestores (Some reading) number old stored new =
+    ((IsPossible reading old.positions → ⊥) × (number ≡ 19) × (new ≡ old))
+    ⊎ (IsPossible reading old.positions × (number ≡ 0) × (new ≡ with_stored old stored))
 
--- a block has no value; else the stored value is looked at within the limits of the struct
-abbrev pub ValueRestores : Answer → SpecWords → SpecWords → SpecWords → Type 0
-ValueRestores answer old stored new =
-    ((old.reading.value.class_number ≡ 1) × (answer ≡ answers.Done) × (new ≡ with_stored old stored))
+abbrev pub ValueRestores : ℕ → SpecWords → SpecWords → SpecWords → Type 0
+ValueRestores number old stored new =
+    ((old.reading.value.class_number ≡ 1) × (number ≡ 0) × (new ≡ with_stored old stored))
     ⊎ ((old.reading.value.class_number ≡ 1 → ⊥) × (reading : Option Reading)
     × AreReadingOf (with_stored_value old.reading stored.reading.value) reading
-    × PossibleRestores reading answer old stored new)
+    × PossibleRestores reading number old stored new)
 
-abbrev pub TextsRestore : Answer → SpecWords → SpecWords → SpecWords → Type 0
-TextsRestore answer old stored new =
-    ((HasSetTexts stored → ⊥) × (answer ≡ answers.BadText) × (new ≡ old))
-    ⊎ (HasSetTexts stored × ValueRestores answer old stored new)
+abbrev pub AlikeRestore : ℕ → SpecWords → SpecWords → SpecWords → Type 0
+AlikeRestore number old stored new =
+    ((16 < old.positions) × (number ≡ 7) × (new ≡ old))
+    ⊎ (((old.positions ≤ 16) × (HasSetTexts stored → ⊥) × (number ≡ 6) × (new ≡ old))
+    ⊎ ((old.positions ≤ 16) × HasSetTexts stored × ValueRestores number old stored new))
 
-abbrev pub AlikeRestore : Answer → SpecWords → SpecWords → SpecWords → Type 0
-AlikeRestore answer old stored new =
-    ((16 < old.positions) × (answer ≡ answers.BadRange) × (new ≡ old))
-    ⊎ ((old.positions ≤ 16) × TextsRestore answer old stored new)
-
-abbrev pub VersionsRestore : Answer → SpecWords → SpecWords → SpecWords → Type 0
-VersionsRestore answer old stored new =
-    ((AreAlike old stored → ⊥) × (answer ≡ answers.OtherKind) × (new ≡ old))
-    ⊎ (AreAlike old stored × AlikeRestore answer old stored new)
-
-abbrev pub RestoresSpec : Answer → SpecWords → SpecWords → SpecWords → Type 0
-RestoresSpec answer old stored new =
-    ((AreOfThisVersion old stored → ⊥) × (answer ≡ answers.BadSize) × (new ≡ old))
-    ⊎ (AreOfThisVersion old stored × VersionsRestore answer old stored new)
+abbrev pub RestoresSpec : ℕ → SpecWords → SpecWords → SpecWords → Type 0
+RestoresSpec number old stored new =
+    ((AreOfThisVersion old stored → ⊥) × (number ≡ 15) × (new ≡ old))
+    ⊎ ((AreOfThisVersion old stored × (AreAlike old stored → ⊥) × (number ≡ 18) × (new ≡ old))
+    ⊎ (AreOfThisVersion old stored × AreAlike old stored × AlikeRestore number old stored new))

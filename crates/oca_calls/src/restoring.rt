@@ -1,8 +1,8 @@
 //! Bringing what was stored of an object into the struct that says what the object is to be.
-ghost use Rattle.std.specs.Prelude.{◌≡◌, ◌⊎◌, ◌≤◌, ◌↔◌, IsTrue};
+ghost use Rattle.std.specs.Prelude.{◌≡◌, ◌≤◌, ◌↔◌, IsTrue};
+ghost use Rattle.oca_calls.specs.Numbers.{answer_number};
 ghost use Rattle.oca_calls.specs.Restoring.{AlikeRestore, HasSetTexts, IsPossible, PossibleRestores, RestoresSpec};
-ghost use Rattle.oca_calls.specs.Restoring.{TextsRestore, ValueRestores, VersionsRestore, with_stored};
-ghost use Rattle.oca_calls.specs.Restoring.{with_stored_value};
+ghost use Rattle.oca_calls.specs.Restoring.{with_stored, with_stored_value};
 
 use crate::answer::Answer;
 use crate::limits::reading_of;
@@ -14,18 +14,11 @@ use oca_model::Reading;
 /// Changes `spec`, the description of an object, to what was stored of the object (`stored`): the value, the label, and
 /// whether it is enabled.
 pub fn restore(spec: &mut SpecWords, stored: &SpecWords) -> Answer
-    ensures { RestoresSpec result spec.old stored.now spec.new }
+    ensures { RestoresSpec (answer_number result) spec.old stored.now spec.new }
 {
     if !spec.is_of_this_version() || !stored.is_of_this_version() {
         return Answer::BadSize;
     }
-    restore_of_version(spec, stored)
-}
-
-/// The same, once both are of this version.
-fn restore_of_version(spec: &mut SpecWords, stored: &SpecWords) -> Answer
-    ensures { VersionsRestore result spec.old stored.now spec.new }
-{
     let class_number = stored.reading.value.class_number;
     if class_number != spec.reading.value.class_number || stored.positions != spec.positions {
         return Answer::OtherKind;
@@ -33,32 +26,17 @@ fn restore_of_version(spec: &mut SpecWords, stored: &SpecWords) -> Answer
     restore_alike(spec, stored)
 }
 
-/// The same, once both are of one class and have as many positions.
+/// The same, once both are of this version, of one class, and have as many positions.
 fn restore_alike(spec: &mut SpecWords, stored: &SpecWords) -> Answer
     requires { stored.now.positions ≡ spec.old.positions }
-    ensures { AlikeRestore result spec.old stored.now spec.new }
+    ensures { AlikeRestore (answer_number result) spec.old stored.now spec.new }
 {
     if usize::from(spec.positions) > MOST_POSITIONS {
         return Answer::BadRange;
     }
-    restore_texts(spec, stored)
-}
-
-/// The same, once there are at most 16 positions.
-fn restore_texts(spec: &mut SpecWords, stored: &SpecWords) -> Answer
-    requires { stored.now.positions ≤ 16 }
-    ensures { TextsRestore result spec.old stored.now spec.new }
-{
     if !has_set_texts(stored) {
         return Answer::BadText;
     }
-    restore_value(spec, stored)
-}
-
-/// The same, once the stored texts are texts.
-fn restore_value(spec: &mut SpecWords, stored: &SpecWords) -> Answer
-    ensures { ValueRestores result spec.old stored.now spec.new }
-{
     if spec.reading.value.class_number == 1 {
         bring(spec, stored);
         return Answer::Done;
@@ -69,16 +47,15 @@ fn restore_value(spec: &mut SpecWords, stored: &SpecWords) -> Answer
 
 /// The same, once the stored value is read within the limits of the struct.
 fn restore_possible(reading: Option<Reading>, spec: &mut SpecWords, stored: &SpecWords) -> Answer
-    ensures { PossibleRestores reading result spec.old stored.now spec.new }
+    ensures { PossibleRestores reading (answer_number result) spec.old stored.now spec.new }
 {
-    let Some(reading) = reading else {
-        return Answer::OutOfRange;
-    };
-    if !is_possible(reading, spec.positions) {
-        return Answer::OutOfRange;
+    match reading {
+        Some(reading) if is_possible(reading, spec.positions) => {
+            bring(spec, stored);
+            Answer::Done
+        }
+        _ => Answer::OutOfRange,
     }
-    bring(spec, stored);
-    Answer::Done
 }
 
 /// Whether the label and the names of the positions are texts.
