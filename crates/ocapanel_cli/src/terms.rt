@@ -181,7 +181,7 @@ fn unit_in(alloc: Global, line: &str) -> Result<Unit, &'static str> {
     }
     let of = unit_of(alloc, kind, which)?;
     if !is_factor(factor.as_bytes()) {
-        return Err("the factor is no decimal number of at most 20 characters");
+        return Err("the factor is no decimal number above 0 of at most 20 characters");
     }
     if name.len() > MOST_NAME {
         return Err("the unit has more than 16 bytes");
@@ -211,15 +211,15 @@ fn copied(alloc: Global, text: &str) -> Result<String, &'static str> {
     String::from_str(alloc, text).map_err(|_| NO_MEMORY)
 }
 
-/// Whether a text is a decimal number: digits, with at most one point among them, behind at most one `-`.
+/// Whether a text is a decimal number above 0 of at most 20 characters: digits, with at most one point among them.
 fn is_factor(text: &[u8]) -> bool {
-    if text.len() > MOST_FACTOR {
+    let is_above_0 = text.iter().any(|byte| matches!(*byte, b'1'..=b'9'));
+    if text.len() > MOST_FACTOR || !is_above_0 {
         return false;
     }
-    let digits = text.strip_prefix(b"-").unwrap_or(text);
-    match split_at_byte(digits, b'.') {
+    match split_at_byte(text, b'.') {
         Some((whole, part)) => are_digits(whole) && are_digits(part),
-        None => are_digits(digits),
+        None => are_digits(text),
     }
 }
 
